@@ -1,0 +1,4 @@
+pub mod MapLemmas
+pub mod StateLemmas
+pub mod ListLaws
+mod Rows

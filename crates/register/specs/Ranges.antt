@@ -1,0 +1,36 @@
+-- Which numbers, names, ids and replies are in range.
+use Rattle.std.specs.Prelude.{ℕ, Bool, not, ◌&&◌, ◌||◌, ◌==◌, nat_le, List, length}
+use Rattle.std.specs.List.{list_all}
+use Rattle.std.specs.Str.{is_utf8}
+
+abbrev pub is_between : ℕ → ℕ → ℕ → Bool
+is_between low high n = nat_le low n && nat_le n high
+
+abbrev pub is_ward_number : ℕ → Bool
+is_ward_number = is_between 1 99
+
+abbrev pub is_seat_number : ℕ → Bool
+is_seat_number = is_between 1 15
+
+-- a byte of no control character: not below a space, and not DEL
+abbrev pub is_name_byte : ℕ → Bool
+is_name_byte b = nat_le 32 b && not (b == 127)
+
+-- a name: 1 to 120 bytes of UTF-8 without control characters
+unfoldable pub is_name : List ℕ → Bool
+is_name t = is_utf8 t && (is_between 1 120 (length t) && list_all is_name_byte t)
+
+-- a to z, 0 to 9, or a hyphen
+abbrev pub is_id_byte : ℕ → Bool
+is_id_byte b = is_between 97 122 b || (is_between 48 57 b || (b == 45))
+
+-- an id: 1 to 40 such characters
+unfoldable pub is_id : List ℕ → Bool
+is_id t = is_between 1 40 (length t) && list_all is_id_byte t
+
+abbrev pub is_line_byte : ℕ → Bool
+is_line_byte b = not (b == 10)
+
+-- a reply: at most 200 bytes of UTF-8 on one line
+unfoldable pub is_reply : List ℕ → Bool
+is_reply t = is_utf8 t && (nat_le (length t) 200 && list_all is_line_byte t)

@@ -1,0 +1,33 @@
+//! What the machine decides.
+
+use crate::receipt::Receipt;
+use crate::refusal::Refusal;
+use crate::ward::Ward;
+
+/// One line of text, without its end.
+pub type Reply = String;
+
+/// What an accepted command does to the state, beside its receipt.
+#[derive(Debug, Drop)]
+pub enum Effect {
+    /// This ward is new.
+    WardAdded(Ward),
+}
+
+/// All that an accepted request changes. It is kept whole or not at all.
+#[derive(Debug, Drop)]
+pub struct Change {
+    pub effect: Effect,
+    pub receipt: Receipt,
+}
+
+/// The machine's answer to a request.
+#[derive(Debug, Drop)]
+pub enum Decision {
+    /// The state changes, and this is replied.
+    Accepted(Change, Reply),
+    /// The request was accepted before: the reply of then, and nothing changes.
+    Kept(Reply),
+    /// Nothing changes.
+    Refused(Refusal),
+}
