@@ -14,6 +14,7 @@
 pub mod command;
 pub mod decision;
 mod machine;
+pub mod ranges;
 pub mod receipt;
 pub mod refusal;
 mod texts;

@@ -7,9 +7,10 @@ ghost use Rattle.register.specs.Views.{ShowsState, with_effect, outcome_of};
 
 use crate::command::Command;
 use crate::decision::{Change, Decision, Effect};
+use crate::ranges::{is_between, is_id, is_name};
 use crate::receipt::Receipt;
 use crate::refusal::Refusal;
-use crate::texts::{is_between, is_id, is_name, reply_to, subject_of};
+use crate::texts::{reply_to, subject_of};
 use crate::view::View;
 use crate::ward::{Phase, Ward};
 use std::alloc::{AllocError, Global};

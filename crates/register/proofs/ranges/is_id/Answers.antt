@@ -1,5 +1,5 @@
 use Rattle.register.specs.Ranges.{is_id}
-use Rattle.register.proofs.texts.is_id.Goals as goal
+use Rattle.register.proofs.ranges.is_id.Goals as goal
 
 pub returns : goal.returns
 unfolding is_id

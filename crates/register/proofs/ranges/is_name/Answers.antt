@@ -1,6 +1,6 @@
 use Rattle.std.proofs.lemmas.Str.{is_utf8-from_IsUtf8}
 use Rattle.register.specs.Ranges.{is_name}
-use Rattle.register.proofs.texts.is_name.Goals as goal
+use Rattle.register.proofs.ranges.is_name.Goals as goal
 
 pub returns : goal.returns
 unfolding is_name

@@ -1,0 +1,93 @@
+//! Which numbers, names, ids and replies are in range.
+
+ghost use Rattle.std.specs.Prelude.{◌≡◌};
+ghost use Rattle.std.specs.List.{list_all};
+ghost use Rattle.register.specs.Ranges.{is_between, is_name_byte, is_id_byte, is_line_byte, is_name, is_id, is_reply};
+
+const SPACE: u8 = 32;
+
+const DELETE: u8 = 127;
+
+const LONGEST_NAME: usize = 120;
+
+const LINE_END: u8 = 10;
+
+const LONGEST_ID: usize = 40;
+
+const LONGEST_REPLY: usize = 200;
+
+/// Whether a number lies in a range, both ends included.
+pub fn is_between(low: u32, high: u32, n: u32) -> bool
+    ensures { result ≡ is_between low high n }
+{
+    low <= n && n <= high
+}
+
+fn is_length(most: usize, n: usize) -> bool
+    ensures { result ≡ is_between 1 most n }
+{
+    1 <= n && n <= most
+}
+
+fn is_name_byte(b: u8) -> bool
+    ensures { result ≡ is_name_byte b }
+{
+    SPACE <= b && b != DELETE
+}
+
+fn is_id_byte(b: u8) -> bool
+    ensures { result ≡ is_id_byte b }
+{
+    b.is_ascii_lowercase() || b.is_ascii_digit() || b == b'-'
+}
+
+fn are_name_bytes(bytes: &[u8]) -> bool
+    ensures { result ≡ list_all is_name_byte bytes.now }
+{
+    bytes.iter().all(|b| is_name_byte(*b))
+}
+
+fn are_id_bytes(bytes: &[u8]) -> bool
+    ensures { result ≡ list_all is_id_byte bytes.now }
+{
+    bytes.iter().all(|b| is_id_byte(*b))
+}
+
+/// Whether a text is a name: 1 to 120 bytes without control characters.
+pub fn is_name(text: &str) -> bool
+    ensures { result ≡ is_name text.now }
+{
+    let bytes = text.as_bytes();
+    let fits = is_length(LONGEST_NAME, bytes.len());
+    fits & are_name_bytes(bytes)
+}
+
+/// Whether a text is an id: 1 to 40 characters of `a-z`, `0-9` and `-`.
+pub fn is_id(text: &str) -> bool
+    ensures { result ≡ is_id text.now }
+{
+    let bytes = text.as_bytes();
+    let fits = is_length(LONGEST_ID, bytes.len());
+    fits & are_id_bytes(bytes)
+}
+
+fn is_line_byte(b: u8) -> bool
+    ensures { result ≡ is_line_byte b }
+{
+    b != LINE_END
+}
+
+fn are_line_bytes(bytes: &[u8]) -> bool
+    ensures { result ≡ list_all is_line_byte bytes.now }
+{
+    bytes.iter().all(|b| is_line_byte(*b))
+}
+
+/// Whether a text is a reply: at most 200 bytes, without a line end.
+pub fn is_reply(text: &str) -> bool
+    ensures { result ≡ is_reply text.now }
+{
+    let bytes = text.as_bytes();
+    let fits = bytes.len() <= LONGEST_REPLY;
+    fits & are_line_bytes(bytes)
+}
