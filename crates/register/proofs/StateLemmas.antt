@@ -49,7 +49,7 @@ is_plain-decimal high n below h =
     let value = (decimal_is_IsNumeral n fits).1 in
     let first = first_decimal n (omega (arith, least)) fits in
     let differs = not_equal (get_or (decimal n) 0 0) 48 first in
-    and_from _ _ (digits_decimal own n fits) (and_from _ _ (ap not differs) (rw value h))
+    and_from _ _ (ap not differs) (and_from _ _ (digits_decimal own n fits) (rw value h))
 
 -- what AddWard's receipt is about, and its reply
 ward_subject : (n : ℕ) → is_ward_number n ≡ true → is_office_subject (codes "ward " ++ decimal n) ≡ true

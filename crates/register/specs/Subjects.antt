@@ -7,7 +7,7 @@ use Rattle.register.specs.Ranges.{is_between}
 
 -- a number as it is written plainly: digits, the first not 0
 unfoldable pub is_plain_number : ℕ → ℕ → List ℕ → Bool
-is_plain_number low high t = all_ascii_digits t && (not (slice_index t 0 == 48) && is_between low high (digits_value 10 t))
+is_plain_number low high t = not (slice_index t 0 == 48) && (all_ascii_digits t && is_between low high (digits_value 10 t))
 
 abbrev pub is_space : ℕ → Bool
 is_space b = b == 32
@@ -40,10 +40,14 @@ is_about_batch = is_about (codes "batch" ∷ codes "again" ∷ []) (is_plain_num
 abbrev pub is_about_paper : List ℕ → Bool
 is_about_paper = is_about (codes "judge" ∷ []) (are_plain_numbers 1 9999 1 500)
 
+-- the keying of a batch in a round
+abbrev pub is_about_keying : List ℕ → Bool
+is_about_keying = is_about (codes "key" ∷ []) (are_plain_numbers 1 9999 1 99)
+
 -- a subject of the office's own commands
 unfoldable pub is_office_subject : List ℕ → Bool
 is_office_subject t = is_about_ward t || (is_about_candidate t || (is_about_lot t || (is_about_batch t || is_about_paper t)))
 
--- a subject of a clerk's command: the keying of a batch in a round
+-- a subject of a clerk's command
 unfoldable pub is_clerk_subject : List ℕ → Bool
-is_clerk_subject = is_about (codes "key" ∷ []) (are_plain_numbers 1 9999 1 99)
+is_clerk_subject t = is_about_keying t

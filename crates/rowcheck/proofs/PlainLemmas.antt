@@ -1,0 +1,53 @@
+-- Digits, and the number that they write.
+use Rattle.std.proofs.Common.{◌≡◌, ℕ, ◌+◌, ◌*◌, ◌-◌, ◌<◌, ◌≤◌, Bool, true, false, ◌&&◌, cond, nat_le, List, [], ◌∷◌, length, get_or, Option, Some, None, refl, sym, arith, inl, inr}
+use Rattle.std.specs.Char.{digit_value, is_ascii_digit}
+use Rattle.std.specs.Str.{all_ascii_digits}
+use Rattle.std.specs.Str.Parse.{digits_value_after}
+use Rattle.std.proofs.lemmas.Bool.{and_parts, leb-true}
+use Rattle.std.proofs.lemmas.Bool.Decides.{leb_tells}
+use Rattle.std.proofs.lemmas.Str.{digit_value_digit}
+use Rattle.register.specs.Ranges.{is_between}
+
+-- each digit more makes no smaller number
+grows : (n : ℕ) (ds : List ℕ) → n ≤ digits_value_after 10 n ds
+grows n [] = omega arith
+grows n (d ∷ ds) = let later = grows (n * 10 + digit_value d) ds in omega (arith, later)
+
+-- past the most, no digits lead back
+too_big : (most n : ℕ) (ds : List ℕ) (b : Bool) → most < n → None ≡ cond (b && nat_le (digits_value_after 10 n ds) most) (Some (digits_value_after 10 n ds)) None
+too_big most n ds false past = refl
+too_big most n ds true past = elim (leb_tells (digits_value_after 10 n ds) most) [
+  | inl low ↦ let it = grows n ds in absurd (omega (arith, it, low.1, past))
+  | inr high ↦ rw high.0 refl
+]
+
+pub too_big_from : (most n : ℕ) (ds : List ℕ) → 1 ≤ length ds → is_ascii_digit (get_or ds 0 0) ≡ true → most < n * 10 + (get_or ds 0 0 - 48)
+    → None ≡ cond (all_ascii_digits ds && nat_le (digits_value_after 10 n ds) most) (Some (digits_value_after 10 n ds)) None
+too_big_from most n [] some digit past = absurd (omega (arith, some))
+too_big_from most n (d ∷ ds) some digit past =
+    let low = leb-true 48 d (and_parts _ _ digit).0 in
+    let high = leb-true d 57 (and_parts _ _ digit).1 in
+    let value = digit_value_digit d (omega (arith, low), omega (arith, high)) in
+    too_big most (n * 10 + digit_value d) ds (is_ascii_digit d && all_ascii_digits ds) (omega (arith, value, past))
+
+pub within : (b : Bool) (low high value n : ℕ) → Some n ≡ cond (b && nat_le value high) (Some value) None → nat_le low n ≡ (b && is_between low high value)
+within false low high value n is = cc
+within true low high value n is = elim (leb_tells value high) [
+  | inl below ↦ let same : Some n ≡ Some value = rw below.0 at is in let it : n ≡ value = cc in rw (it, below.0) (go (nat_le low value))
+  | inr above ↦ absurd (let e : Some n ≡ None = rw above.0 at is in cc)
+]
+  where
+    go : (c : Bool) → c ≡ (c && true)
+    go true = refl
+    go false = refl
+
+pub without : (b : Bool) (low high value : ℕ) → None ≡ cond (b && nat_le value high) (Some value) None → false ≡ (b && is_between low high value)
+without false low high value is = refl
+without true low high value is = elim (leb_tells value high) [
+  | inl below ↦ absurd (let e : None ≡ Some value = rw below.0 at is in cc)
+  | inr above ↦ rw above.0 (go (nat_le low value))
+]
+  where
+    go : (c : Bool) → false ≡ (c && false)
+    go true = refl
+    go false = refl

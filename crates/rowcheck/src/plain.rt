@@ -1,0 +1,79 @@
+//! Numbers as they are written plainly.
+
+ghost use Rattle.std.specs.Prelude.{◌≡◌, ◌<◌, ◌≤◌, ◌&&◌, nat_le, position, Some, None, if◌then◌else◌};
+ghost use Rattle.std.specs.List.{before_first, after_first};
+ghost use Rattle.std.specs.Str.{all_ascii_digits};
+ghost use Rattle.std.specs.Str.Parse.{digits_value, digits_value_after};
+ghost use Rattle.register.specs.Ranges.{is_between};
+ghost use Rattle.register.specs.Subjects.{is_plain_number, are_plain_numbers, is_space};
+
+/// The number that digits write where they follow those of another, if it is at most `most`.
+fn number_after(most: u32, so_far: u32, digits: &[u8]) -> Option<u32>
+    requires low { most < 10000 }
+    requires within { so_far ≤ most }
+    ensures { result ≡ (if all_ascii_digits digits.now && nat_le (digits_value_after 10 so_far digits.now) most then Some (digits_value_after 10 so_far digits.now) else None) }
+{
+    match digits {
+        [] => Some(so_far),
+        [digit, others @ ..] => {
+            if !digit.is_ascii_digit() {
+                return None;
+            }
+            let next = so_far * 10 + u32::from(*digit - b'0');
+            if next > most {
+                return None;
+            }
+            number_after(most, next, others)
+        }
+    }
+}
+
+/// Whether a text is digits of a number in a range.
+fn is_number_within(low: u32, high: u32, digits: &[u8]) -> bool
+    requires { high < 10000 }
+    ensures { result ≡ (all_ascii_digits digits.now && is_between low high (digits_value 10 digits.now)) }
+{
+    match number_after(high, 0, digits) {
+        Some(n) => low <= n,
+        None => false,
+    }
+}
+
+#[tactic(auto, unfolding(register::specs::Subjects::is_plain_number))]
+/// Whether a text is a plain number in a range: digits, the first not 0.
+pub(crate) fn is_plain_number(low: u32, high: u32, text: &[u8]) -> bool
+    requires { high < 10000 }
+    ensures { result ≡ is_plain_number low high text.now }
+{
+    let first = text.first().copied().unwrap_or(0);
+    let plain = first != b'0';
+    plain & is_number_within(low, high, text)
+}
+
+fn first_space(text: &[u8]) -> Option<usize>
+    ensures { result ≡ position is_space text.now }
+{
+    text.iter().position(|b| *b == b' ')
+}
+
+/// What stands before the first space, and what stands after it.
+pub(crate) fn parted(text: &[u8]) -> (&[u8], &[u8])
+    ensures before { result.0.now ≡ before_first is_space text.now }
+    ensures after { result.1.now ≡ after_first is_space text.now }
+{
+    match first_space(text) {
+        Some(place) => (&text[..place], &text[place + 1..]),
+        None => (text, &text[text.len()..]),
+    }
+}
+
+/// Whether a text is two plain numbers in their ranges, parted by a space.
+pub(crate) fn are_plain_numbers(low: u32, high: u32, least: u32, most: u32, text: &[u8]) -> bool
+    requires first { high < 10000 }
+    requires second { most < 10000 }
+    ensures { result ≡ are_plain_numbers low high least most text.now }
+{
+    let (one, other) = parted(text);
+    let is_first = is_plain_number(low, high, one);
+    is_first & is_plain_number(least, most, other)
+}
