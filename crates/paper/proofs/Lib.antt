@@ -1,0 +1,4 @@
+pub mod PaddedLists
+pub mod Rankings
+pub mod ColumnSets
+pub mod Standings

@@ -1,0 +1,4 @@
+pub mod Padded
+pub mod Columns
+pub mod Ranking
+pub mod Standing

@@ -1,0 +1,103 @@
+//! Sets of candidates' numbers.
+
+ghost use Rattle.std.specs.Prelude.{◌≡◌, ℕ, ◌+◌, ◌<◌, ◌≤◌, [], ◌∷◌, ◌++◌, length, nat_eq, nat_lt};
+ghost use Rattle.std.specs.List.{list_any, prefix_len};
+ghost use Rattle.paper.specs.Columns.{IsColumnSet, with_column};
+ghost use Rattle.paper.specs.Padded.{padded};
+
+use crate::padded::{list_in, padded_numbers};
+use std::marker::Model;
+
+/// A set of candidates' numbers 1 to 30, seen as the list of them in ascending order.
+// 30 bytes: the numbers, and zeros behind them.
+#[derive(Clone, Copy, Debug, PartialEq, Eq)]
+pub struct Columns {
+    numbers: [u8; 30],
+}
+
+impl Model for Columns {
+    ghost use Rattle.std.specs.Prelude.{◌≡◌, List, ℕ};
+    ghost use Rattle.paper.specs.Columns.{IsColumnSet};
+    ghost use Rattle.paper.specs.Padded.{listed, padded};
+
+    ghost Value = { List ℕ };
+
+    ghost view = { λ a. listed a.numbers };
+
+    ghost invariant = { λ a. (padded (listed a.numbers) ≡ a.numbers) × IsColumnSet (listed a.numbers) };
+
+    ghost inverse = { λ d. record { numbers = padded d } };
+
+    ghost inverse_ok = { λ a h. Prim.rw h.0 };
+}
+
+impl Columns {
+    /// The set of no number.
+    pub fn empty() -> Columns
+        ensures { result ≡ [] }
+    {
+        Columns { numbers: [0; 30] }
+    }
+
+    /// The set with a number of 1 to 30 more.
+    pub fn with(self, c: u8) -> Columns
+        requires some { 1 ≤ c }
+        requires few { c ≤ 30 }
+        ensures is { result ≡ with_column self c }
+        ensures set { IsColumnSet result }
+        // a number above all others comes last
+        ensures last { IsColumnSet (self ++ c ∷ []) → result ≡ self ++ c ∷ [] }
+    {
+        let list = self.as_slice();
+        if self.has(c) {
+            return self;
+        }
+        let (below, above) = list.split_at(self.count_below(c));
+        Columns {
+            numbers: inserted(below, c, above),
+        }
+    }
+
+    /// How many numbers of the set are below a number.
+    fn count_below(&self, c: u8) -> usize
+        ensures is { result ≡ prefix_len (λ d. nat_lt d c) self.now }
+        ensures within { result ≤ length self.now }
+    {
+        self.as_slice().iter().take_while(|d| **d < c).count()
+    }
+
+    /// Whether the set has a number.
+    pub fn has(&self, c: u8) -> bool
+        ensures is { result ≡ list_any (nat_eq c) self.now }
+    {
+        self.as_slice().contains(&c)
+    }
+
+    /// How many numbers the set has, at most 30.
+    pub fn len(&self) -> usize
+        ensures is { result ≡ length self.now }
+        ensures few { result ≤ 30 }
+    {
+        self.as_slice().len()
+    }
+
+    /// The numbers in ascending order.
+    pub fn as_slice(&self) -> &[u8]
+        ensures is { result.now ≡ self.now }
+        ensures set { IsColumnSet self.now }
+    {
+        list_in(&self.numbers)
+    }
+}
+
+/// The array of a list, a number behind it, and another list.
+fn inserted(below: &[u8], c: u8, above: &[u8]) -> [u8; 30]
+    requires { length below.now + length above.now < 30 }
+    ensures { result ≡ padded (below.now ++ c ∷ above.now) }
+{
+    let mut numbers = padded_numbers(below);
+    let at = below.len();
+    numbers[at] = c;
+    numbers[at + 1..=at + above.len()].copy_from_slice(above);
+    numbers
+}

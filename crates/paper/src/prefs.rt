@@ -1,0 +1,81 @@
+//! The preferences of a ballot paper.
+
+ghost use Rattle.std.specs.Prelude.{◌≡◌, ℕ, ◌≤◌, length, IfSome, IsSome, IsTrue, ◌↔◌};
+ghost use Rattle.paper.specs.Ranking.{IsRanking};
+
+use crate::padded::{list_in, padded_numbers};
+use std::marker::Model;
+
+/// The preferences of a valid ballot paper, seen as the list of its candidates' numbers, each once,
+/// the first preference first.
+// 30 bytes, which is the least for a value that is Copy and lends up to 30 numbers as a slice: the
+// numbers, and zeros behind them in place of a length.
+#[derive(Clone, Copy, Debug, PartialEq, Eq)]
+pub struct Prefs {
+    numbers: [u8; 30],
+}
+
+impl Model for Prefs {
+    ghost use Rattle.std.specs.Prelude.{◌≡◌, ◌≤◌, List, ℕ, length};
+    ghost use Rattle.paper.specs.Ranking.{IsRanking};
+    ghost use Rattle.paper.specs.Padded.{listed, padded};
+
+    ghost Value = { List ℕ };
+
+    ghost view = { λ a. listed a.numbers };
+
+    ghost invariant = { λ a. (padded (listed a.numbers) ≡ a.numbers) × (1 ≤ length (listed a.numbers)) × IsRanking (listed a.numbers) };
+
+    ghost inverse = { λ d. record { numbers = padded d } };
+
+    ghost inverse_ok = { λ a h. Prim.rw h.0 };
+}
+
+impl Prefs {
+    /// The preferences of a list; `None` exactly where it is empty, or has a number outside 1 to 30
+    /// or one twice.
+    #[tactic(auto, using(crate::proofs::Rankings::rankings))]
+    pub fn from_slice(list: &[u8]) -> Option<Prefs>
+        ensures is { IfSome result (λ prefs. prefs ≡ list.now) }
+        ensures when { IsSome result ↔ ((1 ≤ length list.now) × IsRanking list.now) }
+    {
+        if list.is_empty() || !is_ranking(list) {
+            return None;
+        }
+        Some(Prefs {
+            numbers: padded_numbers(list),
+        })
+    }
+
+    /// The candidates' numbers, the first preference first.
+    pub fn as_slice(&self) -> &[u8]
+        ensures is { result.now ≡ self.now }
+        ensures some { 1 ≤ length self.now }
+        ensures ranking { IsRanking self.now }
+    {
+        list_in(&self.numbers)
+    }
+}
+
+/// Whether a list has numbers 1 to 30, none of them twice.
+#[tactic(auto, using(crate::proofs::Rankings::rankings))]
+fn is_ranking(list: &[u8]) -> bool
+    ensures is { IsTrue result ↔ IsRanking list.now }
+    ensures few { IsTrue result → length list.now ≤ 30 }
+{
+    match list.split_first() {
+        None => true,
+        Some((c, others)) => {
+            if *c == 0 {
+                return false;
+            }
+            if *c > 30 {
+                return false;
+            }
+            if others.contains(c) {
+                return false;
+            }
+            is_ranking(others)
+        }
+    }
+}

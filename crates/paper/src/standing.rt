@@ -1,0 +1,123 @@
+//! Where each candidate stands in a count, and the next available preference.
+
+ghost use Rattle.std.specs.Prelude.{◌≡◌, ℕ, ◌+◌, ◌<◌, ◌≤◌, nat_eq, not, if◌then◌else◌, slice_index_or, drop, length, IsTrue};
+ghost use Rattle.std.specs.List.{list_any, prefix_len};
+ghost use Rattle.paper.specs.Columns.{IsColumn};
+ghost use Rattle.paper.specs.Standing.{status_of, status_among, AreApart, is_continuing, next_available_of, from_first};
+
+use crate::columns::Columns;
+use std::marker::Model;
+
+/// Where the bearer of a number stands.
+#[derive(Clone, Copy, Debug, PartialEq, Eq)]
+pub enum Status {
+    /// Neither elected nor excluded.
+    Continuing,
+    Elected,
+    Excluded,
+    /// No candidate has the number.
+    Absent,
+}
+
+/// A status for each number 1 to 30, seen as the list of them from number 0 on; any other number is
+/// absent.
+#[derive(Clone, Copy, Debug, PartialEq, Eq)]
+pub struct Standing {
+    statuses: [Status; 31],
+}
+
+impl Model for Standing {
+    ghost use Rattle.std.specs.Prelude.{List};
+    ghost use Rattle.paper.specs.declared.standing.Status.{Status};
+
+    ghost Value = { List Status };
+
+    ghost use Rattle.std.specs.Prelude.{◌≡◌};
+    ghost use Rattle.paper.specs.declared.standing.Status.TheVariants.{Absent};
+    ghost use Rattle.paper.specs.Standing.{status_of};
+
+    ghost view = { λ a. a.statuses };
+
+    ghost invariant = { λ a. status_of a.statuses 0 ≡ Absent };
+
+    ghost inverse = { λ d. record { statuses = d } };
+}
+
+impl Standing {
+    /// The standing of those who continue, who are elected, and who are excluded, no number being in
+    /// two of these.
+    pub fn new(continuing: Columns, elected: Columns, excluded: Columns) -> Standing
+        requires elected_apart { AreApart continuing elected }
+        requires excluded_apart { AreApart continuing excluded }
+        requires ends_apart { AreApart elected excluded }
+        ensures each { (c : ℕ) → status_of result c ≡ status_among continuing elected excluded c }
+        ensures continuing { (c : ℕ) → is_continuing result c ≡ list_any (nat_eq c) continuing }
+    {
+        let mut statuses = [Status::Absent; 31];
+        give(&mut statuses, &excluded, Status::Excluded);
+        give(&mut statuses, &elected, Status::Elected);
+        give(&mut statuses, &continuing, Status::Continuing);
+        Standing { statuses }
+    }
+
+    /// The status of a number.
+    pub fn status(&self, c: u8) -> Status
+        ensures is { result ≡ status_of self.now c }
+        ensures other { ¬ IsColumn c → result ≡ Status.Absent }
+    {
+        match self.statuses.get(usize::from(c)) {
+            Some(status) => *status,
+            None => Status::Absent,
+        }
+    }
+
+    /// Whether a number is that of a continuing candidate.
+    pub fn continues(&self, c: u8) -> bool
+        ensures is { result ≡ is_continuing self.now c }
+        ensures known { IsTrue result → IsColumn c }
+    {
+        match self.status(c) {
+            Status::Continuing => true,
+            Status::Elected => false,
+            Status::Excluded => false,
+            Status::Absent => false,
+        }
+    }
+}
+
+/// Gives a status to each number of a set.
+fn give(statuses: &mut [Status; 31], numbers: &Columns, status: Status)
+    ensures each { (c : ℕ) → status_of statuses.new c ≡ (if list_any (nat_eq c) numbers.now then status else status_of statuses.old c) }
+    ensures none { status_of statuses.new 0 ≡ status_of statuses.old 0 }
+{
+    for c in numbers.as_slice() {
+        statuses[usize::from(*c)] = status;
+    }
+}
+
+/// The next available preference ("Transfer of ballot papers"): the first from place `from` on,
+/// counted from 0, that is for a continuing candidate.
+pub fn next_available(prefs: &[u8], from: usize, standing: &Standing) -> Option<u8>
+    ensures { result ≡ next_available_of prefs.now from standing.now }
+{
+    available_from(prefs, from, standing).first().copied()
+}
+
+/// The preferences from the next available one on; none where there is no such.
+pub fn available_from<'a>(prefs: &'a [u8], from: usize, standing: &Standing) -> &'a [u8]
+    ensures { result.now ≡ from_first (is_continuing standing.now) (drop from prefs.now) }
+{
+    let rest = &prefs[from.min(prefs.len())..];
+    &rest[count_passed(rest, standing)..]
+}
+
+/// How many preferences are passed over before the first for a continuing candidate.
+fn count_passed(prefs: &[u8], standing: &Standing) -> usize
+    ensures is { result ≡ prefix_len (λ c. not (is_continuing standing.now c)) prefs.now }
+    ensures within { result ≤ length prefs.now }
+{
+    prefs
+        .iter()
+        .take_while(|c| !standing.continues(**c))
+        .count()
+}

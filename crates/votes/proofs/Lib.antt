@@ -1,0 +1,4 @@
+pub mod Quotas
+pub mod Cuts
+pub mod Texts
+pub mod Beginnings

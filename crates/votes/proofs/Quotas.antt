@@ -1,0 +1,14 @@
+use Rattle.std.proofs.Common.{◌≡◌, ℕ, ◌+◌, ◌*◌, ◌/◌, ◌%◌, ◌<◌, ◌≤◌, arith}
+use Rattle.std.proofs.lemmas.Nat.{div-add-mod', div_below}
+use Rattle.votes.specs.Units.{IsQuota, quota_of}
+
+-- the quota worked out is the quota
+pub quota_of-IsQuota : (papers seats : ℕ) → IsQuota papers seats (quota_of papers seats)
+quota_of-IsQuota papers seats = record {
+  votes = papers / (seats + 1) + 1;
+  whole = omega arith;
+  least = record {
+    holds = omega (arith, div-add-mod' papers (seats + 1));
+    least = λ q enough. let below = div_below papers (seats + 1) q (omega arith) enough in omega (arith, below);
+  };
+}

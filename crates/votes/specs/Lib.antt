@@ -1,0 +1,4 @@
+pub mod Units
+pub mod Text
+pub mod Streams
+pub mod Counted

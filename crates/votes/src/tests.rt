@@ -1,0 +1,138 @@
+use crate::{Counted, Sink, Source, Votes, put_all, quota, transfer_value};
+use std::io;
+use std::io::{ErrorKind, Read, Write};
+use std::process::Abort;
+use std::test::Fail;
+
+/// Writes three bytes at a time, and fails once it has room no more.
+#[derive(Drop)]
+struct Narrow {
+    page: Vec<u8>,
+    room: usize,
+}
+
+impl Write for Narrow {
+    fn write(&mut self, bytes: &[u8]) -> io::Result<usize> {
+        let n = bytes.len().min(3);
+        if n > self.room {
+            return Err(io::Error::from(ErrorKind::BrokenPipe));
+        }
+        self.room -= n;
+        self.page.extend_from_slice(&bytes[..n])?;
+        Ok(n)
+    }
+
+    fn flush(&mut self) -> io::Result<()> {
+        Ok(())
+    }
+}
+
+/// Takes no byte of anything.
+#[derive(Drop)]
+struct Full;
+
+impl Write for Full {
+    fn write(&mut self, _bytes: &[u8]) -> io::Result<usize> {
+        Ok(0)
+    }
+
+    fn flush(&mut self) -> io::Result<()> {
+        Ok(())
+    }
+}
+
+/// Fails at every read.
+#[derive(Drop)]
+struct Torn;
+
+impl Read for Torn {
+    fn read(&mut self, _room: &mut [u8]) -> io::Result<usize> {
+        Err(io::Error::from(ErrorKind::BrokenPipe))
+    }
+}
+
+fn prints(rt: &(impl Abort + AllocGlobal), votes: Votes, text: &str) -> Result<(), Fail> {
+    let printed = format!(in rt.alloc(); "{votes}")?;
+    assert_eq!(rt; printed.as_str(), text);
+    let mut page = Vec::new(rt.alloc());
+    votes.write(&mut Counted::new(&mut page))?;
+    assert_eq!(rt; page.as_slice(), text.as_bytes());
+    Ok(())
+}
+
+#[test]
+fn values_and_their_text(rt: HostRuntime) -> Result<(), Fail> {
+    prints(&rt, quota(4999500, 1), "2499751.00000")?;
+    prints(&rt, quota(4999500, 15), "312469.00000")?;
+    prints(&rt, quota(0, 15), "1.00000")?;
+    let surplus = Votes::from_units(250000);
+    let credited = Votes::from_units(650000);
+    prints(
+        &rt,
+        transfer_value(surplus, Votes::from_units(100000), credited),
+        "0.38461",
+    )?;
+    prints(
+        &rt,
+        transfer_value(surplus, Votes::from_units(50000), credited),
+        "0.19230",
+    )?;
+    prints(&rt, Votes::from_units(0), "0.00000")?;
+    assert_eq!(&rt; quota(9, 2).units(), 400000);
+    Ok(())
+}
+
+#[test]
+fn text_goes_out_in_pieces(rt: HostRuntime) -> Result<(), Fail> {
+    let mut narrow = Narrow {
+        page: Vec::new(rt.alloc()),
+        room: 13,
+    };
+    let mut sink = Counted::new(&mut narrow);
+    assert!(&rt; quota(4999500, 1).write(&mut sink).is_ok());
+    assert_eq!(&rt; sink.failures(), 0);
+    assert_eq!(&rt; narrow.page.as_slice(), b"2499751.00000".as_slice());
+    Ok(())
+}
+
+#[test]
+fn a_sink_that_fails_keeps_a_beginning(rt: HostRuntime) -> Result<(), Fail> {
+    for room in 0..13usize {
+        let mut narrow = Narrow {
+            page: Vec::new(rt.alloc()),
+            room,
+        };
+        let mut sink = Counted::new(&mut narrow);
+        assert!(&rt; quota(4999500, 1).write(&mut sink).is_err(), "room {room}");
+        assert_eq!(&rt; sink.failures(), 1, "room {room}");
+        assert!(&rt;
+            b"2499751.00000".starts_with(narrow.page.as_slice()),
+            "room {room}"
+        );
+    }
+    Ok(())
+}
+
+#[test]
+fn a_sink_that_takes_nothing_is_broken(rt: HostRuntime) {
+    let mut sink = Counted::new(Full);
+    assert!(&rt; put_all(&mut sink, b"").is_ok());
+    assert_eq!(&rt; sink.failures(), 0);
+    assert!(&rt; put_all(&mut sink, b"x").is_err());
+    assert_eq!(&rt; sink.failures(), 1);
+}
+
+#[test]
+fn a_source_gives_what_it_holds(rt: HostRuntime) {
+    let mut source = Counted::new(b"ballot".as_slice());
+    let mut room = [0; 4];
+    assert_eq!(&rt; source.fetch(&mut room), Ok(4));
+    assert_eq!(&rt; room.as_slice(), b"ball".as_slice());
+    assert_eq!(&rt; source.fetch(&mut room), Ok(2));
+    assert_eq!(&rt; room.as_slice(), b"otll".as_slice());
+    assert_eq!(&rt; source.fetch(&mut room), Ok(0));
+    assert_eq!(&rt; source.failures(), 0);
+    let mut torn = Counted::new(Torn);
+    assert!(&rt; torn.fetch(&mut room).is_err());
+    assert_eq!(&rt; torn.failures(), 1);
+}

@@ -1,0 +1,122 @@
+//! Votes in units, the quota, the transfer value, and the text of votes.
+
+ghost use Rattle.std.specs.Prelude.{◌≡◌, ℕ, ◌+◌, ◌-◌, ◌*◌, ◌^◌, ◌<◌, ◌≤◌, OnOk, OnErr, Some};
+ghost use Rattle.std.specs.Io.KnownBytes.{Appends};
+ghost use Rattle.votes.specs.Streams.{AppendsBeginning};
+ghost use Rattle.votes.specs.Units.{IsQuota, quota_of, IsCut, cut, GivesWithin};
+ghost use Rattle.votes.specs.Text.{votes_text, fraction_text};
+
+use crate::streams::{Broken, Sink, put_all};
+use itoa::Buffer;
+use std::fmt;
+use std::marker::Model;
+
+/// A number of votes, in units: one vote is 100000 of them.
+#[derive(Clone, Copy, Debug, PartialEq, Eq, PartialOrd, Ord)]
+pub struct Votes(u64);
+
+impl Model for Votes {
+    ghost Value = { ℕ };
+
+    ghost view = { λ a. a.0 };
+
+    ghost inverse = { λ n. record { 0 = n } };
+}
+
+impl Votes {
+    /// The votes of so many units.
+    pub fn from_units(units: u64) -> Votes
+        ensures { result ≡ units }
+    {
+        Votes(units)
+    }
+
+    /// How many units these votes are.
+    pub fn units(self) -> u64
+        ensures { result ≡ self }
+    {
+        self.0
+    }
+
+    /// Writes the whole votes without leading zeros, a point, and five digits.
+    ///
+    /// Takes no memory. `Broken` comes only from the sink, which has then taken a beginning of the
+    /// text and counts one failure more.
+    #[tactic(auto, using(crate::proofs::Beginnings::beginnings))]
+    pub fn write<W: Sink>(self, sink: &mut W) -> Result<(), Broken>
+        requires { W.failed sink.old < 2 ^ 64 - 1 }
+        ensures written { OnOk result (Appends (W.taken sink.old) (W.taken sink.new) (votes_text self)) }
+        ensures ok { OnOk result (W.failed sink.new ≡ W.failed sink.old) }
+        ensures cut_off { OnErr result (AppendsBeginning (W.taken sink.old) (W.taken sink.new) (votes_text self)) }
+        ensures err { OnErr result (W.failed sink.new ≡ W.failed sink.old + 1) }
+    {
+        let mut buffer = Buffer::new();
+        put_all(sink, buffer.format(self.0 / 100000).as_bytes())?;
+        put_all(sink, &fraction(self.0))?;
+        Ok(())
+    }
+}
+
+/// The point and the five digits of so many units.
+fn fraction(units: u64) -> [u8; 6]
+    ensures { result ≡ fraction_text units }
+{
+    [
+        b'.',
+        b'0' + (units / 10000 % 10) as u8,
+        b'0' + (units / 1000 % 10) as u8,
+        b'0' + (units / 100 % 10) as u8,
+        b'0' + (units / 10 % 10) as u8,
+        b'0' + (units % 10) as u8,
+    ]
+}
+
+impl fmt::Display for Votes {
+    ghost output = { λ v. Some (votes_text v) };
+
+    fn fmt<W: fmt::Write>(&self, f: &mut fmt::Formatter<W>) -> fmt::Result {
+        let whole = self.0 / 100000;
+        let tenths = self.0 / 10000 % 10;
+        let hundredths = self.0 / 1000 % 10;
+        let thousandths = self.0 / 100 % 10;
+        let ten_thousandths = self.0 / 10 % 10;
+        let hundred_thousandths = self.0 % 10;
+        write!(
+            f,
+            "{whole}.{tenths}{hundredths}{thousandths}{ten_thousandths}{hundred_thousandths}"
+        )
+    }
+}
+
+/// The quota ("Quota"): the least whole number of votes that no more candidates than there are
+/// seats can all reach.
+///
+/// `valid` is the number of valid ballot papers, at most 4999500, and `seats` is 1 to 15.
+pub fn quota(valid: u32, seats: u8) -> Votes
+    requires few { valid ≤ 4999500 }
+    requires some_seats { 1 ≤ seats }
+    requires few_seats { seats ≤ 15 }
+    ensures least { IsQuota valid seats result }
+    ensures is { result ≡ quota_of valid seats }
+{
+    let whole = u64::from(valid) / (u64::from(seats) + 1) + 1;
+    Votes(whole * 100000)
+}
+
+/// What a paper is worth after the surplus that takes it ("Transfer values"): its value when it was
+/// received, by the surplus, over the votes credited to its holder, cut down to whole units.
+///
+/// `received` is at most one vote, `credited` at most 4999500 votes, and `surplus` a part of
+/// `credited` that is neither nothing nor all of it.
+pub fn transfer_value(surplus: Votes, received: Votes, credited: Votes) -> Votes
+    requires some { 0 < surplus }
+    requires part { surplus < credited }
+    requires few { credited ≤ 499950000000 }
+    requires one { received ≤ 100000 }
+    ensures greatest { IsCut surplus received credited result }
+    ensures is { result ≡ cut surplus received credited }
+    // cutting makes no votes
+    ensures within { GivesWithin surplus credited }
+{
+    Votes(surplus.0 * received.0 / credited.0)
+}
