@@ -1,0 +1,5 @@
+pub mod ListLemmas
+pub mod PlaceLemmas
+pub mod KeyedLemmas
+pub mod InsertLemmas
+pub mod Inserts
