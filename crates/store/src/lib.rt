@@ -15,6 +15,6 @@ pub mod tables;
 pub mod cells;
 // pub mod presence;
 // pub mod making;
-// pub mod insertion;
+pub mod insertion;
 // pub mod reading;
 // pub mod rowids;
