@@ -5,3 +5,6 @@ pub mod InsertLemmas
 pub mod Inserts
 pub mod TableLemmas
 pub mod ContentsLemmas
+pub mod QueryLemmas
+pub mod SelectLemmas
+pub mod Queries
