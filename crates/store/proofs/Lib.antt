@@ -8,3 +8,6 @@ pub mod ContentsLemmas
 pub mod QueryLemmas
 pub mod SelectLemmas
 pub mod Queries
+pub mod ReadLemmas
+pub mod ListingLemmas
+pub mod RowidLemmas

@@ -1,7 +1,8 @@
 -- Elements of mapped, permuted and filtered lists.
-use Rattle.std.proofs.Common.{◌≡◌, inl, inr, ℕ, zero, suc, ◌+◌, ◌<◌, ◌≤◌, List, [], ◌∷◌, ◌++◌, map, filter, length, get_or, slice_get, Some, Bool, true, false, refl, sym, ap, subst, ◌∙◌, arith}
+use Rattle.std.proofs.Common.{◌≡◌, inl, inr, ℕ, zero, suc, ◌+◌, ◌<◌, ◌≤◌, List, [], ◌∷◌, ◌++◌, map, filter, length, get_or, slice_get, Some, Bool, true, false, refl, sym, ap, subst, ◌∙◌, arith, Ordering}
 use Rattle.std.specs.List.{AllByRecursion, list_all}
-use Rattle.std.specs.List.Sorted.{IsPermutation}
+use Rattle.std.specs.Ordering.{is_lt}
+use Rattle.std.specs.List.Sorted.{IsPermutation, IsSorted}
 use Rattle.std.proofs.lemmas.List.Sorted.{IsPermutation-sym}
 use Rattle.sqlite_trees.proofs.ListLemmas.{along_permutation}
 use Rattle.sqlite_rules.specs.Lists.{Has}
@@ -51,3 +52,25 @@ pub get_mapped : {A X : Type 0} (f : A → X) (xs : List A) (k : ℕ) (d : X) (a
 get_mapped f [] k d a h = absurd (omega (arith, h))
 get_mapped f (x ∷ xs) zero d a h = refl
 get_mapped f (x ∷ xs) (suc k) d a h = get_mapped f xs k d a (omega (arith, h))
+
+-- what is sorted by one image is sorted by another that compares alike
+pub sorted_mapped : {A B X : Type 0} (f : A → B) (g : A → X) (first : B → B → Ordering) (second : X → X → Ordering) → ((a b : A) → first (f a) (f b) ≡ second (g a) (g b))
+    → (xs : List A) → IsSorted first (map f xs) → IsSorted second (map g xs)
+sorted_mapped f g first second alike [] sorted k d low below = absurd (omega (arith, below))
+sorted_mapped f g first second alike (x ∷ xs) sorted k d low below =
+    let all = x ∷ xs in
+    let near : k + 1 < length all = omega (arith, below, mapped_length g all) in
+    let here : k < length all = omega (arith, near) in
+    rw (get_mapped g all (k + 1) d x near, get_mapped g all k d x here)
+      (ap is_lt (sym (alike (get_or all (k + 1) x) (get_or all k x)))
+      ∙ rw (get_mapped f all (k + 1) (f x) x near, get_mapped f all k (f x) x here) at (sorted k (f x) low (omega (arith, near, mapped_length f all))))
+
+pub permuted_has : {X : Type 0} (x : X) (xs ys : List X) → IsPermutation xs ys → Has xs x → Has ys x
+permuted_has x = along_permutation (λ xs ys. Has xs x → Has ys x) (λ xs h. h)
+    (λ y xs ys f h. elim h [ inl same ↦ inl same | inr later ↦ inr (f later) ])
+    (λ y z xs h. elim h [ inl first ↦ inr (inl first) | inr more ↦ elim more [ inl second ↦ inl second | inr later ↦ inr (inr later) ] ])
+    (λ xs ys zs f g h. g (f h))
+
+-- what all elements pass, those of a permutation pass
+pub permuted_all : {X : Type 0} (p : X → Bool) (xs ys : List X) → IsPermutation xs ys → list_all p xs ≡ true → list_all p ys ≡ true
+permuted_all p xs ys same all = test_from p ys (λ y h. test_has p xs y all (permuted_has y ys xs (IsPermutation-sym xs ys same) h))

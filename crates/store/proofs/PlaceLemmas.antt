@@ -51,3 +51,13 @@ typed_at cs r h = pads (length cs) r ∙ padded_itself (length cs) r (typed_leng
 
 pub at_twice : (n : ℕ) (r : Row) → at (places_from 0 n) (at (places_from 0 n) r) ≡ at (places_from 0 n) r
 at_twice n r = pads n (at (places_from 0 n) r) ∙ ap (padded n) (pads n r) ∙ padded_twice n r ∙ sym (pads n r)
+
+padded_front : (m n : ℕ) (r : Row) → m ≤ n → padded m (padded n r) ≡ padded m r
+padded_front zero n r low = refl
+padded_front (suc m) zero r low = absurd (omega (arith, low))
+padded_front (suc m) (suc n) [] low = ap (λ l. Null ∷ l) (padded_front m n [] (omega (arith, low)))
+padded_front (suc m) (suc n) (v ∷ vs) low = ap (λ l. v ∷ l) (padded_front m n vs (omega (arith, low)))
+
+-- the first places of what more of the first places show
+pub at_front : (m n : ℕ) (r : Row) → m ≤ n → at (places_from 0 m) (at (places_from 0 n) r) ≡ at (places_from 0 m) r
+at_front m n r low = pads m (at (places_from 0 n) r) ∙ ap (padded m) (pads n r) ∙ padded_front m n r low ∙ sym (pads m r)

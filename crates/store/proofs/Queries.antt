@@ -13,7 +13,8 @@ use Rattle.store.specs.declared.tables.Table.{Table}
 use Rattle.store.specs.declared.tables.Table.TheVariants.{Office, Ward, Candidate, Batch, Keying, Verdict, Lot, Receipt}
 use Rattle.store.specs.Texts.{rows_text, row_text, rowids_text}
 use Rattle.store.specs.Schema.{Definition, schema_from, place_of, tree_of, shape}
-use Rattle.store.proofs.QueryLemmas.{is_query_text}
+use Rattle.store.specs.Reading.{is_query_text, IsQuery}
+use Rattle.store.proofs.QueryLemmas.{query_text}
 use Rattle.store.proofs.SelectLemmas.{IsSelect, columns_from, ordered_from, tests_from}
 
 -- the texts of a table's reads are queries
@@ -63,6 +64,15 @@ are_queries Keying = keying_queries
 are_queries Verdict = verdict_queries
 are_queries Lot = lot_queries
 are_queries Receipt = receipt_queries
+
+pub rows_query : (t : Table) → IsQuery (rows_text t)
+rows_query t = query_text (rows_text t) (are_queries t).rows
+
+pub row_query : (t : Table) → IsQuery (row_text t)
+row_query t = query_text (row_text t) (are_queries t).row
+
+pub rowids_query : (t : Table) → IsQuery (rowids_text t)
+rowids_query t = query_text (rowids_text t) (are_queries t).rowids
 
 abbrev names_of : Table → List (List ℕ)
 names_of t = map (λ (c : Column). c.name) (shape t).columns

@@ -12,19 +12,8 @@ use Rattle.sqlite_resolve.specs.declared.error.CompileError.TheVariants.{NoSuchT
 use Rattle.sqlite_resolve.specs.Lowering.{Checked, and_then}
 use Rattle.sqlite_resolve.specs.Compile.{first, compiled, planned, meaning, returning, command, with_command, timed, small}
 use Rattle.sqlite.specs.Schema.{Schema}
+use Rattle.store.specs.Reading.{is_query, is_query_text, IsQuery}
 use Rattle.sqlite.specs.Listing.{understood, reads_listing, if_select, is_select, listing_schema}
-
-abbrev pub is_query : Statement → Bool
-is_query (written.Select s) = true
-is_query _ = false
-
-abbrev pub is_query_text : Checked Parsed → Bool
-is_query_text (Ok p) = is_query p.statement
-is_query_text (Err e) = false
-
--- whatever the schema, it returns no rows of a write
-abbrev pub IsQuery : List ℕ → Type 0
-IsQuery sql = (s : Schema) (c : Compiled) → understood s sql ≡ Ok c → c.returning ≡ None
 
 none_shown : (s : Schema) (base : ℕ) (st : Statement) → is_query st ≡ true → returning s base st ≡ Ok None
 unfolding returning

@@ -13,8 +13,8 @@
 pub mod fault;
 pub mod tables;
 pub mod cells;
-// pub mod presence;
+pub mod presence;
 // pub mod making;
 pub mod insertion;
-// pub mod reading;
-// pub mod rowids;
+pub mod reading;
+pub mod rowids;

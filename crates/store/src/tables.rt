@@ -16,6 +16,20 @@ pub enum Table {
     Receipt,
 }
 
+impl Table {
+    /// All tables, in the order of making.
+    pub const ALL: [Table; 8] = [
+        Table::Office,
+        Table::Ward,
+        Table::Candidate,
+        Table::Batch,
+        Table::Keying,
+        Table::Verdict,
+        Table::Lot,
+        Table::Receipt,
+    ];
+}
+
 /// The text that makes the table.
 pub fn create_text(table: Table) -> &'static str
     ensures { result.now ≡ create_text table }
