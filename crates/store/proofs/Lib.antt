@@ -1,0 +1,13 @@
+pub mod ListLemmas
+pub mod PlaceLemmas
+pub mod KeyedLemmas
+pub mod InsertLemmas
+pub mod Inserts
+pub mod TableLemmas
+pub mod ContentsLemmas
+pub mod QueryLemmas
+pub mod SelectLemmas
+pub mod Queries
+pub mod ReadLemmas
+pub mod ListingLemmas
+pub mod RowidLemmas
