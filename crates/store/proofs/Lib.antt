@@ -11,3 +11,4 @@ pub mod Queries
 pub mod ReadLemmas
 pub mod ListingLemmas
 pub mod RowidLemmas
+pub mod MakeLemmas
