@@ -11,3 +11,8 @@ pub mod Queries
 pub mod ReadLemmas
 pub mod ListingLemmas
 pub mod RowidLemmas
+pub mod MakeLemmas
+pub mod SameLemmas
+pub mod StopLemmas
+pub mod OrderLemmas
+pub mod EntryLemmas

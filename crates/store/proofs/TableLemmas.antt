@@ -22,6 +22,17 @@ place_itself Receipt = refl
 pub same_place : (t u : Table) → place_of t ≡ place_of u → t ≡ u
 same_place t u same = sym (place_itself t) ∙ ap (λ n. get_or all_tables n Office) same ∙ place_itself u
 
+pub place_there : (n : ℕ) → n < 8 → place_of (get_or all_tables n Office) ≡ n
+place_there zero low = refl
+place_there (suc zero) low = refl
+place_there (suc (suc zero)) low = refl
+place_there (suc (suc (suc zero))) low = refl
+place_there (suc (suc (suc (suc zero)))) low = refl
+place_there (suc (suc (suc (suc (suc zero))))) low = refl
+place_there (suc (suc (suc (suc (suc (suc zero)))))) low = refl
+place_there (suc (suc (suc (suc (suc (suc (suc zero))))))) low = refl
+place_there (suc (suc (suc (suc (suc (suc (suc (suc n)))))))) low = absurd (omega (arith, low))
+
 pub place_below : (t : Table) → place_of t < 8
 place_below Office = omega arith
 place_below Ward = omega arith

@@ -14,7 +14,7 @@ pub mod fault;
 pub mod tables;
 pub mod cells;
 pub mod presence;
-// pub mod making;
+pub mod making;
 pub mod insertion;
 pub mod reading;
 pub mod rowids;

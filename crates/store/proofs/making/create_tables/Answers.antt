@@ -1,0 +1,18 @@
+use Rattle.std.proofs.Common.{◌≡◌, ◌+◌, ℕ, sym, subst, arith, rules}
+use Rattle.sqlite.specs.Held.{state}
+use Rattle.store.specs.Making.{SeesMade}
+use Rattle.store.proofs.TableLemmas.{place_there}
+use Rattle.store.proofs.making.create_tables.Goals as goal
+
+pub loop-table-preserved : goal.loop-table-preserved
+loop-table-preserved g c =
+    let inv = c.loop-table.invariant in
+    let place = place_there c.loop-table.table-index c.loop-table-test.true in
+    let low = c.create_table.ensures.survives.clean in
+    record {
+      same_reference = search rules;
+      makes = λ clean start. subst (λ (n : ℕ). SeesMade (n + 1) (state g.S.Store c.create_table.new.tx.conn.now)) place
+        (c.in_ok-create_table.ensures.makes clean (subst (λ (n : ℕ). SeesMade n (state g.S.Store c.loop-table.tx.conn.now)) (sym place) (inv.makes (omega (arith, low, clean)) start)));
+      keeps = search rules;
+      survives = search rules;
+    }
