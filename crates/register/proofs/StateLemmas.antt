@@ -86,6 +86,12 @@ line_reply k t low line =
     let short = line.short in
     and_from _ _ (is_utf8-from_IsUtf8 t (IsUtf8-from_ascii t line.ascii)) (and_from _ _ (le-leb (length t) 200 (omega (arith, short, low))) line.plain)
 
+ward_written : (n : ℕ) → is_ward_number n ≡ true → is_utf8 (codes "ward " ++ decimal n) ≡ true
+ward_written n h =
+    let most = leb-true n 99 (and_parts _ _ h).1 in
+    let front : IsAscii (codes "ward ") = search rules in
+    is_utf8-from_IsUtf8 _ (IsUtf8-from_ascii _ (IsAscii-append (codes "ward ") (decimal n) front (IsAscii-decimal n (omega (arith, most)))))
+
 ward_reply : (n : ℕ) → is_ward_number n ≡ true → is_reply (codes "ward " ++ decimal n ++ codes " added") ≡ true
 ward_reply n h =
     let most = leb-true n 99 (and_parts _ _ h).1 in
@@ -140,9 +146,9 @@ wards_stay s w good begun none is = record {
 or_first : (a b : Bool) → a ≡ true → (a || b) ≡ true
 or_first a b h = rw h refl
 
-office_receipt : (r : ReceiptEntry) → (r.actor == 0) ≡ true → is_office_subject r.subject ≡ true → is_id r.id ≡ true → is_reply r.reply ≡ true → is_receipt r ≡ true
+office_receipt : (r : ReceiptEntry) → (r.actor == 0) ≡ true → is_office_subject r.subject ≡ true → is_utf8 r.subject ≡ true → is_id r.id ≡ true → is_reply r.reply ≡ true → is_receipt r ≡ true
 unfolding is_receipt
-office_receipt r office subject id reply = and_from _ _ (or_first _ _ (and_from _ _ office subject)) (and_from _ _ id reply)
+office_receipt r office subject written id reply = and_from _ _ (or_first _ _ (and_from _ _ office subject)) (and_from _ _ written (and_from _ _ id reply))
 
 -- ---- each command
 
@@ -159,7 +165,7 @@ ward_added s actor ward seats id name is id_good new = go (is_in_range actor (Ad
     go true a true b None c =
         let parts = and_parts _ _ a in
         let numbers = and_parts _ _ parts.1 in
-        receipts_stay (effect_of (AddWard ward seats name) s) _ (office_receipt _ parts.0 (ward_subject ward numbers.0) id_good (ward_reply ward numbers.0)) new
+        receipts_stay (effect_of (AddWard ward seats name) s) _ (office_receipt _ parts.0 (ward_subject ward numbers.0) (ward_written ward numbers.0) id_good (ward_reply ward numbers.0)) new
         (wards_stay s _ (and_from _ _ numbers.0 (and_from _ _ numbers.1 b)) refl c is)
 
 accepted_stays : (s : OfficeState) (actor : ℕ) (id : List ℕ) (command : Command) → IsState s → is_id id ≡ true → receipt_at s actor id ≡ None

@@ -5,7 +5,7 @@ use Rattle.std.specs.List.Sorted.{IsStrictlySortedBy}
 use Rattle.std.specs.declared.cmp.Ordering.{Ordering}
 use Rattle.std.specs.Ordering.{nat_cmp, on, then_cmp, is_lt}
 use Rattle.std.specs.Cmp.Lexicographic.{slice_cmp}
-use Rattle.std.specs.Str.{bytes_eq}
+use Rattle.std.specs.Str.{bytes_eq, is_utf8}
 use Rattle.register.specs.declared.ward.Phase.{Phase}
 use Rattle.register.specs.declared.ward.Phase.TheVariants.{Nominations}
 use Rattle.register.specs.declared.ward.Ward.{Ward}
@@ -75,7 +75,7 @@ is_ward w = is_ward_number w.number && (is_seat_number w.seats && is_name w.name
 unfoldable pub is_receipt : ReceiptEntry → Bool
 is_receipt r =
     (((r.actor == 0) && is_office_subject r.subject) || (is_between 1 999 r.actor && is_clerk_subject r.subject))
-    && (is_id r.id && is_reply r.reply)
+    && (is_utf8 r.subject && (is_id r.id && is_reply r.reply))
 
 -- no command moves a ward past its nominations yet
 unfoldable pub is_begun : WardEntry → Bool

@@ -65,7 +65,7 @@ pub adds : (rest : List Definition) (others : List Index) (views : List View) �
 adds rest others views free t params kinds old new count has h =
     let it = inserts_row rest others views t in
     inserts (places_from 1 (shape t).key) (shape t).name (tree_of t) (shape t).columns (shape t).checks (schema_from 8 rest others views) (it.alone free) (place_of t) it.place (insert_text t) (inserted t) (width_of t) it.is it.plain
-      params params (it.shows params ∙ ap (λ r. (Null ∷ r) ∷ []) (rw append-nil (typed_at (shape t).columns params kinds))) kinds old new count has h
+    params params (it.shows params ∙ ap (λ r. (Null ∷ r) ∷ []) (rw append-nil (typed_at (shape t).columns params kinds))) kinds old new count has h
 
 -- it adds the row
 pub row_added : (t : Table) (params : Row) → is_row_of t params ≡ true → (old new : State) (r : Result ℕ Error) → (IsTrue old.in_transaction → ExecutesInside 0 (insert_text t) params old new r)
@@ -81,7 +81,7 @@ row_added t params kinds old new (Ok count) runs c sees =
         begins = record { rest = s.rest; others = s.others; views = s.views; free = s.free; is = change.is };
         sound = change.sound;
         holds = holds_changed t (λ rows. params ∷ rows) old.now.trees new.now.trees
-          (λ rows was. record { same = IsPermutation-trans _ _ _ (IsPermutation-cons params _ _ was.same) change.row; keyed = change.keyed was.keyed; typed = and_from _ _ kinds was.typed })
-          (others_of s.rest s.others s.views t old.now.trees new.now.trees change.others) c sees.office.holds;
+            (λ rows was. record { same = IsPermutation-trans _ _ _ (IsPermutation-cons params _ _ was.same) change.row; keyed = change.keyed was.keyed; typed = and_from _ _ kinds was.typed })
+            (others_of s.rest s.others s.views t old.now.trees new.now.trees change.others) c sees.office.holds;
       };
     }

@@ -16,3 +16,4 @@ pub mod SameLemmas
 pub mod StopLemmas
 pub mod OrderLemmas
 pub mod EntryLemmas
+pub mod FitLemmas

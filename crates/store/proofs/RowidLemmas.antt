@@ -53,9 +53,9 @@ pub rise_more : (rows : List Row) (i : ℕ) (m n : ℤ) → 0 < i → rowid (get
 rise_more rows i m n some first second less before k low = elim (cases_lt (k + 1) i) [
   | inl earlier ↦ before k earlier
   | inr past ↦
-    let same : i ≡ k + 1 = omega (arith, low, past) in
-    let back : i - 1 ≡ k = omega (arith, same) in
-    rw (subst (λ j. rowid (get_or rows j []) ≡ Int m) back first, subst (λ j. rowid (get_or rows j []) ≡ Int n) same second) (value_cmp-Int m n ∙ lower m n less)
+      let same : i ≡ k + 1 = omega (arith, low, past) in
+      let back : i - 1 ≡ k = omega (arith, same) in
+      rw (subst (λ j. rowid (get_or rows j []) ≡ Int m) back first, subst (λ j. rowid (get_or rows j []) ≡ Int n) same second) (value_cmp-Int m n ∙ lower m n less)
 ]
   where
     lower : (a b : ℤ) → a <ℤ b → int_cmp a b ≡ Less
@@ -99,15 +99,15 @@ keyed_from t db rows lists rise =
     let ordered = lists.ordered in
     let len : length rows ≡ length ordered = ap length lists.shown ∙ mapped_length alone ordered in
     let up = rising ordered (λ k h.
-      let next : k + 1 < length rows = omega (arith, h, len) in
-      let here : k < length rows = omega (arith, next) in
-      rw (sym (shown_at ordered rows lists.shown k here).1, sym (shown_at ordered rows lists.shown (k + 1) next).1) (rise.rise k next)) in
+    let next : k + 1 < length rows = omega (arith, h, len) in
+    let here : k < length rows = omega (arith, next) in
+    rw (sym (shown_at ordered rows lists.shown k here).1, sym (shown_at ordered rows lists.shown (k + 1) next).1) (rise.rise k next)) in
     record {
       ints = λ r h. each (map rowid ordered) (λ k low.
           let here : k < length rows = let n = mapped_length rowid ordered in omega (arith, low, n, len) in
           let there : k < length ordered = omega (arith, here, len) in
           rw (get_mapped rowid ordered k Null [] there, sym (shown_at ordered rows lists.shown k here).1) (rise.ints k here))
-        (rowid r) (mapped_has rowid ordered r (permuted_has r (db.trees (tree_of t)) ordered lists.same h));
+          (rowid r) (mapped_has rowid ordered r (permuted_has r (db.trees (tree_of t)) ordered lists.same h));
       once = λ a b h k. once_each ordered up a b (permuted_has a (db.trees (tree_of t)) ordered lists.same h) (permuted_has b (db.trees (tree_of t)) ordered lists.same k);
     }
   where

@@ -6,3 +6,6 @@ pub mod Contents
 pub mod Making
 pub mod Reading
 pub mod Presence
+pub mod Offices
+pub mod Entries
+pub mod Openings

@@ -10,11 +10,12 @@
 //! ```
 #![tactic(auto)]
 
-pub mod fault;
-pub mod tables;
 pub mod cells;
-pub mod presence;
-pub mod making;
+pub mod entries;
+pub mod fault;
 pub mod insertion;
+pub mod making;
+pub mod presence;
 pub mod reading;
 pub mod rowids;
+pub mod tables;

@@ -12,7 +12,7 @@ loop-table-preserved g c =
     record {
       same_reference = search rules;
       makes = λ clean start. subst (λ (n : ℕ). SeesMade (n + 1) (state g.S.Store c.create_table.new.tx.conn.now)) place
-        (c.in_ok-create_table.ensures.makes clean (subst (λ (n : ℕ). SeesMade n (state g.S.Store c.loop-table.tx.conn.now)) (sym place) (inv.makes (omega (arith, low, clean)) start)));
+          (c.in_ok-create_table.ensures.makes clean (subst (λ (n : ℕ). SeesMade n (state g.S.Store c.loop-table.tx.conn.now)) (sym place) (inv.makes (omega (arith, low, clean)) start)));
       keeps = search rules;
       survives = search rules;
     }
