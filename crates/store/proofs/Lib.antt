@@ -17,3 +17,6 @@ pub mod StopLemmas
 pub mod OrderLemmas
 pub mod EntryLemmas
 pub mod FitLemmas
+pub mod WriteLemmas
+pub mod KeepLemmas
+pub mod FindLemmas

@@ -5,8 +5,10 @@ use Rattle.sqlite.specs.Order.{Row}
 use Rattle.sqlite.specs.Tree.{Trees}
 use Rattle.sqlite.specs.Effect.{Database}
 use Rattle.sqlite.specs.State.{State}
+use Rattle.register.specs.declared.decision.Change.{Change}
 use Rattle.register.specs.Phases.{phase_number}
 use Rattle.register.specs.Offices.{WardEntry, ReceiptEntry, OfficeState, IsState}
+use Rattle.register.specs.Views.{with_change}
 use Rattle.rowcheck.specs.declared.rows.WardRow.{WardRow}
 use Rattle.store.specs.declared.tables.Table.{Table}
 use Rattle.store.specs.declared.tables.Table.TheVariants.{Office, Ward, Candidate, Batch, Keying, Verdict, Lot, Receipt}
@@ -45,6 +47,12 @@ tables_of s Keying = []
 tables_of s Verdict = []
 tables_of s Lot = []
 tables_of s Receipt = map row_of_receipt s.receipts
+
+-- contents that are the tables of a state, and those that a change makes of them
+pub record ChangesTo (change : Change) (before after : Contents) : Type 0 where
+  pub old : OfficeState
+  pub from : before ≡ tables_of old
+  pub to : after ≡ tables_of (with_change change old)
 
 -- the database holds exactly the tables of this state
 pub record HoldsState (db : Database) (s : OfficeState) : Type 0 where

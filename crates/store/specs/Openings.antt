@@ -1,11 +1,13 @@
 -- What an opening finds.
-use Rattle.std.specs.Prelude.{◌≡◌, ◌⊎◌, ◌<◌, ℕ, ℤ, pos, ◌<ℤ◌, false, List, [], ◌∷◌, ⊤}
+use Rattle.std.specs.Prelude.{◌≡◌, ◌⊎◌, ◌<◌, ℕ, ℤ, pos, ◌<ℤ◌, false, List, [], ◌∷◌, ⊤, IsTrue}
 use Rattle.sqlite.specs.declared.types.Value.TheVariants.{Int}
-use Rattle.sqlite.specs.Effect.{Database}
+use Rattle.sqlite.specs.Effect.{Database, IsDatabase}
+use Rattle.sqlite.specs.State.{State}
 use Rattle.register.specs.Offices.{OfficeState}
 use Rattle.store.specs.declared.fault.Fault.{Fault}
 use Rattle.store.specs.declared.fault.Fault.TheVariants.{Memory, Store, Damaged, Closed, WrongDatabase, NewerSchema}
 use Rattle.store.specs.declared.tables.Table.TheVariants.{Office}
+use Rattle.store.specs.Schema.{no_schema}
 use Rattle.store.specs.Rows.{tuples}
 use Rattle.store.specs.Presence.{has_table}
 use Rattle.store.specs.Offices.{HoldsState}
@@ -36,3 +38,11 @@ IsToldBy db Damaged = IsDamaged db
 IsToldBy db Closed = ⊥
 IsToldBy db WrongDatabase = HasNoOffice db
 IsToldBy db NewerSchema = IsNewer db
+
+-- an open connection, outside a transaction, to a database with nothing in it
+pub record IsBlank (st : State) : Type 0 where
+  pub is_open : IsTrue st.is_open
+  pub outside : st.in_transaction ≡ false
+  pub settled : st.now ≡ st.committed
+  pub schema : st.now.schema ≡ no_schema
+  pub sound : IsDatabase st.now

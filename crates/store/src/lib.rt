@@ -12,6 +12,9 @@
 
 pub mod cells;
 pub mod entries;
+mod writing;
+pub mod storage;
+mod views;
 pub mod fault;
 pub mod insertion;
 pub mod making;

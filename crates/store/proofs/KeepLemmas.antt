@@ -1,0 +1,43 @@
+-- A store that keeps a state.
+use Rattle.std.proofs.Common.{◌≡◌, ◌⊎◌, inl, inr, IsTrue, refl, sym, subst, Result, Ok, Err, OnOk}
+use Rattle.sqlite.specs.Tree.{Trees}
+use Rattle.sqlite.specs.State.{State, HasCleanDisk, Survives}
+use Rattle.register.specs.declared.decision.Change.{Change}
+use Rattle.register.specs.Offices.{OfficeState, IsState}
+use Rattle.register.specs.Views.{with_change}
+use Rattle.store.specs.Contents.{Contents, Stores, Rests}
+use Rattle.store.specs.Reading.{OnlyReads}
+use Rattle.store.specs.Offices.{tables_of, ChangesTo, IsAt, LeavesState}
+use Rattle.store.proofs.StopLemmas.{rests_leaves}
+use Rattle.store.proofs.ReadLemmas.{rests_read}
+
+-- a connection that rests at the tables of a state keeps that state
+pub rests_is_at : (s : OfficeState) (st : State) → ((trees : Trees) → IsTrue st.is_open → st.may_leave trees → trees ≡ st.committed.trees) → IsState s → Rests (tables_of s) st → IsAt s st
+rests_is_at s st settled is rests = record {
+  is = is;
+  rests = λ _. rests;
+  leaves = λ trees may. let it = rests_leaves (tables_of s) st settled rests trees may in (s, refl, subst (λ (c : Contents). Stores c trees) it.1 it.2);
+}
+
+pub if_rests_is_at : {X E : Type 0} (r : Result X E) (s : OfficeState) (st : State) → ((trees : Trees) → IsTrue st.is_open → st.may_leave trees → trees ≡ st.committed.trees) → IsState s → OnOk r (Rests (tables_of s) st) → OnOk r (IsAt s st)
+if_rests_is_at (Ok x) s st settled is rests = rests_is_at s st settled is rests
+if_rests_is_at (Err e) s st settled is rests = tt
+
+-- a read keeps the state
+pub is_at_read : (s : OfficeState) (old new : State) → OnlyReads old new → HasCleanDisk new → IsAt s old → IsAt s new
+is_at_read s old new reads honest at = record {
+  is = at.is;
+  rests = λ is_open. rests_read (tables_of s) old new reads honest is_open (at.rests (reads.was_open honest is_open));
+  leaves = λ trees may. at.leaves trees (reads.leaves honest trees may);
+}
+
+-- what a change makes of the tables
+pub changes_to : (change : Change) (s : OfficeState) → ChangesTo change (tables_of s) (tables_of (with_change change s))
+changes_to change s = record { old = s; from = refl; to = refl }
+
+-- a stop in a change leaves the old tables or the new ones
+pub change_leaves : (change : Change) (s : OfficeState) (old new : State) → HasCleanDisk new → IsAt s old → Survives old new (Stores (tables_of (with_change change s))) → LeavesState new (λ x. (x ≡ s) ⊎ (x ≡ with_change change s))
+change_leaves change s old new honest at survives trees may = elim (survives.crash honest trees may) [
+  | inl was ↦ let it = at.leaves trees was in (it.0, inl it.1, it.2)
+  | inr made ↦ (with_change change s, inr refl, made)
+]

@@ -1,0 +1,119 @@
+//! A store that keeps the state of an office.
+
+ghost use Rattle.std.specs.Prelude.{◌≡◌, ◌⊎◌, true, false, IfOk, IfErr, OnOk, OnErr, IsTrue};
+ghost use Rattle.sqlite.specs.Tree.{Trees};
+ghost use Rattle.sqlite.specs.State.{HasCleanDisk, Survives};
+ghost use Rattle.sqlite.specs.Held.{state};
+ghost use Rattle.register.specs.Offices.{OfficeState, IsState, empty_office};
+ghost use Rattle.register.specs.Views.{with_change};
+ghost use Rattle.store.specs.Contents.{Contents, Rests, Stores};
+ghost use Rattle.store.specs.Presence.{has_some_table};
+ghost use Rattle.store.specs.Offices.{tables_of, ChangesTo, IsAt, LeavesState};
+ghost use Rattle.store.specs.Openings.{IsBlank};
+
+use crate::fault::Fault;
+use crate::presence::has_some_table;
+use crate::writing::{write_change, write_new_office};
+use register::Change;
+use sqlite::{Alter, Connection};
+use std::alloc::Global;
+use std::marker::Model;
+
+/// A connection between two transactions, at the tables of an office. Contracts see it as the
+/// connection that it holds.
+pub struct Store<S: Alter> {
+    pub(crate) conn: Connection<S>,
+    pub(crate) alloc: Global,
+}
+
+impl<S: Alter> Model for Store<S> {
+    ghost use Rattle.std.specs.Prelude.{◌≡◌, false};
+    ghost use Rattle.sqlite.specs.Held.{Held, held_code};
+
+    ghost Value = { Held S };
+
+    ghost coded = { held_code S.code };
+
+    ghost view = { λ s. s.conn };
+
+    ghost invariant = { λ s. s.conn.in_transaction ≡ false };
+}
+
+/// Writes a change in one transaction.
+fn commit_change<S: Alter>(conn: &mut Connection<S>, change: &Change) -> Result<(), Fault>
+    requires { conn.old.in_transaction ≡ false }
+    ensures done { HasCleanDisk (state S.Store conn.new) → (c d : Contents) → ChangesTo change.now c d → Rests c (state S.Store conn.old)
+        → OnOk result (Rests d (state S.Store conn.new)) }
+    ensures survives { (c d : Contents) → ChangesTo change.now c d → Rests c (state S.Store conn.old)
+        → Survives (state S.Store conn.old) (state S.Store conn.new) (Stores d) }
+    ensures clean { HasCleanDisk (state S.Store conn.new) → HasCleanDisk (state S.Store conn.old) }
+    ensures outside { conn.new.in_transaction ≡ false }
+    ensures cause { IfErr result (λ f. (f ≡ Fault.Memory) ⊎ (f ≡ Fault.Store)) }
+{
+    let mut tx = conn.transaction();
+    write_change(&mut tx, change)?;
+    tx.commit()?;
+    Ok(())
+}
+
+/// Makes the tables of an empty office in one transaction.
+fn commit_new_office<S: Alter>(conn: &mut Connection<S>) -> Result<(), Fault>
+    requires { conn.old.in_transaction ≡ false }
+    ensures done { HasCleanDisk (state S.Store conn.new) → IsBlank (state S.Store conn.old) → OnOk result (Rests (tables_of empty_office) (state S.Store conn.new)) }
+    ensures survives { IsBlank (state S.Store conn.old) → Survives (state S.Store conn.old) (state S.Store conn.new) (Stores (tables_of empty_office)) }
+    ensures clean { HasCleanDisk (state S.Store conn.new) → HasCleanDisk (state S.Store conn.old) }
+    ensures outside { conn.new.in_transaction ≡ false }
+    ensures cause { IfErr result (λ f. (f ≡ Fault.Memory) ⊎ (f ≡ Fault.Store)) }
+{
+    let mut tx = conn.transaction();
+    write_new_office(&mut tx)?;
+    tx.commit()?;
+    Ok(())
+}
+
+impl<S: Alter> Store<S> {
+    /// Makes the tables of an empty office in the connection's database.
+    ///
+    /// `WrongDatabase` where a table with the name of one of ours is there already; nothing is changed
+    /// then. `Store` too where the connection is inside a transaction. After another fault there are
+    /// all tables or none.
+    pub fn create(alloc: Global, mut conn: Connection<S>) -> Result<Self, (Fault, Connection<S>)>
+        ensures made { IfOk result (λ store. HasCleanDisk (state S.Store store) → IsBlank (state S.Store conn) → IsAt empty_office (state S.Store store)) }
+        ensures stops { IfErr result (λ e. HasCleanDisk (state S.Store e.1) → IsBlank (state S.Store conn)
+            → (trees : Trees) → (state S.Store e.1).may_leave trees → (state S.Store conn).may_leave trees ⊎ Stores (tables_of empty_office) trees) }
+        ensures taken { has_some_table (state S.Store conn).now.schema ≡ true → OnOk result ⊥ }
+        ensures told { IfErr result (λ e. (e.0 ≡ Fault.Memory) ⊎ ((e.0 ≡ Fault.Store) ⊎ ((e.0 ≡ Fault.WrongDatabase) × (has_some_table (state S.Store conn).now.schema ≡ true) × (e.1 ≡ conn)))) }
+    {
+        if !conn.is_autocommit() {
+            return Err((Fault::Store, conn));
+        }
+        if has_some_table(&conn) {
+            return Err((Fault::WrongDatabase, conn));
+        }
+        match commit_new_office(&mut conn) {
+            Ok(()) => Ok(Store { conn, alloc }),
+            Err(fault) => Err((fault, conn)),
+        }
+    }
+
+    /// Writes a change in one transaction, whole or not at all. After a fault the old tables or the new
+    /// ones may be found.
+    pub fn commit(&mut self, change: &Change) -> Result<(), Fault>
+        ensures done { HasCleanDisk (state S.Store self.new) → IsTrue (state S.Store self.old).is_open → (s : OfficeState) → IsAt s (state S.Store self.old)
+            → IsState (with_change change.now s) → OnOk result (IsAt (with_change change.now s) (state S.Store self.new)) }
+        ensures stops { HasCleanDisk (state S.Store self.new) → IsTrue (state S.Store self.old).is_open → (s : OfficeState) → IsAt s (state S.Store self.old)
+            → LeavesState (state S.Store self.new) (λ x. (x ≡ s) ⊎ (x ≡ with_change change.now s)) }
+        ensures clean { HasCleanDisk (state S.Store self.new) → HasCleanDisk (state S.Store self.old) }
+        ensures cause { IfErr result (λ f. (f ≡ Fault.Memory) ⊎ (f ≡ Fault.Store)) }
+    {
+        commit_change(&mut self.conn, change)
+    }
+
+    /// Gives the connection back as it is.
+    pub fn into_connection(self) -> Connection<S>
+        ensures { result ≡ self }
+    {
+        let Store { conn, alloc: _ } = self;
+        conn
+    }
+}

@@ -1,0 +1,74 @@
+//! The part of the state that a request needs, read from the tables.
+
+ghost use Rattle.std.specs.Prelude.{◌≡◌, ◌⊎◌, true, map, Option, option_map, IfOk, IfErr, IfSome, OnOk, IsTrue};
+ghost use Rattle.std.specs.Option.{option_to_list};
+ghost use Rattle.sqlite.specs.State.{HasCleanDisk};
+ghost use Rattle.sqlite.specs.Held.{state};
+ghost use Rattle.register.specs.Phases.{phase_number};
+ghost use Rattle.register.specs.declared.ward.Phase.{Phase};
+ghost use Rattle.register.specs.Offices.{OfficeState, WardEntry, ReceiptEntry, is_ward, is_begun, is_receipt, ward_entry, receipt_entry, ward_at, receipt_at};
+ghost use Rattle.register.specs.Machine.{ward_named};
+ghost use Rattle.register.specs.Views.{ShowsState};
+ghost use Rattle.store.specs.Reading.{OnlyReads};
+ghost use Rattle.store.specs.Offices.{row_of_ward, row_of_typed, row_of_receipt, IsAt};
+
+use crate::cells::{number, text};
+use crate::entries::{receipt_of, ward_row_of};
+use crate::fault::Fault;
+use crate::reading::row_with_key;
+use crate::storage::Store;
+use crate::tables::Table;
+use register::{Command, Phase, Receipt, View, Ward};
+use rowcheck::WardRow;
+use sqlite::{Alter, Connection, Row};
+
+/// The phase with a number; `Damaged` where there is none.
+fn phase_numbered(n: u32) -> Result<Phase, Fault>
+    ensures phase { IfOk result (λ p. phase_number p ≡ n) }
+    ensures damaged { IfErr result (λ f. (f ≡ Fault.Damaged) × ((p : Phase) → ¬ (phase_number p ≡ n))) }
+{
+    match n {
+        1 => Ok(Phase::Nominations),
+        2 => Ok(Phase::Keying),
+        3 => Ok(Phase::Sealed),
+        4 => Ok(Phase::Declared),
+        _ => Err(Fault::Damaged),
+    }
+}
+
+/// The ward of a typed row; `Damaged` where its phase is none.
+fn ward_of(row: WardRow) -> Result<Ward, Fault>
+    ensures ward { IfOk result (λ w. row_of_ward (ward_entry w) ≡ row_of_typed row) }
+    ensures damaged { IfErr result (λ f. (f ≡ Fault.Damaged) × ((p : Phase) → ¬ (phase_number p ≡ row.phase))) }
+{
+    let phase = phase_numbered(row.phase)?;
+    Ok(Ward {
+        number: row.ward,
+        seats: row.seats,
+        phase,
+        done: row.done,
+        name: row.name,
+    })
+}
+
+/// The ward of the one row of a query, if there is one.
+fn first_ward(rows: &[Row]) -> Result<Option<Ward>, Fault>
+    ensures ward { (w : Option WardEntry) → rows.now ≡ map row_of_ward (option_to_list w) → IfOk result (λ it. option_map ward_entry it ≡ w) }
+    ensures cause { (w : Option WardEntry) → IfSome w (λ x. (is_ward x ≡ true) × (is_begun x ≡ true)) → rows.now ≡ map row_of_ward (option_to_list w) → IfErr result (λ f. f ≡ Fault.Memory) }
+{
+    match rows {
+        [] => Ok(None),
+        [row, ..] => Ok(Some(ward_of(ward_row_of(row)?)?)),
+    }
+}
+
+/// The receipt of the one row of a query, if there is one.
+fn first_receipt(rows: &[Row]) -> Result<Option<Receipt>, Fault>
+    ensures receipt { (r : Option ReceiptEntry) → rows.now ≡ map row_of_receipt (option_to_list r) → IfOk result (λ it. option_map receipt_entry it ≡ r) }
+    ensures cause { (r : Option ReceiptEntry) → IfSome r (λ x. is_receipt x ≡ true) → rows.now ≡ map row_of_receipt (option_to_list r) → IfErr result (λ f. f ≡ Fault.Memory) }
+{
+    match rows {
+        [] => Ok(None),
+        [row, ..] => Ok(Some(receipt_of(row)?)),
+    }
+}
