@@ -19,7 +19,7 @@ use Rattle.store.specs.declared.tables.Table.{Table}
 use Rattle.store.specs.Texts.{insert_text}
 use Rattle.store.specs.Schema.{Definition, schema_from, definition, place_of, tree_of, shape, places_from, AreFree, IsOfficeSchema}
 use Rattle.store.specs.Rows.{tuples, is_row_of, Keyed}
-use Rattle.store.specs.Contents.{Contents, changed, HoldsTable, Holds, IsOffice, Sees}
+use Rattle.store.specs.Contents.{Contents, changed, added, HoldsTable, Holds, IsOffice, Sees}
 use Rattle.store.proofs.PlaceLemmas.{typed_at}
 use Rattle.store.proofs.TableLemmas.{which_table, has_table}
 use Rattle.store.proofs.InsertLemmas.{Adds, inserts}
@@ -69,7 +69,8 @@ adds rest others views free t params kinds old new count has h =
 
 -- it adds the row
 pub row_added : (t : Table) (params : Row) → is_row_of t params ≡ true → (old new : State) (r : Result ℕ Error) → (IsTrue old.in_transaction → ExecutesInside 0 (insert_text t) params old new r)
-    → (c : Contents) → Sees c old → OnOk r (Sees (changed t (λ rows. params ∷ rows) c) new)
+    → (c : Contents) → Sees c old → OnOk r (Sees (added t params c) new)
+unfolding added
 row_added t params kinds old new (Err e) runs c sees = tt
 row_added t params kinds old new (Ok count) runs c sees =
     let s = sees.office.begins in

@@ -6,6 +6,8 @@ use Rattle.std.specs.Cmp.Lexicographic.{slice_cmp}
 use Rattle.std.specs.List.Sorted.{IsSorted, IsStrictlySortedBy}
 use Rattle.std.proofs.lemmas.Bool.Decides.{nat_tests}
 use Rattle.std.proofs.lemmas.Int.{ints}
+use Rattle.std.specs.Str.{bytes_eq}
+use Rattle.std.proofs.lemmas.Map.Text.{is_eq-slice_cmp}
 use Rattle.std.proofs.lemmas.Map.Keys.{sorted_from_all_adjacent}
 use Rattle.sqlite_value.proofs.OrderLemmas.{value_cmp-Int, value_cmp-Text, then-Equal}
 use Rattle.sqlite.specs.declared.types.Value.{Value}
@@ -34,6 +36,9 @@ equal-Text s t = told (is_eq (value_cmp (Text s) (Text t))) ∙ ap is_eq (value_
 
 pub equal-number : (m n : ℕ) → equal Binary (Int (pos m)) (Int (pos n)) ≡ (m == n)
 equal-number m n = equal-Int (pos m) (pos n) ∙ grind (arith, ints, nat_tests)
+
+pub equal-words : (s t : List ℕ) → equal Binary (Text s) (Text t) ≡ bytes_eq s t
+equal-words s t = equal-Text s t ∙ is_eq-slice_cmp s t
 
 -- ---- the order of keys
 

@@ -1,8 +1,13 @@
 -- What a stop may leave.
-use Rattle.std.proofs.Common.{◌≡◌, ◌⊎◌, inl, inr, Result, Ok, Err, OnOk, MatchResult, IsTrue, false, refl, sym, ap, subst, ◌∙◌}
+use Rattle.std.proofs.Common.{◌≡◌, ◌⊎◌, inl, inr, Result, Ok, Err, OnOk, MatchResult, IsTrue, true, false, refl, sym, ap, subst, ◌∙◌, arith}
 use Rattle.sqlite.specs.Tree.{Trees}
 use Rattle.sqlite.specs.Effect.{Database, IsDatabase}
-use Rattle.sqlite.specs.State.{State, HasCleanDisk, Survives, Shows}
+use Rattle.sqlite_trees.specs.declared.store.Store.{Ghosts}
+use Rattle.sqlite.specs.declared.error.Error.{Error}
+use Rattle.sqlite.specs.State.{State, HasCleanDisk, Survives, Shows, IsRolledBack}
+use Rattle.sqlite.specs.Steps.{FailsToCommit}
+use Rattle.sqlite.specs.Held.{Held, state}
+use Rattle.sqlite.proofs.StateLemmas.{survives_then}
 use Rattle.store.specs.Contents.{Contents, IsOffice, Stores, Rests, Sees, Leaves}
 use Rattle.store.specs.Reading.{OnlyReads}
 
@@ -47,3 +52,20 @@ rests_committed c inside new sees shows = record {
 -- the trees that a transaction commits are those of the office that it saw
 pub stores_seen : (c : Contents) (s : State) (trees : Trees) → Sees c s → trees ≡ s.now.trees → Stores c trees
 stores_seen c s trees sees same = stores_from c s.now trees sees.office same
+
+-- a commit that fails inside a transaction undoes it
+pub rolled_back : (old new : State) (e : Error) → IsTrue old.in_transaction → FailsToCommit old new e → IsRolledBack old new
+rolled_back old new e inside (inl failed) = failed.3
+rolled_back old new e inside (inr late) = absurd (let ended = late.1 in let b = rw ended at inside in cc)
+
+-- ---- a whole transaction
+
+-- what rests between transactions, the next one sees as it begins
+pub begun_sees : {S : Type 0} (g : Ghosts S) (old : Held S) (c : Contents) → Rests c (state g old) → Sees c (state g (record old { in_transaction = true }))
+begun_sees g old c rests = record { inside = refl; office = rests.office }
+
+-- what writes nothing for good, and then commits what it saw
+pub survives_commit : (c : Contents) (start inside new : State) → Survives start inside (λ _. ⊥) → Survives inside new (λ trees. trees ≡ inside.now.trees) → (HasCleanDisk inside → Sees c inside) → Survives start new (Stores c)
+survives_commit c start inside new first second sees =
+    survives_then start inside new (λ _. ⊥) (λ trees. trees ≡ inside.now.trees) (Stores c) (λ _ trees none. absurd none)
+      (λ clean trees made. let low = second.clean in let before : HasCleanDisk inside = omega (arith, low, clean) in stores_seen c inside trees (sees before) made) first second

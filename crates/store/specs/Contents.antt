@@ -1,5 +1,5 @@
 -- The rows of all tables, and what a connection or a stop has of them.
-use Rattle.std.specs.Prelude.{◌≡◌, ℕ, true, false, if◌then◌else◌, ◌==◌, List, IsTrue}
+use Rattle.std.specs.Prelude.{◌≡◌, ℕ, true, false, if◌then◌else◌, ◌==◌, List, ◌∷◌, IsTrue}
 use Rattle.std.specs.List.{list_all}
 use Rattle.std.specs.List.Sorted.{IsPermutation}
 use Rattle.sqlite.specs.Order.{Row}
@@ -22,6 +22,10 @@ SameContents c d = (t : Table) → IsPermutation (c t) (d t)
 -- the contents with the rows of one table changed
 abbrev pub changed : Table → (List Row → List Row) → Contents → Contents
 changed t f c u = if place_of u == place_of t then f (c u) else c u
+
+-- the contents with one row more; opaque, so that a search does not compute it
+unfoldable pub added : Table → Row → Contents → Contents
+added t row = changed t (λ rows. row ∷ rows)
 
 -- the rows, in some order, are those of the table, each with a value of the right kind in each column
 pub record HoldsTable (t : Table) (rows : List Row) (trees : Trees) : Type 0 where

@@ -8,8 +8,8 @@ use Rattle.store.specs.declared.tables.Table.{Table}
 use Rattle.store.specs.Schema.{no_schema, schema_from, place_of, tree_of}
 use Rattle.store.specs.Contents.{Contents, HoldsTable}
 
--- no row in any table
-abbrev pub no_contents : Contents
+-- no row in any table; opaque, so that a search does not compute it
+unfoldable pub no_contents : Contents
 no_contents t = []
 
 -- a transaction that sees so many of the tables, each with no row, and nothing else

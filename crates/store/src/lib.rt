@@ -16,5 +16,6 @@ pub mod cells;
 pub mod presence;
 pub mod making;
 pub mod insertion;
+pub mod commit;
 pub mod reading;
 pub mod rowids;
