@@ -1,5 +1,5 @@
 -- A table and the entries that its rows show.
-use Rattle.std.proofs.Common.{◌≡◌, ◌≢◌, ◌⊎◌, inl, inr, ℕ, zero, suc, ◌+◌, ◌<◌, ◌≤◌, List, [], ◌∷◌, map, drop, length, get_or, Option, Bool, true, false, not, refl, sym, ap, subst, ◌∙◌, arith, Ordering, Less, Equal}
+use Rattle.std.proofs.Common.{◌≡◌, inl, inr, ℕ, zero, suc, ◌+◌, ◌<◌, ◌≤◌, List, [], ◌∷◌, map, drop, length, get_or, Option, Bool, true, not, refl, sym, ap, subst, ◌∙◌, arith, Ordering, Less, Equal}
 use Rattle.std.specs.List.{list_all}
 use Rattle.std.specs.Ordering.{is_eq, eq_by_cmp, ordering_reverse}
 use Rattle.std.specs.Cmp.{IsTotalOrder}
@@ -15,16 +15,15 @@ use Rattle.sqlite_schema.specs.declared.schema.Constraint.TheVariants.{Datatype}
 use Rattle.sqlite_schema.specs.Rules.{are_typed}
 use Rattle.sqlite_sql.specs.Ops.{is_null}
 use Rattle.sqlite.specs.declared.types.Value.{Value}
-use Rattle.sqlite.specs.declared.types.Value.TheVariants.{Null, Int, Real, Text, Blob}
+use Rattle.sqlite.specs.declared.types.Value.TheVariants.{Int, Text, Blob}
 use Rattle.sqlite.specs.Kind.{Kind}
-use Rattle.sqlite.specs.Kind.TheVariants.{Integer, Real as Float, Text as Words, Blob as Bytes, Any}
+use Rattle.sqlite.specs.Kind.TheVariants.{Integer, Text as Words, Blob as Bytes}
 use Rattle.sqlite.specs.Order.{Row}
-use Rattle.sqlite.specs.Tree.{Trees}
 use Rattle.sqlite.specs.Schema.{Schema}
 use Rattle.sqlite.specs.Effect.{Database, IsDatabase}
 use Rattle.store.specs.declared.tables.Table.{Table}
 use Rattle.store.specs.declared.tables.Table.TheVariants.{Office, Ward, Candidate, Batch, Keying, Verdict, Lot, Receipt}
-use Rattle.store.specs.Schema.{Definition, schema_from, definition, shape, place_of, tree_of, places_from, BeginsTo}
+use Rattle.store.specs.Schema.{definition, shape, tree_of, BeginsTo}
 use Rattle.store.specs.Rows.{tuples, at, column_places, is_row_of, is_of, are_of, Keyed}
 use Rattle.store.specs.Contents.{HoldsTable}
 use Rattle.store.specs.Reading.{Lists}
@@ -96,8 +95,8 @@ values_of (c ∷ cs) (v ∷ vs) h = and_from _ _ (value_of c.kind v (and_parts _
 pub shown_rows : (t : Table) (db : Database) (rows : List Row) → Lists t db rows → map (at (column_places t)) rows ≡ rows
 shown_rows t db rows lists =
     mapped_same (at (column_places t)) (λ r. r) rows (λ r h.
-      let raw = has_mapped (at (column_places t)) (tuples t db.trees) r (permuted_has r rows (map (at (column_places t)) (tuples t db.trees)) (IsPermutation-sym _ _ lists.same) h) in
-      ap (at (column_places t)) raw.2 ∙ at_twice (length (shape t).columns) raw.0 ∙ sym raw.2)
+    let raw = has_mapped (at (column_places t)) (tuples t db.trees) r (permuted_has r rows (map (at (column_places t)) (tuples t db.trees)) (IsPermutation-sym _ _ lists.same) h) in
+    ap (at (column_places t)) raw.2 ∙ at_twice (length (shape t).columns) raw.0 ∙ sym raw.2)
     ∙ mapped_itself rows
 
 module _ {X : Type 0} (t : Table) (row : X → Row) (it : IsEntry t row) where
@@ -120,9 +119,9 @@ module _ {X : Type 0} (t : Table) (row : X → Row) (it : IsEntry t row) where
       let n = length (shape t).columns in
       let same : IsPermutation (map (at (column_places t)) (tuples t db.trees)) (map row ys) = subst (IsPermutation (map (at (column_places t)) (tuples t db.trees))) shown lists.same in
       let each : (r : Row) → Has (tuples t db.trees) r → at (column_places t) r ≡ r = λ r h.
-        let y = has_mapped row ys (at (column_places t) r) (permuted_has (at (column_places t) r) (map (at (column_places t)) (tuples t db.trees)) (map row ys) same (mapped_has (at (column_places t)) (tuples t db.trees) r h)) in
-        let values : list_all is_value (padded n r) ≡ true = ap (list_all is_value) (sym (pads n r) ∙ y.2) ∙ values_of (shape t).columns (row y.0) (it.typed y.0) in
-        pads n r ∙ whole n r (short t db begins sound r h) values in
+      let y = has_mapped row ys (at (column_places t) r) (permuted_has (at (column_places t) r) (map (at (column_places t)) (tuples t db.trees)) (map row ys) same (mapped_has (at (column_places t)) (tuples t db.trees) r h)) in
+      let values : list_all is_value (padded n r) ≡ true = ap (list_all is_value) (sym (pads n r) ∙ y.2) ∙ values_of (shape t).columns (row y.0) (it.typed y.0) in
+      pads n r ∙ whole n r (short t db begins sound r h) values in
       record {
         same = IsPermutation-sym _ _ (subst (λ l. IsPermutation l (map row ys)) (mapped_same (at (column_places t)) (λ r. r) (tuples t db.trees) each ∙ mapped_itself (tuples t db.trees)) same);
         keyed = keyed;

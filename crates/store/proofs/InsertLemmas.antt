@@ -95,35 +95,35 @@ module _ (key : List ℕ) (name : List ℕ) (tree : ℕ) (columns : List Column)
   module _ (schema : Schema) (alone : (olds news : List Row) → works schema Enforced 0 tree olds news ≡ []) (at : ℕ) (place : slice_get schema.tables at ≡ Some table)
       (sql : List ℕ) (terms : List Term) (width : ℕ) (is : command_of (understood schema sql) ≡ Insert at (Values terms width)) (plain : IsPlain (understood schema sql))
       (params tuple : Row) (source : value_rows (params ++ []) width (length terms / width) terms ≡ (Null ∷ tuple) ∷ []) (kinds : are_of columns tuple ≡ true)
-      where
-    pub inserts : (old new : State) (count : ℕ) → old.now.schema ≡ schema → Executes sql params old new (Ok count) → Adds schema tree tuple old.now new.now
-    inserts old new count has h =
-        let db = old.now.trees in
-        let command = Insert at (Values terms width) in
-        let w = runs_as sql params old new schema has command is plain count h in
-        let text = statement_of sql (understood schema sql) in
-        let task = λ (t : Definition). let it : Task = record { limit = old.step_limit; keys = Enforced; schema = schema; table = t; params = params } in it in
-        let done0 = subst (λ s. Does old.step_limit (mode_of old) params (record old.now { schema = s }) text None command (Ok (w.tally, new.now))) has w.changed in
-        let done1 = subst (λ o. AtPlace (λ t. OnRows (task t) (mode_of old) None command db) o (Ok (w.tally, new.now))) place done0 in
-        let done = went done1 in
-        let now = ap (λ (p : Tally × Database). p.1) (same_value (went (went done.2).2).2) in
-        let given = went done.1 in
-        let counter = went given.2 in
-        let written = went counter.2 in
-        let counted = went written.2 in
-        let trees : done.0.trees ≡ written.0 = ap (λ (it : Written). it.trees) (same_value counted.2) ∙ same_value counted.1 in
-        let rows : given.0 ≡ (Null ∷ tuple) ∷ [] = given.1.1 ∙ source in
-        let edit = edit_of db table [] Chosen 0 given.0 in
-        let step = one_step schema _ db written.0 edit (alone (taken_by db edit) edit.news) written.1 in
-        let row = with_rowid Chosen (db tree) (Null ∷ tuple) in
-        let news : edit.news ≡ row ∷ [] = ap (λ all. (edit_of db table [] Chosen 0 all).news) rows ∙ rw (cast_null, cast_all_of columns tuple kinds) in
-        let free : is_taken (db tree) row ≡ false = not-true _ (and_parts _ _ (subst (λ all. are_fresh (db tree) all ≡ true) news step.fresh)).0 in
-        let after : new.now.trees tree ≡ put_row row (db tree) = ap (λ (d : Database). d.trees tree) now ∙ ap (λ (t : Trees). t tree) trees ∙ step.rows ∙ ap (put_all (db tree)) news in
-        let same : new.now.trees ≡ written.0 = ap (λ (d : Database). d.trees) now ∙ trees in
-        record {
-          is = ap (λ (d : Database). d.schema) now;
-          sound = w.sound;
-          row = subst (λ l. IsPermutation (tuple ∷ map (drop 1) (db tree)) (map (drop 1) l)) (sym after) (IsPermutation-map (drop 1) _ _ (put_fresh row (db tree) free));
-          keyed = λ keyed. subst Keyed (sym (ap (λ (d : Database). d.trees tree) now ∙ ap (λ (t : Trees). t tree) trees ∙ step.rows)) (keyed_put_all edit.news (db tree) keyed step.keyed step.fresh);
-          others = subst (λ (t : Trees). AllByRecursion (λ u. u.tree ≢ tree → t u.tree ≡ db u.tree) schema.tables) (sym same) step.tables;
-        }
+    where
+      pub inserts : (old new : State) (count : ℕ) → old.now.schema ≡ schema → Executes sql params old new (Ok count) → Adds schema tree tuple old.now new.now
+      inserts old new count has h =
+          let db = old.now.trees in
+          let command = Insert at (Values terms width) in
+          let w = runs_as sql params old new schema has command is plain count h in
+          let text = statement_of sql (understood schema sql) in
+          let task = λ (t : Definition). let it : Task = record { limit = old.step_limit; keys = Enforced; schema = schema; table = t; params = params } in it in
+          let done0 = subst (λ s. Does old.step_limit (mode_of old) params (record old.now { schema = s }) text None command (Ok (w.tally, new.now))) has w.changed in
+          let done1 = subst (λ o. AtPlace (λ t. OnRows (task t) (mode_of old) None command db) o (Ok (w.tally, new.now))) place done0 in
+          let done = went done1 in
+          let now = ap (λ (p : Tally × Database). p.1) (same_value (went (went done.2).2).2) in
+          let given = went done.1 in
+          let counter = went given.2 in
+          let written = went counter.2 in
+          let counted = went written.2 in
+          let trees : done.0.trees ≡ written.0 = ap (λ (it : Written). it.trees) (same_value counted.2) ∙ same_value counted.1 in
+          let rows : given.0 ≡ (Null ∷ tuple) ∷ [] = given.1.1 ∙ source in
+          let edit = edit_of db table [] Chosen 0 given.0 in
+          let step = one_step schema _ db written.0 edit (alone (taken_by db edit) edit.news) written.1 in
+          let row = with_rowid Chosen (db tree) (Null ∷ tuple) in
+          let news : edit.news ≡ row ∷ [] = ap (λ all. (edit_of db table [] Chosen 0 all).news) rows ∙ rw (cast_null, cast_all_of columns tuple kinds) in
+          let free : is_taken (db tree) row ≡ false = not-true _ (and_parts _ _ (subst (λ all. are_fresh (db tree) all ≡ true) news step.fresh)).0 in
+          let after : new.now.trees tree ≡ put_row row (db tree) = ap (λ (d : Database). d.trees tree) now ∙ ap (λ (t : Trees). t tree) trees ∙ step.rows ∙ ap (put_all (db tree)) news in
+          let same : new.now.trees ≡ written.0 = ap (λ (d : Database). d.trees) now ∙ trees in
+          record {
+            is = ap (λ (d : Database). d.schema) now;
+            sound = w.sound;
+            row = subst (λ l. IsPermutation (tuple ∷ map (drop 1) (db tree)) (map (drop 1) l)) (sym after) (IsPermutation-map (drop 1) _ _ (put_fresh row (db tree) free));
+            keyed = λ keyed. subst Keyed (sym (ap (λ (d : Database). d.trees tree) now ∙ ap (λ (t : Trees). t tree) trees ∙ step.rows)) (keyed_put_all edit.news (db tree) keyed step.keyed step.fresh);
+            others = subst (λ (t : Trees). AllByRecursion (λ u. u.tree ≢ tree → t u.tree ≡ db u.tree) schema.tables) (sym same) step.tables;
+          }

@@ -1,6 +1,6 @@
 -- Elements of mapped, permuted and filtered lists.
-use Rattle.std.proofs.Common.{◌≡◌, inl, inr, ℕ, zero, suc, ◌+◌, ◌<◌, ◌≤◌, List, [], ◌∷◌, ◌++◌, map, filter, length, get_or, slice_get, Some, Bool, true, false, refl, sym, ap, subst, ◌∙◌, arith, Ordering}
-use Rattle.std.specs.List.{AllByRecursion, list_all}
+use Rattle.std.proofs.Common.{◌≡◌, inl, inr, ℕ, zero, suc, ◌+◌, ◌<◌, List, [], ◌∷◌, map, filter, length, get_or, slice_get, Some, Bool, true, refl, sym, ap, ◌∙◌, arith, Ordering}
+use Rattle.std.specs.List.{list_all}
 use Rattle.std.specs.Ordering.{is_lt}
 use Rattle.std.specs.List.Sorted.{IsPermutation, IsSorted}
 use Rattle.std.proofs.lemmas.List.Sorted.{IsPermutation-sym}
@@ -62,8 +62,8 @@ sorted_mapped f g first second alike (x ∷ xs) sorted k d low below =
     let near : k + 1 < length all = omega (arith, below, mapped_length g all) in
     let here : k < length all = omega (arith, near) in
     rw (get_mapped g all (k + 1) d x near, get_mapped g all k d x here)
-      (ap is_lt (sym (alike (get_or all (k + 1) x) (get_or all k x)))
-      ∙ rw (get_mapped f all (k + 1) (f x) x near, get_mapped f all k (f x) x here) at (sorted k (f x) low (omega (arith, near, mapped_length f all))))
+    (ap is_lt (sym (alike (get_or all (k + 1) x) (get_or all k x)))
+    ∙ rw (get_mapped f all (k + 1) (f x) x near, get_mapped f all k (f x) x here) at (sorted k (f x) low (omega (arith, near, mapped_length f all))))
 
 pub permuted_has : {X : Type 0} (x : X) (xs ys : List X) → IsPermutation xs ys → Has xs x → Has ys x
 permuted_has x = along_permutation (λ xs ys. Has xs x → Has ys x) (λ xs h. h)

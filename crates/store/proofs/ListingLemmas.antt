@@ -1,15 +1,13 @@
 -- What the queries of a table show of it.
-use Rattle.std.proofs.Common.{◌≡◌, ◌⊎◌, inl, inr, ℕ, ◌+◌, ◌<◌, ◌≤◌, List, [], ◌∷◌, ◌++◌, map, filter, drop, length, true, false, Ok, Err, Result, IfOk, refl, sym, ap, subst, ◌∙◌, arith}
-use Rattle.std.specs.List.{list_all}
+use Rattle.std.proofs.Common.{◌≡◌, ◌+◌, ◌≤◌, List, [], ◌∷◌, ◌++◌, map, filter, drop, length, true, Ok, Err, Result, IfOk, refl, sym, ap, subst, ◌∙◌, arith}
 use Rattle.std.specs.List.Sorted.{IsPermutation, IsSorted}
 use Rattle.std.specs.Ordering.{on}
-use Rattle.std.proofs.lemmas.List.Sorted.{IsPermutation-map, IsPermutation-trans, IsPermutation-sym}
+use Rattle.std.proofs.lemmas.List.Sorted.{IsPermutation-map, IsPermutation-trans}
 use Rattle.sqlite_trees.proofs.ListLemmas.{IsPermutation-filter}
-use Rattle.sqlite_rules.specs.Lists.{Has}
 use Rattle.sqlite_rules.proofs.ListLemmas.{test_has, has_filtered}
 use Rattle.sqlite_value.proofs.OrderLemmas.{then-Equal}
-use Rattle.sqlite.specs.Order.{Row, column, value_cmp}
-use Rattle.sqlite.specs.Tree.{Trees, rowid}
+use Rattle.sqlite.specs.Order.{Row, value_cmp}
+use Rattle.sqlite.specs.Tree.{rowid}
 use Rattle.sqlite.specs.Collation.TheVariants.{Binary}
 use Rattle.sqlite_value.specs.Keys.{ascending}
 use Rattle.sqlite.specs.Schema.{Schema}
@@ -20,12 +18,12 @@ use Rattle.store.specs.declared.tables.Table.{Table}
 use Rattle.store.specs.declared.tables.Table.TheVariants.{Office, Ward, Candidate, Batch, Keying, Verdict, Lot, Receipt}
 use Rattle.store.specs.Texts.{rows_text, row_text, rowids_text}
 use Rattle.store.specs.Schema.{schema_from, place_of, tree_of, shape, places_from, definition, key_index, all_tables, BeginsTo, IsOfficeSchema}
-use Rattle.store.specs.Rows.{tuples, at, column_places, key_places, has_key, is_row_of, keys_cmp, row_cmp}
-use Rattle.store.specs.Contents.{Contents, RestsAt, Rests}
+use Rattle.store.specs.Rows.{tuples, at, column_places, has_key, is_row_of, row_cmp}
+use Rattle.store.specs.Contents.{Contents, IsOffice, RestsAt, Rests}
 use Rattle.store.specs.Reading.{Lists, Finds, ListsRowids, alone}
 use Rattle.store.proofs.ListLemmas.{all_pass, sorted_mapped, mapped_same, mapped_itself}
 use Rattle.store.proofs.PlaceLemmas.{at_front, typed_at}
-use Rattle.store.proofs.SelectLemmas.{Selects, reads_rows, shows_columns, ordered_terms, ordered_keys, columns_from, ordered_from, tests_from, tests_agree}
+use Rattle.store.proofs.SelectLemmas.{reads_rows, shows_columns, ordered_terms, ordered_keys, columns_from, ordered_from, tests_from, tests_agree}
 use Rattle.store.proofs.Queries.{selects_all, selects_one, selects_rowids}
 
 -- a schema that begins with all tables begins with those up to each
@@ -57,13 +55,13 @@ listed t db begins old new rows rests shown =
     let m = (shape t).key in
     let has : old.now.schema ≡ schema_from (1 + place_of t) begins.rest begins.others begins.views = ap (λ (d : Database). d.schema) rests.now ∙ begins.is in
     let got = reads_rows (schema_from (1 + place_of t) begins.rest begins.others begins.views) (rows_text t) (tree_of t) [] (columns_from 0 n) (ordered_from 0 m) _ (selects_all begins.rest begins.others begins.views t)
-      (drop 1) [] (λ _. true) (at (places_from 0 m)) (at (places_from 0 n)) (λ r. refl) (λ r. rw (ordered_terms 0 m) (shows_columns 0 m [] r)) (λ r. shows_columns 0 n [] r) old new rows has shown in
+    (drop 1) [] (λ _. true) (at (places_from 0 m)) (at (places_from 0 n)) (λ r. refl) (λ r. rw (ordered_terms 0 m) (shows_columns 0 m [] r)) (λ r. shows_columns 0 n [] r) old new rows has shown in
     let all : IsPermutation (tuples t old.now.trees) got.ordered = subst (λ l. IsPermutation l got.ordered) (all_pass (tuples t old.now.trees)) got.same in
     record {
       same = subst (λ (d : Database). IsPermutation (map (at (column_places t)) (tuples t d.trees)) rows) rests.now
-        (subst (IsPermutation (map (at (column_places t)) (tuples t old.now.trees))) (sym got.shown) (IsPermutation-map (at (column_places t)) _ _ all));
+          (subst (IsPermutation (map (at (column_places t)) (tuples t old.now.trees))) (sym got.shown) (IsPermutation-map (at (column_places t)) _ _ all));
       sorted = subst (IsSorted (row_cmp t)) (sym got.shown)
-        (sorted_mapped (λ r. (at (places_from 0 m) r, at (places_from 0 n) r)) (at (places_from 0 n)) (on (λ (o : Row × Row). o.0) (key_cmp 0 (map (λ k. k.1) (ordered_from 0 m)))) (row_cmp t)
+          (sorted_mapped (λ r. (at (places_from 0 m) r, at (places_from 0 n) r)) (at (places_from 0 n)) (on (λ (o : Row × Row). o.0) (key_cmp 0 (map (λ k. k.1) (ordered_from 0 m)))) (row_cmp t)
           (λ a b. rw (at_front m n a (key_within t), at_front m n b (key_within t), ordered_keys 0 m) refl) got.ordered got.sorted);
     }
 
@@ -73,27 +71,29 @@ if_listed t db begins old new rows (Err e) rests shown = tt
 
 -- what an open office holds, a query of all rows shows
 pub lists_contents : (t : Table) (c : Contents) (s : State) (rows : List Row) → Rests c s → Lists t s.now rows → IsPermutation (c t) rows
+unfolding IsOffice
 lists_contents t c s rows rests lists =
     let it = rests.office.holds t in
     subst (λ l. IsPermutation l rows)
-      (mapped_same (at (column_places t)) (λ r. r) (c t) (λ r h. typed_at (shape t).columns r (test_has (is_row_of t) (c t) r it.typed h)) ∙ mapped_itself (c t))
-      (IsPermutation-trans _ _ _ (IsPermutation-map (at (column_places t)) _ _ it.same) lists.same)
+    (mapped_same (at (column_places t)) (λ r. r) (c t) (λ r h. typed_at (shape t).columns r (test_has (is_row_of t) (c t) r it.typed h)) ∙ mapped_itself (c t))
+    (IsPermutation-trans _ _ _ (IsPermutation-map (at (column_places t)) _ _ it.same) lists.same)
 
 -- ---- the row with a key
 
 pub found : (t : Table) (key : Row) (c : Contents) (old new : State) (rows : List Row) → Rests c old → Shown (row_text t) key old new rows → Finds t key c rows
+unfolding IsOffice
 found t key c old new rows rests shown =
     let n = length (shape t).columns in
     let m = (shape t).key in
     let it = rests.office.holds t in
     let begins = begins_to t old.now.schema rests.office.begins in
     let got = reads_rows (schema_from (1 + place_of t) begins.rest begins.others begins.views) (row_text t) (tree_of t) (tests_from 0 m) (columns_from 0 n) [] _ (selects_one begins.rest begins.others begins.views t)
-      (drop 1) key (has_key t key) (at []) (at (places_from 0 n)) (λ r. tests_agree 0 m key r) (λ r. refl) (λ r. shows_columns 0 n key r) old new rows begins.is shown in
+    (drop 1) key (has_key t key) (at []) (at (places_from 0 n)) (λ r. tests_agree 0 m key r) (λ r. refl) (λ r. shows_columns 0 n key r) old new rows begins.is shown in
     let mine : IsPermutation (filter (has_key t key) (c t)) got.ordered = IsPermutation-trans _ _ _ (IsPermutation-filter (has_key t key) (c t) (tuples t old.now.trees) it.same) got.same in
     subst (IsPermutation (filter (has_key t key) (c t))) (sym got.shown)
-      (subst (λ l. IsPermutation l (map (at (places_from 0 n)) got.ordered))
-        (mapped_same (at (places_from 0 n)) (λ r. r) (filter (has_key t key) (c t)) (λ r h. typed_at (shape t).columns r (test_has (is_row_of t) (c t) r it.typed (has_filtered (has_key t key) (c t) r h).0)) ∙ mapped_itself _)
-        (IsPermutation-map (at (places_from 0 n)) _ _ mine))
+    (subst (λ l. IsPermutation l (map (at (places_from 0 n)) got.ordered))
+    (mapped_same (at (places_from 0 n)) (λ r. r) (filter (has_key t key) (c t)) (λ r h. typed_at (shape t).columns r (test_has (is_row_of t) (c t) r it.typed (has_filtered (has_key t key) (c t) r h).0)) ∙ mapped_itself _)
+    (IsPermutation-map (at (places_from 0 n)) _ _ mine))
 
 pub if_found : {X F : Type 0} (t : Table) (key : Row) (c : Contents) (old new : State) (rows : X → List Row) (r : Result X F) → Rests c old → IfOk r (λ x. Shown (row_text t) key old new (rows x)) → IfOk r (λ x. Finds t key c (rows x))
 if_found t key c old new rows (Ok x) rests shown = found t key c old new (rows x) rests shown
@@ -105,12 +105,12 @@ pub rowids_listed : (t : Table) (db : Database) → BeginsTo t db.schema → (ol
 rowids_listed t db begins old new rows rests shown =
     let has : old.now.schema ≡ schema_from (1 + place_of t) begins.rest begins.others begins.views = ap (λ (d : Database). d.schema) rests.now ∙ begins.is in
     let got = reads_rows (schema_from (1 + place_of t) begins.rest begins.others begins.views) (rowids_text t) (tree_of t) [] _ _ _ (selects_rowids begins.rest begins.others begins.views t)
-      (λ r. r) [] (λ _. true) alone alone (λ r. refl) (λ r. refl) (λ r. refl) old new rows has shown in
+    (λ r. r) [] (λ _. true) alone alone (λ r. refl) (λ r. refl) (λ r. refl) old new rows has shown in
     record {
       ordered = got.ordered;
       same = subst (λ (d : Database). IsPermutation (d.trees (tree_of t)) got.ordered) rests.now (subst (λ l. IsPermutation l got.ordered) (all_pass (map (λ r. r) (old.now.trees (tree_of t))) ∙ mapped_itself (old.now.trees (tree_of t))) got.same);
       sorted = subst (IsSorted (on rowid value_cmp)) (mapped_itself got.ordered)
-        (sorted_mapped (λ r. (alone r, alone r)) (λ r. r) (on (λ (o : Row × Row). o.0) (key_cmp 0 (ascending Binary ∷ []))) (on rowid value_cmp) (λ a b. then-Equal (value_cmp (rowid a) (rowid b))) got.ordered got.sorted);
+          (sorted_mapped (λ r. (alone r, alone r)) (λ r. r) (on (λ (o : Row × Row). o.0) (key_cmp 0 (ascending Binary ∷ []))) (on rowid value_cmp) (λ a b. then-Equal (value_cmp (rowid a) (rowid b))) got.ordered got.sorted);
       shown = got.shown;
     }
 

@@ -1,5 +1,5 @@
 -- The tables, made one after the other.
-use Rattle.std.proofs.Common.{◌≡◌, ◌⊎◌, inl, inr, ℕ, zero, suc, ◌+◌, ◌<◌, ◌≤◌, List, [], ◌∷◌, ◌++◌, map, drop, take, slice_get, Some, false, None, Ok, Err, Result, OnOk, IsTrue, refl, sym, ap, subst, ◌∙◌, arith}
+use Rattle.std.proofs.Common.{◌≡◌, inl, inr, ℕ, zero, suc, ◌+◌, ◌<◌, List, [], ◌∷◌, ◌++◌, map, drop, take, slice_get, Some, false, None, Ok, Err, Result, OnOk, IsTrue, refl, sym, ap, subst, ◌∙◌, arith}
 use Rattle.std.specs.List.{AllByRecursion}
 use Rattle.std.specs.List.Sorted.{IsPermutation}
 use Rattle.std.proofs.lemmas.Bool.{cases_lt}
@@ -23,7 +23,7 @@ use Rattle.store.specs.declared.tables.Table.TheVariants.{Office, Ward, Candidat
 use Rattle.store.specs.Texts.{create_text}
 use Rattle.store.specs.Schema.{Definition, schema_from, no_schema, definition, shaped, shape, place_of, tree_of, all_tables}
 use Rattle.store.specs.Rows.{Keyed}
-use Rattle.store.specs.Contents.{HoldsTable, Sees}
+use Rattle.store.specs.Contents.{HoldsTable, IsOffice, Sees}
 use Rattle.store.specs.Making.{no_contents, SeesMade}
 use Rattle.store.proofs.ListLemmas.{mapped_has}
 use Rattle.store.proofs.TableLemmas.{same_place, place_below}
@@ -157,7 +157,7 @@ none_made s inside blank sound = record { inside = inside; schema = blank; sound
 
 -- all tables: an office with no row
 pub all_made : (s : State) → SeesMade 8 s → Sees no_contents s
-unfolding no_contents
+unfolding no_contents IsOffice
 all_made s sees = record {
   inside = sees.inside;
   office = record {

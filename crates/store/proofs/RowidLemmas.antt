@@ -1,8 +1,8 @@
 -- What the rowids of a table, in order, tell of it.
 use Rattle.std.proofs.lemmas.Bool.{cases_lt}
-use Rattle.std.proofs.Common.{zero, ◌≡◌, ◌⊎◌, inl, inr, ℕ, ◌+◌, ◌<◌, ◌≤ℤ◌, ℤ, List, [], ◌∷◌, map, length, get_or, true, false, refl, sym, ap, subst, ◌∙◌, arith, Less, Equal, Greater, Ordering, int_cmp, add-one, suc, ◌<ℤ◌, ◌-◌, ◌≤◌}
-use Rattle.std.specs.Ordering.{on, is_lt, ordering_reverse}
-use Rattle.std.specs.List.Sorted.{IsPermutation, IsSorted, IsStrictlySortedBy}
+use Rattle.std.proofs.Common.{zero, ◌≡◌, ◌⊎◌, inl, inr, ℕ, ◌+◌, ◌<◌, ◌≤ℤ◌, ℤ, List, [], ◌∷◌, map, length, get_or, true, false, refl, sym, ap, subst, ◌∙◌, arith, Less, Equal, int_cmp, add-one, suc, ◌<ℤ◌, ◌-◌}
+use Rattle.std.specs.Ordering.{is_lt}
+use Rattle.std.specs.List.Sorted.{IsStrictlySortedBy}
 use Rattle.std.proofs.lemmas.Int.{ints}
 use Rattle.std.proofs.lemmas.Cmp.{tied_itself}
 use Rattle.std.proofs.lemmas.Bool.Decides.{nat_tests}
@@ -15,13 +15,13 @@ use Rattle.sqlite.specs.declared.types.Value.{Value}
 use Rattle.sqlite.specs.declared.types.Value.TheVariants.{Null, Int, Real, Text, Blob}
 use Rattle.sqlite.specs.Order.{Row, value_cmp}
 use Rattle.sqlite.specs.View.{is_int}
-use Rattle.sqlite.specs.Tree.{Trees, rowid}
+use Rattle.sqlite.specs.Tree.{rowid}
 use Rattle.sqlite.specs.Effect.{Database}
 use Rattle.store.specs.declared.tables.Table.{Table}
 use Rattle.store.specs.Schema.{tree_of}
 use Rattle.store.specs.Rows.{Keyed, HasWrongRowid, RepeatsRowid}
 use Rattle.store.specs.Reading.{ListsRowids, RowidsRise, RowidsStick, alone}
-use Rattle.store.proofs.ListLemmas.{mapped_has, has_mapped, has_at, get_mapped, mapped_length, permuted_has}
+use Rattle.store.proofs.ListLemmas.{mapped_has, has_at, get_mapped, mapped_length, permuted_has}
 
 pub no_integer : (v : Value) → ((n : ℤ) → ¬ (v ≡ Int n)) → is_int v ≡ false
 no_integer Null none = refl
@@ -53,9 +53,9 @@ pub rise_more : (rows : List Row) (i : ℕ) (m n : ℤ) → 0 < i → rowid (get
 rise_more rows i m n some first second less before k low = elim (cases_lt (k + 1) i) [
   | inl earlier ↦ before k earlier
   | inr past ↦
-    let same : i ≡ k + 1 = omega (arith, low, past) in
-    let back : i - 1 ≡ k = omega (arith, same) in
-    rw (subst (λ j. rowid (get_or rows j []) ≡ Int m) back first, subst (λ j. rowid (get_or rows j []) ≡ Int n) same second) (value_cmp-Int m n ∙ lower m n less)
+      let same : i ≡ k + 1 = omega (arith, low, past) in
+      let back : i - 1 ≡ k = omega (arith, same) in
+      rw (subst (λ j. rowid (get_or rows j []) ≡ Int m) back first, subst (λ j. rowid (get_or rows j []) ≡ Int n) same second) (value_cmp-Int m n ∙ lower m n less)
 ]
   where
     lower : (a b : ℤ) → a <ℤ b → int_cmp a b ≡ Less
@@ -99,15 +99,15 @@ keyed_from t db rows lists rise =
     let ordered = lists.ordered in
     let len : length rows ≡ length ordered = ap length lists.shown ∙ mapped_length alone ordered in
     let up = rising ordered (λ k h.
-      let next : k + 1 < length rows = omega (arith, h, len) in
-      let here : k < length rows = omega (arith, next) in
-      rw (sym (shown_at ordered rows lists.shown k here).1, sym (shown_at ordered rows lists.shown (k + 1) next).1) (rise.rise k next)) in
+    let next : k + 1 < length rows = omega (arith, h, len) in
+    let here : k < length rows = omega (arith, next) in
+    rw (sym (shown_at ordered rows lists.shown k here).1, sym (shown_at ordered rows lists.shown (k + 1) next).1) (rise.rise k next)) in
     record {
       ints = λ r h. each (map rowid ordered) (λ k low.
           let here : k < length rows = let n = mapped_length rowid ordered in omega (arith, low, n, len) in
           let there : k < length ordered = omega (arith, here, len) in
           rw (get_mapped rowid ordered k Null [] there, sym (shown_at ordered rows lists.shown k here).1) (rise.ints k here))
-        (rowid r) (mapped_has rowid ordered r (permuted_has r (db.trees (tree_of t)) ordered lists.same h));
+          (rowid r) (mapped_has rowid ordered r (permuted_has r (db.trees (tree_of t)) ordered lists.same h));
       once = λ a b h k. once_each ordered up a b (permuted_has a (db.trees (tree_of t)) ordered lists.same h) (permuted_has b (db.trees (tree_of t)) ordered lists.same k);
     }
   where

@@ -1,5 +1,5 @@
 -- One SELECT over one table.
-use Rattle.std.proofs.Common.{◌≡◌, ℕ, zero, suc, pos, negsuc, List, [], ◌∷◌, ◌++◌, map, filter, drop, Bool, true, false, cond, None, Some, refl, sym, ap, subst, ◌∙◌, Ordering, ◌&&◌}
+use Rattle.std.proofs.Common.{◌≡◌, ℕ, zero, suc, pos, negsuc, List, [], ◌∷◌, ◌++◌, map, filter, drop, Bool, true, false, cond, None, refl, sym, ap, subst, ◌∙◌, Ordering, ◌&&◌}
 use Rattle.std.specs.List.{list_all, flat_map}
 use Rattle.std.specs.Ordering.{on}
 use Rattle.std.specs.List.Sorted.{IsPermutation, IsSorted}
@@ -15,7 +15,7 @@ use Rattle.sqlite_value.specs.Keys.{ascending}
 use Rattle.sqlite.specs.Term.{Term, lit, col, op2, eval_all, holds}
 use Rattle.sqlite.specs.Query.{Query, inner, end, IsAnswer, Output, output, output_cmp, key_cmp}
 use Rattle.sqlite.specs.Program.{overlay}
-use Rattle.sqlite.specs.Tree.{Trees, rowid}
+use Rattle.sqlite.specs.Tree.{Trees}
 use Rattle.sqlite.specs.Schema.{Schema}
 use Rattle.sqlite.specs.Command.TheVariants.{Select}
 use Rattle.sqlite.specs.Listing.{understood, reads_listing}
@@ -32,9 +32,16 @@ drop_none (x ∷ xs) = refl
 -- the query, as `sqlite` reads it in the text
 abbrev pub query : ℕ → List Term → List Term → List (Term × Key) → Query
 query tree tests project order = record {
-    from = inner tree end; filter = tests; group = None; project = project; distinct = false; collations = []; order = order;
-    limit = lit (Int (negsuc 0)); offset = lit (Int (pos 0));
-  }
+  from = inner tree end;
+  filter = tests;
+  group = None;
+  project = project;
+  distinct = false;
+  collations = [];
+  order = order;
+  limit = lit (Int (negsuc 0));
+  offset = lit (Int (pos 0));
+}
 
 -- the rows that pass the test, in an order by their keys, each as it is shown
 pub record Selects (test : Row → Bool) (key show : Row → Row) (cmp : Row → Row → Ordering) (from rows : List Row) : Type 0 where
@@ -51,34 +58,34 @@ module _ (into : Row → Row) (tree : ℕ) (tests : List Term) (project : List T
       (tested : (r : Row) → list_all (holds (params ∷ r ∷ [])) tests ≡ test (into r))
       (keyed : (r : Row) → eval_all (map (λ k. k.0) order) (params ∷ r ∷ []) ≡ key (into r))
       (shows : (r : Row) → eval_all project (params ∷ r ∷ []) ≡ show (into r))
-      where
-    abbrev pair : Row → Output
-    pair t = (key t, show t)
+    where
+      abbrev pair : Row → Output
+      pair t = (key t, show t)
 
-    found : (rows : List Row) → map (output asked) (flat_map (λ r. cond (list_all (holds (params ∷ r ∷ [])) tests) ((params ∷ r ∷ []) ∷ []) []) rows) ≡ map pair (filter test (map into rows))
-    found [] = refl
-    found (r ∷ rows) = go (test (into r)) (tested r) (found rows)
-      where
-        go : (b : Bool) → list_all (holds (params ∷ r ∷ [])) tests ≡ b → map (output asked) (flat_map (λ x. cond (list_all (holds (params ∷ x ∷ [])) tests) ((params ∷ x ∷ []) ∷ []) []) rows) ≡ map pair (filter test (map into rows))
-            → map (output asked) (cond (list_all (holds (params ∷ r ∷ [])) tests) ((params ∷ r ∷ []) ∷ []) [] ++ flat_map (λ x. cond (list_all (holds (params ∷ x ∷ [])) tests) ((params ∷ x ∷ []) ∷ []) []) rows)
+      found : (rows : List Row) → map (output asked) (flat_map (λ r. cond (list_all (holds (params ∷ r ∷ [])) tests) ((params ∷ r ∷ []) ∷ []) []) rows) ≡ map pair (filter test (map into rows))
+      found [] = refl
+      found (r ∷ rows) = go (test (into r)) (tested r) (found rows)
+        where
+          go : (b : Bool) → list_all (holds (params ∷ r ∷ [])) tests ≡ b → map (output asked) (flat_map (λ x. cond (list_all (holds (params ∷ x ∷ [])) tests) ((params ∷ x ∷ []) ∷ []) []) rows) ≡ map pair (filter test (map into rows))
+              → map (output asked) (cond (list_all (holds (params ∷ r ∷ [])) tests) ((params ∷ r ∷ []) ∷ []) [] ++ flat_map (λ x. cond (list_all (holds (params ∷ x ∷ [])) tests) ((params ∷ x ∷ []) ∷ []) []) rows)
               ≡ map pair (cond b (into r ∷ filter test (map into rows)) (filter test (map into rows)))
-        go true is later = rw (is, keyed r, shows r) (ap (λ l. pair (into r) ∷ l) later)
-        go false is later = rw is later
+          go true is later = rw (is, keyed r, shows r) (ap (λ l. pair (into r) ∷ l) later)
+          go false is later = rw is later
 
-    shown_pairs : (ts : List Row) → map (λ (o : Output). o.1) (map pair ts) ≡ map show ts
-    shown_pairs [] = refl
-    shown_pairs (t ∷ ts) = ap (λ l. show t ∷ l) (shown_pairs ts)
+      shown_pairs : (ts : List Row) → map (λ (o : Output). o.1) (map pair ts) ≡ map show ts
+      shown_pairs [] = refl
+      shown_pairs (t ∷ ts) = ap (λ l. show t ∷ l) (shown_pairs ts)
 
-    pub selects : (db : Trees) (rows : List Row) → IsAnswer asked db params rows → Selects test key show (key_cmp 0 (map (λ k. k.1) order)) (map into (db tree)) rows
-    selects db rows a =
-        let all : a.kept ≡ map pair (filter test (map into (db tree))) = a.distinct ∙ ap (map (output asked)) a.grouped ∙ found (db tree) in
-        let pulled = pull_back pair a.kept a.ordered a.same (filter test (map into (db tree))) all in
-        record {
-          ordered = pulled.0;
-          same = pulled.1;
-          sorted = subst (IsSorted (output_cmp asked)) pulled.2 a.sorted;
-          shown = a.shown ∙ drop_none _ ∙ ap (map (λ (o : Output). o.1)) pulled.2 ∙ shown_pairs pulled.0;
-        }
+      pub selects : (db : Trees) (rows : List Row) → IsAnswer asked db params rows → Selects test key show (key_cmp 0 (map (λ k. k.1) order)) (map into (db tree)) rows
+      selects db rows a =
+          let all : a.kept ≡ map pair (filter test (map into (db tree))) = a.distinct ∙ ap (map (output asked)) a.grouped ∙ found (db tree) in
+          let pulled = pull_back pair a.kept a.ordered a.same (filter test (map into (db tree))) all in
+          record {
+            ordered = pulled.0;
+            same = pulled.1;
+            sorted = subst (IsSorted (output_cmp asked)) pulled.2 a.sorted;
+            shown = a.shown ∙ drop_none _ ∙ ap (map (λ (o : Output). o.1)) pulled.2 ∙ shown_pairs pulled.0;
+          }
 
 -- what a SELECT over one table has to be
 pub record IsSelect (schema : Schema) (sql : List ℕ) (tree : ℕ) (tests project : List Term) (order : List (Term × Key)) (names : List (List ℕ)) : Type 0 where
@@ -92,11 +99,11 @@ module _ (schema : Schema) (sql : List ℕ) (tree : ℕ) (tests project : List T
     (tested : (r : Row) → list_all (holds (params ∷ r ∷ [])) tests ≡ test (into r))
     (keyed : (r : Row) → eval_all (map (λ k. k.0) order) (params ∷ r ∷ []) ≡ key (into r))
     (shows : (r : Row) → eval_all project (params ∷ r ∷ []) ≡ show (into r))
-    where
-  pub reads_rows : (old new : State) (rows : List Row) → old.now.schema ≡ schema → Shown sql params old new rows → Selects test key show (key_cmp 0 (map (λ k. k.1) order)) (map into (old.now.trees tree)) rows
-  reads_rows old new rows has h =
-      let read = reads_as sql params old new schema has _ it.is it.plain it.unlisted rows h in
-      subst (λ l. Selects test key show (key_cmp 0 (map (λ k. k.1) order)) (map into l) rows) (it.low old.now.trees)
+  where
+    pub reads_rows : (old new : State) (rows : List Row) → old.now.schema ≡ schema → Shown sql params old new rows → Selects test key show (key_cmp 0 (map (λ k. k.1) order)) (map into (old.now.trees tree)) rows
+    reads_rows old new rows has h =
+        let read = reads_as sql params old new schema has _ it.is it.plain it.unlisted rows h in
+        subst (λ l. Selects test key show (key_cmp 0 (map (λ k. k.1) order)) (map into l) rows) (it.low old.now.trees)
         (selects into tree tests project order params test key show tested keyed shows (overlay old.now.trees []) rows (read.answer Null))
 
 -- ---- columns of a row that has its rowid in front

@@ -5,7 +5,6 @@ use Rattle.sqlite.specs.declared.error.Error.TheVariants.{SqliteFailure}
 use Rattle.sqlite.specs.declared.error.ErrorCode.TheVariants.{OutOfMemory}
 use Rattle.sqlite.specs.Order.{Row}
 use Rattle.sqlite.specs.State.{State, HasCleanDisk, ExecutesInside, FailsToQuery}
-use Rattle.sqlite.specs.Steps.{FailsToCommit}
 use Rattle.store.specs.declared.fault.Fault.{Fault}
 use Rattle.store.specs.declared.fault.Fault.TheVariants.{Memory, Store, Damaged, Closed, WrongDatabase, NewerSchema}
 
@@ -35,7 +34,3 @@ TellsQuery sql params old new f = (e : Error) × (f ≡ fault_of e) × (HasClean
 -- the fault tells why `sqlite` refused this statement inside a transaction
 abbrev pub TellsStatement : List ℕ → Row → State → State → Fault → Type 0
 TellsStatement sql params old new f = (e : Error) × (f ≡ fault_of e) × (HasCleanDisk new → IsTrue old.in_transaction → ExecutesInside 0 sql params old new (Err e))
-
--- the fault tells why `sqlite` refused the commit
-abbrev pub TellsCommit : State → State → Fault → Type 0
-TellsCommit old new f = (e : Error) × (f ≡ fault_of e) × (HasCleanDisk new → FailsToCommit old new e)

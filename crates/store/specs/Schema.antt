@@ -1,5 +1,5 @@
 -- The schema of an office, as `sqlite` reads it in the texts.
-use Rattle.std.specs.Prelude.{◌≡◌, ◌++◌, ◌+◌, ◌*◌, ℕ, zero, suc, List, [], ◌∷◌, codes, map, take, length, true, false, None, pos}
+use Rattle.std.specs.Prelude.{◌≡◌, ◌++◌, ◌+◌, ◌*◌, ℕ, zero, suc, List, [], ◌∷◌, codes, map, take, true, false, None, pos}
 use Rattle.std.specs.List.{AllByRecursion}
 use Rattle.sqlite.specs.declared.types.Value.TheVariants.{Null, Int}
 use Rattle.sqlite.specs.Collation.TheVariants.{Binary}
@@ -46,37 +46,44 @@ pub record Shape : Type 0 where
 abbrev pub shape : Table → Shape
 shape Office = record { name = codes "office"; key = 1; columns = number_column (codes "one") ∷ number_column (codes "version") ∷ []; checks = [] }
 shape Ward = record {
-  name = codes "ward"; key = 1;
+  name = codes "ward";
+  key = 1;
   columns = number_column (codes "ward") ∷ number_column (codes "seats") ∷ number_column (codes "phase") ∷ number_column (codes "done") ∷ text_column (codes "name") ∷ [];
   checks = within 1 1 99 ∷ within 2 1 15 ∷ [];
 }
 shape Candidate = record {
-  name = codes "candidate"; key = 2;
+  name = codes "candidate";
+  key = 2;
   columns = number_column (codes "ward") ∷ number_column (codes "candidate") ∷ text_column (codes "name") ∷ [];
   checks = within 1 1 99 ∷ within 2 1 30 ∷ [];
 }
 shape Batch = record {
-  name = codes "batch"; key = 1;
+  name = codes "batch";
+  key = 1;
   columns = number_column (codes "batch") ∷ number_column (codes "ward") ∷ number_column (codes "size") ∷ number_column (codes "clerk_a") ∷ number_column (codes "clerk_b") ∷ number_column (codes "round") ∷ [];
   checks = within 1 1 9999 ∷ within 2 1 99 ∷ within 3 1 500 ∷ within 4 1 999 ∷ within 5 1 999 ∷ within 6 1 99 ∷ [];
 }
 shape Keying = record {
-  name = codes "keying"; key = 4;
+  name = codes "keying";
+  key = 4;
   columns = number_column (codes "batch") ∷ number_column (codes "round") ∷ number_column (codes "clerk") ∷ number_column (codes "paper") ∷ text_column (codes "marks") ∷ [];
   checks = within 1 1 9999 ∷ within 2 1 99 ∷ within 3 1 999 ∷ within 4 1 500 ∷ [];
 }
 shape Verdict = record {
-  name = codes "verdict"; key = 2;
+  name = codes "verdict";
+  key = 2;
   columns = number_column (codes "batch") ∷ number_column (codes "paper") ∷ number_column (codes "code") ∷ text_column (codes "marks") ∷ [];
   checks = within 1 1 9999 ∷ within 2 1 500 ∷ [];
 }
 shape Lot = record {
-  name = codes "lot"; key = 2;
+  name = codes "lot";
+  key = 2;
   columns = number_column (codes "ward") ∷ number_column (codes "stage") ∷ number_column (codes "candidate") ∷ [];
   checks = within 1 1 99 ∷ within 2 2 31 ∷ within 3 1 30 ∷ [];
 }
 shape Receipt = record {
-  name = codes "receipt"; key = 2;
+  name = codes "receipt";
+  key = 2;
   columns = number_column (codes "actor") ∷ text_column (codes "id") ∷ text_column (codes "subject") ∷ text_column (codes "reply") ∷ [];
   checks = within 1 0 999 ∷ [];
 }
@@ -106,8 +113,18 @@ places_from k (suc n) = k ∷ places_from (suc k) n
 -- a table whose key is its first columns; a row is its rowid, then these
 abbrev pub keyed_by : List ℕ → List ℕ → ℕ → List Column → List Term → Definition
 keyed_by key name tree columns checks = record {
-  name = name; tree = tree; columns = columns; key = None; primary = key; uniques = key ∷ []; orders = plain ∷ []; checks = checks; references = []; computed = [];
-  stamps = record { places = []; terms = []; formats = [] }; is_counted = false;
+  name = name;
+  tree = tree;
+  columns = columns;
+  key = None;
+  primary = key;
+  uniques = key ∷ [];
+  orders = plain ∷ [];
+  checks = checks;
+  references = [];
+  computed = [];
+  stamps = record { places = []; terms = []; formats = [] };
+  is_counted = false;
 }
 
 -- a table of this shape, with its rows in this tree

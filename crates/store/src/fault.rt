@@ -55,3 +55,13 @@ pub fn fault_of(e: Error) -> Fault
         _ => Fault::Store,
     }
 }
+
+impl From<Error> for Fault {
+    ghost use Rattle.store.specs.Faults.{fault_of};
+
+    ghost from_gives = { λ e f. f ≡ fault_of e };
+
+    fn from(e: Error) -> Fault {
+        fault_of(e)
+    }
+}

@@ -10,12 +10,11 @@
 //! ```
 #![tactic(auto)]
 
-pub mod fault;
-pub mod tables;
 pub mod cells;
-pub mod presence;
-pub mod making;
+pub mod fault;
 pub mod insertion;
-pub mod commit;
+pub mod making;
+pub mod presence;
 pub mod reading;
 pub mod rowids;
+pub mod tables;

@@ -8,7 +8,8 @@ ghost use Rattle.store.specs.Texts.{create_text};
 ghost use Rattle.store.specs.Schema.{no_schema, place_of};
 ghost use Rattle.store.specs.Contents.{Sees};
 ghost use Rattle.store.specs.Making.{no_contents, SeesMade};
-ghost use Rattle.store.specs.Faults.{TellsStatement};
+ghost use Rattle.sqlite.specs.declared.error.Error.{Error};
+ghost use Rattle.store.specs.Faults.{TellsStatement, fault_of};
 
 use crate::fault::{Fault, fault_of};
 use crate::tables::{Table, create_text};
@@ -38,6 +39,7 @@ pub fn create_tables<S: Alter>(tx: &mut Transaction<'_, S>) -> Result<(), Fault>
         → OnOk result (Sees no_contents (state S.Store tx.new.conn.now)) }
     ensures keeps { HasCleanDisk (state S.Store tx.new.conn.now) → KeepsCommit (state S.Store tx.old.conn.now) (state S.Store tx.new.conn.now) }
     ensures survives { Survives (state S.Store tx.old.conn.now) (state S.Store tx.new.conn.now) (λ _. ⊥) }
+    ensures cause { IfErr result (λ f. (e : Error) × (f ≡ fault_of e)) }
 {
     for table in Table::ALL {
         create_table(tx, table)?;

@@ -80,7 +80,7 @@ pub fn rowids_rise<S: Alter>(conn: &mut Connection<S>, table: Table) -> Result<(
     ensures outside { conn.new.in_transaction ≡ false }
     ensures cause { HasCleanDisk (state S.Store conn.new) → (db : Database) → BeginsTo table db.schema → RestsAt db (state S.Store conn.old)
         → IfErr result (λ f. TellsQuery (rowids_text table) [] (state S.Store conn.old) (state S.Store conn.new) f
-            ⊎ ((f ≡ Fault.Memory) ⊎ ((f ≡ Fault.Store) × (HasWrongRowid (db.trees (tree_of table)) ⊎ RepeatsRowid (db.trees (tree_of table)))))) }
+        ⊎ ((f ≡ Fault.Memory) ⊎ ((f ≡ Fault.Store) × (HasWrongRowid (db.trees (tree_of table)) ⊎ RepeatsRowid (db.trees (tree_of table)))))) }
 {
     let rows = all_rowids(conn, table)?;
     each_rises(&rows)?;

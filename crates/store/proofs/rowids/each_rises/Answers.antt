@@ -1,4 +1,4 @@
-use Rattle.std.proofs.Common.{◌≡◌, ◌+◌, ◌-◌, ◌<◌, length, inr, refl, arith, rules, FitsSigned, w64}
+use Rattle.std.proofs.Common.{◌-◌, ◌<◌, length, inr, refl, arith, rules, FitsSigned, w64}
 use Rattle.std.proofs.lemmas.Int.{ints}
 use Rattle.store.proofs.RowidLemmas.{rowid_there, ints_more, rise_more, sticks}
 use Rattle.store.proofs.rowids.each_rises.Goals as goal
@@ -23,11 +23,11 @@ loop-i-preserved c =
       ints = ints_more c.args.rows.now c.loop-i.i c.in_ok-id.id here inv.ints;
       rise = elim c.if-i-gt0.branch [
         | then-i-gt0+in_ok-before+else-not-is_below w ↦
-          let there = rowid_there c.args.rows.now (c.loop-i.i - 1) w.index-rows-i-then-i-gt0.result w.in_ok-before.before (omega (arith, low)) w.index-rows-i-then-i-gt0.is w.in_ok-before.ensures.id in
-          let id : FitsSigned w64 c.in_ok-id.id = search rules in
-          let before : FitsSigned w64 w.in_ok-before.before = search rules in
-          let below = w.is_below.ensures.below w.if-not-is_below.false in
-          rise_more c.args.rows.now c.loop-i.i w.in_ok-before.before c.in_ok-id.id w.if-i-gt0.true there here (omega (arith, ints, below, id, before)) inv.rise
+            let there = rowid_there c.args.rows.now (c.loop-i.i - 1) w.index-rows-i-then-i-gt0.result w.in_ok-before.before (omega (arith, low)) w.index-rows-i-then-i-gt0.is w.in_ok-before.ensures.id in
+            let id : FitsSigned w64 c.in_ok-id.id = search rules in
+            let before : FitsSigned w64 w.in_ok-before.before = search rules in
+            let below = w.is_below.ensures.below w.if-not-is_below.false in
+            rise_more c.args.rows.now c.loop-i.i w.in_ok-before.before c.in_ok-id.id w.if-i-gt0.true there here (omega (arith, ints, below, id, before)) inv.rise
         | else-i-gt0 w ↦ λ k below. absurd (let none = w.if-i-gt0.false in omega (arith, below, none))
       ];
     }
