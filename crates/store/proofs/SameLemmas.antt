@@ -1,15 +1,17 @@
 -- Contents are known up to the order of each table's rows.
-use Rattle.std.proofs.Common.{List, true, false, ◌==◌, cond}
+use Rattle.std.proofs.Common.{List, true, false, ◌==◌, cond, ◌≡◌, ◌≢◌, inl, inr, [], ◌∷◌, refl, ap}
 use Rattle.std.specs.List.Sorted.{IsPermutation}
-use Rattle.std.proofs.lemmas.List.Sorted.{IsPermutation-refl, IsPermutation-sym, IsPermutation-trans}
+use Rattle.std.proofs.lemmas.List.Sorted.{IsPermutation-refl, IsPermutation-sym, IsPermutation-trans, IsPermutation-cons}
 use Rattle.sqlite.specs.Order.{Row}
 use Rattle.sqlite.specs.Tree.{Trees}
 use Rattle.sqlite.specs.Effect.{Database, IsDatabase}
 use Rattle.sqlite.specs.State.{State}
 use Rattle.store.specs.declared.tables.Table.{Table}
-use Rattle.store.specs.Schema.{place_of, IsOfficeSchema}
+use Rattle.store.specs.Schema.{place_of, IsOfficeSchema, tree_of}
 use Rattle.store.specs.Rows.{is_row_of}
-use Rattle.store.specs.Contents.{Contents, SameContents, changed, HoldsTable, Holds, IsOffice, Stores, Rests, Sees, Leaves}
+use Rattle.store.specs.Making.{no_contents}
+use Rattle.store.proofs.TableLemmas.{which_table}
+use Rattle.store.specs.Contents.{added, Contents, SameContents, changed, HoldsTable, Holds, IsOffice, Stores, Rests, Sees, Leaves}
 use Rattle.store.proofs.ListLemmas.{permuted_all}
 
 pub same_itself : (c : Contents) → SameContents c c
@@ -82,3 +84,21 @@ office_sound c db office = office.sound
 pub office_holds : (c : Contents) (db : Database) → IsOffice c db → Holds c db.trees
 unfolding IsOffice
 office_holds c db office = office.holds
+
+-- ---- one row more
+
+pub added_there : (t : Table) (row : Row) (c : Contents) → added t row c t ≡ row ∷ c t
+unfolding added
+added_there t row c = elim (which_table t t) [ inl same ↦ rw same.0 refl | inr other ↦ absurd (other.1 refl) ]
+
+pub added_elsewhere : (t : Table) (row : Row) (c : Contents) (u : Table) → tree_of u ≢ tree_of t → added t row c u ≡ c u
+unfolding added
+added_elsewhere t row c u apart = elim (which_table t u) [ inl same ↦ absurd (apart (ap tree_of same.1)) | inr other ↦ rw other.0 refl ]
+
+pub same_added : (t : Table) (row : Row) (c d : Contents) → SameContents c d → SameContents (added t row c) (added t row d)
+unfolding added
+same_added t row c d same = same_changed t (λ rows. row ∷ rows) (λ xs ys h. IsPermutation-cons row xs ys h) c d same
+
+pub no_rows : (t : Table) → no_contents t ≡ []
+unfolding no_contents
+no_rows t = refl
