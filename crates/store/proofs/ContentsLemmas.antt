@@ -1,29 +1,26 @@
 -- What a statement inside a transaction makes of the contents.
-use Rattle.std.proofs.Common.{◌≡◌, ◌≢◌, ◌⊎◌, inl, inr, ℕ, List, [], ◌∷◌, ◌++◌, true, false, Ok, Err, Result, OnOk, IfErr, IsTrue, refl, sym, ap, subst, ◌∙◌, map, drop, append-nil}
-use Rattle.std.specs.List.{AllByRecursion, list_all}
+use Rattle.std.proofs.Common.{◌≡◌, ◌≢◌, inl, inr, ℕ, List, [], ◌∷◌, true, false, Ok, Err, Result, OnOk, IsTrue, sym, ap, subst, ◌∙◌, map, drop, append-nil}
+use Rattle.std.specs.List.{AllByRecursion}
 use Rattle.std.specs.List.Sorted.{IsPermutation}
 use Rattle.std.proofs.lemmas.List.Sorted.{IsPermutation-trans, IsPermutation-cons}
 use Rattle.std.proofs.lemmas.Bool.{cases_Bool, and_from}
-use Rattle.sqlite_rules.specs.Lists.{Has}
 use Rattle.sqlite_rules.proofs.ListLemmas.{all_has}
 use Rattle.sqlite.specs.declared.error.Error.{Error}
 use Rattle.sqlite.specs.declared.types.Value.TheVariants.{Null}
 use Rattle.sqlite.specs.Order.{Row}
 use Rattle.sqlite.specs.Tree.{Trees}
-use Rattle.sqlite.specs.Schema.{Schema}
-use Rattle.sqlite.specs.Effect.{Database, IsDatabase}
 use Rattle.sqlite.specs.State.{State, Executes, ExecutesInside, KeepsCommit}
 use Rattle.sqlite_schema.specs.declared.schema.Index.{Index}
 use Rattle.sqlite_schema.specs.declared.schema.View.{View}
 use Rattle.store.specs.declared.tables.Table.{Table}
 use Rattle.store.specs.Texts.{insert_text}
-use Rattle.store.specs.Schema.{Definition, schema_from, definition, place_of, tree_of, shape, places_from, AreFree, IsOfficeSchema}
-use Rattle.store.specs.Rows.{tuples, is_row_of, Keyed}
-use Rattle.store.specs.Contents.{Contents, changed, HoldsTable, Holds, IsOffice, Sees}
+use Rattle.store.specs.Schema.{Definition, schema_from, definition, place_of, tree_of, shape, places_from, AreFree}
+use Rattle.store.specs.Rows.{is_row_of, Keyed}
+use Rattle.store.specs.Contents.{Contents, changed, added, HoldsTable, Holds, IsOffice, Sees}
 use Rattle.store.proofs.PlaceLemmas.{typed_at}
 use Rattle.store.proofs.TableLemmas.{which_table, has_table}
 use Rattle.store.proofs.InsertLemmas.{Adds, inserts}
-use Rattle.store.proofs.Inserts.{InsertsRow, inserts_row, inserted, width_of}
+use Rattle.store.proofs.Inserts.{inserts_row, inserted, width_of}
 
 table_kept : (t : Table) (rows : List Row) (old new : Trees) → new (tree_of t) ≡ old (tree_of t) → HoldsTable t rows old → HoldsTable t rows new
 table_kept t rows old new same h = record { same = subst (λ l. IsPermutation rows (map (drop 1) l)) (sym same) h.same; keyed = subst Keyed (sym same) h.keyed; typed = h.typed }
@@ -69,7 +66,8 @@ adds rest others views free t params kinds old new count has h =
 
 -- it adds the row
 pub row_added : (t : Table) (params : Row) → is_row_of t params ≡ true → (old new : State) (r : Result ℕ Error) → (IsTrue old.in_transaction → ExecutesInside 0 (insert_text t) params old new r)
-    → (c : Contents) → Sees c old → OnOk r (Sees (changed t (λ rows. params ∷ rows) c) new)
+    → (c : Contents) → Sees c old → OnOk r (Sees (added t params c) new)
+unfolding added IsOffice
 row_added t params kinds old new (Err e) runs c sees = tt
 row_added t params kinds old new (Ok count) runs c sees =
     let s = sees.office.begins in

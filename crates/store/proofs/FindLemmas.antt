@@ -92,3 +92,7 @@ receipt_found s is actor id rows same =
 pub found_in_range : {X : Type 0} (p q : X → Bool) (xs : List X) → list_all p xs ≡ true → IfSome (find q xs) (λ x. p x ≡ true)
 found_in_range p q [] all = tt
 found_in_range {X} p q (x ∷ xs) all = elim (q x) as (λ b. IfSome (cond b (Some x) (find q xs)) (λ y. p y ≡ true)) [ true ↦ (and_parts _ _ all).0 | false ↦ found_in_range p q xs (and_parts _ _ all).1 ]
+
+pub both_hold : {X : Type 0} (P Q : X → Type 0) (o : Option X) → IfSome o P → IfSome o Q → IfSome o (λ x. P x × Q x)
+both_hold P Q None first second = tt
+both_hold P Q (Some x) first second = (first, second)

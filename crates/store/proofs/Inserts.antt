@@ -1,5 +1,5 @@
 -- What each INSERT is, under a schema that begins with the tables.
-use Rattle.std.proofs.Common.{◌≡◌, ℕ, ◌+◌, List, [], ◌∷◌, ◌++◌, length, ◌/◌, refl, ap, ◌∙◌, slice_get, Some, true, map}
+use Rattle.std.proofs.Common.{◌≡◌, ℕ, ◌+◌, List, [], ◌∷◌, ◌++◌, length, ◌/◌, refl, slice_get, Some, map}
 use Rattle.std.specs.List.{flat_map, filter_map}
 use Rattle.sqlite.specs.declared.types.Value.TheVariants.{Null}
 use Rattle.sqlite.specs.Order.{Row}
@@ -18,9 +18,8 @@ use Rattle.sqlite_tied.specs.Compute.{everything}
 use Rattle.store.specs.declared.tables.Table.{Table}
 use Rattle.store.specs.declared.tables.Table.TheVariants.{Office, Ward, Candidate, Batch, Keying, Verdict, Lot, Receipt}
 use Rattle.store.specs.Texts.{insert_text}
-use Rattle.store.specs.Schema.{Definition, schema_from, definition, place_of, tree_of, shape, places_from, AreFree}
-use Rattle.store.specs.Rows.{at, column_places, is_row_of}
-use Rattle.store.proofs.PlaceLemmas.{typed_at}
+use Rattle.store.specs.Schema.{Definition, schema_from, definition, place_of, tree_of, shape, AreFree}
+use Rattle.store.specs.Rows.{at, column_places}
 
 none_from : (schema : Schema) (tree : ℕ) (olds news : List Row) (ts : List Definition) → AreFree ts → flat_map (λ child. filter_map (work_for schema Enforced 0 tree olds news child) child.references) ts ≡ []
 none_from schema tree olds news [] h = refl

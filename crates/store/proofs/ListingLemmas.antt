@@ -1,15 +1,13 @@
 -- What the queries of a table show of it.
-use Rattle.std.proofs.Common.{◌≡◌, ◌⊎◌, inl, inr, ℕ, ◌+◌, ◌<◌, ◌≤◌, List, [], ◌∷◌, ◌++◌, map, filter, drop, length, true, false, Ok, Err, Result, IfOk, refl, sym, ap, subst, ◌∙◌, arith}
-use Rattle.std.specs.List.{list_all}
+use Rattle.std.proofs.Common.{◌≡◌, ◌+◌, ◌≤◌, List, [], ◌∷◌, ◌++◌, map, filter, drop, length, true, Ok, Err, Result, IfOk, refl, sym, ap, subst, ◌∙◌, arith}
 use Rattle.std.specs.List.Sorted.{IsPermutation, IsSorted}
 use Rattle.std.specs.Ordering.{on}
-use Rattle.std.proofs.lemmas.List.Sorted.{IsPermutation-map, IsPermutation-trans, IsPermutation-sym}
+use Rattle.std.proofs.lemmas.List.Sorted.{IsPermutation-map, IsPermutation-trans}
 use Rattle.sqlite_trees.proofs.ListLemmas.{IsPermutation-filter}
-use Rattle.sqlite_rules.specs.Lists.{Has}
 use Rattle.sqlite_rules.proofs.ListLemmas.{test_has, has_filtered}
 use Rattle.sqlite_value.proofs.OrderLemmas.{then-Equal}
-use Rattle.sqlite.specs.Order.{Row, column, value_cmp}
-use Rattle.sqlite.specs.Tree.{Trees, rowid}
+use Rattle.sqlite.specs.Order.{Row, value_cmp}
+use Rattle.sqlite.specs.Tree.{rowid}
 use Rattle.sqlite.specs.Collation.TheVariants.{Binary}
 use Rattle.sqlite_value.specs.Keys.{ascending}
 use Rattle.sqlite.specs.Schema.{Schema}
@@ -20,12 +18,12 @@ use Rattle.store.specs.declared.tables.Table.{Table}
 use Rattle.store.specs.declared.tables.Table.TheVariants.{Office, Ward, Candidate, Batch, Keying, Verdict, Lot, Receipt}
 use Rattle.store.specs.Texts.{rows_text, row_text, rowids_text}
 use Rattle.store.specs.Schema.{schema_from, place_of, tree_of, shape, places_from, definition, key_index, all_tables, BeginsTo, IsOfficeSchema}
-use Rattle.store.specs.Rows.{tuples, at, column_places, key_places, has_key, is_row_of, keys_cmp, row_cmp}
-use Rattle.store.specs.Contents.{Contents, RestsAt, Rests}
+use Rattle.store.specs.Rows.{tuples, at, column_places, has_key, is_row_of, row_cmp}
+use Rattle.store.specs.Contents.{Contents, IsOffice, RestsAt, Rests}
 use Rattle.store.specs.Reading.{Lists, Finds, ListsRowids, alone}
 use Rattle.store.proofs.ListLemmas.{all_pass, sorted_mapped, mapped_same, mapped_itself}
 use Rattle.store.proofs.PlaceLemmas.{at_front, typed_at}
-use Rattle.store.proofs.SelectLemmas.{Selects, reads_rows, shows_columns, ordered_terms, ordered_keys, columns_from, ordered_from, tests_from, tests_agree}
+use Rattle.store.proofs.SelectLemmas.{reads_rows, shows_columns, ordered_terms, ordered_keys, columns_from, ordered_from, tests_from, tests_agree}
 use Rattle.store.proofs.Queries.{selects_all, selects_one, selects_rowids}
 
 -- a schema that begins with all tables begins with those up to each
@@ -73,6 +71,7 @@ if_listed t db begins old new rows (Err e) rests shown = tt
 
 -- what an open office holds, a query of all rows shows
 pub lists_contents : (t : Table) (c : Contents) (s : State) (rows : List Row) → Rests c s → Lists t s.now rows → IsPermutation (c t) rows
+unfolding IsOffice
 lists_contents t c s rows rests lists =
     let it = rests.office.holds t in
     subst (λ l. IsPermutation l rows)
@@ -82,6 +81,7 @@ lists_contents t c s rows rests lists =
 -- ---- the row with a key
 
 pub found : (t : Table) (key : Row) (c : Contents) (old new : State) (rows : List Row) → Rests c old → Shown (row_text t) key old new rows → Finds t key c rows
+unfolding IsOffice
 found t key c old new rows rests shown =
     let n = length (shape t).columns in
     let m = (shape t).key in

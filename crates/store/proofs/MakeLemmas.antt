@@ -1,5 +1,5 @@
 -- The tables, made one after the other.
-use Rattle.std.proofs.Common.{◌≡◌, ◌⊎◌, inl, inr, ℕ, zero, suc, ◌+◌, ◌<◌, ◌≤◌, List, [], ◌∷◌, ◌++◌, map, drop, take, slice_get, Some, false, None, Ok, Err, Result, OnOk, IsTrue, refl, sym, ap, subst, ◌∙◌, arith}
+use Rattle.std.proofs.Common.{◌≡◌, inl, inr, ℕ, zero, suc, ◌+◌, ◌<◌, List, [], ◌∷◌, ◌++◌, map, drop, take, slice_get, Some, false, None, Ok, Err, Result, OnOk, IsTrue, refl, sym, ap, subst, ◌∙◌, arith}
 use Rattle.std.specs.List.{AllByRecursion}
 use Rattle.std.specs.List.Sorted.{IsPermutation}
 use Rattle.std.proofs.lemmas.Bool.{cases_lt}
@@ -21,9 +21,9 @@ use Rattle.sqlite_tied.specs.Compute.{everything}
 use Rattle.store.specs.declared.tables.Table.{Table}
 use Rattle.store.specs.declared.tables.Table.TheVariants.{Office, Ward, Candidate, Batch, Keying, Verdict, Lot, Receipt}
 use Rattle.store.specs.Texts.{create_text}
-use Rattle.store.specs.Schema.{Definition, schema_from, definition, shaped, shape, place_of, tree_of, all_tables}
+use Rattle.store.specs.Schema.{Definition, schema_from, no_schema, definition, shaped, shape, place_of, tree_of, all_tables}
 use Rattle.store.specs.Rows.{Keyed}
-use Rattle.store.specs.Contents.{HoldsTable, Sees}
+use Rattle.store.specs.Contents.{HoldsTable, IsOffice, Sees}
 use Rattle.store.specs.Making.{no_contents, SeesMade}
 use Rattle.store.proofs.ListLemmas.{mapped_has}
 use Rattle.store.proofs.TableLemmas.{same_place, place_below}
@@ -151,8 +151,13 @@ pub table_made : (t : Table) (old new : State) (r : Result ℕ Error) → (IsTru
 table_made t old new (Ok count) runs sees = makes t old new count sees (runs sees.inside)
 table_made t old new (Err e) runs sees = tt
 
+-- no table yet
+pub none_made : (s : State) → IsTrue s.in_transaction → s.now.schema ≡ no_schema → IsDatabase s.now → SeesMade 0 s
+none_made s inside blank sound = record { inside = inside; schema = blank; sound = sound; holds = λ t low. absurd (omega (arith, low)) }
+
 -- all tables: an office with no row
 pub all_made : (s : State) → SeesMade 8 s → Sees no_contents s
+unfolding no_contents IsOffice
 all_made s sees = record {
   inside = sees.inside;
   office = record {

@@ -1,8 +1,8 @@
 -- What the rowids of a table, in order, tell of it.
 use Rattle.std.proofs.lemmas.Bool.{cases_lt}
-use Rattle.std.proofs.Common.{zero, ◌≡◌, ◌⊎◌, inl, inr, ℕ, ◌+◌, ◌<◌, ◌≤ℤ◌, ℤ, List, [], ◌∷◌, map, length, get_or, true, false, refl, sym, ap, subst, ◌∙◌, arith, Less, Equal, Greater, Ordering, int_cmp, add-one, suc, ◌<ℤ◌, ◌-◌, ◌≤◌}
-use Rattle.std.specs.Ordering.{on, is_lt, ordering_reverse}
-use Rattle.std.specs.List.Sorted.{IsPermutation, IsSorted, IsStrictlySortedBy}
+use Rattle.std.proofs.Common.{zero, ◌≡◌, ◌⊎◌, inl, inr, ℕ, ◌+◌, ◌<◌, ◌≤ℤ◌, ℤ, List, [], ◌∷◌, map, length, get_or, true, false, refl, sym, ap, subst, ◌∙◌, arith, Less, Equal, int_cmp, add-one, suc, ◌<ℤ◌, ◌-◌}
+use Rattle.std.specs.Ordering.{is_lt}
+use Rattle.std.specs.List.Sorted.{IsStrictlySortedBy}
 use Rattle.std.proofs.lemmas.Int.{ints}
 use Rattle.std.proofs.lemmas.Cmp.{tied_itself}
 use Rattle.std.proofs.lemmas.Bool.Decides.{nat_tests}
@@ -15,13 +15,13 @@ use Rattle.sqlite.specs.declared.types.Value.{Value}
 use Rattle.sqlite.specs.declared.types.Value.TheVariants.{Null, Int, Real, Text, Blob}
 use Rattle.sqlite.specs.Order.{Row, value_cmp}
 use Rattle.sqlite.specs.View.{is_int}
-use Rattle.sqlite.specs.Tree.{Trees, rowid}
+use Rattle.sqlite.specs.Tree.{rowid}
 use Rattle.sqlite.specs.Effect.{Database}
 use Rattle.store.specs.declared.tables.Table.{Table}
 use Rattle.store.specs.Schema.{tree_of}
 use Rattle.store.specs.Rows.{Keyed, HasWrongRowid, RepeatsRowid}
 use Rattle.store.specs.Reading.{ListsRowids, RowidsRise, RowidsStick, alone}
-use Rattle.store.proofs.ListLemmas.{mapped_has, has_mapped, has_at, get_mapped, mapped_length, permuted_has}
+use Rattle.store.proofs.ListLemmas.{mapped_has, has_at, get_mapped, mapped_length, permuted_has}
 
 pub no_integer : (v : Value) → ((n : ℤ) → ¬ (v ≡ Int n)) → is_int v ≡ false
 no_integer Null none = refl

@@ -1,17 +1,17 @@
 -- Contents are known up to the order of each table's rows.
-use Rattle.std.proofs.Common.{◌≡◌, ◌⊎◌, inl, inr, ℕ, List, true, false, ◌==◌, cond, refl, sym, subst}
-use Rattle.std.proofs.lemmas.Bool.{cases_Bool}
-use Rattle.std.specs.List.{list_all}
+use Rattle.std.proofs.Common.{List, true, false, ◌==◌, cond, ◌≡◌, ◌≢◌, inl, inr, [], ◌∷◌, refl, ap}
 use Rattle.std.specs.List.Sorted.{IsPermutation}
-use Rattle.std.proofs.lemmas.List.Sorted.{IsPermutation-refl, IsPermutation-sym, IsPermutation-trans}
+use Rattle.std.proofs.lemmas.List.Sorted.{IsPermutation-refl, IsPermutation-sym, IsPermutation-trans, IsPermutation-cons}
 use Rattle.sqlite.specs.Order.{Row}
 use Rattle.sqlite.specs.Tree.{Trees}
-use Rattle.sqlite.specs.Effect.{Database}
+use Rattle.sqlite.specs.Effect.{Database, IsDatabase}
 use Rattle.sqlite.specs.State.{State}
 use Rattle.store.specs.declared.tables.Table.{Table}
-use Rattle.store.specs.Schema.{place_of}
+use Rattle.store.specs.Schema.{place_of, IsOfficeSchema, tree_of}
 use Rattle.store.specs.Rows.{is_row_of}
-use Rattle.store.specs.Contents.{Contents, SameContents, changed, HoldsTable, Holds, IsOffice, Stores, Rests, Sees, Leaves}
+use Rattle.store.specs.Making.{no_contents}
+use Rattle.store.proofs.TableLemmas.{which_table}
+use Rattle.store.specs.Contents.{added, Contents, SameContents, changed, HoldsTable, Holds, IsOffice, Stores, Rests, Sees, Leaves}
 use Rattle.store.proofs.ListLemmas.{permuted_all}
 
 pub same_itself : (c : Contents) → SameContents c c
@@ -44,10 +44,11 @@ pub holds_same : (c d : Contents) (trees : Trees) → SameContents c d → Holds
 holds_same c d trees same holds t = holds_table_same t (c t) (d t) trees (same t) (holds t)
 
 pub office_same : (c d : Contents) (db : Database) → SameContents c d → IsOffice c db → IsOffice d db
+unfolding IsOffice
 office_same c d db same office = record { begins = office.begins; sound = office.sound; holds = holds_same c d db.trees same office.holds }
 
 pub stores_same : (c d : Contents) (trees : Trees) → SameContents c d → Stores c trees → Stores d trees
-stores_same c d trees same stores = record { schema = stores.schema; office = office_same c d (record { schema = stores.schema; trees = trees }) same stores.office }
+stores_same c d trees same stores = record { db = stores.db; office = office_same c d stores.db same stores.office; same = stores.same }
 
 pub rests_same : (c d : Contents) (s : State) → SameContents c d → Rests c s → Rests d s
 rests_same c d s same rests = record { is_open = rests.is_open; outside = rests.outside; settled = rests.settled; office = office_same c d s.now same rests.office }
@@ -65,3 +66,39 @@ leaves_same P Q s each leaves trees may =
 -- a database has one contents
 pub one_contents : (c d : Contents) (trees : Trees) → Holds c trees → Holds d trees → SameContents c d
 one_contents c d trees first second t = IsPermutation-trans _ _ _ (first t).same (IsPermutation-sym _ _ (second t).same)
+
+-- ---- an office is a sound database with the tables and their rows
+
+pub office_from : (c : Contents) (db : Database) → IsOfficeSchema db.schema → IsDatabase db → Holds c db.trees → IsOffice c db
+unfolding IsOffice
+office_from c db begins sound holds = record { begins = begins; sound = sound; holds = holds }
+
+pub office_begins : (c : Contents) (db : Database) → IsOffice c db → IsOfficeSchema db.schema
+unfolding IsOffice
+office_begins c db office = office.begins
+
+pub office_sound : (c : Contents) (db : Database) → IsOffice c db → IsDatabase db
+unfolding IsOffice
+office_sound c db office = office.sound
+
+pub office_holds : (c : Contents) (db : Database) → IsOffice c db → Holds c db.trees
+unfolding IsOffice
+office_holds c db office = office.holds
+
+-- ---- one row more
+
+pub added_there : (t : Table) (row : Row) (c : Contents) → added t row c t ≡ row ∷ c t
+unfolding added
+added_there t row c = elim (which_table t t) [ inl same ↦ rw same.0 refl | inr other ↦ absurd (other.1 refl) ]
+
+pub added_elsewhere : (t : Table) (row : Row) (c : Contents) (u : Table) → tree_of u ≢ tree_of t → added t row c u ≡ c u
+unfolding added
+added_elsewhere t row c u apart = elim (which_table t u) [ inl same ↦ absurd (apart (ap tree_of same.1)) | inr other ↦ rw other.0 refl ]
+
+pub same_added : (t : Table) (row : Row) (c d : Contents) → SameContents c d → SameContents (added t row c) (added t row d)
+unfolding added
+same_added t row c d same = same_changed t (λ rows. row ∷ rows) (λ xs ys h. IsPermutation-cons row xs ys h) c d same
+
+pub no_rows : (t : Table) → no_contents t ≡ []
+unfolding no_contents
+no_rows t = refl

@@ -1,5 +1,5 @@
 -- One SELECT over one table.
-use Rattle.std.proofs.Common.{◌≡◌, ℕ, zero, suc, pos, negsuc, List, [], ◌∷◌, ◌++◌, map, filter, drop, Bool, true, false, cond, None, Some, refl, sym, ap, subst, ◌∙◌, Ordering, ◌&&◌}
+use Rattle.std.proofs.Common.{◌≡◌, ℕ, zero, suc, pos, negsuc, List, [], ◌∷◌, ◌++◌, map, filter, drop, Bool, true, false, cond, None, refl, sym, ap, subst, ◌∙◌, Ordering, ◌&&◌}
 use Rattle.std.specs.List.{list_all, flat_map}
 use Rattle.std.specs.Ordering.{on}
 use Rattle.std.specs.List.Sorted.{IsPermutation, IsSorted}
@@ -15,7 +15,7 @@ use Rattle.sqlite_value.specs.Keys.{ascending}
 use Rattle.sqlite.specs.Term.{Term, lit, col, op2, eval_all, holds}
 use Rattle.sqlite.specs.Query.{Query, inner, end, IsAnswer, Output, output, output_cmp, key_cmp}
 use Rattle.sqlite.specs.Program.{overlay}
-use Rattle.sqlite.specs.Tree.{Trees, rowid}
+use Rattle.sqlite.specs.Tree.{Trees}
 use Rattle.sqlite.specs.Schema.{Schema}
 use Rattle.sqlite.specs.Command.TheVariants.{Select}
 use Rattle.sqlite.specs.Listing.{understood, reads_listing}

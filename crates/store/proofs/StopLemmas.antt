@@ -1,14 +1,17 @@
 -- What a stop may leave.
-use Rattle.std.proofs.Common.{◌≡◌, ◌⊎◌, inl, inr, Result, Ok, Err, OnOk, MatchResult, IsTrue, false, refl, sym, ap, subst, ◌∙◌}
+use Rattle.std.proofs.Common.{◌≡◌, ◌⊎◌, inl, inr, Result, Ok, Err, OnOk, MatchResult, IsTrue, true, false, refl, sym, ap, subst, ◌∙◌, arith}
 use Rattle.sqlite.specs.Tree.{Trees}
-use Rattle.sqlite.specs.Effect.{Database, IsDatabase}
+use Rattle.sqlite.specs.Effect.{Database}
+use Rattle.sqlite_trees.specs.declared.store.Store.{Ghosts}
 use Rattle.sqlite.specs.State.{State, HasCleanDisk, Survives, Shows}
+use Rattle.sqlite.specs.Held.{Held, state}
+use Rattle.sqlite.proofs.StateLemmas.{survives_then}
 use Rattle.store.specs.Contents.{Contents, IsOffice, Stores, Rests, Sees, Leaves}
 use Rattle.store.specs.Reading.{OnlyReads}
 
 -- the trees of an office
 pub stores_from : (c : Contents) (db : Database) (trees : Trees) → IsOffice c db → trees ≡ db.trees → Stores c trees
-stores_from c db trees office same = record { schema = db.schema; office = subst (λ (t : Trees). IsOffice c (record { schema = db.schema; trees = t })) (sym same) office }
+stores_from c db trees office same = record { db = db; office = office; same = same }
 
 -- an open connection leaves the last commit and nothing else, where the store says so
 pub rests_leaves : (c : Contents) (s : State) → ((trees : Trees) → IsTrue s.is_open → s.may_leave trees → trees ≡ s.committed.trees) → Rests c s → Leaves s (λ d. d ≡ c)
@@ -57,3 +60,15 @@ survives_storing c old inside new s sees = record {
     | inr made ↦ inr (stores_seen c inside trees (sees clean) made)
   ];
 }
+
+-- ---- a whole transaction
+
+-- what rests between transactions, the next one sees as it begins
+pub begun_sees : {S : Type 0} (g : Ghosts S) (old : Held S) (c : Contents) → Rests c (state g old) → Sees c (state g (record old { in_transaction = true }))
+begun_sees g old c rests = record { inside = refl; office = rests.office }
+
+-- what writes nothing for good, and then commits what it saw
+pub survives_commit : (c : Contents) (start inside new : State) → Survives start inside (λ _. ⊥) → Survives inside new (λ trees. trees ≡ inside.now.trees) → (HasCleanDisk inside → Sees c inside) → Survives start new (Stores c)
+survives_commit c start inside new first second sees =
+    survives_then start inside new (λ _. ⊥) (λ trees. trees ≡ inside.now.trees) (Stores c) (λ _ trees none. absurd none)
+    (λ clean trees made. let low = second.clean in let before : HasCleanDisk inside = omega (arith, low, clean) in stores_seen c inside trees (sees before) made) first second

@@ -1,11 +1,10 @@
 -- The rows of all tables, and what a connection or a stop has of them.
-use Rattle.std.specs.Prelude.{◌≡◌, ℕ, true, false, if◌then◌else◌, ◌==◌, List, IsTrue}
+use Rattle.std.specs.Prelude.{◌≡◌, true, false, if◌then◌else◌, ◌==◌, List, ◌∷◌, IsTrue}
 use Rattle.std.specs.List.{list_all}
 use Rattle.std.specs.List.Sorted.{IsPermutation}
 use Rattle.sqlite.specs.Order.{Row}
 use Rattle.sqlite.specs.Tree.{Trees}
 use Rattle.sqlite.specs.Effect.{Database, IsDatabase}
-use Rattle.sqlite.specs.Schema.{Schema}
 use Rattle.sqlite.specs.State.{State}
 use Rattle.store.specs.declared.tables.Table.{Table}
 use Rattle.store.specs.Schema.{place_of, tree_of, IsOfficeSchema}
@@ -23,6 +22,10 @@ SameContents c d = (t : Table) → IsPermutation (c t) (d t)
 abbrev pub changed : Table → (List Row → List Row) → Contents → Contents
 changed t f c u = if place_of u == place_of t then f (c u) else c u
 
+-- the contents with one row more; opaque, so that a search does not compute it
+unfoldable pub added : Table → Row → Contents → Contents
+added t row = changed t (λ rows. row ∷ rows)
+
 -- the rows, in some order, are those of the table, each with a value of the right kind in each column
 pub record HoldsTable (t : Table) (rows : List Row) (trees : Trees) : Type 0 where
   pub same : IsPermutation rows (tuples t trees)
@@ -34,15 +37,20 @@ abbrev pub Holds : Contents → Trees → Type 0
 Holds c trees = (t : Table) → HoldsTable t (c t) trees
 
 -- a sound database that begins with the tables of an office, which hold these rows and no other
-pub record IsOffice (c : Contents) (db : Database) : Type 0 where
+pub record OfficeAt (c : Contents) (db : Database) : Type 0 where
   pub begins : IsOfficeSchema db.schema
   pub sound : IsDatabase db
   pub holds : Holds c db.trees
 
+-- the same; opaque, so that a search does not open it
+unfoldable pub IsOffice : Contents → Database → Type 0
+IsOffice = OfficeAt
+
 -- the trees of such a database
 pub record Stores (c : Contents) (trees : Trees) : Type 0 where
-  pub schema : Schema
-  pub office : IsOffice c (record { schema = schema; trees = trees })
+  pub db : Database
+  pub office : IsOffice c db
+  pub same : trees ≡ db.trees
 
 -- a connection between two transactions, at this database
 pub record RestsAt (db : Database) (s : State) : Type 0 where

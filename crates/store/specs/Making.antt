@@ -1,15 +1,13 @@
 -- The tables, made one after the other.
-use Rattle.std.specs.Prelude.{◌≡◌, ◌<◌, ℕ, [], fold, map, take, false, IsTrue}
-use Rattle.sqlite.specs.Schema.{Schema}
-use Rattle.sqlite.specs.Change.{created}
+use Rattle.std.specs.Prelude.{◌≡◌, ◌<◌, ℕ, [], IsTrue}
 use Rattle.sqlite.specs.Effect.{IsDatabase}
 use Rattle.sqlite.specs.State.{State}
 use Rattle.store.specs.declared.tables.Table.{Table}
-use Rattle.store.specs.Schema.{no_schema, schema_from, place_of, tree_of}
+use Rattle.store.specs.Schema.{schema_from, place_of}
 use Rattle.store.specs.Contents.{Contents, HoldsTable}
 
--- no row in any table
-abbrev pub no_contents : Contents
+-- no row in any table; opaque, so that a search does not compute it
+unfoldable pub no_contents : Contents
 no_contents t = []
 
 -- a transaction that sees so many of the tables, each with no row, and nothing else

@@ -57,6 +57,8 @@ pub fn fault_of(e: Error) -> Fault
 }
 
 impl From<Error> for Fault {
+    ghost use Rattle.store.specs.Faults.{fault_of};
+
     ghost from_gives = { λ e f. f ≡ fault_of e };
 
     fn from(e: Error) -> Fault {

@@ -1,12 +1,12 @@
 //! Rows that are added, inside a transaction.
 
-ghost use Rattle.std.specs.Prelude.{◌≡◌, ◌∷◌, true, IfErr, OnOk};
+ghost use Rattle.std.specs.Prelude.{◌≡◌, true, IfErr, OnOk};
 ghost use Rattle.sqlite.specs.Values.{bound};
 ghost use Rattle.sqlite.specs.State.{HasCleanDisk, KeepsCommit, Survives};
 ghost use Rattle.sqlite.specs.Held.{state};
 ghost use Rattle.store.specs.Texts.{insert_text};
 ghost use Rattle.store.specs.Rows.{is_row_of};
-ghost use Rattle.store.specs.Contents.{Contents, Sees, changed};
+ghost use Rattle.store.specs.Contents.{Contents, Sees, added};
 ghost use Rattle.store.specs.Faults.{TellsStatement};
 
 use crate::fault::{Fault, fault_of};
@@ -24,7 +24,7 @@ pub fn insert<S: Alter>(
     requires kinds { is_row_of table (bound values.now) ≡ true }
     ensures same_reference { tx.new.conn.ghost_name ≡ tx.old.conn.ghost_name }
     ensures adds { HasCleanDisk (state S.Store tx.new.conn.now) → (c : Contents) → Sees c (state S.Store tx.old.conn.now)
-        → OnOk result (Sees (changed table (λ rows. bound values.now ∷ rows) c) (state S.Store tx.new.conn.now)) }
+        → OnOk result (Sees (added table (bound values.now) c) (state S.Store tx.new.conn.now)) }
     ensures keeps { HasCleanDisk (state S.Store tx.new.conn.now) → KeepsCommit (state S.Store tx.old.conn.now) (state S.Store tx.new.conn.now) }
     ensures survives { Survives (state S.Store tx.old.conn.now) (state S.Store tx.new.conn.now) (λ _. ⊥) }
     ensures cause { IfErr result (TellsStatement (insert_text table) (bound values.now) (state S.Store tx.old.conn.now) (state S.Store tx.new.conn.now)) }

@@ -1,24 +1,33 @@
-//! The tables of an office over a store of `sqlite`.
+//! The state of an office, kept in the tables of a store of `sqlite`.
 //!
-//! `Table` names the eight tables and has the texts of their statements. `Fault` says why a call
-//! gave up. The statements stand in `making`, `insertion` and `reading`, each a function of one call:
-//! its clauses say what the tables hold afterwards, and what a stop may leave of them.
+//! `Store` holds a connection between two transactions. `create` makes the tables of an empty office,
+//! `open_from` finds the state that the rows of a database stand for, `load_view` reads the part of it
+//! that one request needs, and `commit` keeps a change in one transaction, whole or not at all. `Fault`
+//! says why a call gave up.
 //!
 //! ```text
-//! let mut tx = conn.transaction();
-//! insert(&mut tx, Table::Lot, &[number(7), number(3), number(2)])?;
+//! let mut store = Store::open_from(alloc, conn)?;
+//! let view = store.load_view(actor, id, &command)?;
+//! store.commit(&change)?;
 //! ```
+//!
+//! Below these stand the statements, generic over the table: `insertion` adds a row, `reading` reads all
+//! rows or the one with a key, each a function of one call. Its clauses say what the tables hold
+//! afterwards and what a stop may leave of them.
 #![tactic(auto)]
 
-pub mod cells;
-pub mod entries;
-mod writing;
+pub mod fault;
+pub mod tables;
 pub mod storage;
 mod views;
-pub mod fault;
-pub mod insertion;
-pub mod making;
-pub mod presence;
-pub mod reading;
-pub mod rowids;
-pub mod tables;
+mod writing;
+mod entries;
+mod making;
+mod insertion;
+mod reading;
+mod rowids;
+mod presence;
+mod cells;
+
+pub use fault::Fault;
+pub use storage::Store;

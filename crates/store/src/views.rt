@@ -1,6 +1,6 @@
 //! The part of the state that a request needs, read from the tables.
 
-ghost use Rattle.std.specs.Prelude.{◌≡◌, ◌⊎◌, true, map, Option, option_map, IfOk, IfErr, IfSome, OnOk, IsTrue};
+ghost use Rattle.std.specs.Prelude.{◌≡◌, ◌⊎◌, true, false, map, Option, option_map, IfOk, IfErr, IfSome, OnOk, IsTrue};
 ghost use Rattle.std.specs.Option.{option_to_list};
 ghost use Rattle.sqlite.specs.State.{HasCleanDisk};
 ghost use Rattle.sqlite.specs.Held.{state};
@@ -70,5 +70,90 @@ fn first_receipt(rows: &[Row]) -> Result<Option<Receipt>, Fault>
     match rows {
         [] => Ok(None),
         [row, ..] => Ok(Some(receipt_of(row)?)),
+    }
+}
+
+/// The ward with this number, if it is there.
+fn find_ward<S: Alter>(conn: &mut Connection<S>, number_of_ward: u32) -> Result<Option<Ward>, Fault>
+    requires { conn.old.in_transaction ≡ false }
+    ensures found { HasCleanDisk (state S.Store conn.new) → (s : OfficeState) → IsAt s (state S.Store conn.old) → IfOk result (λ w. option_map ward_entry w ≡ ward_at s number_of_ward) }
+    ensures cause { HasCleanDisk (state S.Store conn.new) → (s : OfficeState) → IsAt s (state S.Store conn.old) → IfErr result (λ f. (f ≡ Fault.Memory) ⊎ (f ≡ Fault.Store)) }
+    ensures opens { HasCleanDisk (state S.Store conn.new) → OnOk result (IsTrue (state S.Store conn.new).is_open) }
+    ensures reads { OnlyReads (state S.Store conn.old) (state S.Store conn.new) }
+    ensures outside { conn.new.in_transaction ≡ false }
+{
+    let rows = row_with_key(conn, Table::Ward, &[number(number_of_ward)])?;
+    let ward = first_ward(&rows)?;
+    Ok(ward)
+}
+
+/// The receipt of an actor and an id, if it is there.
+fn find_receipt<S: Alter>(
+    conn: &mut Connection<S>,
+    actor: u32,
+    id: &str,
+) -> Result<Option<Receipt>, Fault>
+    requires { conn.old.in_transaction ≡ false }
+    ensures found { HasCleanDisk (state S.Store conn.new) → (s : OfficeState) → IsAt s (state S.Store conn.old) → IfOk result (λ r. option_map receipt_entry r ≡ receipt_at s actor id.now) }
+    ensures cause { HasCleanDisk (state S.Store conn.new) → (s : OfficeState) → IsAt s (state S.Store conn.old) → IfErr result (λ f. (f ≡ Fault.Memory) ⊎ (f ≡ Fault.Store)) }
+    ensures opens { HasCleanDisk (state S.Store conn.new) → OnOk result (IsTrue (state S.Store conn.new).is_open) }
+    ensures reads { OnlyReads (state S.Store conn.old) (state S.Store conn.new) }
+    ensures outside { conn.new.in_transaction ≡ false }
+{
+    let rows = row_with_key(conn, Table::Receipt, &[number(actor), text(id)])?;
+    let receipt = first_receipt(&rows)?;
+    Ok(receipt)
+}
+
+/// The number of the ward that a command names.
+fn ward_named(command: &Command) -> u32
+    ensures { result ≡ ward_named command.now }
+{
+    match command {
+        Command::AddWard { ward, .. } => *ward,
+    }
+}
+
+/// What the machine sees of the tables for one request.
+fn view_of<'a, S: Alter>(
+    conn: &mut Connection<S>,
+    actor: u32,
+    id: &'a str,
+    command: &Command,
+) -> Result<View<'a>, Fault>
+    requires { conn.old.in_transaction ≡ false }
+    ensures shows { HasCleanDisk (state S.Store conn.new) → (s : OfficeState) → IsAt s (state S.Store conn.old) → IfOk result (ShowsState s command.now) }
+    ensures asked { IfOk result (λ view. (view.actor ≡ actor) × (view.id.now ≡ id.now)) }
+    ensures cause { HasCleanDisk (state S.Store conn.new) → (s : OfficeState) → IsAt s (state S.Store conn.old) → IfErr result (λ f. (f ≡ Fault.Memory) ⊎ (f ≡ Fault.Store)) }
+    ensures opens { HasCleanDisk (state S.Store conn.new) → OnOk result (IsTrue (state S.Store conn.new).is_open) }
+    ensures reads { OnlyReads (state S.Store conn.old) (state S.Store conn.new) }
+    ensures outside { conn.new.in_transaction ≡ false }
+{
+    let receipt = find_receipt(conn, actor, id)?;
+    let ward = find_ward(conn, ward_named(command))?;
+    Ok(View {
+        actor,
+        id,
+        receipt,
+        ward,
+    })
+}
+
+impl<S: Alter> Store<S> {
+    /// What the machine sees of the state for one request. It changes nothing, and adds nothing to what
+    /// a stop may leave. `Memory` or `Store` where a row can't be read.
+    pub fn load_view<'a>(
+        &mut self,
+        actor: u32,
+        id: &'a str,
+        command: &Command,
+    ) -> Result<View<'a>, Fault>
+        ensures shows { HasCleanDisk (state S.Store self.new) → (s : OfficeState) → IsAt s (state S.Store self.old) → IfOk result (ShowsState s command.now) }
+        ensures asked { IfOk result (λ view. (view.actor ≡ actor) × (view.id.now ≡ id.now)) }
+        ensures cause { HasCleanDisk (state S.Store self.new) → (s : OfficeState) → IsAt s (state S.Store self.old) → IfErr result (λ f. (f ≡ Fault.Memory) ⊎ (f ≡ Fault.Store)) }
+        ensures opens { HasCleanDisk (state S.Store self.new) → OnOk result (IsTrue (state S.Store self.new).is_open) }
+        ensures reads { OnlyReads (state S.Store self.old) (state S.Store self.new) }
+    {
+        view_of(&mut self.conn, actor, id, command)
     }
 }

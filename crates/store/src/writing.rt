@@ -8,7 +8,9 @@ ghost use Rattle.register.specs.Offices.{OfficeState, empty_office, ward_entry, 
 ghost use Rattle.register.specs.Machine.{with_receipt};
 ghost use Rattle.register.specs.Views.{with_effect};
 ghost use Rattle.store.specs.Contents.{Contents, Sees};
-ghost use Rattle.store.specs.Making.{no_contents, SeesMade};
+ghost use Rattle.sqlite.specs.Effect.{IsDatabase};
+ghost use Rattle.store.specs.Schema.{no_schema};
+ghost use Rattle.store.specs.Making.{no_contents};
 ghost use Rattle.store.specs.Offices.{row_of_ward, row_of_receipt, tables_of, ChangesTo};
 
 use crate::cells::{number, text};
@@ -125,8 +127,8 @@ fn write_office<S: Alter>(tx: &mut Transaction<'_, S>) -> Result<(), Fault>
 /// Makes all tables of an empty office.
 pub(crate) fn write_new_office<S: Alter>(tx: &mut Transaction<'_, S>) -> Result<(), Fault>
     ensures same_reference { tx.new.conn.ghost_name ≡ tx.old.conn.ghost_name }
-    ensures writes { HasCleanDisk (state S.Store tx.new.conn.now) → SeesMade 0 (state S.Store tx.old.conn.now)
-        → OnOk result (Sees (tables_of empty_office) (state S.Store tx.new.conn.now)) }
+    ensures writes { HasCleanDisk (state S.Store tx.new.conn.now) → IsTrue (state S.Store tx.old.conn.now).in_transaction
+        → (state S.Store tx.old.conn.now).now.schema ≡ no_schema → IsDatabase (state S.Store tx.old.conn.now).now → OnOk result (Sees (tables_of empty_office) (state S.Store tx.new.conn.now)) }
     ensures keeps { HasCleanDisk (state S.Store tx.new.conn.now) → KeepsCommit (state S.Store tx.old.conn.now) (state S.Store tx.new.conn.now) }
     ensures survives { Survives (state S.Store tx.old.conn.now) (state S.Store tx.new.conn.now) (λ _. ⊥) }
     ensures cause { IfErr result (λ f. (f ≡ Fault.Memory) ⊎ (f ≡ Fault.Store)) }

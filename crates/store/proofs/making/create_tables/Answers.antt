@@ -2,6 +2,7 @@ use Rattle.std.proofs.Common.{◌≡◌, ◌+◌, ℕ, sym, subst, arith, rules}
 use Rattle.sqlite.specs.Held.{state}
 use Rattle.store.specs.Making.{SeesMade}
 use Rattle.store.proofs.TableLemmas.{place_there}
+use Rattle.store.proofs.MakeLemmas.{none_made, all_made}
 use Rattle.store.proofs.making.create_tables.Goals as goal
 
 pub loop-table-preserved : goal.loop-table-preserved
@@ -16,3 +17,9 @@ loop-table-preserved g c =
       keeps = search rules;
       survives = search rules;
     }
+
+pub returns-clause-makes : goal.returns-clause-makes
+returns-clause-makes g c clean inside blank sound =
+    let all : c.loop-table.table-index ≡ 8 = omega arith in
+    all_made (state g.S.Store c.loop-table.tx.conn.now)
+    (subst (λ (n : ℕ). SeesMade n (state g.S.Store c.loop-table.tx.conn.now)) all (c.loop-table.invariant.makes clean (none_made (state g.S.Store c.args.tx.now.conn.now) inside blank sound)))

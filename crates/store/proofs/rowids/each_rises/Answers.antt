@@ -1,4 +1,4 @@
-use Rattle.std.proofs.Common.{◌≡◌, ◌+◌, ◌-◌, ◌<◌, length, inr, refl, arith, rules, FitsSigned, w64}
+use Rattle.std.proofs.Common.{◌-◌, ◌<◌, length, inr, refl, arith, rules, FitsSigned, w64}
 use Rattle.std.proofs.lemmas.Int.{ints}
 use Rattle.store.proofs.RowidLemmas.{rowid_there, ints_more, rise_more, sticks}
 use Rattle.store.proofs.rowids.each_rises.Goals as goal

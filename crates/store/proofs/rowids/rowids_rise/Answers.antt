@@ -1,4 +1,4 @@
-use Rattle.std.proofs.Common.{◌≡◌, inl, inr}
+use Rattle.std.proofs.Common.{inl, inr}
 use Rattle.std.proofs.lemmas.Result.{err_from_is_err_and}
 use Rattle.store.proofs.RowidLemmas.{keyed_from, stuck}
 use Rattle.store.proofs.rowids.rowids_rise.Goals as goal
