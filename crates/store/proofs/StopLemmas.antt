@@ -1,12 +1,16 @@
 -- What a stop may leave.
 use Rattle.std.proofs.Common.{◌≡◌, ◌⊎◌, inl, inr, Result, Ok, Err, OnOk, MatchResult, IsTrue, true, false, refl, sym, ap, subst, ◌∙◌, arith}
+use Rattle.sqlite_trees.specs.Objects.{catalog_tree}
+use Rattle.sqlite_catalog.specs.Listing.{Lists}
+use Rattle.sqlite_catalog.proofs.ReadLemmas.{lists_once}
 use Rattle.sqlite.specs.Tree.{Trees}
-use Rattle.sqlite.specs.Effect.{Database}
+use Rattle.store.specs.Schema.{IsOfficeSchema}
+use Rattle.sqlite.specs.Effect.{Database, IsDatabase}
 use Rattle.sqlite_trees.specs.declared.store.Store.{Ghosts}
 use Rattle.sqlite.specs.State.{State, HasCleanDisk, Survives, Shows}
 use Rattle.sqlite.specs.Held.{Held, state}
 use Rattle.sqlite.proofs.StateLemmas.{survives_then}
-use Rattle.store.specs.Contents.{Contents, IsOffice, Stores, Rests, Sees, Leaves}
+use Rattle.store.specs.Contents.{Contents, IsOffice, Stores, Rests, Sees, Leaves, Holds}
 use Rattle.store.specs.Reading.{OnlyReads}
 
 -- the trees of an office
@@ -72,3 +76,18 @@ pub survives_commit : (c : Contents) (start inside new : State) → Survives sta
 survives_commit c start inside new first second sees =
     survives_then start inside new (λ _. ⊥) (λ trees. trees ≡ inside.now.trees) (Stores c) (λ _ trees none. absurd none)
     (λ clean trees made. let low = second.clean in let before : HasCleanDisk inside = omega (arith, low, clean) in stores_seen c inside trees (sees before) made) first second
+
+-- ---- after a stop
+
+-- What a stop left is found again: a schema is told by its trees.
+pub stores_found : (c : Contents) (db : Database) → IsDatabase db → Stores c db.trees → IsOffice c db
+unfolding IsOffice
+stores_found c db sound stores =
+    let was = stores.office in
+    let lists : Lists (db.trees catalog_tree) stores.db.schema = subst (λ (t : Trees). Lists (t catalog_tree) stores.db.schema) (sym stores.same) was.sound.lists in
+    let schema : db.schema ≡ stores.db.schema = lists_once (db.trees catalog_tree) db.schema stores.db.schema sound.lists lists in
+    record {
+      begins = subst IsOfficeSchema (sym schema) was.begins;
+      sound = sound;
+      holds = subst (Holds c) (sym stores.same) was.holds;
+    }
