@@ -17,3 +17,7 @@ pub mod StopLemmas
 pub mod OrderLemmas
 pub mod EntryLemmas
 pub mod FitLemmas
+pub mod StateLemmas
+pub mod RiseLemmas
+pub mod ConditionLemmas
+pub mod TellLemmas

@@ -19,3 +19,6 @@ pub mod presence;
 pub mod reading;
 pub mod rowids;
 pub mod tables;
+pub mod listing;
+pub mod conditions;
+pub mod opening;
