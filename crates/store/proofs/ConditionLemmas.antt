@@ -1,20 +1,19 @@
 -- Typed rows that meet the conditions are those of a state, and others of none.
-use Rattle.std.proofs.Common.{◌≡◌, ℕ, List, [], ◌∷◌, map, string_bytes, Bool, true, false, ◌==◌, refl, sym, ap, subst, ◌∙◌, true≢false}
+use Rattle.std.proofs.Common.{◌≡◌, List, [], ◌∷◌, map, string_bytes, Bool, true, ◌==◌, refl, sym, ap, subst, ◌∙◌}
 use Rattle.std.specs.List.{list_all}
-use Rattle.std.specs.List.Sorted.{IsPermutation, IsStrictlySortedBy}
+use Rattle.std.specs.List.Sorted.{IsStrictlySortedBy}
 use Rattle.std.proofs.lemmas.Bool.{and_parts, and_from}
 use Rattle.std.proofs.lemmas.Bool.Decides.{Decides-eqb}
 use Rattle.std.proofs.lemmas.List.Sorted.{IsPermutation-sym}
 use Rattle.sqlite_rules.specs.Lists.{Has}
 use Rattle.sqlite_rules.proofs.ListLemmas.{test_has, test_from}
-use Rattle.sqlite.specs.declared.types.Value.TheVariants.{Int, Text}
 use Rattle.sqlite.specs.Order.{Row, column}
 use Rattle.register.specs.Ranges.{is_between, is_ward_number, is_seat_number, is_name}
 use Rattle.register.specs.declared.ward.Phase.{Phase}
 use Rattle.register.specs.declared.ward.Phase.TheVariants.{Nominations, Keying, Sealed, Declared}
 use Rattle.register.specs.Phases.{phase_number}
 use Rattle.register.specs.declared.receipt.Receipt as receipt_type
-use Rattle.register.specs.Offices.{WardEntry, ReceiptEntry, OfficeState, IsState, is_ward, is_begun, is_receipt, ward_cmp, receipt_cmp, receipt_entry}
+use Rattle.register.specs.Offices.{WardEntry, ReceiptEntry, OfficeState, is_ward, is_begun, is_receipt, ward_cmp, receipt_cmp, receipt_entry}
 use Rattle.rowcheck.specs.declared.rows.WardRow.{WardRow}
 use Rattle.rowcheck.specs.declared.rows.Rows.{Rows}
 use Rattle.rowcheck.specs.Items.{is_ward_row, is_receipt_row, is_begun_row, are_in_range, are_begun_rows}
@@ -53,17 +52,20 @@ typed_rows ws begun = mapped_same row_of_typed (λ w. row_of_ward (begun_entry w
 
 pub state_shown : (rows : Rows) → are_in_range rows ≡ true → are_begun_rows rows ≡ true → IsStrictlySortedBy ward_cmp (map begun_entry rows.wards.items) → IsStrictlySortedBy receipt_cmp (map receipt_entry rows.receipts.items)
     → (s : OfficeState) × ShowsState rows s
-state_shown rows range begun wards receipts = (record { wards = map begun_entry rows.wards.items; receipts = map receipt_entry rows.receipts.items }, record {
-  is = record {
-    wards_in_range = all_mapped begun_entry is_ward_row is_ward typed_ward rows.wards.items (and_parts _ _ range).0;
-    wards_begun = all_mapped begun_entry is_begun_row is_begun typed_begun rows.wards.items begun;
-    wards_rise = wards;
-    receipts_in_range = all_mapped receipt_entry is_receipt_row is_receipt (λ r h. h) rows.receipts.items (and_parts _ _ range).1;
-    receipts_rise = receipts;
-  };
-  wards = typed_rows rows.wards.items begun;
-  receipts = refl;
-})
+state_shown rows range begun wards receipts = (
+  record { wards = map begun_entry rows.wards.items; receipts = map receipt_entry rows.receipts.items },
+  record {
+    is = record {
+      wards_in_range = all_mapped begun_entry is_ward_row is_ward typed_ward rows.wards.items (and_parts _ _ range).0;
+      wards_begun = all_mapped begun_entry is_begun_row is_begun typed_begun rows.wards.items begun;
+      wards_rise = wards;
+      receipts_in_range = all_mapped receipt_entry is_receipt_row is_receipt (λ r h. h) rows.receipts.items (and_parts _ _ range).1;
+      receipts_rise = receipts;
+    };
+    wards = typed_rows rows.wards.items begun;
+    receipts = refl;
+  },
+)
 
 -- ---- rows of a state
 
@@ -83,9 +85,10 @@ ward_passes w e same good begun =
     let name = ap (λ (r : Row). text_in (column r 4)) same in
     let a = and_parts _ _ good in
     let b = and_parts _ _ a.1 in
-    let c = and_parts _ _ begun in
-    (and_from _ _ (ap is_ward_number number ∙ a.0) (and_from _ _ (ap is_seat_number seats ∙ b.0) (and_from _ _ (ap (is_between 1 4) phase ∙ phase_between e.phase) (ap is_name name ∙ b.1))),
-    and_from _ _ (ap (λ n. n == 1) phase ∙ c.0) (ap (λ n. n == 0) done ∙ c.1))
+    let c = and_parts _ _ begun in (
+      and_from _ _ (ap is_ward_number number ∙ a.0) (and_from _ _ (ap is_seat_number seats ∙ b.0) (and_from _ _ (ap (is_between 1 4) phase ∙ phase_between e.phase) (ap is_name name ∙ b.1))),
+      and_from _ _ (ap (λ n. n == 1) phase ∙ c.0) (ap (λ n. n == 0) done ∙ c.1),
+    )
 
 module _ (rows : Rows) (s : OfficeState) (of : AreRowsOf rows s) where
   passes : (w : WardRow) → Has rows.wards.items w → (is_ward_row w ≡ true) × (is_begun_row w ≡ true)

@@ -1,5 +1,5 @@
 -- Keys that rise, and keys that do not where the rows are in their order.
-use Rattle.std.proofs.Common.{◌≡◌, ◌≢◌, ℕ, zero, suc, ◌+◌, ◌-◌, ◌<◌, ◌≤◌, List, [], ◌∷◌, map, length, get_or, true, false, refl, sym, ap, subst, ◌∙◌, arith, Ordering, Less, Equal, Greater}
+use Rattle.std.proofs.Common.{◌≡◌, ◌≢◌, ℕ, zero, suc, ◌+◌, ◌-◌, ◌<◌, ◌≤◌, List, [], ◌∷◌, map, length, get_or, refl, sym, arith, Ordering, Less, Equal, Greater}
 use Rattle.std.specs.Cmp.{IsTotalOrder}
 use Rattle.std.specs.List.Sorted.{IsPermutation, IsSorted, IsStrictlySortedBy}
 use Rattle.std.proofs.lemmas.Map.Keys.{sorted_from_all_adjacent}
@@ -29,9 +29,12 @@ rises f {cmp} total (x ∷ xs) each = sorted_from_all_adjacent total (map f (x �
 pub sticks : {A X : Type 0} (f : A → X) (cmp : X → X → Ordering) (xs : List A) (i : ℕ) (a b : A) → 1 ≤ i → i < length xs → a ≡ get_or xs (i - 1) a → b ≡ get_or xs i b → cmp (f a) (f b) ≢ Less → Sticks cmp (map f xs)
 sticks f cmp xs i a b above below first second not_less =
     let len = mapped_length f xs in
-    let next : (i - 1) + 1 ≡ i = omega (arith, above) in
-    ((i - 1), omega (arith, above, below, len), λ d.
-      rw (next, get_mapped f xs (i - 1) d a (omega (arith, above, below)), get_mapped f xs i d b below, sym first, sym second) not_less)
+    let next : (i - 1) + 1 ≡ i = omega (arith, above) in (
+      (i - 1),
+      omega (arith, above, below, len),
+      λ d.
+          rw (next, get_mapped f xs (i - 1) d a (omega (arith, above, below)), get_mapped f xs i d b below, sym first, sym second) not_less,
+    )
 
 -- of rows in the order of their keys, two neighbours can only have one key
 sorted_repeats : {X : Type 0} (t : Table) (row : X → Row) {cmp : X → X → Ordering} → IsTotalOrder cmp → ((x y : X) → row_cmp t (row x) (row y) ≡ cmp x y) → (xs : List X) → IsSorted (row_cmp t) (map row xs) → Sticks cmp xs → Repeats cmp xs

@@ -1,5 +1,5 @@
 -- Which fault the rows of a table give.
-use Rattle.std.proofs.Common.{◌≡◌, ◌≢◌, ◌⊎◌, inl, inr, ℕ, zero, suc, ◌+◌, ◌<◌, ◌≤◌, ℤ, pos, negsuc, ◌<ℤ◌, List, [], ◌∷◌, map, drop, length, get_or, Bool, true, false, refl, sym, ap, subst, ◌∙◌, true≢false, arith}
+use Rattle.std.proofs.Common.{◌≡◌, ◌⊎◌, inl, inr, ℕ, zero, suc, ◌<◌, ℤ, pos, negsuc, ◌<ℤ◌, List, [], ◌∷◌, map, drop, length, get_or, Bool, true, false, refl, sym, ap, subst, ◌∙◌, true≢false, arith}
 use Rattle.std.specs.List.Sorted.{IsPermutation}
 use Rattle.std.proofs.lemmas.Int.{ints}
 use Rattle.std.proofs.lemmas.List.Sorted.{IsPermutation-refl, IsPermutation-trans, length_permutation}
@@ -10,7 +10,6 @@ use Rattle.sqlite.specs.declared.error.ErrorCode.TheVariants.{OutOfMemory}
 use Rattle.sqlite.specs.declared.types.Value.{Value}
 use Rattle.sqlite.specs.declared.types.Value.TheVariants.{Int}
 use Rattle.sqlite.specs.Order.{Row, column}
-use Rattle.sqlite.specs.Tree.{Trees}
 use Rattle.sqlite_schema.specs.Names.{same_name}
 use Rattle.sqlite.specs.Schema.{Schema}
 use Rattle.sqlite.specs.Effect.{Database, IsDatabase}
@@ -22,16 +21,16 @@ use Rattle.store.specs.declared.fault.Fault.{Fault}
 use Rattle.store.specs.declared.fault.Fault.TheVariants.{Memory, Store, Damaged, Closed, WrongDatabase, NewerSchema}
 use Rattle.store.specs.declared.tables.Table.{Table}
 use Rattle.store.specs.declared.tables.Table.TheVariants.{Office, Ward, Candidate, Batch, Keying, Verdict, Lot, Receipt}
-use Rattle.store.specs.Schema.{tree_of, shape, all_tables, BeginsTo, IsOfficeSchema}
+use Rattle.store.specs.Schema.{tree_of, BeginsTo, IsOfficeSchema}
 use Rattle.store.specs.Rows.{tuples, at, column_places, Keyed}
 use Rattle.store.specs.Contents.{HoldsTable, RestsAt}
 use Rattle.store.specs.Faults.{fault_of, TellsQuery}
 use Rattle.store.specs.Reading.{Lists}
 use Rattle.store.specs.Entries.{IsRowOfWard, IsRowOfReceipt}
-use Rattle.store.specs.Offices.{HoldsState, tables_of, office_row, row_of_ward, row_of_receipt, row_of_typed}
+use Rattle.store.specs.Offices.{HoldsState, tables_of, office_row, row_of_ward, row_of_receipt}
 use Rattle.store.specs.Presence.{has_table, has_every_table}
 use Rattle.store.specs.Listing.{ListsKeyed, HasOther, ListsRows, AreOrdered, ShowsState, AreRowsOf, ward_rows, receipt_rows}
-use Rattle.store.specs.Openings.{HasNoOffice, IsNewer, HoldsNoState, IsDamaged, IsToldBy, TellsNoState, IsVersion, TellsRow, TellsRows, HasVersion, TellsOffice, TellsRowsIn, AreEmpty, HoldsEntries}
+use Rattle.store.specs.Openings.{HasNoOffice, IsNewer, HoldsNoState, IsToldBy, TellsNoState, IsVersion, TellsRow, TellsRows, HasVersion, TellsOffice, TellsRowsIn, AreEmpty, HoldsEntries}
 use Rattle.store.proofs.ListLemmas.{mapped_length}
 use Rattle.store.proofs.EntryLemmas.{shown_rows, entries_held, held_listed, no_wrong}
 use Rattle.store.proofs.ListingLemmas.{begins_to}
@@ -172,14 +171,17 @@ version_listed n db rows lists same = one_permutation (office_row n) rows (IsPer
 pub office_told : (db : Database) → BeginsTo Office db.schema → IsDatabase db → (rows : List Row) → ListsKeyed Office db rows → (f : Fault) → TellsRows rows f → TellsOffice db f
 office_told db begins sound rows keyed Memory told = tt
 office_told db begins sound rows keyed Store told = tt
-office_told db begins sound rows keyed Damaged told =
-    ((λ none. told.0 (some_listed Office db rows keyed.lists none)),
-    ((λ newer.
-      let n = above_one newer.0 newer.1 in
-      let tuple : tuples Office db.trees ≡ office_row n.0 ∷ [] = newer.2 ∙ ap (λ v. (Int (pos 1) ∷ Int v ∷ []) ∷ []) n.1 in
-      let up = n.2 in
-      told.1 (office_row n.0) (version_listed n.0 db rows keyed.lists (subst (λ l. IsPermutation (office_row n.0 ∷ []) (map (at (column_places Office)) l)) (sym tuple) (IsPermutation-refl _))) n.0 (omega (arith, up)) refl),
-    (λ holds. told.1 (office_row 1) (one_permutation (office_row 1) rows (held_listed Office office_row version_entries db rows keyed.lists (1 ∷ []) holds)) 1 (omega arith) refl)))
+office_told db begins sound rows keyed Damaged told = (
+  (λ none. told.0 (some_listed Office db rows keyed.lists none)),
+  (
+    (λ newer.
+        let n = above_one newer.0 newer.1 in
+        let tuple : tuples Office db.trees ≡ office_row n.0 ∷ [] = newer.2 ∙ ap (λ v. (Int (pos 1) ∷ Int v ∷ []) ∷ []) n.1 in
+        let up = n.2 in
+        told.1 (office_row n.0) (version_listed n.0 db rows keyed.lists (subst (λ l. IsPermutation (office_row n.0 ∷ []) (map (at (column_places Office)) l)) (sym tuple) (IsPermutation-refl _))) n.0 (omega (arith, up)) refl),
+    (λ holds. told.1 (office_row 1) (one_permutation (office_row 1) rows (held_listed Office office_row version_entries db rows keyed.lists (1 ∷ []) holds)) 1 (omega arith) refl),
+  ),
+)
 office_told db begins sound rows keyed Closed told = told
 office_told db begins sound rows keyed WrongDatabase told = none_listed Office db rows keyed.lists told
 office_told db begins sound rows keyed NewerSchema told =
@@ -193,12 +195,13 @@ office_told db begins sound rows keyed NewerSchema told =
 -- an office of this version has an office, and is not newer
 pub this_office : (db : Database) → has_table Office db.schema ≡ true → HasVersion 1 db → (¬ HasNoOffice db) × (¬ IsNewer db)
 this_office db there holds =
-    let tuple : tuples Office db.trees ≡ office_row 1 ∷ [] = one_permutation (office_row 1) (tuples Office db.trees) holds.same in
-    ((λ none. elim none [
-      | inl missing ↦ true≢false (sym there ∙ missing)
-      | inr empty ↦ let e : office_row 1 ∷ [] ≡ [] = sym tuple ∙ empty in absurd cc
-    ]),
-    (λ newer. let up = newer.1 in let same : newer.0 ≡ pos 1 = ap version_at (sym newer.2 ∙ tuple) in omega (arith, ints, up, same)))
+    let tuple : tuples Office db.trees ≡ office_row 1 ∷ [] = one_permutation (office_row 1) (tuples Office db.trees) holds.same in (
+      (λ none. elim none [
+        | inl missing ↦ true≢false (sym there ∙ missing)
+        | inr empty ↦ let e : office_row 1 ∷ [] ≡ [] = sym tuple ∙ empty in absurd cc
+      ]),
+      (λ newer. let up = newer.1 in let same : newer.0 ≡ pos 1 = ap version_at (sym newer.2 ∙ tuple) in omega (arith, ints, up, same)),
+    )
 
 all_there : (s : Schema) → IsOfficeSchema s → has_every_table s ≡ true
 unfolding same_name
@@ -228,7 +231,7 @@ pub told_office : (db : Database) → has_table Office db.schema ≡ true → (f
 told_office db there Memory told = tt
 told_office db there Store told = tt
 told_office db there Damaged told = record {
-  some_office = λ none. elim none [ | inl missing ↦ true≢false (sym there ∙ missing) | inr empty ↦ told.0 empty ];
+  some_office = λ none. elim none [ inl missing ↦ true≢false (sym there ∙ missing) | inr empty ↦ told.0 empty ];
   not_newer = told.1.0;
   no_state = office_damaged db told.1.1;
 }

@@ -121,8 +121,5 @@ pub fn typed_rows<S: Alter>(alloc: Global, conn: &mut Connection<S>) -> Result<R
 {
     let wards = all_wards(alloc, conn)?;
     let receipts = all_receipts(alloc, conn)?;
-    Ok(Rows {
-        wards,
-        receipts,
-    })
+    Ok(Rows { wards, receipts })
 }

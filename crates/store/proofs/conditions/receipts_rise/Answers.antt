@@ -1,7 +1,6 @@
 use Rattle.std.proofs.Common.{◌≡◌, false, not, ◌==◌, sym, ap, ◌∙◌, true≢false, arith}
 use Rattle.std.specs.Ordering.{ordering_index}
 use Rattle.register.specs.Offices.{receipt_cmp, receipt_entry}
-
 use Rattle.store.proofs.StateLemmas.{receipt_total}
 use Rattle.store.proofs.RiseLemmas.{rises, sticks}
 use Rattle.store.proofs.conditions.receipts_rise.Goals as goal

@@ -1,7 +1,6 @@
 use Rattle.std.proofs.Common.{◌≡◌, ℕ, ◌+◌, ◌<◌, get_or, Less}
 use Rattle.register.specs.declared.receipt.Receipt.{Receipt}
 use Rattle.register.specs.Offices.{receipt_cmp, receipt_entry}
-
 use Rattle.store.proofs.conditions.receipts_rise.Given as goal
 
 abbrev pub invariant-loop-i : goal.invariant-loop-i

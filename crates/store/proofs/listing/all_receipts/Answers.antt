@@ -1,4 +1,4 @@
-use Rattle.std.proofs.Common.{◌≡◌, map}
+use Rattle.std.proofs.Common.{map}
 use Rattle.std.proofs.lemmas.Result.{err_from_is_err_and}
 use Rattle.store.specs.declared.tables.Table.TheVariants.{Receipt}
 use Rattle.register.specs.Offices.{receipt_entry}
@@ -20,4 +20,4 @@ pub returns-in_err-receipts-clause-told : goal.returns-in_err-receipts-clause-to
 returns-in_err-receipts-clause-told g c clean db has rests =
     let p = err_from_is_err_and c.from_residual-in_err-receipts.result c.from_residual-in_err-receipts.ensures.1 in
     rw (p.1, p.2) (told_damaged db _ c.in_err-receipts.ensures.cause (λ same.
-      other_receipts db c.in_ok-rows.rows.items (c.in_ok-rows.ensures.lists clean db (begins_to Receipt db.schema has) rests) (rw c.deref.ensures.value at (c.in_err-receipts.ensures.damaged same))))
+    other_receipts db c.in_ok-rows.rows.items (c.in_ok-rows.ensures.lists clean db (begins_to Receipt db.schema has) rests) (rw c.deref.ensures.value at (c.in_err-receipts.ensures.damaged same))))

@@ -1,4 +1,4 @@
-use Rattle.std.proofs.Common.{◌≡◌, map}
+use Rattle.std.proofs.Common.{map}
 use Rattle.std.proofs.lemmas.Result.{err_from_is_err_and}
 use Rattle.store.specs.declared.tables.Table.TheVariants.{Ward}
 use Rattle.store.specs.Offices.{row_of_typed}
@@ -19,4 +19,4 @@ pub returns-in_err-wards-clause-told : goal.returns-in_err-wards-clause-told
 returns-in_err-wards-clause-told g c clean db has rests =
     let p = err_from_is_err_and c.from_residual-in_err-wards.result c.from_residual-in_err-wards.ensures.1 in
     rw (p.1, p.2) (told_damaged db _ c.in_err-wards.ensures.cause (λ same.
-      other_wards db c.in_ok-rows.rows.items (c.in_ok-rows.ensures.lists clean db (begins_to Ward db.schema has) rests) (rw c.deref.ensures.value at (c.in_err-wards.ensures.damaged same))))
+    other_wards db c.in_ok-rows.rows.items (c.in_ok-rows.ensures.lists clean db (begins_to Ward db.schema has) rests) (rw c.deref.ensures.value at (c.in_err-wards.ensures.damaged same))))

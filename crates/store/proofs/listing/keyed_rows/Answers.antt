@@ -1,4 +1,4 @@
-use Rattle.std.proofs.Common.{◌≡◌, inl, inr}
+use Rattle.std.proofs.Common.{inl, inr}
 use Rattle.std.proofs.lemmas.Result.{err_from_is_err_and}
 use Rattle.store.proofs.ReadLemmas.{only_reads_then}
 use Rattle.store.proofs.TellLemmas.{query_cause}
@@ -21,7 +21,7 @@ returns-in_err-rowids_rise-clause-cause g c clean db begins rests =
     let p = err_from_is_err_and c.from_residual.result c.from_residual.ensures.1 in
     rw (p.1, p.2) (elim (c.in_err-rowids_rise.ensures.cause clean db begins rests) [
       | inl tells ↦ query_cause _ _ _ _ _ tells
-      | inr known ↦ elim known [ | inl memory ↦ inl memory | inr store ↦ inr store.0 ]
+      | inr known ↦ elim known [ inl memory ↦ inl memory | inr store ↦ inr store.0 ]
     ])
 
 pub returns-in_err-rows-clause-cause : goal.returns-in_err-rows-clause-cause

@@ -1,4 +1,3 @@
-use Rattle.std.proofs.Common.{◌≡◌}
 use Rattle.std.proofs.lemmas.Result.{err_from_is_err_and}
 use Rattle.store.proofs.ReadLemmas.{only_reads_then}
 use Rattle.store.proofs.listing.typed_rows.Goals as goal

@@ -1,7 +1,6 @@
-use Rattle.std.proofs.Common.{◌≡◌, ℕ, [], inl, inr, ◌+◌, ◌<◌, get_or, arith, subst}
+use Rattle.std.proofs.Common.{◌≡◌, ℕ, [], inl, inr, get_or, arith, subst}
 use Rattle.std.proofs.lemmas.Bool.{cases_lt}
 use Rattle.std.proofs.lemmas.Result.{err_from_is_err_and}
-use Rattle.sqlite.specs.Held.{state}
 use Rattle.store.specs.declared.tables.Table.TheVariants.{Office}
 use Rattle.store.specs.Contents.{HoldsTable}
 use Rattle.store.proofs.ReadLemmas.{only_reads_then, only_reads_itself}
@@ -24,13 +23,13 @@ loop-table-preserved g c =
       opens = λ clean is_open. c.in_ok-check_empty.ensures.opens clean;
       reads = only_reads_then _ _ _ inv.reads c.check_empty.ensures.reads;
       empty = λ clean db has rests k low.
-        let before = c.check_empty.ensures.reads.clean clean in
-        elim (cases_lt k c.loop-table.table-index) [
-          | inl less ↦ inv.empty before db has rests k less
-          | inr past ↦ let same : c.loop-table.table-index ≡ k = omega (arith, past, low) in
-            let mid = inv.reads.rests before (inv.opens before rests.is_open) db rests in
-            subst (λ (n : ℕ). HoldsTable (get_or later_tables n Office) [] db.trees) same (c.in_ok-check_empty.ensures.holds clean db has mid)
-        ];
+          let before = c.check_empty.ensures.reads.clean clean in
+          elim (cases_lt k c.loop-table.table-index) [
+            | inl less ↦ inv.empty before db has rests k less
+            | inr past ↦ let same : c.loop-table.table-index ≡ k = omega (arith, past, low) in
+                let mid = inv.reads.rests before (inv.opens before rests.is_open) db rests in
+                subst (λ (n : ℕ). HoldsTable (get_or later_tables n Office) [] db.trees) same (c.in_ok-check_empty.ensures.holds clean db has mid)
+          ];
     }
 
 pub returns-clause-holds : goal.returns-clause-holds
