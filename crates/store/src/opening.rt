@@ -178,3 +178,6 @@ pub fn check<S: Alter>(alloc: Global, conn: &mut Connection<S>) -> Result<(), Fa
     check_tables(alloc, conn)?;
     Ok(())
 }
+
+#[cfg(test)]
+mod tests;
