@@ -1,15 +1,16 @@
 -- A store that keeps a state.
 use Rattle.std.proofs.Common.{◌≡◌, ◌⊎◌, inl, inr, IsTrue, refl, sym, subst, Result, Ok, Err, OnOk}
 use Rattle.sqlite.specs.Tree.{Trees}
+use Rattle.sqlite.specs.Effect.{Database}
 use Rattle.sqlite.specs.State.{State, HasCleanDisk, Survives}
 use Rattle.register.specs.declared.decision.Change.{Change}
 use Rattle.register.specs.Offices.{OfficeState, IsState}
 use Rattle.register.specs.Views.{with_change}
-use Rattle.store.specs.Contents.{Contents, Stores, Rests}
+use Rattle.store.specs.Contents.{Contents, Stores, Rests, RestsAt}
 use Rattle.store.specs.Reading.{OnlyReads}
-use Rattle.store.specs.Offices.{tables_of, ChangesTo, IsAt, LeavesState}
+use Rattle.store.specs.Offices.{tables_of, ChangesTo, HoldsState, IsAt, LeavesState}
 use Rattle.store.proofs.StopLemmas.{rests_leaves}
-use Rattle.store.proofs.ReadLemmas.{rests_read}
+use Rattle.store.proofs.ReadLemmas.{rests_read, rests_from}
 
 -- a connection that rests at the tables of a state keeps that state
 pub rests_is_at : (s : OfficeState) (st : State) → ((trees : Trees) → IsTrue st.is_open → st.may_leave trees → trees ≡ st.committed.trees) → IsState s → Rests (tables_of s) st → IsAt s st
@@ -41,3 +42,9 @@ change_leaves change s old new honest at survives trees may = elim (survives.cra
   | inl was ↦ let it = at.leaves trees was in (it.0, inl it.1, it.2)
   | inr made ↦ (with_change change s, inr refl, made)
 ]
+
+-- a database that holds a state, found by reads alone, is kept at it
+pub opened_is_at : (db : Database) (old new : State) → ((trees : Trees) → IsTrue new.is_open → new.may_leave trees → trees ≡ new.committed.trees)
+    → HasCleanDisk new → IsTrue new.is_open → OnlyReads old new → RestsAt db old → (s : OfficeState) × HoldsState db s → (s : OfficeState) × HoldsState db s × IsAt s new
+opened_is_at db old new settled honest is_open reads at found =
+    (found.0, found.1, rests_is_at found.0 new settled found.1.is (rests_from db new (tables_of found.0) found.1.office (reads.rests honest is_open db at)))

@@ -9,3 +9,4 @@ pub mod Presence
 pub mod Offices
 pub mod Entries
 pub mod Openings
+pub mod Listing

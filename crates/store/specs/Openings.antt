@@ -1,16 +1,19 @@
 -- What an opening finds.
-use Rattle.std.specs.Prelude.{◌≡◌, ◌⊎◌, ◌<◌, ℕ, ℤ, pos, ◌<ℤ◌, false, List, [], ◌∷◌, ⊤, IsTrue}
+use Rattle.std.specs.Prelude.{◌≡◌, ◌≢◌, ◌⊎◌, ◌<◌, ℕ, ℤ, pos, ◌<ℤ◌, false, List, [], ◌∷◌, map, ⊤, IsTrue}
 use Rattle.sqlite.specs.declared.types.Value.TheVariants.{Int}
+use Rattle.sqlite.specs.Order.{Row}
 use Rattle.sqlite.specs.Effect.{Database, IsDatabase}
 use Rattle.sqlite.specs.State.{State}
-use Rattle.register.specs.Offices.{OfficeState}
+use Rattle.register.specs.Offices.{OfficeState, IsState}
 use Rattle.store.specs.declared.fault.Fault.{Fault}
 use Rattle.store.specs.declared.fault.Fault.TheVariants.{Memory, Store, Damaged, Closed, WrongDatabase, NewerSchema}
-use Rattle.store.specs.declared.tables.Table.TheVariants.{Office}
+use Rattle.store.specs.declared.tables.Table.{Table}
+use Rattle.store.specs.declared.tables.Table.TheVariants.{Office, Ward, Candidate, Batch, Keying, Verdict, Lot, Receipt}
 use Rattle.store.specs.Schema.{no_schema}
-use Rattle.store.specs.Rows.{tuples}
+use Rattle.store.specs.Rows.{tuples, at, column_places}
+use Rattle.store.specs.Contents.{HoldsTable}
 use Rattle.store.specs.Presence.{has_table}
-use Rattle.store.specs.Offices.{HoldsState}
+use Rattle.store.specs.Offices.{HoldsState, office_row, row_of_ward, row_of_receipt}
 
 -- there is no office table, or no row in it
 abbrev pub HasNoOffice : Database → Type 0
@@ -46,3 +49,72 @@ pub record IsBlank (st : State) : Type 0 where
   pub settled : st.now ≡ st.committed
   pub schema : st.now.schema ≡ no_schema
   pub sound : IsDatabase st.now
+
+-- ---- the parts of an opening
+
+-- the fault that a table's rows give: `Damaged` is told only of rows of no state
+abbrev pub TellsNoState : Database → Fault → Type 0
+TellsNoState db Memory = ⊤
+TellsNoState db Store = ⊤
+TellsNoState db Damaged = HoldsNoState db
+TellsNoState db Closed = ⊥
+TellsNoState db WrongDatabase = ⊥
+TellsNoState db NewerSchema = ⊥
+
+-- the row is that of an office, of this version
+abbrev pub IsVersion : ℕ → Row → Type 0
+IsVersion version row = at (column_places Office) row ≡ office_row version
+
+-- the fault that a row of the office table gives
+abbrev pub TellsRow : Row → Fault → Type 0
+TellsRow row Memory = ⊤
+TellsRow row Store = ⊥
+TellsRow row Damaged = (version : ℕ) → 0 < version → ¬ IsVersion version row
+TellsRow row Closed = ⊥
+TellsRow row WrongDatabase = ⊥
+TellsRow row NewerSchema = (version : ℕ) × (1 < version) × IsVersion version row
+
+-- the fault that the rows of the office table give
+abbrev pub TellsRows : List Row → Fault → Type 0
+TellsRows rows Memory = ⊤
+TellsRows rows Store = ⊥
+TellsRows rows Damaged = (rows ≢ []) × ((row : Row) → rows ≡ row ∷ [] → (version : ℕ) → 0 < version → ¬ IsVersion version row)
+TellsRows rows Closed = ⊥
+TellsRows rows WrongDatabase = rows ≡ []
+TellsRows rows NewerSchema = (row : Row) × (rows ≡ row ∷ []) × ((version : ℕ) × (1 < version) × IsVersion version row)
+
+-- the office table has the one row of an office of this version, and no other
+abbrev pub HasVersion : ℕ → Database → Type 0
+HasVersion version db = HoldsTable Office (office_row version ∷ []) db.trees
+
+-- the fault that the office table gives
+abbrev pub TellsOffice : Database → Fault → Type 0
+TellsOffice db Memory = ⊤
+TellsOffice db Store = ⊤
+TellsOffice db Damaged = (tuples Office db.trees ≢ []) × ((¬ IsNewer db) × ¬ HasVersion 1 db)
+TellsOffice db Closed = ⊥
+TellsOffice db WrongDatabase = tuples Office db.trees ≡ []
+TellsOffice db NewerSchema = IsNewer db
+
+-- the fault that a table gives which has to be empty
+abbrev pub TellsRowsIn : Table → Database → Fault → Type 0
+TellsRowsIn t db Memory = ⊤
+TellsRowsIn t db Store = ⊤
+TellsRowsIn t db Damaged = ¬ HoldsTable t [] db.trees
+TellsRowsIn t db Closed = ⊥
+TellsRowsIn t db WrongDatabase = ⊥
+TellsRowsIn t db NewerSchema = ⊥
+
+-- the tables that no command fills yet hold no row
+pub record AreEmpty (db : Database) : Type 0 where
+  pub candidates : HoldsTable Candidate [] db.trees
+  pub batches : HoldsTable Batch [] db.trees
+  pub keyings : HoldsTable Keying [] db.trees
+  pub verdicts : HoldsTable Verdict [] db.trees
+  pub lots : HoldsTable Lot [] db.trees
+
+-- the wards and receipts of the database are those of the state
+pub record HoldsEntries (db : Database) (s : OfficeState) : Type 0 where
+  pub is : IsState s
+  pub wards : HoldsTable Ward (map row_of_ward s.wards) db.trees
+  pub receipts : HoldsTable Receipt (map row_of_receipt s.receipts) db.trees

@@ -19,6 +19,9 @@
 pub mod fault;
 pub mod tables;
 pub mod storage;
+mod opening;
+mod conditions;
+mod listing;
 mod views;
 mod writing;
 mod entries;

@@ -6,12 +6,15 @@ ghost use Rattle.sqlite.specs.State.{HasCleanDisk, Survives};
 ghost use Rattle.sqlite.specs.Held.{state};
 ghost use Rattle.register.specs.Offices.{OfficeState, IsState, empty_office};
 ghost use Rattle.register.specs.Views.{with_change};
-ghost use Rattle.store.specs.Contents.{Contents, Rests, Stores};
-ghost use Rattle.store.specs.Presence.{has_some_table};
-ghost use Rattle.store.specs.Offices.{tables_of, ChangesTo, IsAt, LeavesState};
-ghost use Rattle.store.specs.Openings.{IsBlank};
+ghost use Rattle.sqlite.specs.Effect.{Database};
+ghost use Rattle.store.specs.Contents.{Contents, Rests, RestsAt, Stores};
+ghost use Rattle.store.specs.Presence.{has_some_table, IsOurs};
+ghost use Rattle.store.specs.Reading.{OnlyReads};
+ghost use Rattle.store.specs.Offices.{tables_of, ChangesTo, HoldsState, IsAt, LeavesState};
+ghost use Rattle.store.specs.Openings.{IsBlank, IsToldBy};
 
 use crate::fault::Fault;
+use crate::opening::check;
 use crate::presence::has_some_table;
 use crate::writing::{write_change, write_new_office};
 use register::Change;
@@ -91,6 +94,31 @@ impl<S: Alter> Store<S> {
             return Err((Fault::WrongDatabase, conn));
         }
         match commit_new_office(&mut conn) {
+            Ok(()) => Ok(Store { conn, alloc }),
+            Err(fault) => Err((fault, conn)),
+        }
+    }
+
+    /// Opens the office that the connection's database holds, and changes nothing.
+    ///
+    /// `WrongDatabase` where there is no office table or no row in it, `NewerSchema` where a later program
+    /// made it, `Damaged` where the rows are the tables of no state. `Store` too where the connection is
+    /// inside a transaction. The connection is handed back with a fault, its database as it was.
+    pub fn open_from(
+        alloc: Global,
+        mut conn: Connection<S>,
+    ) -> Result<Self, (Fault, Connection<S>)>
+        ensures opened { IfOk result (λ store. HasCleanDisk (state S.Store store) → (db : Database) → IsOurs db.schema → RestsAt db (state S.Store conn)
+            → (s : OfficeState) × HoldsState db s × IsAt s (state S.Store store)) }
+        ensures told { IfErr result (λ e. HasCleanDisk (state S.Store e.1) → (db : Database) → IsOurs db.schema → RestsAt db (state S.Store conn) → IsToldBy db e.0) }
+        ensures reads { IfOk result (λ store. OnlyReads (state S.Store conn) (state S.Store store)) }
+        ensures reads_too { IfErr result (λ e. OnlyReads (state S.Store conn) (state S.Store e.1)) }
+        ensures alone { (db : Database) → (s t : OfficeState) → HoldsState db s → HoldsState db t → s ≡ t }
+    {
+        if !conn.is_autocommit() {
+            return Err((Fault::Store, conn));
+        }
+        match check(alloc, &mut conn) {
             Ok(()) => Ok(Store { conn, alloc }),
             Err(fault) => Err((fault, conn)),
         }

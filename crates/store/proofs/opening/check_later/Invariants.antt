@@ -1,0 +1,19 @@
+use Rattle.std.proofs.Common.{◌≡◌, ℕ, ◌<◌, [], false, get_or, IsTrue}
+use Rattle.sqlite.specs.Effect.{Database}
+use Rattle.sqlite.specs.State.{HasCleanDisk}
+use Rattle.sqlite.specs.Held.{state}
+use Rattle.store.specs.declared.tables.Table.TheVariants.{Office}
+use Rattle.store.specs.Schema.{IsOfficeSchema}
+use Rattle.store.specs.Contents.{RestsAt, HoldsTable}
+use Rattle.store.specs.Reading.{OnlyReads}
+use Rattle.store.proofs.TellLemmas.{later_tables}
+use Rattle.store.proofs.opening.check_later.Given as goal
+
+abbrev pub invariant-loop-table : goal.invariant-loop-table
+invariant-loop-table g l = record {
+  outside : l.conn.in_transaction ≡ false;
+  opens : HasCleanDisk (state g.S.Store l.conn) → IsTrue (state g.S.Store l.initial.conn).is_open → IsTrue (state g.S.Store l.conn).is_open;
+  reads : OnlyReads (state g.S.Store l.initial.conn) (state g.S.Store l.conn);
+  empty : HasCleanDisk (state g.S.Store l.conn) → (db : Database) → IsOfficeSchema db.schema → RestsAt db (state g.S.Store l.initial.conn)
+      → (k : ℕ) → k < l.table-index → HoldsTable (get_or later_tables k Office) [] db.trees;
+}

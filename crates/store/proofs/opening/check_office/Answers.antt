@@ -1,0 +1,18 @@
+use Rattle.std.proofs.lemmas.Result.{err_from_is_err_and}
+use Rattle.store.proofs.TellLemmas.{store_office, version_held, office_told}
+use Rattle.store.proofs.opening.check_office.Goals as goal
+
+pub returns-clause-holds : goal.returns-clause-holds
+returns-clause-holds g c clean db begins sound rests =
+    let row = rw c.deref.ensures.value at c.in_ok-check_rows.ensures.version in
+    version_held 1 db begins sound c.in_ok-rows.rows.items (c.in_ok-rows.ensures.lists clean db begins rests) row.0 row.1 row.2
+
+pub returns-in_err-rows-clause-told : goal.returns-in_err-rows-clause-told
+returns-in_err-rows-clause-told g c clean db begins sound rests =
+    let p = err_from_is_err_and c.from_residual.result c.from_residual.ensures.1 in
+    rw (p.1, p.2) (store_office db _ (c.in_err-rows.ensures.cause clean db begins rests))
+
+pub returns-in_err-check_rows-clause-told : goal.returns-in_err-check_rows-clause-told
+returns-in_err-check_rows-clause-told g c clean db begins sound rests =
+    let p = err_from_is_err_and c.from_residual-in_err-check_rows.result c.from_residual-in_err-check_rows.ensures.1 in
+    rw (p.1, p.2) (office_told db begins sound c.in_ok-rows.rows.items (c.in_ok-rows.ensures.lists clean db begins rests) _ (rw c.deref.ensures.value at c.in_err-check_rows.ensures.told))
