@@ -1,0 +1,53 @@
+-- What an answer tells, and what it says of the office.
+use Rattle.std.specs.Prelude.{◌≡◌, ◌⊎◌, ℕ, Bool, true, false, List, [], ◌∷◌, string_bytes, Result, Ok, Err}
+use Rattle.sqlite.specs.State.{State}
+use Rattle.register.specs.declared.refusal.Refusal.{Refusal}
+use Rattle.register.specs.declared.command.Command.{Command}
+use Rattle.register.specs.declared.command.Request.{Request}
+use Rattle.register.specs.Offices.{OfficeState}
+use Rattle.register.specs.Machine.{Outcome, accepted, kept, refused, step, step_of, state_after, after_one}
+use Rattle.store.specs.declared.fault.Fault.{Fault}
+use Rattle.store.specs.declared.fault.Fault.TheVariants.{Memory, Store}
+use Rattle.store.specs.Offices.{IsAt, LeavesState}
+use Rattle.office.specs.declared.answers.Answer.{Answer}
+use Rattle.office.specs.declared.answers.Answer.TheVariants.{Done, Kept, Refused}
+
+-- what is told of an outcome: the reply of an accepted or a kept request, or the refusal
+pub data Told : Type 0 where
+  done : List ℕ → Told
+  again : List ℕ → Told
+  no : Refusal → Told
+
+-- what an answer tells
+abbrev pub told : Answer → Told
+told (Done reply) = done (string_bytes reply)
+told (Kept reply) = again (string_bytes reply)
+told (Refused why) = no why
+
+-- what the machine would tell
+abbrev pub told_of : Outcome → Told
+told_of (accepted next reply) = done reply
+told_of (kept reply) = again reply
+told_of (refused why) = no why
+
+-- an open office that keeps this state
+pub record IsOpenAt (s : OfficeState) (closed : Bool) (st : State) : Type 0 where
+  pub is_open : closed ≡ false
+  pub at : IsAt s st
+
+-- a fault that closed the office: a stop leaves the state before the request, or the one after it
+pub record IsClosedIn (s after : OfficeState) (f : Fault) (closed : Bool) (st : State) : Type 0 where
+  pub is_closed : closed ≡ true
+  pub fault : (f ≡ Memory) ⊎ (f ≡ Store)
+  pub leaves : LeavesState st (λ x. (x ≡ s) ⊎ (x ≡ after))
+
+-- a fault before the transaction, for want of memory alone: nothing is changed, and the office stays open
+pub record IsKeptOpen (s : OfficeState) (f : Fault) (closed : Bool) (st : State) : Type 0 where
+  pub memory : f ≡ Memory
+  pub open_at : IsOpenAt s closed st
+
+-- What each exit of a request leaves. Answered: the state that the machine's step makes of the one before, which is the
+-- same unless the request was accepted. A fault: the state before, or, where it closed the office, that or the one after.
+abbrev pub Handled : OfficeState → Outcome → Result Answer Fault → Bool → State → Type 0
+Handled s outcome (Ok answer) closed st = (told answer ≡ told_of outcome) × IsOpenAt (state_after s outcome) closed st
+Handled s outcome (Err f) closed st = IsKeptOpen s f closed st ⊎ IsClosedIn s (state_after s outcome) f closed st

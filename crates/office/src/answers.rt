@@ -1,0 +1,23 @@
+//! What the office answers.
+
+use register::decision::Reply;
+use register::Refusal;
+use store::Fault;
+
+/// The answer to a request.
+#[derive(Debug, Drop)]
+pub enum Answer {
+    /// It was accepted now, and is kept: no stop takes it back.
+    Done(Reply),
+    /// It was accepted before, under the same id: the reply of then.
+    Kept(Reply),
+    /// Nothing changed, for this reason.
+    Refused(Refusal),
+}
+
+/// The answers to a list of requests, in order, up to the first fault, and that fault.
+#[derive(Debug, Drop)]
+pub struct Run {
+    pub answers: Vec<Answer>,
+    pub fault: Option<Fault>,
+}

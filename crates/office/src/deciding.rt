@@ -1,0 +1,47 @@
+//! The machine's decision on what the store holds.
+
+ghost use Rattle.std.specs.Prelude.{◌≡◌, ◌⊎◌, IfOk, IfErr, OnOk, IsTrue};
+ghost use Rattle.sqlite.specs.State.{HasCleanDisk};
+ghost use Rattle.sqlite.specs.Held.{state};
+ghost use Rattle.register.specs.Offices.{OfficeState, IsState};
+ghost use Rattle.register.specs.Machine.{step, state_after};
+ghost use Rattle.register.specs.Views.{ShowsState, outcome_of};
+ghost use Rattle.store.specs.Reading.{OnlyReads};
+ghost use Rattle.store.specs.Offices.{IsAt};
+
+use register::{Command, Decision, View, decide};
+use sqlite::Alter;
+use std::alloc::Global;
+use store::{Fault, Store};
+
+/// The decision on a view; want of memory is told as `Memory`.
+fn decided(alloc: Global, view: &View<'_>, command: &Command) -> Result<Decision, Fault>
+    ensures decides { IfOk result (λ decision. (s : OfficeState) → ShowsState s command.now view.now → outcome_of s decision ≡ step s view.now.actor view.now.id.now command.now) }
+    ensures stays { (s : OfficeState) → IsState s → IsState (state_after s (step s view.now.actor view.now.id.now command.now)) }
+    ensures memory { IfErr result (λ f. f ≡ Fault.Memory) }
+{
+    match decide(alloc, view, command) {
+        Ok(decision) => Ok(decision),
+        Err(_) => Err(Fault::Memory),
+    }
+}
+
+/// The machine's decision on a request, at the state that the store keeps. It changes nothing.
+pub(crate) fn decision_of<S: Alter>(
+    alloc: Global,
+    store: &mut Store<S>,
+    actor: u32,
+    id: &str,
+    command: &Command,
+) -> Result<Decision, Fault>
+    ensures decides { HasCleanDisk (state S.Store store.new) → (s : OfficeState) → IsAt s (state S.Store store.old) → IfOk result (λ decision. outcome_of s decision ≡ step s actor id.now command.now) }
+    ensures stays { OnOk result ((s : OfficeState) → IsState s → IsState (state_after s (step s actor id.now command.now))) }
+    ensures cause { HasCleanDisk (state S.Store store.new) → (s : OfficeState) → IsAt s (state S.Store store.old) → IfErr result (λ f. (f ≡ Fault.Memory) ⊎ (f ≡ Fault.Store)) }
+    ensures opens { HasCleanDisk (state S.Store store.new) → OnOk result (IsTrue (state S.Store store.new).is_open) }
+    ensures keeps { HasCleanDisk (state S.Store store.new) → (s : OfficeState) → IsAt s (state S.Store store.old) → IsAt s (state S.Store store.new) }
+    ensures reads { OnlyReads (state S.Store store.old) (state S.Store store.new) }
+{
+    let view = store.load_view(actor, id, command)?;
+    let decision = decided(alloc, &view, command)?;
+    Ok(decision)
+}

@@ -1,0 +1,23 @@
+//! The office: requests in, answers out, every accepted request kept before it is acknowledged.
+//!
+//! `Office` stands over any store of `sqlite`. `create` makes an empty office and `open_from` opens one;
+//! `handle` answers one request and `run` a list of them. A fault inside a transaction closes the
+//! office: it answers 104 until it is opened again, and what is found then is the state before the
+//! request or the one after it, whole.
+//!
+//! ```text
+//! let mut office = Office::open_from(alloc, conn)?;
+//! match office.handle(0, "w1", &command)? {
+//!     Answer::Done(reply) => ..,      // accepted, and kept
+//!     Answer::Kept(reply) => ..,      // accepted before, under the same id
+//!     Answer::Refused(why) => ..,     // nothing changed
+//! }
+//! ```
+#![tactic(auto)]
+
+pub mod answers;
+mod deciding;
+pub mod offices;
+
+pub use answers::{Answer, Run};
+pub use offices::Office;

@@ -1,0 +1,131 @@
+//! An office, open or closed.
+
+ghost use Rattle.std.specs.Prelude.{◌≡◌, ◌⊎◌, ◌++◌, true, false, take, length, vec_len, None, IfOk, IfErr, IsTrue};
+ghost use Rattle.sqlite.specs.Tree.{Trees};
+ghost use Rattle.sqlite.specs.Effect.{Database};
+ghost use Rattle.sqlite.specs.State.{HasCleanDisk};
+ghost use Rattle.sqlite.specs.Held.{state};
+ghost use Rattle.register.specs.Offices.{OfficeState, empty_office};
+ghost use Rattle.register.specs.Machine.{step, after};
+ghost use Rattle.store.specs.Contents.{RestsAt, Stores};
+ghost use Rattle.store.specs.Presence.{has_some_table, IsOurs};
+ghost use Rattle.store.specs.Reading.{OnlyReads};
+ghost use Rattle.store.specs.Offices.{tables_of, HoldsState, IsAt, LeavesState};
+ghost use Rattle.store.specs.Openings.{IsBlank, IsToldBy};
+ghost use Rattle.office.specs.Answers.{IsOpenAt, Handled};
+
+use crate::answers::Answer;
+use crate::deciding::decision_of;
+use register::{Command, Decision};
+use sqlite::{Alter, Connection};
+use std::alloc::Global;
+use std::marker::Model;
+use store::{Fault, Store};
+
+/// An office over a store. It is closed after a fault inside a transaction, and after any fault but want
+/// of memory; then each call but `into_connection` answers `Closed`, until it is opened again.
+pub struct Office<S: Alter> {
+    store: Store<S>,
+    closed: bool,
+    alloc: Global,
+}
+
+impl<S: Alter> Model for Office<S> {
+    ghost use Rattle.office.specs.Values.{OfficeValue, office_code};
+
+    ghost Value = { OfficeValue S };
+
+    ghost coded = { office_code S.code };
+
+    ghost view = { λ o. record { held = o.store; closed = o.closed } };
+}
+
+impl<S: Alter> Office<S> {
+    /// Makes an empty office in the connection's database.
+    ///
+    /// `WrongDatabase` where a table with the name of one of ours is there already; nothing is changed
+    /// then. After another fault there are all tables or none. The connection is handed back with it.
+    pub fn create(alloc: Global, conn: Connection<S>) -> Result<Self, (Fault, Connection<S>)>
+        ensures made { IfOk result (λ o. HasCleanDisk (state S.Store o.held) → IsBlank (state S.Store conn) → IsOpenAt empty_office o.closed (state S.Store o.held)) }
+        ensures stops { IfErr result (λ e. HasCleanDisk (state S.Store e.1) → IsBlank (state S.Store conn)
+            → (trees : Trees) → (state S.Store e.1).may_leave trees → (state S.Store conn).may_leave trees ⊎ Stores (tables_of empty_office) trees) }
+        ensures taken { has_some_table (state S.Store conn).now.schema ≡ true → IfOk result (λ _. ⊥) }
+        ensures told { IfErr result (λ e. (e.0 ≡ Fault.Memory) ⊎ ((e.0 ≡ Fault.Store) ⊎ ((e.0 ≡ Fault.WrongDatabase) × (has_some_table (state S.Store conn).now.schema ≡ true) × (e.1 ≡ conn)))) }
+    {
+        match Store::create(alloc, conn) {
+            Ok(store) => Ok(Office {
+                store,
+                closed: false,
+                alloc,
+            }),
+            Err(handed_back) => Err(handed_back),
+        }
+    }
+
+    /// Opens the office that the connection's database holds, and changes nothing.
+    ///
+    /// `WrongDatabase` where there is no office table or no row in it, `NewerSchema` where a later program
+    /// made it, `Damaged` where the rows are the tables of no state. The connection is handed back with a
+    /// fault, its database as it was.
+    pub fn open_from(alloc: Global, conn: Connection<S>) -> Result<Self, (Fault, Connection<S>)>
+        ensures opened { IfOk result (λ o. HasCleanDisk (state S.Store o.held) → (db : Database) → IsOurs db.schema → RestsAt db (state S.Store conn)
+            → (s : OfficeState) × HoldsState db s × IsOpenAt s o.closed (state S.Store o.held)) }
+        ensures told { IfErr result (λ e. HasCleanDisk (state S.Store e.1) → (db : Database) → IsOurs db.schema → RestsAt db (state S.Store conn) → IsToldBy db e.0) }
+        ensures reads { IfOk result (λ o. OnlyReads (state S.Store conn) (state S.Store o.held)) }
+        ensures reads_too { IfErr result (λ e. OnlyReads (state S.Store conn) (state S.Store e.1)) }
+        ensures alone { (db : Database) → (s t : OfficeState) → HoldsState db s → HoldsState db t → s ≡ t }
+    {
+        match Store::open_from(alloc, conn) {
+            Ok(store) => Ok(Office {
+                store,
+                closed: false,
+                alloc,
+            }),
+            Err(handed_back) => Err(handed_back),
+        }
+    }
+
+    /// Gives the connection back as it is, from a closed office too.
+    pub fn into_connection(self) -> Connection<S>
+        ensures { result ≡ self.held }
+    {
+        let Office {
+            store,
+            closed: _,
+            alloc: _,
+        } = self;
+        store.into_connection()
+    }
+
+    /// Answers one request. `Done` comes only once the change is kept.
+    ///
+    /// `Memory` before the transaction leaves tables and office as they were, and the office open. Any
+    /// other fault closes the office: the tables before the request are found then, or, where it was
+    /// accepted, those after it. A closed office answers `Closed`.
+    pub fn handle(&mut self, actor: u32, id: &str, command: &Command) -> Result<Answer, Fault>
+        ensures handled { HasCleanDisk (state S.Store self.new.held) → self.old.closed ≡ false → (s : OfficeState) → IsAt s (state S.Store self.old.held)
+            → Handled s (step s actor id.now command.now) result self.new.closed (state S.Store self.new.held) }
+        ensures closed { self.old.closed ≡ true → (result ≡ Err Fault.Closed) × (self.new ≡ self.old) }
+        ensures clean { HasCleanDisk (state S.Store self.new.held) → HasCleanDisk (state S.Store self.old.held) }
+    {
+        if self.closed {
+            return Err(Fault::Closed);
+        }
+        match decision_of(self.alloc, &mut self.store, actor, id, command) {
+            Ok(Decision::Kept(reply)) => Ok(Answer::Kept(reply)),
+            Ok(Decision::Refused(refusal)) => Ok(Answer::Refused(refusal)),
+            Ok(Decision::Accepted(change, reply)) => match self.store.commit(&change) {
+                Ok(()) => Ok(Answer::Done(reply)),
+                Err(fault) => {
+                    self.closed = true;
+                    Err(fault)
+                }
+            },
+            Err(Fault::Memory) => Err(Fault::Memory),
+            Err(fault) => {
+                self.closed = true;
+                Err(fault)
+            }
+        }
+    }
+}
