@@ -6,10 +6,16 @@
 #![tactic(auto)]
 
 mod columns;
+mod marked;
+mod marks;
 mod padded;
 mod prefs;
 mod standing;
+mod validity;
 
 pub use columns::Columns;
+pub use marked::{Keyed, Marked};
+pub use marks::{MarkFault, Marks};
 pub use prefs::Prefs;
 pub use standing::{Standing, Status, available_from, next_available};
+pub use validity::{Rejection, judge};
