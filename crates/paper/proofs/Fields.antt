@@ -1,8 +1,8 @@
-use Rattle.std.proofs.Common.{set, replicate, ◌≡◌, ℕ, suc, zero, ◌+◌, ◌-◌, ◌*◌, ◌<◌, ◌≤◌, ◌==◌, nat_le, nat_lt, Bool, true, false, not, cond, ◌&&◌, ◌||◌, List, [], ◌∷◌, ◌++◌, length, take, drop, get_or, Option, Some, None, Ok, Err, refl, sym, ap, ◌∙◌, subst, arith, drop-cons, length-drop, Result}
-use Rattle.std.specs.List.{list_all, fold, position, position_or_len, count_by, slice_split, All, before_first, after_first}
+use Rattle.std.proofs.Common.{set, replicate, ◌≡◌, ℕ, suc, ◌+◌, ◌-◌, ◌*◌, ◌<◌, ◌≤◌, ◌==◌, nat_le, nat_lt, Bool, true, false, ◌&&◌, List, [], ◌∷◌, ◌++◌, length, take, drop, get_or, Ok, Err, refl, sym, ap, ◌∙◌, arith, drop-cons, length-drop, Result}
+use Rattle.std.specs.List.{list_all, fold, position_or_len, count_by, before_first, after_first}
 use Rattle.std.proofs.lemmas.Bool.{lt-ltb, ltb-true, ltb-false, leb-true, ne_eqb, cond-true, cond-false, or_from, not_from_true, and_parts}
 use Rattle.std.proofs.lemmas.List.{take_all, drop_all, drop-set-lt, drop-drop, drop-replicate}
-use Rattle.std.proofs.lemmas.List.Sums.{fails_before_first, prefix_len-le-length}
+use Rattle.std.proofs.lemmas.List.Sums.{fails_before_first}
 use Rattle.std.proofs.lemmas.List.Splits.{length-slice_split, slice_split_none, slice_split_first}
 use Rattle.paper.specs.MarksText.{fields, is_digit, number_in, mark_in, marks_in, and_marks}
 use Rattle.paper.specs.declared.marks.MarkFault.{MarkFault}

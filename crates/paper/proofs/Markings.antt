@@ -1,13 +1,10 @@
-use Rattle.std.proofs.Common.{◌≡◌, ◌≢◌, ℕ, suc, zero, ◌+◌, ◌-◌, ◌<◌, ◌≤◌, ◌==◌, Bool, true, false, cond, List, [], ◌∷◌, ◌++◌, length, take, drop, get_or, map, refl, sym, ap, ◌∙◌, subst, arith, append-nil}
-use Rattle.std.specs.List.{zip, filter, AllByRecursion}
+use Rattle.std.proofs.Common.{◌≡◌, ℕ, suc, zero, ◌+◌, ◌<◌, ◌≤◌, ◌==◌, Bool, true, false, cond, List, [], ◌∷◌, ◌++◌, length, take, drop, get_or, map, refl, sym, ap, ◌∙◌, arith, append-nil}
+use Rattle.std.specs.List.{zip, filter}
 use Rattle.std.proofs.lemmas.Bool.{eq-eqb, ne_eqb}
 use Rattle.std.proofs.lemmas.List.{take_all}
 use Rattle.paper.specs.Bearers.{bearers_of, one_more}
-use Rattle.paper.specs.Columns.{IsColumnSet}
-use Rattle.paper.specs.Marking.{Marking, IsMarking, candidates_of, marks_of, marked_with}
-use Rattle.paper.specs.Padded.{padded}
+use Rattle.paper.specs.Marking.{Marking, candidates_of, marked_with}
 use Rattle.paper.specs.declared.marked.Bearers.{Bearers}
-use Rattle.paper.specs.declared.marked.Bearers.TheVariants.{Nobody, One, Several}
 
 -- the first of two lists side by side, and one more of each
 zip-take_more : (xs ys : List ℕ) (i : ℕ) → i < length xs → i < length ys → take (i + 1) (zip xs ys) ≡ take i (zip xs ys) ++ (get_or xs i 0, get_or ys i 0) ∷ []

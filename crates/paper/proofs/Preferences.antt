@@ -1,12 +1,12 @@
-use Rattle.std.proofs.Common.{◌≡◌, ℕ, suc, zero, ◌+◌, ◌-◌, ◌<◌, ◌≤◌, ◌⊎◌, ◌==◌, nat_eq, Bool, true, false, cond, ◌||◌, List, [], ◌∷◌, ◌++◌, length, take, drop, set, replicate, map, None, inl, inr, refl, sym, ap, ◌∙◌, subst, arith, append-nil, append_assoc, length-append}
+use Rattle.std.proofs.Common.{◌≡◌, ℕ, suc, zero, ◌+◌, ◌-◌, ◌<◌, ◌≤◌, ◌==◌, nat_eq, Bool, true, false, cond, ◌||◌, List, [], ◌∷◌, ◌++◌, length, take, drop, set, replicate, map, inl, inr, refl, sym, ap, ◌∙◌, arith, append-nil, append_assoc}
 use Rattle.std.specs.List.{filter, list_any}
-use Rattle.std.proofs.lemmas.Bool.{eq-eqb, ne_eqb, eqb-true, cases_eq, or_left, or_right, or_from, cases_Bool}
-use Rattle.std.proofs.lemmas.List.{take_more_set, take_all, take-append-drop, length-take-le}
+use Rattle.std.proofs.lemmas.Bool.{eq-eqb, ne_eqb, eqb-true, cases_eq, or_left, or_right, or_from}
+use Rattle.std.proofs.lemmas.List.{take_more_set, take-append-drop, length-take-le}
 use Rattle.paper.specs.Bearers.{bearers_of}
 use Rattle.paper.specs.Columns.{IsColumnSet}
 use Rattle.paper.specs.Marking.{Marking, candidates_of, marked_with}
 use Rattle.paper.specs.Padded.{padded}
-use Rattle.paper.specs.Preferences.{StandAlone, IsPreferences, if_alone, preferences_from, preferences, rejection_of, LowerMarksDecide}
+use Rattle.paper.specs.Preferences.{StandAlone, IsPreferences, if_alone, preferences_from, preferences, LowerMarksDecide}
 use Rattle.paper.specs.Ranking.{IsRanking}
 use Rattle.paper.specs.declared.marked.Bearers.TheVariants.{Nobody, One, Several}
 use Rattle.paper.proofs.ColumnSets.{Ascends, ascends_from_columns}

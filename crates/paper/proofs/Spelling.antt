@@ -1,17 +1,18 @@
-use Rattle.std.proofs.Common.{◌≡◌, ℕ, suc, zero, ◌+◌, ◌-◌, ◌*◌, ◌/◌, ◌%◌, ◌<◌, ◌≤◌, ◌⊎◌, ◌==◌, nat_le, nat_lt, Bool, true, false, not, cond, ◌&&◌, ◌||◌, List, [], ◌∷◌, ◌++◌, length, take, drop, get_or, map, Result, Ok, Err, inl, inr, refl, sym, ap, ◌∙◌, subst, arith, decimal, codes, bytes_eq}
-use Rattle.std.specs.List.{list_all, slice_split, join_with_byte, zip, All, AllByRecursion}
-use Rattle.std.proofs.lemmas.Bool.{le-leb, le-ltb, eq-eqb, ne_eqb, eqb-false, leb-true, cases_lt, cases_eq, cond-true, cond-false, or_from, or_parts, and_from, and_parts, not_from_true, not-false, ltb-false}
+use Rattle.std.proofs.Common.{◌≡◌, ℕ, suc, zero, ◌+◌, ◌-◌, ◌*◌, ◌/◌, ◌%◌, ◌<◌, ◌≤◌, ◌==◌, nat_le, nat_lt, Bool, true, false, not, cond, ◌&&◌, ◌||◌, List, [], ◌∷◌, ◌++◌, length, take, get_or, map, Result, Ok, Err, inl, inr, refl, sym, ap, ◌∙◌, subst, arith, decimal, codes, bytes_eq, append_assoc}
+use Rattle.std.specs.List.{list_all, join_with_byte, zip, All, AllByRecursion}
+use Rattle.std.proofs.lemmas.Bool.{le-leb, le-ltb, eq-eqb, ne_eqb, eqb-false, leb-true, cases_lt, cond-true, cond-false, or_from, or_parts, and_from, and_parts, and_left, not_from_true, not-false, ltb-false}
 use Rattle.std.proofs.lemmas.Fmt.{decimal_digit, decimal_step}
-use Rattle.std.proofs.lemmas.List.{length-take, length-map}
+use Rattle.std.proofs.lemmas.List.{length-take, length-map, take_more, map-append}
 use Rattle.std.proofs.lemmas.List.Splits.{slice_split_none, slice_split_at, join_with_byte-slice_split}
 use Rattle.paper.specs.Columns.{IsColumnSet}
 use Rattle.paper.specs.Marking.{Marking, IsMarking, candidates_of, marks_of}
-use Rattle.paper.specs.MarksText.{fields, is_digit, number_in, mark_in, marks_in, and_marks, beside, reading, mark_text, spelling, ReadsBack}
+use Rattle.paper.specs.MarksText.{fields, is_digit, number_in, mark_in, marks_in, and_marks, beside, reading, mark_text, field_text, spelling, ReadsBack}
 use Rattle.paper.specs.Padded.{padded}
 use Rattle.paper.specs.declared.marks.MarkFault.{MarkFault}
-use Rattle.paper.specs.declared.marks.MarkFault.TheVariants.{FieldCount, NotANumber, TooLarge}
-use Rattle.paper.specs.declared.marked.Keyed.TheVariants.{Doubtful, Marked}
+use Rattle.paper.specs.declared.marks.MarkFault.TheVariants.{NotANumber, TooLarge}
+use Rattle.paper.specs.declared.marked.Keyed.TheVariants.{Marked}
 use Rattle.paper.proofs.Fields.{mark_in-long, length-fields}
+use Rattle.paper.proofs.Markings.{zip-within}
 
 -- what a field that was read has
 pub record IsNumber (b : ℕ) (bs : List ℕ) (mark : ℕ) : Type 0 where
@@ -179,3 +180,63 @@ text_read columns text marks set plain count read behind =
           ∙ ap (λ l. Ok (Marked l)) (sym (zip-take columns marks));
       spells = ap (λ l. join_with_byte 44 (map mark_text l)) ms ∙ ap (join_with_byte 44) are.texts ∙ join_with_byte-slice_split 44 text;
     }
+
+mark_text-digits : (mark : ℕ) → mark ≤ 99 → list_all is_digit (mark_text mark) ≡ true
+mark_text-digits zero few = refl
+mark_text-digits (suc n) few =
+    elim (cases_lt (suc n) 10) [
+      | inl small ↦ ap (list_all is_digit) (written n ∙ decimal_digit (suc n) small) ∙ and_from _ true (is_a_digit (suc n) small) refl
+      | inr large ↦
+          ap (list_all is_digit) (written n ∙ two_digits (suc n) large few)
+          ∙ and_from _ _ (is_a_digit (suc n / 10) (omega (arith, few))) (and_from _ true (is_a_digit (suc n % 10) (omega arith)) refl)
+    ]
+
+no_comma : (field : List ℕ) → list_all is_digit field ≡ true → All (λ b. (b == 44) ≡ false) field
+no_comma [] digits k d here = absurd (omega (arith, here))
+no_comma (b ∷ bs) digits zero d here = ne_eqb b 44 (λ same. omega (arith, same, (a_digit b (and_parts (is_digit b) (list_all is_digit bs) digits).0).0))
+no_comma (b ∷ bs) digits (suc k) d here = no_comma bs (and_parts (is_digit b) (list_all is_digit bs) digits).1 k d (omega (arith, here))
+
+-- fields of digits that are joined are parted again
+fields-join : (mark : ℕ) (marks : List ℕ) → mark ≤ 99 → AllByRecursion (λ m. m ≤ 99) marks →
+    fields (join_with_byte 44 (map mark_text (mark ∷ marks))) ≡ map mark_text (mark ∷ marks)
+fields-join mark [] few small = slice_split_none (λ b. b == 44) (mark_text mark) (no_comma (mark_text mark) (mark_text-digits mark few))
+fields-join mark (next ∷ marks) few small =
+    slice_split_at (λ b. b == 44) (mark_text mark) 44 (join_with_byte 44 (map mark_text (next ∷ marks))) (no_comma (mark_text mark) (mark_text-digits mark few)) refl
+    ∙ ap (λ l. mark_text mark ∷ l) (fields-join next marks small.0 small.1)
+
+-- a text of fields isn't the letter D
+not_doubtful : (field : List ℕ) (others : List (List ℕ)) → list_all is_digit field ≡ true → bytes_eq (join_with_byte 44 (field ∷ others)) (codes "D") ≡ false
+not_doubtful [] [] digits = refl
+not_doubtful [] (next ∷ others) digits = refl
+not_doubtful (b ∷ bs) [] digits = and_left _ _ (ne_eqb b 68 (λ same. omega (arith, same, (a_digit b (and_parts (is_digit b) (list_all is_digit bs) digits).0).1)))
+not_doubtful (b ∷ bs) (next ∷ others) digits = and_left _ _ (ne_eqb b 68 (λ same. omega (arith, same, (a_digit b (and_parts (is_digit b) (list_all is_digit bs) digits).0).1)))
+
+pub marked_reads_back : (ms : Marking) → IsMarking ms → ReadsBack (Marked ms)
+marked_reads_back [] is columns same = absurd (omega (arith, is.some))
+marked_reads_back (m ∷ ms) is columns same =
+    let parted = fields-join m.1 (marks_of ms) is.small.0 is.small.1 in
+    let count : length (fields (join_with_byte 44 (map mark_text (marks_of (m ∷ ms))))) ≡ length columns =
+    ap length parted ∙ length-map (marks_of (m ∷ ms)) mark_text ∙ length-map (m ∷ ms) (λ (k : ℕ × ℕ). k.1) ∙ sym (length-map (m ∷ ms) (λ (k : ℕ × ℕ). k.0)) ∙ ap length same in
+    cond-false _ _ _ (not_doubtful (mark_text m.1) (map mark_text (marks_of ms)) (mark_text-digits m.1 is.small.0))
+    ∙ cond-true _ _ _ (eq-eqb _ _ count) ∙ ap (beside columns) (ap marks_in parted ∙ marks_written (marks_of (m ∷ ms)) is.small)
+    ∙ ap (λ l. Ok (Marked l)) (ap (λ cs. zip cs (marks_of (m ∷ ms))) (sym same) ∙ zip-parts (m ∷ ms))
+
+join-more : (g : List ℕ) (fs : List (List ℕ)) (f : List ℕ) → join_with_byte 44 ((g ∷ fs) ++ f ∷ []) ≡ join_with_byte 44 (g ∷ fs) ++ 44 ∷ f
+join-more g [] f = refl
+join-more g (h ∷ fs) f = ap (λ l. g ++ (44 ∷ l)) (join-more h fs f) ∙ sym (append_assoc g (44 ∷ join_with_byte 44 (h ∷ fs)) (44 ∷ f))
+
+-- the text of the first fields, and one more
+pub text-more : (marks : List ℕ) (i : ℕ) → i < length marks →
+    join_with_byte 44 (map mark_text (take (i + 1) marks)) ≡ join_with_byte 44 (map mark_text (take i marks)) ++ field_text i (get_or marks i 0)
+text-more [] i here = absurd (omega (arith, here))
+text-more (m ∷ marks) zero here = refl
+text-more (m ∷ marks) (suc i) here =
+    ap (λ l. join_with_byte 44 (map mark_text l)) (take_more (m ∷ marks) (suc i) 0 here)
+    ∙ ap (join_with_byte 44) (map-append mark_text (take (suc i) (m ∷ marks)) (get_or marks i 0 ∷ []))
+    ∙ join-more (mark_text m) (map mark_text (take i marks)) (mark_text (get_or marks i 0))
+    ∙ ap (λ l. join_with_byte 44 (map mark_text (take (suc i) (m ∷ marks))) ++ l)
+    (sym (cond-false (suc i == 0) (mark_text (get_or marks i 0)) (44 ∷ mark_text (get_or marks i 0)) (ne_eqb (suc i) 0 (λ none. omega (arith, none)))))
+
+-- the marks beside the columns are as many from the front
+pub marks-beside : (columns marks : List ℕ) → candidates_of (zip columns marks) ≡ columns → take (length columns) marks ≡ marks_of (zip columns marks)
+marks-beside columns marks same = sym (marks-zip columns marks (zip-within columns marks same))

@@ -1,6 +1,6 @@
 use Rattle.std.specs.Prelude.{◌≡◌, ℕ, ◌+◌, ◌-◌, ◌*◌, Bool, not, ◌&&◌, ◌||◌, ◌==◌, nat_le, nat_lt, if◌then◌else◌, List, [], ◌∷◌, length, map, Result, Ok, Err, codes, decimal, bytes_eq}
 use Rattle.std.specs.List.{slice_split, join_with_byte, list_all, fold, zip}
-use Rattle.paper.specs.Marking.{Marking, candidates_of, marks_of}
+use Rattle.paper.specs.Marking.{candidates_of, marks_of}
 use Rattle.paper.specs.declared.marks.MarkFault.{MarkFault}
 use Rattle.paper.specs.declared.marks.MarkFault.TheVariants.{FieldCount, NotANumber, TooLarge}
 use Rattle.paper.specs.declared.marked.Keyed.{Keyed}
@@ -48,6 +48,10 @@ reading columns text =
 -- the text of a mark
 abbrev pub mark_text : ℕ → List ℕ
 mark_text mark = if mark == 0 then [] else decimal mark
+
+-- the text of a field of a paper, with a comma in front of every field but the first
+abbrev pub field_text : ℕ → ℕ → List ℕ
+field_text i mark = if i == 0 then mark_text mark else 44 ∷ mark_text mark
 
 -- the one text of what is keyed
 abbrev pub spelling : Keyed → List ℕ

@@ -1,14 +1,15 @@
 //! What a clerk keyed of a ballot paper, and its text.
 
-ghost use Rattle.std.specs.Prelude.{◌≡◌, ℕ, ◌+◌, ◌≤◌, length, IfOk, string_bytes};
+ghost use Rattle.std.specs.Prelude.{◌≡◌, ℕ, ◌+◌, ◌≤◌, ◌++◌, length, IfOk, OnOk, string_bytes};
 ghost use Rattle.std.specs.List.{zip};
 ghost use Rattle.paper.specs.Bearers.{bearers_of, one_more};
-ghost use Rattle.paper.specs.MarksText.{ReadsBack, spelling};
+ghost use Rattle.paper.specs.MarksText.{ReadsBack, field_text, spelling};
 ghost use Rattle.paper.specs.Marking.{IsMarking, candidates_of, marks_of, marked_with};
 ghost use Rattle.paper.specs.Padded.{padded};
 
 use crate::columns::Columns;
 use std::alloc::{AllocError, Global};
+use std::fmt::Write;
 use std::marker::Model;
 
 /// The marks on a ballot paper, seen as each candidate's number beside the number in the field for
@@ -46,7 +47,32 @@ pub enum Keyed {
     Marked(Marked),
 }
 
+impl Keyed {
+    /// The one text that is read as what was keyed, or want of memory.
+    pub fn text(&self, alloc: Global) -> Result<String, AllocError>
+        ensures is { IfOk result (λ text. string_bytes text ≡ spelling self.now) }
+        ensures reads_back { ReadsBack self.now }
+    {
+        match self {
+            Keyed::Doubtful => String::from_str(alloc, "D"),
+            Keyed::Marked(marked) => marked.text(alloc),
+        }
+    }
+}
+
 impl Marked {
+    /// The fields of the columns in their order, parted by commas.
+    fn text(&self, alloc: Global) -> Result<String, AllocError>
+        ensures is { IfOk result (λ text. string_bytes text ≡ spelling (Keyed.Marked self.now)) }
+        ensures marking { IsMarking self.now }
+    {
+        let mut text = String::new(alloc);
+        for (i, mark) in self.marks[..self.columns.len()].iter().enumerate() {
+            push_field(&mut text, i, *mark)?;
+        }
+        Ok(text)
+    }
+
     /// The marks of some columns, in their order.
     pub(crate) fn new(columns: Columns, marks: [u8; 30]) -> Marked
         requires columns { candidates_of (zip columns marks) ≡ columns }
@@ -70,6 +96,19 @@ impl Marked {
         }
         bearers
     }
+}
+
+/// Puts a field to the end of a text, with a comma in front of every field but the first.
+fn push_field(text: &mut String, i: usize, mark: u8) -> Result<(), AllocError>
+    ensures { OnOk result (string_bytes text.new ≡ string_bytes text.old ++ field_text i mark) }
+{
+    if i > 0 {
+        text.push(',')?;
+    }
+    if mark > 0 {
+        write!(text, "{mark}")?;
+    }
+    Ok(())
 }
 
 /// The candidates beside whom one number stands.

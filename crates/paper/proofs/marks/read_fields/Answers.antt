@@ -1,7 +1,7 @@
-use Rattle.std.proofs.Common.{◌≡◌, ◌+◌, ◌<◌, length, take, get_or, Ok, Err, sym, ap, ◌∙◌, arith, length-set}
-use Rattle.std.proofs.lemmas.List.{take_more_set, drop-set-lt, drop-drop, drop-replicate, length-replicate}
+use Rattle.std.proofs.Common.{◌≡◌, ◌<◌, length, take, Ok, sym, ap, ◌∙◌, arith, length-set}
+use Rattle.std.proofs.lemmas.List.{take_more_set}
 use Rattle.std.proofs.lemmas.Result.{err_from_is_err_and}
-use Rattle.paper.specs.MarksText.{fields, mark_in}
+use Rattle.paper.specs.MarksText.{fields}
 use Rattle.paper.proofs.Fields.{fields-next, field-fault, field-mark, fields-read, zeros-less}
 use Rattle.paper.proofs.marks.read_fields.Goals as goal
 

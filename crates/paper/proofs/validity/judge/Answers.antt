@@ -1,7 +1,6 @@
-use Rattle.std.proofs.Common.{◌≡◌, ◌≤◌, length, sym, ap, ◌∙◌, subst, arith}
+use Rattle.std.proofs.Common.{sym, ap, ◌∙◌, subst}
 use Rattle.paper.specs.Padded.{listed, padded}
 use Rattle.paper.specs.Preferences.{IsPreferences, preferences}
-use Rattle.paper.specs.Ranking.{IsRanking}
 use Rattle.paper.proofs.Rankings.{listed-padded_ranking}
 use Rattle.paper.proofs.Preferences.{alone-One, lower_marks_decide, preferences-IsRanking, preferences-IsPreferences, preferences-some}
 use Rattle.paper.proofs.validity.judge.Goals as goal

@@ -1,5 +1,4 @@
-use Rattle.std.proofs.Common.{◌≡◌, ◌++◌, length, take, set, sym, ap, ◌∙◌, inl, inr, arith, length-set}
-use Rattle.paper.specs.Preferences.{preferences, preferences_from}
+use Rattle.std.proofs.Common.{sym, ◌∙◌, inl, inr, arith, length-set}
 use Rattle.paper.proofs.Fields.{zeros-less}
 use Rattle.paper.proofs.Preferences.{preferred-more, preferred-done, done-Nobody, done-Several, done-all}
 use Rattle.paper.proofs.validity.preferred.Goals as goal

@@ -1,4 +1,4 @@
-use Rattle.std.proofs.Common.{◌<◌, length, sym, ap, ◌∙◌, arith}
+use Rattle.std.proofs.Common.{◌<◌, length, ap, ◌∙◌, arith}
 use Rattle.std.specs.List.{zip}
 use Rattle.paper.specs.Bearers.{bearers_of}
 use Rattle.paper.specs.Marking.{marked_with}

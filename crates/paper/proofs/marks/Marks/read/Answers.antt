@@ -1,6 +1,6 @@
 use Rattle.std.proofs.Common.{◌≡◌, false, length, take, codes, bytes_eq, Ok, sym, ap, ◌∙◌}
 use Rattle.paper.specs.Padded.{padded}
-use Rattle.paper.specs.MarksText.{reading, spelling}
+use Rattle.paper.specs.MarksText.{spelling}
 use Rattle.paper.specs.declared.marked.Keyed.TheVariants.{Marked}
 use Rattle.paper.proofs.Spelling.{text_read}
 use Rattle.paper.proofs.marks.Marks.read.Goals as goal
