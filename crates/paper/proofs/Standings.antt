@@ -1,11 +1,11 @@
 use Rattle.std.proofs.Common.{◌⊎◌, ap, ◌≡◌, ℕ, suc, zero, ◌+◌, ◌<◌, nat_eq, Bool, true, false, not, cond, ◌||◌, List, [], ◌∷◌, length, take, drop, set, replicate, slice_index, inl, inr, refl, ◌∙◌, arith, get_or-set_other, get_or-set_same}
-use Rattle.std.specs.List.{list_any, find, prefix_len, slice_get}
+use Rattle.std.specs.List.{AllByRecursion, list_any, find, prefix_len, slice_get}
 use Rattle.std.proofs.lemmas.Bool.{eq-eqb, ne_eqb, cases_eq, cases_lt, or_right}
 use Rattle.std.proofs.lemmas.List.Folds.{list_any_more}
 use Rattle.paper.specs.declared.standing.Status.{Status}
 use Rattle.paper.specs.declared.standing.Status.TheVariants.{Continuing, Elected, Excluded, Absent}
 use Rattle.paper.specs.Columns.{IsColumn}
-use Rattle.paper.specs.Standing.{status_of, status_among, is_continuing_status, is_continuing, from_first}
+use Rattle.paper.specs.Standing.{AreApart, status_of, status_among, is_continuing_status, is_continuing, from_first}
 
 or_none : (b c : Bool) → c ≡ false → (b || c) ≡ b
 or_none true c none = refl
@@ -70,4 +70,13 @@ column_or_not c =
     elim (cases_lt 0 c) [
       | inl some ↦ elim (cases_lt 30 c) [ inl many ↦ inr (λ column. omega (arith, column.1, many)) | inr few ↦ inl (some, few) ]
       | inr none ↦ inr (λ column. omega (arith, column.0, none))
+    ]
+
+-- sets are apart if none of the one is in the other
+pub apart_by_each : (xs ys : List ℕ) → AllByRecursion (λ x. list_any (nat_eq x) ys ≡ false) xs → AreApart xs ys
+apart_by_each [] ys each c found = cc
+apart_by_each (x ∷ xs) ys each c found =
+    elim (cases_eq c x) [
+      | inl same ↦ rw same each.0
+      | inr other ↦ apart_by_each xs ys each.1 c (rw (ne_eqb c x other) at found)
     ]
