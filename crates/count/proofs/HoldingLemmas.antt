@@ -108,7 +108,8 @@ from_choice true false x l k xs e h = cc
 from_choice false true x l k xs e h = cc
 from_choice false false x l k xs e h = h
 
-from_first-same : (p q : ℕ → Bool) (xs : List ℕ) → ((c : ℕ) → p c ≡ q c) → from_first p xs ≡ from_first q xs
+-- two tests that agree find the same
+pub from_first-same : (p q : ℕ → Bool) (xs : List ℕ) → ((c : ℕ) → p c ≡ q c) → from_first p xs ≡ from_first q xs
 from_first-same p q [] h = refl
 from_first-same p q (x ∷ xs) h = from_choice (p x) (q x) x _ _ xs (h x) (from_first-same p q xs h)
 

@@ -1,8 +1,10 @@
+mod WorkedElections
 pub mod ActionLemmas
 pub mod ArrayLemmas
 pub mod BookLemmas
 pub mod ColumnLemmas
 pub mod ConservedLemmas
+pub mod ContestLemmas
 pub mod CutLemmas
 pub mod DueLemmas
 pub mod FilterLemmas
@@ -16,6 +18,7 @@ pub mod MoveLemmas
 pub mod NewlyLemmas
 pub mod OwnLotLemmas
 pub mod PassedLemmas
+pub mod PlainLemmas
 pub mod QuotaLemmas
 pub mod RecordLemmas
 pub mod RestLemmas

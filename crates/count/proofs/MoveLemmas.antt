@@ -5,7 +5,7 @@ use Rattle.paper.specs.Columns.{IsColumn}
 use Rattle.count.specs.Contest.{Contest, History, IsContest, In, newest_votes}
 use Rattle.count.specs.Places.{place}
 use Rattle.count.specs.Figures.{value_with}
-use Rattle.count.specs.Right.{candidate_of}
+use Rattle.count.specs.Right.{IsRightByItself, candidate_of}
 use Rattle.count.specs.Advance.{IsDue}
 use Rattle.count.specs.Books.{AreRankings, AreHeld, HoldPapers, IsBook}
 use Rattle.count.specs.declared.parcel.Holding.{Holding}
@@ -22,8 +22,7 @@ pub record IsUnderWay (contest : Contest) (stages : History) (holdings : List Ho
   pub rankings : AreRankings contest.papers
 
 -- what a surplus that is due may rely on
-pub record IsOwed (contest : Contest) (stages : History) (holdings : List Holding) (c : ℕ) : Type 0 where
-  pub under_way : IsUnderWay contest stages holdings
+pub record IsLawful (contest : Contest) (stages : History) (c : ℕ) : Type 0 where
   pub column : IsColumn c
   pub above : contest.quota < newest_votes stages c
   pub some : 0 < contest.quota
@@ -54,21 +53,15 @@ surplus_of_one contest stages c (inr on) = never _ on.is
 quota_some : (contest : Contest) → IsContest contest → 0 < contest.quota
 quota_some contest fair = omega (arith, fair.quota_is)
 
-pub surplus-owed : (contest : Contest) (stages : History) (holdings : List Holding) (c : ℕ) → IsBook contest stages holdings → IsDue contest stages (Surplus c) → IsOwed contest stages holdings c
-surplus-owed contest [] holdings c book due = let e = step-first contest due.lot (Surplus c) due.is in cc
-surplus-owed contest (s ∷ before) holdings c book due =
+pub surplus-lawful : (contest : Contest) (stages : History) (c : ℕ) → IsContest contest → IsRightByItself contest stages → IsDue contest stages (Surplus c) → IsLawful contest stages c
+surplus-lawful contest [] c fair right due = let e = step-first contest due.lot (Surplus c) due.is in cc
+surplus-lawful contest (s ∷ before) c fair right due =
     let on = surplus_of_one contest (s ∷ before) c (step-is contest s before due.lot (Surplus c) due.is) in
-    let column = column-in c contest.candidates book.fair.candidate_set on.0 in
-    let own = surplus-held contest s before c book.right.1.tells column on.1 in
+    let column = column-in c contest.candidates fair.candidate_set on.0 in
+    let own = surplus-held contest s before c right.1.tells column on.1 in
     let within = sum_by-le-sum_by (λ p. value_with c (place contest (s ∷ before) p)) (λ p. (place contest (s ∷ before) p).value) contest.papers (λ p. held_le _ _) in
-    let all = values-conserved contest (λ h t. candidate_of t.action) s before book.fair book.right in
-    record {
-      under_way = record { hold = book.held.0; rankings = book.held.1 };
-      column = column;
-      above = on.1;
-      some = quota_some contest book.fair;
-      few = omega (arith, own, within, all, book.fair.few_papers);
-    }
+    let all = values-conserved contest (λ h t. candidate_of t.action) s before fair right in
+    record { column = column; above = on.1; some = quota_some contest fair; few = omega (arith, own, within, all, fair.few_papers) }
 
 -- only the first stage comes after none
 pub under-way : (contest : Contest) (stages : History) (holdings : List Holding) (action : Action) → IsBook contest stages holdings → IsDue contest stages action → (action ≡ First → ⊥) → IsUnderWay contest stages holdings

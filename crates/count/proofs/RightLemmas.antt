@@ -7,11 +7,12 @@ use Rattle.count.specs.Places.{Place, place, moved, next_available, surplus_of}
 use Rattle.count.specs.Due.{due_after, drawn, lot_for, next_action, action_on}
 use Rattle.count.specs.Figures.{votes_after, non_transferable_after, lost_after, lost_by, value_passed_on, value_with}
 use Rattle.count.specs.Elected.{elected_after, is_elected, continuing_after, is_continuing, has_reached, undecided_fill, with_quota, undecided, is_transferred, transfers}
-use Rattle.count.specs.Right.{Tells, IsNext, IsRight, reordered, IsBeginning, BeginsEachRight}
+use Rattle.count.specs.Right.{Tells, IsNext, IsRight, reordered, IsBeginning, BeginsEachRight, OneBeginsOther}
 use Rattle.count.specs.Advance.{end_of, end_after}
 use Rattle.count.specs.declared.run.CountEnd.{CountEnd}
 use Rattle.count.specs.declared.run.CountEnd.TheVariants.{LotNotAmong}
 use Rattle.std.proofs.Math.Nat.{eq-or-lt_of_le}
+use Rattle.std.proofs.lemmas.Bool.{cases_order}
 use Rattle.count.specs.declared.stages.Due.{Due}
 use Rattle.count.specs.declared.stages.Due.TheVariants.{Act, Lot, Finished}
 use Rattle.count.specs.declared.stages.Stage.{Stage}
@@ -124,7 +125,7 @@ right_reordered contest lots papers [] order right = tt
 right_reordered contest lots papers (s ∷ before) order right =
     (right_reordered contest lots papers before order right.0, record { was_due = right.1.was_due; tells = same_tells contest papers before s order right.1.tells })
 
-right_drop : (contest : Contest) (lots : List (ℕ × ℕ)) (k : ℕ) (stages : History) → IsRight contest lots stages → IsRight contest lots (drop k stages)
+pub right_drop : (contest : Contest) (lots : List (ℕ × ℕ)) (k : ℕ) (stages : History) → IsRight contest lots stages → IsRight contest lots (drop k stages)
 right_drop contest lots zero stages right = right
 right_drop contest lots (suc k) [] right = tt
 right_drop contest lots (suc k) (s ∷ before) right = right_drop contest lots k before right.0
@@ -161,5 +162,21 @@ begins_each_right contest lots whole end right ended papers stages order right_s
       within = within;
       is = right_same contest lots _ stages (right_drop contest lots (length whole - length stages) whole right) here (length-drop (length whole - length stages) whole ∙ omega (arith, within));
     }
+
+beginning : (contest : Contest) (lots : List (ℕ × ℕ)) (stages whole : History) → IsRight contest lots stages → IsRight contest lots whole → length stages ≤ length whole → IsBeginning stages whole
+beginning contest lots stages whole right right_whole within = record {
+  within = within;
+  is = right_same contest lots _ stages (right_drop contest lots (length whole - length stages) whole right_whole) right (length-drop (length whole - length stages) whole ∙ omega (arith, within));
+}
+
+-- Of two right histories one is a beginning of the other.
+pub one_begins : (contest : Contest) (lots : List (ℕ × ℕ)) → OneBeginsOther contest lots
+one_begins contest lots papers one other order right_one right_other =
+    let here = right_reordered contest lots papers other order right_other in
+    elim (cases_order (length one) (length other)) [
+      | inl same ↦ inl (beginning contest lots one other right_one here (omega (arith, same)))
+      | inr (inl less) ↦ inl (beginning contest lots one other right_one here (omega (arith, less)))
+      | inr (inr more) ↦ inr (beginning contest lots other one here right_one (omega (arith, more)))
+    ]
 
 pub ruleset whole_count = begins_each_right

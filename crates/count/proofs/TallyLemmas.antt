@@ -23,7 +23,7 @@ use Rattle.count.proofs.SumLemmas.{sum_by-same, sum_by-add, sum_by-none, at_othe
 use Rattle.count.proofs.ActionLemmas.{column-in}
 use Rattle.count.proofs.StepLemmas.{IsSurplus, IsExclusion, step-is, step-first, told-votes, votes-held}
 use Rattle.count.proofs.ValueLemmas.{held, all_values}
-use Rattle.count.proofs.MoveLemmas.{surplus-owed}
+use Rattle.count.proofs.MoveLemmas.{surplus-lawful}
 use Rattle.count.proofs.QuotaLemmas.{values-conserved, values-conserved-next, quotas_left}
 
 -- whoever holds a paper, an action that passes on the papers of h leaves h none of those that were there
@@ -119,7 +119,7 @@ non_transferable-are contest handed before s holdings new fair right due under i
     let kept : cond (passes_on s.action 0) 0 (held contest before 0) ≡ held contest before 0 = ap (λ b. cond b 0 (held contest before 0)) (passes_no_one contest before s.action fair due) in
     omega (arith, held-after contest before s 0 holdings new under is_moved, kept, newest_none contest handed before right)
 
-newest_lost-is : (contest : Contest) (handed : History → Stage → Option ℕ) (before : History) → IsRightBy contest handed before → newest_lost before ≡ lost_after contest before
+pub newest_lost-is : (contest : Contest) (handed : History → Stage → Option ℕ) (before : History) → IsRightBy contest handed before → newest_lost before ≡ lost_after contest before
 newest_lost-is contest handed [] right = refl
 newest_lost-is contest handed (s ∷ before) right = right.1.tells.lost_told
 
@@ -214,7 +214,7 @@ held_within true v = omega arith
 held_within false v = omega arith
 
 -- no figure of a right history is above what all papers give
-newest_small : (contest : Contest) (handed : History → Stage → Option ℕ) (before : History) (new : List Holding) → IsContest contest → IsRightBy contest handed before → worth new ≤ 499950000000 → AreSmall before new
+pub newest_small : (contest : Contest) (handed : History → Stage → Option ℕ) (before : History) (new : List Holding) → IsContest contest → IsRightBy contest handed before → worth new ≤ 499950000000 → AreSmall before new
 newest_small contest handed [] new fair right small = record { votes_small = λ c some few. omega arith; non_transferable_small = omega arith; lost_small = omega arith; moved_small = small }
 newest_small contest handed (s ∷ before) new fair right small =
     let stages : History = s ∷ before in
@@ -242,7 +242,7 @@ moved-small contest before action holdings new book due is_moved =
 
 -- a surplus is of a candidate
 pub surplus-column : (contest : Contest) (stages : History) (holdings : List Holding) (action : Action) → IsBook contest stages holdings → IsDue contest stages action → (c : ℕ) → action ≡ Surplus c → IsColumn c
-surplus-column contest stages holdings action book due c is = (surplus-owed contest stages holdings c book (subst (IsDue contest stages) is due)).column
+surplus-column contest stages holdings action book due c is = (surplus-lawful contest stages c book.fair book.right (subst (IsDue contest stages) is due)).column
 
 -- after the action the papers lie in what it moved and what it left
 pub held-next : (contest : Contest) (before after : History) (action : Action) (holdings new joined : List Holding) → IsMovedBy contest before action holdings new → AreRankings contest.papers →

@@ -35,6 +35,16 @@ IsMovedBy contest before action holdings moved =
     (f : ℕ → List ℕ → ℕ → ℕ) (s : Stage) → s.action ≡ action →
     sum_by (λ paper. at_place f paper (place contest (s ∷ before) paper)) contest.papers ≡ total f moved + total (kept_by f action) holdings
 
+-- a stage with its newly elected
+abbrev pub with_newly : Stage → List ℕ → Stage
+with_newly s newly = record { action = s.action; votes = s.votes; elected = newly; non_transferable = s.non_transferable; lost = s.lost }
+
+-- a history with one stage more, in which the newly elected are filled in
+pub record IsAdded (terms : Terms) (old : History) (bare : Stage) (new : History) : Type 0 where
+  pub newly : List ℕ
+  pub one_more : new ≡ with_newly bare newly ∷ old
+  pub newly_is : newly ≡ filter (λ c. not (is_elected (contest_of terms []) old c)) (elected_after (contest_of terms []) (with_newly bare newly ∷ old))
+
 -- a history with one stage more, made of the papers that an action moved
 pub record Records (terms : Terms) (old : History) (action : Action) (moved : List Holding) (new : History) : Type 0 where
   pub stage : Stage

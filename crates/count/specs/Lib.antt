@@ -8,3 +8,4 @@ pub mod Laws
 pub mod Advance
 pub mod Holdings
 pub mod Books
+pub mod Plain

@@ -1,4 +1,4 @@
-use Rattle.std.specs.Prelude.{◌≡◌, ℕ, ◌+◌, ◌-◌, ◌≤◌, not, List, [], ◌∷◌, map, drop, length, Option, Some, None, ⊤}
+use Rattle.std.specs.Prelude.{◌≡◌, ℕ, ◌+◌, ◌-◌, ◌≤◌, ◌⊎◌, not, List, [], ◌∷◌, map, drop, length, Option, Some, None, ⊤}
 use Rattle.std.specs.List.{filter}
 use Rattle.std.specs.List.Sorted.{IsPermutation}
 use Rattle.count.specs.Contest.{Contest, History, numbers}
@@ -58,3 +58,9 @@ pub record IsBeginning (stages whole : History) : Type 0 where
 abbrev pub BeginsEachRight : Contest → List (ℕ × ℕ) → History → Type 0
 BeginsEachRight contest lots whole =
     (papers : List (List ℕ)) (stages : History) → IsPermutation contest.papers papers → IsRight (reordered contest papers) lots stages → IsBeginning stages whole
+
+-- of two histories that are right for these lots and the same papers, in whichever order, one is a beginning of the other
+abbrev pub OneBeginsOther : Contest → List (ℕ × ℕ) → Type 0
+OneBeginsOther contest lots =
+    (papers : List (List ℕ)) (one other : History) → IsPermutation contest.papers papers → IsRight contest lots one → IsRight (reordered contest papers) lots other →
+    IsBeginning one other ⊎ IsBeginning other one

@@ -8,8 +8,9 @@ ghost use Rattle.count.specs.Books.{Records};
 
 use crate::moving::passes_on;
 use crate::parcel::{Holding, Parcel};
+use crate::record::add_stage;
 use crate::stages::{Action, Stage};
-use crate::standing::{elected, is_transferred_with, newest_votes, without};
+use crate::standing::{is_transferred_with, newest_votes};
 use crate::terms::Terms;
 use paper::Columns;
 use votes::Votes;
@@ -95,7 +96,7 @@ fn non_transferable_with(stages: &[Stage], moved: &[Holding]) -> Votes
 }
 
 /// What the stages so far have lost by fractions.
-fn newest_lost(stages: &[Stage]) -> u64
+pub fn newest_lost(stages: &[Stage]) -> u64
     ensures { result ≡ newest_lost_of (reverse stages.now) }
 {
     match stages.split_last() {
@@ -132,7 +133,6 @@ pub fn record_stage(terms: &Terms, stages: &mut Vec<Stage>, action: &Action, mov
     requires small { AreSmall (reverse stages.old.items) moved.now }
     ensures { Records terms.now (reverse stages.old.items) action.now moved.now (reverse stages.new.items) }
 {
-    let before = elected(terms, stages);
     let stage = Stage {
         action: *action,
         votes: all_votes(terms.quota, stages, action, moved),
@@ -140,8 +140,5 @@ pub fn record_stage(terms: &Terms, stages: &mut Vec<Stage>, action: &Action, mov
         non_transferable: non_transferable_with(stages, moved),
         lost: lost_with(terms.quota, stages, action, moved),
     };
-    let newest = stages.len();
-    let _ = stages.push(stage);
-    let after = elected(terms, stages);
-    stages[newest].elected = without(&after, &before);
+    add_stage(terms, stages, stage);
 }

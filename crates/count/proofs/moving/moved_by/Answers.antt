@@ -10,15 +10,15 @@ use Rattle.count.specs.Advance.{IsDue}
 use Rattle.count.specs.Books.{contest_of, IsMovedBy}
 use Rattle.count.specs.declared.stages.Action.{Action}
 use Rattle.count.specs.declared.stages.Action.TheVariants.{First, Surplus, Exclude, ExcludeLast}
-use Rattle.count.proofs.MoveLemmas.{IsOwed, surplus-owed, under-way, first-alone}
+use Rattle.count.proofs.MoveLemmas.{IsLawful, surplus-lawful, under-way}
 use Rattle.count.proofs.HeldLemmas.{moved-first, moved-surplus, moved-exclude, moved-last}
 use Rattle.count.proofs.moving.moved_by.Goals as goal
 use Rattle.count.proofs.moving.moved_by.Goals.{In-Surplus, In-Exclude, In-ExcludeLast}
 
-owed : (c : In-Surplus) → IsOwed (contest_of c.args.terms.now c.args.papers.now) (reverse c.args.stages.now) c.args.holdings.now c.in-Surplus.c
+owed : (c : In-Surplus) → IsLawful (contest_of c.args.terms.now c.args.papers.now) (reverse c.args.stages.now) c.in-Surplus.c
 owed c =
     let contest : Contest = contest_of c.args.terms.now c.args.papers.now in
-    surplus-owed contest (reverse c.args.stages.now) c.args.holdings.now c.in-Surplus.c c.requires.book
+    surplus-lawful contest (reverse c.args.stages.now) c.in-Surplus.c c.requires.book.fair c.requires.book.right
     (subst (IsDue contest (reverse c.args.stages.now)) c.in-Surplus.is c.requires.due)
 
 pub newest_votes-requires-clause-some : goal.newest_votes-requires-clause-some
@@ -37,7 +37,7 @@ pub returns-in_ok-moved-in-Surplus-clause-moved : goal.returns-in_ok-moved-in-Su
 returns-in_ok-moved-in-Surplus-clause-moved c =
     let contest : Contest = contest_of c.args.terms.now c.args.papers.now in
     let before : History = reverse c.args.stages.now in
-    let way = (owed (goal.at.returns-in_ok-moved-in-Surplus-clause-moved c).In-Surplus).under_way in
+    let way = under-way contest before c.args.holdings.now c.args.action.now c.requires.book c.requires.due (λ e. let no_first = sym e ∙ c.in-Surplus.is in cc) in
     let rule : c.share-rule.result ≡ Share (surplus_of contest before c.in-Surplus.c) (newest_votes before c.in-Surplus.c) =
     c.share-rule.ensures.is ∙ ap (λ (v : ℕ). Share (v - c.args.terms.now.quota) v) c.newest_votes.ensures in
     subst (λ (a : Action). IsMovedBy contest before a c.args.holdings.now c.in_ok-moved-in-Surplus.moved.items) (sym c.in-Surplus.is)

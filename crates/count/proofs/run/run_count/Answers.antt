@@ -8,7 +8,7 @@ use Rattle.count.specs.declared.stages.Stage.{Stage}
 use Rattle.count.specs.declared.run.CountEnd.{CountEnd}
 use Rattle.count.specs.declared.run.CountEnd.TheVariants.{Finished as has_finished}
 use Rattle.count.proofs.ActionLemmas.{steps-smaller}
-use Rattle.count.proofs.RightLemmas.{begins_each_right}
+use Rattle.count.proofs.RightLemmas.{begins_each_right, one_begins}
 use Rattle.count.proofs.FinishLemmas.{finished-filled}
 use Rattle.count.proofs.run.run_count.Goals as goal
 
@@ -39,3 +39,9 @@ returns-in-Some-clause-filled g c =
     ap (λ (k : Contest). end_after k c.args.lots.now before) (sym c.stages.invariant.same) ∙ (sym c.in_ok-end.ensures.end ∙ c.in-Some.is) in
     λ finished. subst (λ (whole : History). FillsSeats contest whole) (sym ended)
     (finished-filled contest (λ (b : History) (s : Stage). lot_for c.args.lots.now (length b + 1)) c.args.lots.now before fair c.stages.invariant.right (why ∙ ap (λ (e : CountEnd). Some e) finished))
+
+pub returns-in_err-end-clause-unique : goal.returns-in_err-end-clause-unique
+returns-in_err-end-clause-unique g c = one_begins (g.B.CountBook.contest c.args.book.now) c.args.lots.now
+
+pub returns-in-Some-clause-unique : goal.returns-in-Some-clause-unique
+returns-in-Some-clause-unique g c = one_begins (g.B.CountBook.contest c.args.book.now) c.args.lots.now
