@@ -1,25 +1,24 @@
-use Rattle.std.proofs.Common.{◌≡◌, ℕ, ◌+◌, ◌-◌, ◌*◌, ◌<◌, ◌≤◌, ◌==◌, ◌||◌, ◌&&◌, ◌⊎◌, inl, inr, Bool, true, false, not, cond, eqb, nat_eq, nat_lt, nat_le, List, [], ◌∷◌, ◌++◌, length, map, get_or, Option, Some, None, refl, sym, ap, ◌∙◌, subst, arith, slice_index}
+use Rattle.std.proofs.Common.{◌≡◌, ℕ, ◌+◌, ◌-◌, ◌*◌, ◌<◌, ◌≤◌, ◌||◌, ◌&&◌, ◌⊎◌, inl, inr, Bool, true, false, not, cond, eqb, nat_eq, nat_lt, List, [], ◌∷◌, length, map, Option, Some, None, refl, sym, ap, ◌∙◌, arith, slice_index}
 use Rattle.std.specs.List.{list_any, filter, sum_by}
-use Rattle.std.proofs.lemmas.Bool.{eq-eqb, eqb-true, eqb-false, ltb-true}
-use Rattle.std.proofs.lemmas.List.{get_or-map, get_or_default}
+use Rattle.std.proofs.lemmas.Bool.{eq-eqb, eqb-true, ltb-true}
+use Rattle.std.proofs.lemmas.List.{get_or_default}
 use Rattle.std.proofs.lemmas.Map.Views.{Contains-from_any}
 use Rattle.std.proofs.lemmas.List.FromFn.{get_or-map-range_with_len}
 use Rattle.paper.specs.Columns.{IsColumnSet, IsColumn}
-use Rattle.count.specs.Contest.{Contest, History, IsContest, In, newest_votes, votes_at, numbers}
+use Rattle.count.specs.Contest.{Contest, History, IsContest, In, newest_votes, numbers}
 use Rattle.count.specs.Right.{IsRight, IsRightBy, IsNext, Tells}
-use Rattle.count.specs.Due.{due_after, due_for, drawn, among, with_surplus, highest, lowest, action_on, exclusion, lot_for, is_above}
-use Rattle.count.specs.Elected.{continuing_after, elected_after, vacancies_after, is_transferred, is_excluded, is_elected, transfers, excludes}
+use Rattle.count.specs.Due.{due_after, due_for, drawn, among, with_surplus, highest, lowest, action_on, lot_for, is_above}
+use Rattle.count.specs.Elected.{continuing_after, elected_after, is_transferred, is_excluded, is_elected, transfers, excludes}
 use Rattle.count.specs.Figures.{votes_after, value_with}
 use Rattle.count.specs.Places.{place}
 use Rattle.count.specs.Advance.{AdvancesBy}
 use Rattle.count.specs.declared.stages.Stage.{Stage}
 use Rattle.count.specs.declared.stages.Action.{Action}
-use Rattle.count.specs.declared.stages.Action.TheVariants.{First, Surplus, Exclude, ExcludeLast}
+use Rattle.count.specs.declared.stages.Action.TheVariants.{Exclude, ExcludeLast}
 use Rattle.count.specs.declared.stages.Kind.{Kind}
 use Rattle.count.specs.declared.stages.Kind.TheVariants.{Surplus as of_surplus, Exclusion as of_exclusion}
-use Rattle.count.specs.declared.stages.Due.{Due}
-use Rattle.count.specs.declared.stages.Due.TheVariants.{Act, Lot, Finished}
-use Rattle.count.proofs.SumLemmas.{at_equal}
+use Rattle.count.specs.declared.stages.Due.TheVariants.{Finished}
+use Rattle.count.proofs.ChoiceLemmas.{and_true, not_true, or_later}
 
 in_choice : (c x : ℕ) (p : ℕ → Bool) (xs : List ℕ) (b t : Bool) → p x ≡ b → eqb c x ≡ t →
     (list_any (nat_eq c) (filter p xs) ≡ true → (p c ≡ true) × In c xs) →
@@ -133,18 +132,6 @@ not_twice contest s before c true tells column gone more =
     absurd (omega (arith, ltb-true _ _ more, told, quota_left))
 not_twice contest s before c false tells column gone more = refl
 
-and_left : (a b : Bool) → (a && b) ≡ true → (a ≡ true) × (b ≡ true)
-and_left true b h = (refl, h)
-and_left false b h = cc
-
-not_true : (a : Bool) → not a ≡ true → a ≡ false
-not_true true h = cc
-not_true false h = refl
-
-pub or_right : (a b : Bool) → b ≡ true → (a || b) ≡ true
-or_right true b h = refl
-or_right false b h = h
-
 -- how many candidates have been transferred, and how many excluded
 unfoldable pub acted : Contest → History → ℕ
 acted contest stages = length (filter (is_transferred stages) contest.candidates) + length (filter (is_excluded stages) contest.candidates)
@@ -158,8 +145,8 @@ pub acted-more : (contest : Contest) (s s' : Stage) (before : History) (lot : Op
 unfolding acted
 acted-more contest s s' before lot fair tells next =
     let stages = s' ∷ before in
-    let transferred_le = filter-le (is_transferred stages) (is_transferred (s ∷ stages)) (λ x h. or_right (transfers s.action x) _ h) contest.candidates in
-    let excluded_le = filter-le (is_excluded stages) (is_excluded (s ∷ stages)) (λ x h. or_right (excludes s.action x) _ h) contest.candidates in
+    let transferred_le = filter-le (is_transferred stages) (is_transferred (s ∷ stages)) (λ x h. or_later (transfers s.action x) _ h) contest.candidates in
+    let excluded_le = filter-le (is_excluded stages) (is_excluded (s ∷ stages)) (λ x h. or_later (excludes s.action x) _ h) contest.candidates in
     elim (drawn-due contest s' before lot s.action next.was_due) [
       | inl on ↦
           let surplus = in-filter on.candidate (λ c. nat_lt contest.quota (newest_votes stages c)) (elected_after contest stages) on.in_group in
@@ -167,14 +154,14 @@ acted-more contest s s' before lot fair tells next =
           let column = column-in on.candidate contest.candidates fair.candidate_set chosen.1 in
           let fresh = not_twice contest s' before on.candidate _ tells column refl surplus.0 in
           let acts : transfers s.action on.candidate ≡ true = ap (λ a. transfers a on.candidate) on.is ∙ eq-eqb on.candidate on.candidate refl in
-          let more = filter-more (is_transferred stages) (is_transferred (s ∷ stages)) on.candidate contest.candidates (λ x h. or_right (transfers s.action x) _ h)
+          let more = filter-more (is_transferred stages) (is_transferred (s ∷ stages)) on.candidate contest.candidates (λ x h. or_later (transfers s.action x) _ h)
           fresh (ap (λ b. b || is_transferred stages on.candidate) acts) chosen.1 in
           omega (arith, more, excluded_le)
       | inr on ↦
           let chosen = in-filter on.candidate (λ c. not (is_elected contest stages c) && not (is_excluded stages c)) contest.candidates on.in_group in
-          let fresh = not_true (is_excluded stages on.candidate) (and_left (not (is_elected contest stages on.candidate)) _ chosen.0).1 in
+          let fresh = not_true (is_excluded stages on.candidate) (and_true (not (is_elected contest stages on.candidate)) _ chosen.0).1 in
           let acts : excludes s.action on.candidate ≡ true = ap (λ a. excludes a on.candidate) on.is ∙ exclusion_excludes _ on.candidate in
-          let more = filter-more (is_excluded stages) (is_excluded (s ∷ stages)) on.candidate contest.candidates (λ x h. or_right (excludes s.action x) _ h)
+          let more = filter-more (is_excluded stages) (is_excluded (s ∷ stages)) on.candidate contest.candidates (λ x h. or_later (excludes s.action x) _ h)
           fresh (ap (λ b. b || is_excluded stages on.candidate) acts) chosen.1 in
           omega (arith, more, transferred_le)
     ]

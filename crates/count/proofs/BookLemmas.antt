@@ -1,7 +1,7 @@
-use Rattle.std.proofs.Common.{◌≡◌, ℕ, ◌+◌, ◌*◌, ◌<◌, ◌≤◌, List, [], ◌∷◌, length, reverse, Option, arith, subst, sym, Some, refl}
+use Rattle.std.proofs.Common.{◌≡◌, ℕ, ◌<◌, List, [], ◌∷◌, length, reverse, Option, arith, subst, sym, Some}
 use Rattle.std.proofs.lemmas.List.{length-reverse}
 use Rattle.paper.proofs.ColumnSets.{length_columns}
-use Rattle.count.specs.Contest.{Contest, History, IsContest}
+use Rattle.count.specs.Contest.{Contest, History}
 use Rattle.count.specs.Due.{drawn, due_after}
 use Rattle.count.specs.Right.{IsNext, IsRightByItself, candidate_of}
 use Rattle.count.specs.Plain.{AreSeen, IsPlainBook}

@@ -1,26 +1,26 @@
-use Rattle.std.proofs.Common.{◌≡◌, ℕ, ◌+◌, ◌-◌, ◌*◌, ◌<◌, ◌≤◌, ◌==◌, ◌||◌, ◌&&◌, ◌⊎◌, inl, inr, Bool, true, false, not, cond, eqb, nat_eq, List, [], ◌∷◌, length, Option, refl, sym, ap, ◌∙◌, arith, subst}
-use Rattle.std.specs.List.{list_any, filter, sum_by, AllByRecursion}
-use Rattle.std.proofs.lemmas.Bool.{eqb-true, eq-eqb, cases_order}
+use Rattle.std.proofs.Common.{◌≡◌, ℕ, ◌+◌, ◌*◌, ◌<◌, ◌≤◌, ◌&&◌, ◌⊎◌, inl, inr, Bool, true, false, not, cond, eqb, nat_eq, List, [], ◌∷◌, length, Option, refl, ap, ◌∙◌, arith}
+use Rattle.std.specs.List.{list_any, sum_by, AllByRecursion}
+use Rattle.std.proofs.lemmas.Bool.{cases_order}
 use Rattle.std.proofs.lemmas.List.Sums.{sum_by-cons}
-use Rattle.count.specs.Contest.{Contest, History, IsContest, AreForCandidates, newest_votes, votes_at, In}
+use Rattle.count.specs.Contest.{Contest, History, IsContest, AreForCandidates, votes_at, In}
 use Rattle.count.specs.Laws.{IsConserved}
 use Rattle.count.specs.Holdings.{passes_on}
-use Rattle.count.specs.Places.{Place, place, moved, passed_on, first_of, after, next_available}
-use Rattle.count.specs.Right.{IsRightBy, IsNext, Tells}
-use Rattle.count.specs.Elected.{is_continuing, continuing_after, is_excluded, is_elected, is_transferred, transfers}
+use Rattle.count.specs.Places.{Place, place, moved, first_of, after, next_available}
+use Rattle.count.specs.Right.{IsRightBy}
+use Rattle.count.specs.Elected.{is_continuing, is_excluded, is_elected, is_transferred, transfers}
 use Rattle.count.specs.Figures.{value_with, votes_after, non_transferable_after, lost_after}
-use Rattle.count.specs.Due.{exclusion}
 use Rattle.count.specs.Books.{AreRankings}
 use Rattle.count.specs.declared.stages.Stage.{Stage}
 use Rattle.count.specs.declared.stages.Action.{Action}
 use Rattle.count.specs.declared.stages.Action.TheVariants.{First, Surplus, Exclude, ExcludeLast}
 use Rattle.count.proofs.ActionLemmas.{in-filter, column-in}
-use Rattle.count.proofs.SumLemmas.{sum_by-same, sum_by-add, at_other, at_equal}
+use Rattle.count.proofs.SumLemmas.{sum_by-add, at_other, at_equal}
 use Rattle.count.proofs.ValueLemmas.{all_values, held}
 use Rattle.count.proofs.HolderLemmas.{columns-distinct, sum-one, sum-swap, sum-le}
-use Rattle.count.proofs.StepLemmas.{IsSurplus, IsExclusion, step-is, step-first, told-votes}
-use Rattle.count.proofs.QuotaLemmas.{quotas_left, values-conserved}
+use Rattle.count.proofs.StepLemmas.{told-votes}
+use Rattle.count.proofs.QuotaLemmas.{values-conserved}
 use Rattle.count.proofs.PassedLemmas.{has_passed, first-passes, passed-held}
+use Rattle.count.proofs.ChoiceLemmas.{either_or}
 
 -- a holder is one of the candidates, or no one
 abbrev pub IsHolder : List ℕ → ℕ → Type 0
@@ -89,11 +89,6 @@ action_passed First c h = cc
 action_passed (Surplus d) c h = h
 action_passed (Exclude d) c h = cc
 action_passed (ExcludeLast d) c h = cc
-
-either_or : (a b x y : Bool) → (a ≡ true → x ≡ true) → (b ≡ true → y ≡ true) → (a || b) ≡ true → (x || y) ≡ true
-either_or true b x y h k o = ap (λ z. z || y) (h refl)
-either_or false b true y h k o = refl
-either_or false b false y h k o = k o
 
 -- one whose surplus has gone has passed his papers on
 pub transferred-passed : (stages : History) (c : ℕ) → is_transferred stages c ≡ true → has_passed stages c ≡ true

@@ -1,13 +1,11 @@
-use Rattle.std.proofs.Common.{◌≡◌, ℕ, ◌+◌, ◌≢◌, Bool, true, false, cond, nat_lt, List, [], ◌∷◌, length, slice_index, refl, sym, ap, subst, arith, Some, None, Option, nat_eq}
+use Rattle.std.proofs.Common.{◌≡◌, ℕ, ◌+◌, ◌≢◌, Bool, true, false, cond, nat_lt, List, [], ◌∷◌, length, slice_index, refl, sym, ap, subst, arith, Option}
 use Rattle.std.specs.List.{filter}
 use Rattle.std.proofs.lemmas.Bool.{eq-eqb, ne_eqb}
 use Rattle.count.specs.Contest.{Contest, History, votes_at}
-use Rattle.count.specs.Due.{due_after, due_for, among, with_surplus, drawn, action_on, lowest, highest}
+use Rattle.count.specs.Due.{due_after, due_for, among, with_surplus, action_on, lowest, highest}
 use Rattle.count.specs.Elected.{vacancies_after, continuing_after, elected_after}
-use Rattle.count.specs.Advance.{Advances, refusal}
-use Rattle.count.specs.Right.{IsNext}
+use Rattle.count.specs.Advance.{Advances}
 use Rattle.count.specs.declared.stages.Stage.{Stage}
-use Rattle.count.specs.declared.stages.Due.{Due}
 use Rattle.count.specs.declared.stages.Due.TheVariants.{Act, Lot, Finished}
 use Rattle.count.specs.declared.stages.Kind.{Kind}
 use Rattle.count.specs.declared.stages.Kind.TheVariants.{Surplus as of_surplus, Exclusion as of_exclusion}

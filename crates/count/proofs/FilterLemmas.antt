@@ -1,11 +1,8 @@
-use Rattle.std.proofs.Common.{◌≡◌, ℕ, ◌||◌, Bool, true, false, cond, nat_eq, List, [], ◌∷◌, refl, ap, ◌∙◌}
+use Rattle.std.proofs.Common.{◌≡◌, ℕ, ◌||◌, Bool, cond, nat_eq, List, [], ◌∷◌, refl, ap, ◌∙◌}
 use Rattle.std.specs.List.{list_any, filter}
 use Rattle.std.proofs.lemmas.Bool.{eq-eqb}
 use Rattle.count.specs.Contest.{In}
-
-or_later : (a b : Bool) → b ≡ true → (a || b) ≡ true
-or_later true b h = refl
-or_later false b h = h
+use Rattle.count.proofs.ChoiceLemmas.{or_later}
 
 -- tests that agree on the members choose the same
 pub filter-cong : (p q : ℕ → Bool) (xs : List ℕ) → ((c : ℕ) → In c xs → p c ≡ q c) → filter p xs ≡ filter q xs

@@ -1,17 +1,16 @@
-use Rattle.std.proofs.Common.{◌≡◌, ℕ, ◌+◌, ◌-◌, ◌*◌, ◌<◌, ◌≤◌, ◌==◌, ◌||◌, ◌&&◌, ◌⊎◌, inl, inr, Bool, true, false, not, cond, eqb, nat_eq, nat_lt, nat_le, List, [], ◌∷◌, length, Option, Some, None, refl, sym, ap, ◌∙◌, arith, subst}
-use Rattle.std.specs.List.{list_any, filter, sum_by, IsDistinct}
-use Rattle.std.proofs.lemmas.Bool.{eqb-true, eqb-false, eq-eqb}
-use Rattle.std.proofs.lemmas.List.Sums.{sum_by-cons, sum_by-le-sum_by}
-use Rattle.count.specs.Contest.{Contest, History, IsContest, votes_at, In}
+use Rattle.std.proofs.Common.{◌≡◌, ℕ, ◌+◌, ◌<◌, ◌≤◌, ◌==◌, ◌||◌, ◌&&◌, ◌⊎◌, inl, inr, Bool, true, false, not, cond, eqb, nat_eq, nat_le, List, [], ◌∷◌, length, Option, Some, None, refl, sym, ap, ◌∙◌, arith, subst}
+use Rattle.std.specs.List.{list_any, filter}
+use Rattle.std.proofs.lemmas.Bool.{eqb-true, eqb-false}
+use Rattle.std.proofs.lemmas.List.Sums.{sum_by-le-sum_by}
+use Rattle.count.specs.Contest.{Contest, History, IsContest, votes_at}
 use Rattle.count.specs.Advance.{end_of, end_after}
 use Rattle.count.specs.Laws.{FillsSeats}
 use Rattle.count.specs.declared.run.CountEnd.TheVariants.{Finished as has_finished, LotNotAmong as misses_lot}
-use Rattle.count.specs.Right.{IsRightBy, IsNext, Tells}
-use Rattle.count.specs.Due.{lot_for, due_after, due_for, among, with_surplus, highest, lowest, exclusion}
-use Rattle.count.specs.Elected.{continuing_after, elected_after, vacancies_after, is_excluded, is_elected, has_reached, undecided_fill, with_quota, undecided, transfers, excludes}
+use Rattle.count.specs.Right.{IsRightBy}
+use Rattle.count.specs.Due.{lot_for, due_after, due_for, among, with_surplus, highest, lowest}
+use Rattle.count.specs.Elected.{continuing_after, elected_after, vacancies_after, is_excluded, has_reached, undecided_fill, with_quota, undecided, excludes}
 use Rattle.count.specs.declared.stages.Stage.{Stage}
-use Rattle.count.specs.declared.stages.Action.{Action}
-use Rattle.count.specs.declared.stages.Action.TheVariants.{First, Surplus, Exclude, ExcludeLast}
+use Rattle.count.specs.declared.stages.Action.TheVariants.{Exclude, ExcludeLast}
 use Rattle.count.specs.declared.stages.Kind.{Kind}
 use Rattle.count.specs.declared.stages.Kind.TheVariants.{Surplus as of_surplus, Exclusion as of_exclusion}
 use Rattle.count.specs.declared.stages.Due.{Due}

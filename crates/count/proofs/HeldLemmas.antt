@@ -1,34 +1,23 @@
-use Rattle.std.proofs.Common.{◌≡◌, ℕ, ◌+◌, ◌-◌, ◌<◌, ◌≤◌, ◌==◌, ◌⊎◌, inl, inr, Bool, true, false, not, cond, eqb, nat_eq, List, [], ◌∷◌, ◌++◌, length, refl, sym, ap, ◌∙◌, arith, subst, Bor}
-use Rattle.std.specs.List.{list_any, sum_by, filter}
+use Rattle.std.proofs.Common.{◌≡◌, ℕ, ◌+◌, ◌==◌, Bool, true, false, not, cond, eqb, List, [], ◌∷◌, ◌++◌, refl, sym, ap, ◌∙◌, arith, Bor}
+use Rattle.std.specs.List.{sum_by, filter}
 use Rattle.std.proofs.lemmas.List.Sums.{sum_by-cons, sum_by-append}
-use Rattle.std.proofs.lemmas.Bool.{eq-eqb, eqb-true}
+use Rattle.std.proofs.lemmas.Bool.{eqb-true}
 use Rattle.paper.specs.Ranking.{IsRanking}
-use Rattle.count.specs.Contest.{Contest, History, IsContest, newest_votes}
+use Rattle.count.specs.Contest.{Contest, History, newest_votes}
 use Rattle.count.specs.Elected.{is_continuing}
 use Rattle.paper.specs.Standing.{from_first}
 use Rattle.count.specs.Places.{Place, place, moved, passed_on, first_of, next_available, surplus_of}
-use Rattle.count.specs.Figures.{value_with}
-use Rattle.count.specs.Holdings.{total, total_of, total_passed, at_passed, new_value, passed_to, passes_on, kept_by, worth, worth_to}
-use Rattle.count.specs.Books.{AreRankings, rest_at, at_place, HoldPapers, IsMovedBy, AreHeld}
+use Rattle.count.specs.Holdings.{total, total_of, total_passed, at_passed, new_value, passed_to, passes_on, kept_by}
+use Rattle.count.specs.Books.{AreRankings, rest_at, at_place, HoldPapers, IsMovedBy}
 use Rattle.count.specs.declared.parcel.Parcel.{Parcel}
 use Rattle.count.specs.declared.parcel.Holding.{Holding}
 use Rattle.count.specs.declared.parcel.TransferRule.{TransferRule}
 use Rattle.count.specs.declared.parcel.TransferRule.TheVariants.{AsReceived, Share}
-use Rattle.count.specs.declared.stages.Stage.{Stage}
 use Rattle.count.specs.declared.stages.Action.{Action}
 use Rattle.count.specs.declared.stages.Action.TheVariants.{First, Surplus, Exclude, ExcludeLast}
 use Rattle.count.proofs.SumLemmas.{sum_by-same, sum_by-add, sum_by-none, sum-rankings}
 use Rattle.count.proofs.RestLemmas.{rest_passed, rest_again, suffix-self}
-use Rattle.count.proofs.ValueLemmas.{held}
-
-swap_choice : (a b : ℕ) (t u : Bool) → eqb a b ≡ t → eqb b a ≡ u → t ≡ u
-swap_choice a b true true e f = refl
-swap_choice a b true false e f = let k = eq-eqb b a (sym (eqb-true a b e)) in cc
-swap_choice a b false true e f = let k = eq-eqb a b (sym (eqb-true b a f)) in cc
-swap_choice a b false false e f = refl
-
-eqb_swap : (a b : ℕ) → eqb a b ≡ eqb b a
-eqb_swap a b = swap_choice a b _ _ refl refl
+use Rattle.count.proofs.ChoiceLemmas.{eqb_swap}
 
 -- a function where the papers of c are passed on, and the others stay
 abbrev after_passing : (ℕ → List ℕ → ℕ → ℕ) → ℕ → (ℕ → Bool) → TransferRule → ℕ → List ℕ → ℕ → ℕ

@@ -1,4 +1,4 @@
-use Rattle.std.proofs.Common.{◌≡◌, ℕ, ◌+◌, ◌*◌, ◌<◌, ◌≤◌, ◌||◌, ◌⊎◌, inl, inr, Bool, true, false, cond, eqb, nat_eq, List, [], ◌∷◌, length, refl, sym, ap, ◌∙◌, arith, subst}
+use Rattle.std.proofs.Common.{◌≡◌, ℕ, ◌+◌, ◌*◌, ◌≤◌, ◌||◌, Bool, true, false, cond, eqb, nat_eq, List, [], ◌∷◌, length, refl, sym, ap, ◌∙◌, arith, subst}
 use Rattle.std.specs.List.{sum_by, list_any, filter, IsDistinct, AllByRecursion}
 use Rattle.std.proofs.lemmas.List.Sums.{sum_by-cons, sum_by-le-sum_by}
 use Rattle.std.proofs.lemmas.List.Kept.{AllPairs-from_increasing}
@@ -6,10 +6,11 @@ use Rattle.std.proofs.lemmas.Map.Keys.{IsDistinct-from_apart, IsDistinct-head, I
 use Rattle.std.proofs.lemmas.Bool.{eqb-true, ne_eqb, eq-eqb}
 use Rattle.paper.specs.Columns.{IsColumnSet}
 use Rattle.count.specs.Contest.{Contest, History}
-use Rattle.count.specs.Places.{Place, place}
-use Rattle.count.specs.Figures.{value_with, non_transferable_after}
+use Rattle.count.specs.Places.{place}
+use Rattle.count.specs.Figures.{value_with}
 use Rattle.count.proofs.SumLemmas.{sum_by-same, sum_by-add, sum_by-none}
 use Rattle.count.proofs.ValueLemmas.{all_values, held}
+use Rattle.count.proofs.ChoiceLemmas.{within_value}
 
 -- the members of a set of columns differ
 pub columns-distinct : (cs : List ℕ) → IsColumnSet cs → IsDistinct eqb cs
@@ -41,10 +42,6 @@ sum-swap f (c ∷ cs) xs =
     ∙ ap (λ n. sum_by (f c) xs + n) (sum-swap f cs xs)
     ∙ sym (sum_by-add (f c) (λ x. sum_by (λ d. f d x) cs) xs)
     ∙ sum_by-same _ _ xs (λ x. sym (sum_by-cons (λ d. f d x) c cs))
-
-within_value : (b : Bool) (v : ℕ) → cond b v 0 ≤ v
-within_value true v = omega arith
-within_value false v = omega arith
 
 -- what numbers that differ hold is within the values of all
 pub held-within : (contest : Contest) (stages : History) (cs : List ℕ) → IsDistinct eqb cs → sum_by (held contest stages) cs ≤ all_values contest stages

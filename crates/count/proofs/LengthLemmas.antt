@@ -1,13 +1,12 @@
-use Rattle.std.proofs.Common.{◌≡◌, ℕ, ◌+◌, ◌-◌, ◌*◌, ◌<◌, ◌≤◌, ◌==◌, ◌||◌, ◌&&◌, ◌⊎◌, inl, inr, Bool, true, false, not, cond, eqb, nat_eq, nat_lt, nat_le, List, [], ◌∷◌, length, Option, Some, None, refl, sym, ap, ◌∙◌, arith, subst}
-use Rattle.std.specs.List.{list_any, filter, sum_by, AllByRecursion}
+use Rattle.std.proofs.Common.{◌≡◌, ℕ, ◌+◌, ◌-◌, ◌≤◌, ◌==◌, ◌||◌, ◌⊎◌, inl, inr, Bool, true, false, not, cond, eqb, nat_eq, nat_le, List, [], ◌∷◌, length, Option, refl, sym, ap, ◌∙◌, arith}
+use Rattle.std.specs.List.{list_any, filter, sum_by}
 use Rattle.std.proofs.lemmas.Bool.{eqb-true, eqb-false, eq-eqb}
-use Rattle.std.proofs.lemmas.List.Sums.{sum_by-cons}
-use Rattle.count.specs.Contest.{Contest, History, IsContest, newest_votes, votes_at, In}
+use Rattle.count.specs.Contest.{Contest, History, IsContest, votes_at, In}
 use Rattle.count.specs.Holdings.{passes_on}
-use Rattle.count.specs.Right.{IsRightBy, IsRight, IsNext, Tells}
+use Rattle.count.specs.Right.{IsRightBy, Tells}
 use Rattle.count.specs.Places.{place, moved}
 use Rattle.count.specs.Figures.{votes_after, value_with}
-use Rattle.count.specs.Elected.{is_excluded, is_elected, is_transferred, has_reached, undecided_fill, with_quota, undecided, elected_after, continuing_after, vacancies_after, transfers, excludes}
+use Rattle.count.specs.Elected.{is_excluded, is_elected, is_transferred, has_reached, undecided_fill, continuing_after, vacancies_after, transfers, excludes}
 use Rattle.count.specs.Due.{exclusion}
 use Rattle.count.specs.Books.{AreRankings}
 use Rattle.count.specs.declared.stages.Stage.{Stage}
@@ -15,11 +14,11 @@ use Rattle.count.specs.declared.stages.Action.{Action}
 use Rattle.count.specs.declared.stages.Action.TheVariants.{First, Surplus, Exclude, ExcludeLast}
 use Rattle.count.proofs.ActionLemmas.{column-in, filter-more, acted, length-acted}
 use Rattle.count.proofs.FilterLemmas.{filter-cong}
-use Rattle.count.proofs.ValueLemmas.{held}
 use Rattle.count.proofs.StepLemmas.{IsSurplus, IsExclusion, step-is, step-first, step-vacant, told-votes, reached-elected, surplus-held}
 use Rattle.count.proofs.QuotaLemmas.{few-reach}
 use Rattle.count.proofs.FinishLemmas.{in_race, race-parts, race-enough, vacant-unfilled, elected_filled, elected_unfilled, continuing_unfilled}
 use Rattle.count.proofs.PassedLemmas.{has_passed, passed-held, above-reached}
+use Rattle.count.proofs.ChoiceLemmas.{either_or, or_later}
 
 head_is_in : (a b : Bool) → (a ≡ true → b ≡ true) → (a || b) ≡ b
 head_is_in true b h = sym (h refl)
@@ -100,20 +99,11 @@ last-fills contest handed s (s' ∷ before) d fair right is =
     let full = last_after contest handed s s' before d fair right (step-is contest s' before (handed (s' ∷ before) s) s.action right.1.was_due) is in
     omega (arith, elected_filled contest (s ∷ s' ∷ before) full)
 
-or_later : (a b : Bool) → b ≡ true → (a || b) ≡ true
-or_later true b h = refl
-or_later false b h = h
-
 action_excludes : (a : Action) (c : ℕ) → ((d : ℕ) → a ≡ ExcludeLast d → ⊥) → excludes a c ≡ true → passes_on a c ≡ true
 action_excludes First c none h = cc
 action_excludes (Surplus d) c none h = cc
 action_excludes (Exclude d) c none h = h
 action_excludes (ExcludeLast d) c none h = absurd (none d refl)
-
-either_or : (a b x y : Bool) → (a ≡ true → x ≡ true) → (b ≡ true → y ≡ true) → (a || b) ≡ true → (x || y) ≡ true
-either_or true b x y h k o = ap (λ z. z || y) (h refl)
-either_or false b true y h k o = refl
-either_or false b false y h k o = k o
 
 -- where a stage follows, whoever is excluded has passed his papers on
 pub excluded-passed : (contest : Contest) (handed : History → Stage → Option ℕ) (s : Stage) (before : History) (c : ℕ) → IsContest contest → IsRightBy contest handed (s ∷ before) → is_excluded before c ≡ true → has_passed before c ≡ true

@@ -2,6 +2,7 @@ mod WorkedElections
 pub mod ActionLemmas
 pub mod ArrayLemmas
 pub mod BookLemmas
+pub mod ChoiceLemmas
 pub mod ColumnLemmas
 pub mod ConservedLemmas
 pub mod ContestLemmas

@@ -1,5 +1,5 @@
-use Rattle.std.proofs.Common.{◌≡◌, ℕ, ◌+◌, ◌*◌, ◌/◌, ◌<◌, ◌≤◌, ◌⊎◌, inl, inr, Bool, true, false, cond, nat_eq, List, [], ◌∷◌, length, Option, refl, sym, ap, ◌∙◌, arith, subst}
-use Rattle.std.specs.List.{sum_by, list_any}
+use Rattle.std.proofs.Common.{◌≡◌, ℕ, ◌<◌, ◌≤◌, ◌⊎◌, inl, inr, Bool, true, false, cond, nat_eq, List, [], ◌∷◌, sym, ap, ◌∙◌, arith, subst}
+use Rattle.std.specs.List.{list_any}
 use Rattle.std.proofs.lemmas.List.Sums.{sum_by-le-sum_by}
 use Rattle.paper.specs.Columns.{IsColumn}
 use Rattle.count.specs.Contest.{Contest, History, IsContest, In, newest_votes}
@@ -7,14 +7,14 @@ use Rattle.count.specs.Places.{place}
 use Rattle.count.specs.Figures.{value_with}
 use Rattle.count.specs.Right.{IsRightByItself, candidate_of}
 use Rattle.count.specs.Advance.{IsDue}
-use Rattle.count.specs.Books.{AreRankings, AreHeld, HoldPapers, IsBook}
+use Rattle.count.specs.Books.{AreRankings, HoldPapers, IsBook}
 use Rattle.count.specs.declared.parcel.Holding.{Holding}
-use Rattle.count.specs.declared.stages.Stage.{Stage}
 use Rattle.count.specs.declared.stages.Action.{Action}
 use Rattle.count.specs.declared.stages.Action.TheVariants.{First, Surplus, Exclude, ExcludeLast}
 use Rattle.count.proofs.ActionLemmas.{column-in}
 use Rattle.count.proofs.StepLemmas.{IsSurplus, IsExclusion, step-is, step-first, surplus-held}
 use Rattle.count.proofs.QuotaLemmas.{values-conserved}
+use Rattle.count.proofs.ChoiceLemmas.{within_value}
 
 -- the papers lie in holdings, and are rankings
 pub record IsUnderWay (contest : Contest) (stages : History) (holdings : List Holding) : Type 0 where
@@ -27,10 +27,6 @@ pub record IsLawful (contest : Contest) (stages : History) (c : ℕ) : Type 0 wh
   pub above : contest.quota < newest_votes stages c
   pub some : 0 < contest.quota
   pub few : newest_votes stages c ≤ 499950000000
-
-held_le : (b : Bool) (v : ℕ) → cond b v 0 ≤ v
-held_le true v = omega arith
-held_le false v = omega arith
 
 number : Action → ℕ
 number First = 0
@@ -59,7 +55,7 @@ surplus-lawful contest (s ∷ before) c fair right due =
     let on = surplus_of_one contest (s ∷ before) c (step-is contest s before due.lot (Surplus c) due.is) in
     let column = column-in c contest.candidates fair.candidate_set on.0 in
     let own = surplus-held contest s before c right.1.tells column on.1 in
-    let within = sum_by-le-sum_by (λ p. value_with c (place contest (s ∷ before) p)) (λ p. (place contest (s ∷ before) p).value) contest.papers (λ p. held_le _ _) in
+    let within = sum_by-le-sum_by (λ p. value_with c (place contest (s ∷ before) p)) (λ p. (place contest (s ∷ before) p).value) contest.papers (λ p. within_value _ _) in
     let all = values-conserved contest (λ h t. candidate_of t.action) s before fair right in
     record { column = column; above = on.1; some = quota_some contest fair; few = omega (arith, own, within, all, fair.few_papers) }
 

@@ -1,32 +1,27 @@
-use Rattle.std.proofs.Common.{◌≡◌, ℕ, ◌+◌, ◌-◌, ◌*◌, ◌<◌, ◌≤◌, ◌==◌, ◌||◌, ◌&&◌, ◌⊎◌, inl, inr, Bool, true, false, not, cond, eqb, nat_eq, nat_lt, nat_le, List, [], ◌∷◌, length, drop, Option, Some, None, refl, sym, ap, ◌∙◌, arith, subst}
-use Rattle.std.specs.List.{list_any, filter, sum_by, AllByRecursion}
+use Rattle.std.proofs.Common.{◌≡◌, ℕ, ◌<◌, ◌≤◌, ◌==◌, ◌||◌, ◌&&◌, ◌⊎◌, inl, inr, Bool, true, false, not, cond, eqb, nat_le, List, [], ◌∷◌, drop, Option, refl, sym, ap, ◌∙◌, arith}
+use Rattle.std.specs.List.{list_any}
 use Rattle.std.proofs.lemmas.Bool.{eqb-true, eqb-false, eq-eqb, le-leb}
-use Rattle.paper.specs.Columns.{IsColumn}
 use Rattle.paper.specs.Ranking.{IsRanking}
-use Rattle.count.specs.Contest.{Contest, History, IsContest, newest_votes, votes_at, In}
+use Rattle.count.specs.Contest.{Contest, History, newest_votes, votes_at}
 use Rattle.count.specs.Holdings.{passes_on}
 use Rattle.paper.specs.Standing.{from_first}
-use Rattle.count.specs.Places.{Place, place, moved, passed_on, first_of, after, next_available}
-use Rattle.count.specs.Right.{IsRightBy, IsNext, Tells}
-use Rattle.count.specs.Elected.{is_continuing, continuing_after, is_excluded, is_elected, is_transferred, has_reached, transfers, excludes}
+use Rattle.count.specs.Places.{Place, place, moved, first_of, after, next_available}
+use Rattle.count.specs.Right.{IsRightBy}
+use Rattle.count.specs.Elected.{is_continuing, is_excluded, is_elected, has_reached, excludes}
 use Rattle.count.specs.Figures.{value_with}
-use Rattle.count.specs.Due.{exclusion}
 use Rattle.count.specs.Books.{AreRankings}
 use Rattle.count.specs.declared.stages.Stage.{Stage}
 use Rattle.count.specs.declared.stages.Action.{Action}
-use Rattle.count.specs.declared.stages.Action.TheVariants.{First, Surplus, Exclude, ExcludeLast}
-use Rattle.count.proofs.ActionLemmas.{in-filter, column-in}
+use Rattle.count.specs.declared.stages.Action.TheVariants.{Exclude, ExcludeLast}
+use Rattle.count.proofs.ActionLemmas.{in-filter}
 use Rattle.count.proofs.SumLemmas.{sum_by-none, at_other, sum-rankings}
 use Rattle.count.proofs.ValueLemmas.{held}
 use Rattle.count.proofs.StepLemmas.{IsSurplus, IsExclusion, step-is, step-first, reached-elected}
+use Rattle.count.proofs.ChoiceLemmas.{or_later}
 
 -- whether some stage passed on the papers of a candidate
 abbrev pub has_passed : History → ℕ → Bool
 has_passed stages c = list_any (λ s. passes_on s.action c) stages
-
-or_later : (a b : Bool) → b ≡ true → (a || b) ≡ true
-or_later true b h = refl
-or_later false b h = h
 
 -- what comes first of those that pass a test passes it, and is of the list
 first_choice : (test : ℕ → Bool) (x c : ℕ) (xs : List ℕ) (b : Bool) → test x ≡ b → first_of (cond b (x ∷ xs) (from_first test xs)) ≡ c →

@@ -1,12 +1,10 @@
-use Rattle.std.proofs.Common.{◌≡◌, ℕ, ◌+◌, ◌-◌, ◌*◌, ◌<◌, ◌≤◌, ◌==◌, cond, eqb, List, [], ◌∷◌, length, map, refl, sym, ap, ◌∙◌, arith, subst}
+use Rattle.std.proofs.Common.{◌≡◌, ℕ, ◌+◌, cond, eqb, List, ◌∷◌, map, refl, sym, ap, ◌∙◌, arith}
 use Rattle.std.specs.List.{sum_by}
-use Rattle.paper.specs.Columns.{IsColumn}
-use Rattle.count.specs.Contest.{Contest, History, IsContest, newest_votes, numbers}
+use Rattle.count.specs.Contest.{Contest, History, numbers}
 use Rattle.count.specs.Places.{Place, place}
 use Rattle.count.specs.Figures.{value_with, lost_after, lost_by}
 use Rattle.count.specs.Right.{IsRightByItself, candidate_of}
-use Rattle.count.specs.Advance.{IsDue, Adds}
-use Rattle.count.specs.Holdings.{newest_lost}
+use Rattle.count.specs.Advance.{Adds}
 use Rattle.count.specs.Books.{contest_of, IsAdded, with_newly}
 use Rattle.count.specs.Plain.{at_of, moved_papers, votes_plainly, lost_plainly}
 use Rattle.count.specs.declared.plain_book.Place.{Place as Spot}

@@ -1,13 +1,12 @@
-use Rattle.std.proofs.Common.{◌≡◌, ℕ, ◌+◌, ◌-◌, ◌*◌, ◌/◌, ◌<◌, ◌≤◌, ◌==◌, ◌||◌, ◌&&◌, ◌⊎◌, inl, inr, Bool, true, false, not, cond, eqb, nat_eq, nat_lt, nat_le, List, [], ◌∷◌, length, Option, Some, None, refl, sym, ap, ◌∙◌, arith, subst}
-use Rattle.std.specs.List.{list_any, filter, sum_by, IsDistinct}
-use Rattle.std.proofs.lemmas.Bool.{ltb-true, le-leb, leb-true, eqb-true, cases_order}
-use Rattle.std.proofs.lemmas.List.Sums.{sum_by-cons, sum_by-le-sum_by}
+use Rattle.std.proofs.Common.{◌≡◌, ℕ, ◌+◌, ◌*◌, ◌/◌, ◌<◌, ◌≤◌, ◌||◌, ◌⊎◌, inl, inr, Bool, true, false, cond, eqb, nat_le, List, [], ◌∷◌, length, Option, refl, sym, ap, ◌∙◌, arith}
+use Rattle.std.specs.List.{filter, sum_by}
+use Rattle.std.proofs.lemmas.Bool.{leb-true, eqb-true, cases_order}
+use Rattle.std.proofs.lemmas.List.Sums.{sum_by-le-sum_by}
 use Rattle.std.proofs.Math.Nat.{lt-div-mul-add, mul-le-mul_right}
 use Rattle.count.specs.Contest.{Contest, History, IsContest, newest_votes, votes_at, In}
-use Rattle.count.specs.Right.{IsRightBy, IsNext, Tells}
-use Rattle.count.specs.Figures.{votes_after, lost_after, lost_by, value_with}
-use Rattle.count.specs.Elected.{is_transferred, is_excluded, is_elected, has_reached, transfers, excludes, with_quota}
-use Rattle.count.specs.Due.{exclusion}
+use Rattle.count.specs.Right.{IsRightBy, Tells}
+use Rattle.count.specs.Figures.{votes_after, lost_after, lost_by}
+use Rattle.count.specs.Elected.{is_transferred, is_elected, has_reached, transfers, with_quota}
 use Rattle.count.specs.Places.{place, moved}
 use Rattle.count.specs.Advance.{IsDue}
 use Rattle.count.specs.declared.stages.Stage.{Stage}
@@ -18,10 +17,7 @@ use Rattle.count.proofs.SumLemmas.{sum_by-same, sum_by-add, sum_by-none}
 use Rattle.count.proofs.ValueLemmas.{all_values, held, takes, held-kept, surplus-conserves, exclude-values, first-values}
 use Rattle.count.proofs.HolderLemmas.{columns-distinct, sum-one, held-within, sum-le, sum-filter}
 use Rattle.count.proofs.StepLemmas.{IsSurplus, IsExclusion, step-is, step-first, told-votes, reached-elected, votes-transferred, votes-held, surplus-fresh, surplus-held}
-
-or_false : (a b : Bool) → (a || b) ≡ false → (a ≡ false) × (b ≡ false)
-or_false true b h = cc
-or_false false b h = (refl, h)
+use Rattle.count.proofs.ChoiceLemmas.{or_false}
 
 takes_exclusion : (b : Bool) (d c : ℕ) → eqb d c ≡ false → takes (cond b (ExcludeLast d) (Exclude d)) c ≡ false
 takes_exclusion true d c h = refl

@@ -1,4 +1,4 @@
-use Rattle.std.proofs.Common.{◌≡◌, ℕ, ◌+◌, ◌<◌, not, nat_eq, List, [], ◌∷◌, ◌++◌, length, get_or, set, map, reverse, refl, sym, ap, ◌∙◌, arith, subst}
+use Rattle.std.proofs.Common.{◌≡◌, ℕ, ◌+◌, not, nat_eq, List, [], ◌∷◌, ◌++◌, length, set, map, reverse, ap, ◌∙◌}
 use Rattle.std.specs.List.{list_any, filter}
 use Rattle.std.proofs.Math.Seq.{set-append_seam}
 use Rattle.count.specs.Contest.{Contest, History, numbers}

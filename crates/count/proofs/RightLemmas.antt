@@ -1,13 +1,13 @@
-use Rattle.std.proofs.Common.{◌≡◌, ℕ, ◌+◌, ◌-◌, ◌==◌, Bool, true, false, not, cond, ◌≤◌, ◌<◌, ◌⊎◌, inl, inr, drop, eqb, nat_eq, List, [], ◌∷◌, length, map, Option, Some, None, refl, sym, ap, ◌∙◌, arith, slice_index, suc, zero, length-drop}
+use Rattle.std.proofs.Common.{◌≡◌, ℕ, ◌+◌, ◌-◌, Bool, true, false, not, cond, ◌≤◌, inl, inr, drop, eqb, nat_eq, List, [], ◌∷◌, length, map, Option, Some, None, refl, sym, ap, ◌∙◌, arith, suc, zero, length-drop}
 use Rattle.std.specs.List.{sum_by, filter, list_any}
 use Rattle.std.specs.List.Sorted.{IsPermutation}
-use Rattle.std.proofs.lemmas.List.Sorted.{sum_by-IsPermutation, length_permutation}
-use Rattle.count.specs.Contest.{Contest, History, newest_votes, numbers}
-use Rattle.count.specs.Places.{Place, place, moved, next_available, surplus_of}
+use Rattle.std.proofs.lemmas.List.Sorted.{sum_by-IsPermutation}
+use Rattle.count.specs.Contest.{Contest, History, numbers}
+use Rattle.count.specs.Places.{Place, place, moved, surplus_of}
 use Rattle.count.specs.Due.{due_after, drawn, lot_for, next_action, action_on}
 use Rattle.count.specs.Figures.{votes_after, non_transferable_after, lost_after, lost_by, value_passed_on, value_with}
-use Rattle.count.specs.Elected.{elected_after, is_elected, continuing_after, is_continuing, has_reached, undecided_fill, with_quota, undecided, is_transferred, transfers}
-use Rattle.count.specs.Right.{Tells, IsNext, IsRight, reordered, IsBeginning, BeginsEachRight, OneBeginsOther}
+use Rattle.count.specs.Elected.{elected_after, is_elected, is_transferred}
+use Rattle.count.specs.Right.{Tells, IsRight, reordered, IsBeginning, BeginsEachRight, OneBeginsOther}
 use Rattle.count.specs.Advance.{end_of, end_after}
 use Rattle.count.specs.declared.run.CountEnd.{CountEnd}
 use Rattle.count.specs.declared.run.CountEnd.TheVariants.{LotNotAmong}

@@ -1,23 +1,18 @@
-use Rattle.std.proofs.Common.{◌≡◌, ℕ, ◌+◌, ◌-◌, ◌<◌, ◌≤◌, ◌==◌, ◌||◌, ◌&&◌, ◌⊎◌, inl, inr, Bool, true, false, not, cond, eqb, nat_eq, nat_lt, nat_le, List, [], ◌∷◌, length, Option, Some, None, refl, sym, ap, ◌∙◌, arith, slice_index}
-use Rattle.std.specs.List.{list_any, filter}
-use Rattle.std.proofs.lemmas.Bool.{ltb-true, le-leb, leb-true, eqb-true}
-use Rattle.count.specs.Contest.{Contest, History, IsContest, newest_votes, In}
-use Rattle.count.specs.Right.{IsRightBy, IsNext, Tells}
-use Rattle.count.specs.Due.{due_after, due_for, drawn, with_surplus, action_on, exclusion}
-use Rattle.count.specs.Elected.{continuing_after, elected_after, vacancies_after, is_transferred, is_excluded, is_elected, has_reached, undecided_fill, transfers, excludes}
-use Rattle.count.specs.Figures.{votes_after, value_with}
-use Rattle.count.specs.Places.{place}
+use Rattle.std.proofs.Common.{◌≡◌, ℕ, ◌-◌, ◌<◌, ◌==◌, ◌||◌, ◌&&◌, ◌⊎◌, inl, inr, Bool, true, false, not, cond, nat_lt, List, [], ◌∷◌, Option, Some, refl, sym, ap, ◌∙◌, arith, slice_index}
+use Rattle.std.proofs.lemmas.Bool.{ltb-true}
+use Rattle.count.specs.Contest.{Contest, History, newest_votes, In}
+use Rattle.count.specs.Right.{Tells}
+use Rattle.count.specs.Due.{due_after, due_for, drawn, with_surplus, exclusion}
+use Rattle.count.specs.Elected.{elected_after, vacancies_after, is_transferred, is_excluded, is_elected, has_reached, undecided_fill}
+use Rattle.count.specs.Figures.{votes_after}
 use Rattle.count.specs.declared.stages.Stage.{Stage}
 use Rattle.count.specs.declared.stages.Action.{Action}
-use Rattle.count.specs.declared.stages.Action.TheVariants.{First, Surplus, Exclude, ExcludeLast}
-use Rattle.count.specs.declared.stages.Kind.{Kind}
-use Rattle.count.specs.declared.stages.Kind.TheVariants.{Surplus as of_surplus, Exclusion as of_exclusion}
-use Rattle.count.specs.declared.stages.Due.{Due}
-use Rattle.count.specs.declared.stages.Due.TheVariants.{Act, Lot, Finished}
-use Rattle.count.proofs.ActionLemmas.{in-filter, IsOn, drawn-due, column-in, at_number}
-use Rattle.count.proofs.SumLemmas.{sum_by-same}
+use Rattle.count.specs.declared.stages.Action.TheVariants.{First, Surplus}
+use Rattle.count.specs.declared.stages.Due.TheVariants.{Finished}
+use Rattle.count.proofs.ActionLemmas.{in-filter, drawn-due, at_number}
 use Rattle.count.proofs.ValueLemmas.{held}
 use Rattle.paper.specs.Columns.{IsColumn}
+use Rattle.count.proofs.ChoiceLemmas.{and_true, not_true}
 
 -- an action on one of the elected_after, who has more than the quota
 pub record IsSurplus (contest : Contest) (stages : History) (action : Action) : Type 0 where
@@ -34,14 +29,6 @@ pub record IsExclusion (contest : Contest) (stages : History) (action : Action) 
   pub is : action ≡ exclusion contest stages c
   pub not_elected : is_elected contest stages c ≡ false
   pub not_excluded : is_excluded stages c ≡ false
-
-not_true : (a : Bool) → not a ≡ true → a ≡ false
-not_true true h = cc
-not_true false h = refl
-
-and_true : (a b : Bool) → (a && b) ≡ true → (a ≡ true) × (b ≡ true)
-and_true true b h = (refl, h)
-and_true false b h = cc
 
 -- what comes after a stage is the surplus of one of the elected_after or the exclusion of one who continues
 pub step-is : (contest : Contest) (s : Stage) (before : History) (lot : Option ℕ) (action : Action) →

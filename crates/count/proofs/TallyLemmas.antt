@@ -1,30 +1,30 @@
-use Rattle.std.proofs.Common.{◌≡◌, ℕ, suc, zero, ◌++◌, ◌+◌, ◌-◌, ◌*◌, ◌/◌, ◌<◌, ◌≤◌, ◌==◌, ◌||◌, ◌⊎◌, inl, inr, Bool, true, false, not, cond, eqb, nat_eq, List, [], ◌∷◌, length, map, Option, Some, None, refl, sym, ap, ◌∙◌, arith, subst, slice_index}
-use Rattle.std.specs.List.{list_any, sum_by, filter, range_with_len}
-use Rattle.std.proofs.lemmas.Bool.{eqb-true, eqb-false}
+use Rattle.std.proofs.Common.{◌≡◌, ℕ, suc, zero, ◌++◌, ◌+◌, ◌*◌, ◌/◌, ◌≤◌, ◌||◌, ◌⊎◌, inl, inr, Bool, true, false, cond, eqb, List, [], ◌∷◌, length, map, Option, refl, sym, ap, ◌∙◌, arith, subst}
+use Rattle.std.specs.List.{sum_by, range_with_len}
+use Rattle.std.proofs.lemmas.Bool.{eqb-true}
 use Rattle.std.proofs.lemmas.List.Sums.{sum_by-le-sum_by}
 use Rattle.std.proofs.lemmas.List.FromFn.{map-range_with_len_more}
 use Rattle.std.proofs.Math.Nat.{div-le_of_le-mul}
 use Rattle.paper.specs.Columns.{IsColumn}
-use Rattle.count.specs.Contest.{Contest, History, IsContest, In, newest_votes, votes_at, numbers}
-use Rattle.count.specs.Elected.{transfers, is_transferred, is_elected, elected_after}
-use Rattle.count.specs.Places.{Place, place, moved, passed_on, surplus_of}
+use Rattle.count.specs.Contest.{Contest, History, IsContest, newest_votes, numbers}
+use Rattle.count.specs.Elected.{transfers, is_transferred}
+use Rattle.count.specs.Places.{Place, place, moved}
 use Rattle.count.specs.Figures.{value_with, votes_after, non_transferable_after, value_passed_on, lost_after, lost_by}
-use Rattle.count.specs.Right.{Tells, IsNext, IsRightBy, candidate_of}
-use Rattle.count.specs.Due.{exclusion}
+use Rattle.count.specs.Right.{IsRightBy, candidate_of}
 use Rattle.count.specs.Advance.{IsDue, Adds}
 use Rattle.count.specs.Holdings.{total, passes_on, kept_by, worth, worth_to, votes_with, lost_with, newest_non_transferable, newest_lost, AreSmall}
-use Rattle.count.specs.Books.{contest_of, at_place, HoldPapers, IsMovedBy, AreHeld, AreRankings, IsBook, Records}
+use Rattle.count.specs.Books.{contest_of, HoldPapers, IsMovedBy, AreHeld, AreRankings, IsBook, Records}
 use Rattle.count.specs.declared.terms.Terms.{Terms}
 use Rattle.count.specs.declared.parcel.Holding.{Holding}
 use Rattle.count.specs.declared.stages.Stage.{Stage}
 use Rattle.count.specs.declared.stages.Action.{Action}
 use Rattle.count.specs.declared.stages.Action.TheVariants.{First, Surplus, Exclude, ExcludeLast}
-use Rattle.count.proofs.SumLemmas.{sum_by-same, sum_by-add, sum_by-none, at_other}
+use Rattle.count.proofs.SumLemmas.{sum_by-same, sum_by-add, sum_by-none}
 use Rattle.count.proofs.ActionLemmas.{column-in}
 use Rattle.count.proofs.StepLemmas.{IsSurplus, IsExclusion, step-is, step-first, told-votes, votes-held}
 use Rattle.count.proofs.ValueLemmas.{held, all_values}
 use Rattle.count.proofs.MoveLemmas.{surplus-lawful}
-use Rattle.count.proofs.QuotaLemmas.{values-conserved, values-conserved-next, quotas_left}
+use Rattle.count.proofs.QuotaLemmas.{values-conserved, values-conserved-next}
+use Rattle.count.proofs.ChoiceLemmas.{eqb_swap, or_false, within_value}
 
 -- whoever holds a paper, an action that passes on the papers of h leaves h none of those that were there
 kept_value : (action : Action) (k h v : ℕ) (b t : Bool) → passes_on action h ≡ b → eqb k h ≡ t → let zero_ : ℕ = 0 in cond (passes_on action k) zero_ (cond t v 0) ≡ cond b zero_ (cond t v 0)
@@ -73,16 +73,12 @@ newest_held : (contest : Contest) (handed : History → Stage → Option ℕ) (b
 newest_held contest handed [] c right column fresh = sym (held-none contest c)
 newest_held contest handed (s ∷ before) c right column fresh = told-votes contest s before c right.1.tells column ∙ votes-held contest (s ∷ before) c fresh
 
-or_false : (a b : Bool) → (a || b) ≡ false → b ≡ false
-or_false true b h = cc
-or_false false b h = h
-
 votes_choice : (contest : Contest) (handed : History → Stage → Option ℕ) (before : History) (s : Stage) (c : ℕ) (new : List Holding) (b : Bool) → (transfers s.action c || is_transferred before c) ≡ b →
     IsRightBy contest handed before → IsColumn c → held contest (s ∷ before) c ≡ worth_to c new + cond (passes_on s.action c) 0 (held contest before c) →
     cond b contest.quota (worth_to c new + cond (passes_on s.action c) 0 (newest_votes before c)) ≡ cond b contest.quota (held contest (s ∷ before) c)
 votes_choice contest handed before s c new true e right column is = refl
 votes_choice contest handed before s c new false e right column is =
-    ap (λ n. worth_to c new + cond (passes_on s.action c) 0 n) (newest_held contest handed before c right column (or_false (transfers s.action c) (is_transferred before c) e)) ∙ sym is
+    ap (λ n. worth_to c new + cond (passes_on s.action c) 0 n) (newest_held contest handed before c right column (or_false (transfers s.action c) (is_transferred before c) e).1) ∙ sym is
 
 -- the votes of a candidate after an action
 votes-are : (contest : Contest) (handed : History → Stage → Option ℕ) (before : History) (s : Stage) (c : ℕ) (holdings new : List Holding) → IsRightBy contest handed before → IsColumn c →
@@ -128,12 +124,6 @@ value_choice : (b : Bool) (h w : ℕ) (at : Place) → let m : Place = record { 
 value_choice true h w at = omega arith
 value_choice false h w at = omega arith
 
-swapped : (a b : ℕ) (t u : Bool) → eqb a b ≡ t → eqb b a ≡ u → t ≡ u
-swapped a b true true e f = refl
-swapped a b true false e f = absurd (eqb-false b a f (sym (eqb-true a b e)))
-swapped a b false true e f = absurd (eqb-false a b e (sym (eqb-true b a f)))
-swapped a b false false e f = refl
-
 -- what a surplus gives is worth what it moved
 surplus-gives : (contest : Contest) (before : History) (s : Stage) (c : ℕ) (holdings new : List Holding) → s.action ≡ Surplus c → HoldPapers contest before holdings → IsMovedBy contest before s.action holdings new →
     worth new ≡ value_passed_on contest s before c
@@ -141,7 +131,7 @@ surplus-gives contest before s c holdings new is hold is_moved =
     let kept : total (kept_by (λ k rest v. v) s.action) holdings ≡ sum_by (λ p. cond (eqb (place contest before p).holder c) 0 (place contest before p).value) contest.papers =
     sym (hold (kept_by (λ k rest v. v) s.action))
     ∙ sum_by-same _ _ contest.papers (λ p. let at = place contest before p in
-    ap (λ a. cond (passes_on a at.holder) 0 at.value) is ∙ ap (λ b. cond b 0 at.value) (swapped c at.holder _ _ refl refl)) in
+    ap (λ a. cond (passes_on a at.holder) 0 at.value) is ∙ ap (λ b. cond b 0 at.value) (eqb_swap c at.holder)) in
     let parts : sum_by (λ p. cond (eqb (place contest before p).holder c) 0 (place contest before p).value) contest.papers + value_passed_on contest s before c ≡ all_values contest (s ∷ before) =
     sym (sum_by-add (λ p. cond (eqb (place contest before p).holder c) 0 (place contest before p).value) (λ p. cond (eqb (place contest before p).holder c) (place contest (s ∷ before) p).value 0) contest.papers)
     ∙ sum_by-same _ _ contest.papers (λ p. let at = place contest before p in
@@ -209,17 +199,13 @@ votes_small_choice : (b : Bool) (q v n : ℕ) → q ≤ n → v ≤ n → cond b
 votes_small_choice true q v n h k = h
 votes_small_choice false q v n h k = k
 
-held_within : (b : Bool) (v : ℕ) → cond b v 0 ≤ v
-held_within true v = omega arith
-held_within false v = omega arith
-
 -- no figure of a right history is above what all papers give
 pub newest_small : (contest : Contest) (handed : History → Stage → Option ℕ) (before : History) (new : List Holding) → IsContest contest → IsRightBy contest handed before → worth new ≤ 499950000000 → AreSmall before new
 newest_small contest handed [] new fair right small = record { votes_small = λ c some few. omega arith; non_transferable_small = omega arith; lost_small = omega arith; moved_small = small }
 newest_small contest handed (s ∷ before) new fair right small =
     let stages : History = s ∷ before in
     let all = values-conserved contest handed s before fair right in
-    let holder : (h : ℕ) → held contest stages h ≤ all_values contest stages = λ h. sum_by-le-sum_by (λ p. value_with h (place contest stages p)) (λ p. (place contest stages p).value) contest.papers (λ p. held_within _ _) in
+    let holder : (h : ℕ) → held contest stages h ≤ all_values contest stages = λ h. sum_by-le-sum_by (λ p. value_with h (place contest stages p)) (λ p. (place contest stages p).value) contest.papers (λ p. within_value _ _) in
     let quota_few : contest.quota ≤ 499950000000 = omega (arith, fair.quota_is, quota_small (length contest.papers) contest.seats fair.some_seats fair.few_papers) in
     record {
       votes_small = λ c some few.

@@ -1,13 +1,12 @@
-use Rattle.std.proofs.Common.{◌≡◌, ℕ, ◌<◌, ◌≤◌, ◌||◌, Bool, true, false, not, cond, eqb, nat_eq, List, [], ◌∷◌, refl, sym, ap, ◌∙◌, arith, Ordering}
+use Rattle.std.proofs.Common.{◌≡◌, ℕ, ◌||◌, Bool, true, false, not, cond, eqb, nat_eq, List, [], ◌∷◌, refl, ap, ◌∙◌, Ordering}
 use Rattle.std.specs.List.{list_any, filter}
-use Rattle.std.specs.Ordering.{nat_cmp, is_lt}
-use Rattle.std.specs.Cmp.{IsTotalOrder}
-use Rattle.std.specs.Cmp.Lexicographic.{slice_cmp}
+use Rattle.std.specs.Ordering.{is_lt}
 use Rattle.std.specs.declared.cmp.Ordering.TheVariants.{Less, Equal, Greater}
 use Rattle.std.proofs.lemmas.Bool.{eq-eqb, eqb-true}
 use Rattle.std.proofs.lemmas.Cmp.{nat_list_cmp_total, tied_itself}
 use Rattle.count.specs.Contest.{History, In}
 use Rattle.count.specs.Due.{trace, is_above, highest, lowest}
+use Rattle.count.proofs.ChoiceLemmas.{or_later}
 
 keep_choice : (c x : ℕ) (p : ℕ → Bool) (xs : List ℕ) (b t : Bool) → p x ≡ b → eqb c x ≡ t → p c ≡ true →
     (In c xs → In c (filter p xs)) → (t || list_any (nat_eq c) xs) ≡ true → list_any (nat_eq c) (cond b (x ∷ filter p xs) (filter p xs)) ≡ true
@@ -20,10 +19,6 @@ keep_choice c x p xs false false is same passes later h = later h
 pub filter-in : (c : ℕ) (p : ℕ → Bool) (xs : List ℕ) → p c ≡ true → In c xs → In c (filter p xs)
 filter-in c p [] passes h = cc
 filter-in c p (x ∷ xs) passes h = keep_choice c x p xs (p x) (eqb c x) refl refl passes (filter-in c p xs passes) h
-
-or_later : (a b : Bool) → b ≡ true → (a || b) ≡ true
-or_later true b h = refl
-or_later false b h = h
 
 -- what no member passes
 pub none-any : (p : ℕ → Bool) (xs : List ℕ) → ((d : ℕ) → In d xs → p d ≡ false) → list_any p xs ≡ false

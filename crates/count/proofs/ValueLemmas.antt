@@ -1,14 +1,13 @@
-use Rattle.std.proofs.Common.{◌≡◌, ℕ, ◌+◌, ◌-◌, ◌*◌, ◌<◌, ◌≤◌, ◌||◌, Bool, true, false, not, cond, eqb, List, [], ◌∷◌, length, refl, sym, ap, ◌∙◌, ◌/◌, arith, subst}
-use Rattle.std.specs.List.{sum_by, list_any, filter}
+use Rattle.std.proofs.Common.{◌≡◌, ℕ, ◌+◌, ◌-◌, ◌*◌, ◌<◌, ◌≤◌, Bool, true, false, cond, eqb, List, [], ◌∷◌, length, refl, sym, ap, ◌∙◌, ◌/◌, arith, subst}
+use Rattle.std.specs.List.{sum_by}
 use Rattle.votes.specs.Units.{cut}
 use Rattle.count.specs.Contest.{Contest, History, newest_votes}
-use Rattle.count.specs.Places.{Place, place, moved, passed_on, surplus_of}
-use Rattle.count.specs.Figures.{votes_after, value_with, value_passed_on, lost_after, lost_by}
-use Rattle.count.specs.Elected.{is_transferred}
+use Rattle.count.specs.Places.{Place, place, moved, surplus_of}
+use Rattle.count.specs.Figures.{value_with, value_passed_on, lost_after, lost_by}
 use Rattle.count.specs.declared.stages.Stage.{Stage}
 use Rattle.count.specs.declared.stages.Action.{Action}
 use Rattle.count.specs.declared.stages.Action.TheVariants.{First, Surplus, Exclude, ExcludeLast}
-use Rattle.count.proofs.SumLemmas.{sum_by-same, sum_by-add, sum_by-constant, at_equal, at_other}
+use Rattle.count.proofs.SumLemmas.{sum_by-same, sum_by-add, sum_by-constant, at_other}
 use Rattle.std.proofs.lemmas.Bool.{eqb-true, eqb-false}
 use Rattle.std.proofs.lemmas.List.Sums.{sum_by-le-sum_by}
 use Rattle.count.proofs.CutLemmas.{cuts_le}

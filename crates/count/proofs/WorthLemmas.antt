@@ -1,11 +1,12 @@
-use Rattle.std.proofs.Common.{◌≡◌, ℕ, ◌+◌, ◌*◌, ◌<◌, ◌≤◌, Bool, true, false, cond, eqb, List, [], ◌∷◌, length, take, get_or, refl, sym, ap, ◌∙◌, arith, Bor}
+use Rattle.std.proofs.Common.{◌≡◌, ℕ, ◌+◌, ◌*◌, ◌<◌, ◌≤◌, cond, eqb, List, length, take, get_or, sym, ap, ◌∙◌, arith, Bor}
 use Rattle.std.specs.List.{sum_by}
 use Rattle.std.proofs.lemmas.List.Sums.{sum_by_more_le, sum_by_more_le_part, sum_by-le-sum_by}
-use Rattle.count.specs.Holdings.{total, total_of, worth, worth_to}
+use Rattle.count.specs.Holdings.{total_of, worth, worth_to}
 use Rattle.count.specs.declared.parcel.Parcel.{Parcel}
 use Rattle.count.specs.declared.parcel.Holding.{Holding}
 use Rattle.count.proofs.SumLemmas.{sum_by-constant, at_equal, at_other}
 use Rattle.count.proofs.HoldingLemmas.{total_of-more, total-more, total_of-same, total_of-none}
+use Rattle.count.proofs.ChoiceLemmas.{within_value}
 
 -- a parcel's papers all have its value
 parcel_worth : Parcel → ℕ
@@ -37,10 +38,6 @@ pub worth_to-other : (h : ℕ) (holdings : List Holding) (i : ℕ) (holding : Ho
 worth_to-other h holdings i holding within is other =
     let none = total_of-none (λ rest v. cond (eqb holding.holder h) v 0) holding.parcels.items (λ rest v. at_other holding.holder h v 0 other) in
     omega (arith, total-more (λ k rest v. cond (eqb k h) v 0) holdings i holding within is, none)
-
-within_value : (b : Bool) (v : ℕ) → cond b v 0 ≤ v
-within_value true v = omega arith
-within_value false v = omega arith
 
 -- one holder's worth is within all
 pub worth_to-within : (h : ℕ) (holdings : List Holding) → worth_to h holdings ≤ worth holdings

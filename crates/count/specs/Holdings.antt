@@ -1,6 +1,5 @@
-use Rattle.std.specs.Prelude.{◌≡◌, ℕ, ◌+◌, ◌-◌, ◌<◌, ◌≤◌, ◌||◌, ◌==◌, Bool, true, false, if◌then◌else◌, List, [], ◌∷◌, drop, nat_eq, ⊤}
-use Rattle.std.specs.List.{sum_by, list_any}
-use Rattle.std.specs.Borrow.{Bor}
+use Rattle.std.specs.Prelude.{◌≡◌, ℕ, ◌+◌, ◌-◌, ◌<◌, ◌≤◌, ◌||◌, ◌==◌, Bool, true, false, if◌then◌else◌, List, [], ◌∷◌, drop, ⊤}
+use Rattle.std.specs.List.{sum_by}
 use Rattle.votes.specs.Units.{cut}
 use Rattle.count.specs.Contest.{History, newest_votes}
 use Rattle.count.specs.Elected.{transfers, is_transferred}

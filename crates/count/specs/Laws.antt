@@ -1,4 +1,4 @@
-use Rattle.std.specs.Prelude.{◌≡◌, ℕ, ◌+◌, ◌*◌, ◌≤◌, List, [], ◌∷◌, length, ⊤}
+use Rattle.std.specs.Prelude.{◌≡◌, ◌+◌, ◌*◌, ◌≤◌, [], ◌∷◌, length, ⊤}
 use Rattle.std.specs.List.{sum_by}
 use Rattle.votes.specs.Units.{one_vote}
 use Rattle.count.specs.Contest.{Contest, History, votes_at}

@@ -1,4 +1,4 @@
-use Rattle.std.specs.Prelude.{◌≡◌, ℕ, ◌-◌, Bool, ◌==◌, if◌then◌else◌, List, [], ◌∷◌, drop}
+use Rattle.std.specs.Prelude.{ℕ, ◌-◌, ◌==◌, if◌then◌else◌, List, [], ◌∷◌, drop}
 use Rattle.votes.specs.Units.{one_vote, cut}
 use Rattle.paper.specs.Standing.{from_first}
 use Rattle.count.specs.Contest.{Contest, History, newest_votes}

@@ -1,4 +1,4 @@
-use Rattle.std.specs.Prelude.{◌≡◌, ℕ, ◌+◌, ◌-◌, ◌||◌, ◌==◌, if◌then◌else◌, List, [], ◌∷◌, ⊤}
+use Rattle.std.specs.Prelude.{ℕ, ◌+◌, ◌-◌, ◌||◌, ◌==◌, if◌then◌else◌, List, [], ◌∷◌, ⊤}
 use Rattle.std.specs.List.{sum_by}
 use Rattle.count.specs.Contest.{Contest, History, IsContest, newest_votes}
 use Rattle.count.specs.Right.{IsRightByItself}

@@ -5,7 +5,8 @@ ghost use Rattle.std.specs.Prelude.{◌<◌};
 mod worked;
 
 use super::{
-    Action, AdvanceError, CountBook, CountEnd, Due, Kind, ParcelBook, PlainBook, is_contest, run_count,
+    Action, AdvanceError, CountBook, CountEnd, Due, Kind, ParcelBook, PlainBook, is_contest,
+    run_count,
 };
 use paper::{Columns, Prefs};
 use std::alloc::Global;
@@ -199,7 +200,10 @@ fn books_agree(rt: HostRuntime) -> Result<(), Fail> {
             }
         }
         let candidates = first_columns(n);
-        assert!(rt; is_contest(&candidates, seats, &papers), "election {election}");
+        assert!(rt;
+            is_contest(&candidates, seats, &papers),
+            "election {election}"
+        );
         let mut parcels = ParcelBook::new(rt.alloc(), candidates, seats, &papers)?;
         let mut plain = PlainBook::new(rt.alloc(), candidates, seats, &papers)?;
         agree(&rt, &mut parcels, &mut plain, election);
@@ -222,7 +226,17 @@ fn advance_again(rt: &impl Abort, book: &mut ParcelBook, stages: usize) {
 // Run by `rt try --test --fail-alloc 1..`, which refuses each growth in turn.
 #[test]
 fn a_refused_growth_leaves_the_book(rt: HostRuntime) -> Result<(), Fail> {
-    let papers = papers_of(rt.alloc(), &[(7, &[1, 2, 3]), (1, &[1, 4]), (3, &[2, 3]), (1, &[3]), (2, &[4]), (1, &[5])])?;
+    let papers = papers_of(
+        rt.alloc(),
+        &[
+            (7, &[1, 2, 3]),
+            (1, &[1, 4]),
+            (3, &[2, 3]),
+            (1, &[3]),
+            (2, &[4]),
+            (1, &[5]),
+        ],
+    )?;
     let candidates = first_columns(5);
     assert!(rt; is_contest(&candidates, 3, &papers));
     let mut book = ParcelBook::new(rt.alloc(), candidates, 3, &papers)?;

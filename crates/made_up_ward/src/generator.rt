@@ -26,6 +26,7 @@ impl Generator {
 
     /// The numbers 1 to 10 in an order, and how many of them a paper lists.
     pub fn next_paper(&mut self) -> ([u8; 10], usize)
+        ensures { result.1 ≤ 10 }
     {
         let mut order = [1u8, 2, 3, 4, 5, 6, 7, 8, 9, 10];
         for place in 0..10usize {

@@ -14,6 +14,7 @@ use std::alloc::{AllocError, Global};
 use std::env;
 
 const CANDIDATES: u8 = 10;
+
 const SEATS: u8 = 4;
 
 /// The candidates 1 to 10.

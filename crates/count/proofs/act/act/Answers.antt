@@ -1,4 +1,4 @@
-use Rattle.std.proofs.Common.{rules, ◌≡◌, ◌∙◌, ℕ, ◌+◌, List, reverse, ap, sym, subst}
+use Rattle.std.proofs.Common.{◌∙◌, ◌+◌, List, reverse, ap, sym, subst}
 use Rattle.count.specs.Contest.{Contest, History}
 use Rattle.count.specs.Advance.{Adds}
 use Rattle.count.specs.Holdings.{total, kept_by, AreSmall}

@@ -1,4 +1,4 @@
-use Rattle.std.proofs.Common.{◌≡◌, ◌∙◌, ℕ, List, ap, sym, nat_lt, reverse}
+use Rattle.std.proofs.Common.{◌∙◌, ap, sym, nat_lt, reverse}
 use Rattle.std.specs.List.{filter}
 use Rattle.count.specs.Contest.{Contest, History, votes_at}
 use Rattle.count.specs.Books.{contest_of}

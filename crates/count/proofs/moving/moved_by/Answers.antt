@@ -1,4 +1,4 @@
-use Rattle.std.proofs.Common.{◌≡◌, ◌∙◌, ℕ, ◌+◌, ◌-◌, ◌<◌, ◌≤◌, List, ap, sym, subst, reverse, rules, arith, refl}
+use Rattle.std.proofs.Common.{◌≡◌, ◌∙◌, ℕ, ◌-◌, ap, sym, subst, reverse, arith}
 use Rattle.count.specs.Contest.{Contest, History, newest_votes}
 use Rattle.count.specs.Holdings.{total_passed}
 use Rattle.count.specs.declared.parcel.TransferRule.{TransferRule}
@@ -9,9 +9,8 @@ use Rattle.count.proofs.HoldingLemmas.{total_passed-same}
 use Rattle.count.specs.Advance.{IsDue}
 use Rattle.count.specs.Books.{contest_of, IsMovedBy}
 use Rattle.count.specs.declared.stages.Action.{Action}
-use Rattle.count.specs.declared.stages.Action.TheVariants.{First, Surplus, Exclude, ExcludeLast}
 use Rattle.count.proofs.MoveLemmas.{IsLawful, surplus-lawful, under-way}
-use Rattle.count.proofs.HeldLemmas.{moved-first, moved-surplus, moved-exclude, moved-last}
+use Rattle.count.proofs.HeldLemmas.{moved-surplus, moved-exclude, moved-last}
 use Rattle.count.proofs.moving.moved_by.Goals as goal
 use Rattle.count.proofs.moving.moved_by.Goals.{In-Surplus, In-Exclude, In-ExcludeLast}
 

@@ -1,4 +1,4 @@
-use Rattle.std.proofs.Common.{rules, ◌≡◌, ◌∙◌, refl, ℕ, List, map, reverse, ap, subst}
+use Rattle.std.proofs.Common.{◌≡◌, ◌∙◌, refl, List, map, reverse, ap, subst}
 use Rattle.std.specs.List.{sum_by}
 use Rattle.count.specs.Contest.{Contest, numbers}
 use Rattle.count.specs.Figures.{value_with}

@@ -1,4 +1,4 @@
-use Rattle.std.proofs.Common.{◌≡◌, ◌+◌, ℕ, length, reverse, rules, arith}
+use Rattle.std.proofs.Common.{reverse, rules, arith}
 use Rattle.std.proofs.Math.ListN.{length-set}
 use Rattle.count.specs.Books.{contest_of}
 use Rattle.count.specs.Plain.{votes_plainly}

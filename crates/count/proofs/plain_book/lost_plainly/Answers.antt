@@ -1,4 +1,4 @@
-use Rattle.std.proofs.Common.{rules, ◌≡◌, ◌∙◌, ℕ, ◌+◌, ◌-◌, ◌<◌, ◌≤◌, ◌==◌, cond, eqb, [], List, reverse, ap, sym, subst, arith}
+use Rattle.std.proofs.Common.{◌≡◌, ◌∙◌, cond, eqb, [], reverse, ap, sym, subst, arith}
 use Rattle.std.specs.List.{sum_by}
 use Rattle.count.specs.Contest.{Contest, History}
 use Rattle.count.specs.Places.{place}
@@ -7,7 +7,6 @@ use Rattle.count.specs.Advance.{IsDue}
 use Rattle.count.specs.Books.{contest_of}
 use Rattle.count.specs.Plain.{moved_papers, lost_plainly}
 use Rattle.count.specs.declared.stages.Action.{Action}
-use Rattle.count.specs.declared.stages.Action.TheVariants.{Surplus}
 use Rattle.count.specs.declared.stages.Stage.{Stage}
 use Rattle.count.proofs.MoveLemmas.{IsLawful, surplus-lawful}
 use Rattle.count.proofs.TallyLemmas.{newest_small}

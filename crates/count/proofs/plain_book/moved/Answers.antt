@@ -1,4 +1,4 @@
-use Rattle.std.proofs.Common.{◌≡◌, ◌∙◌, ℕ, ◌<◌, ◌≤◌, reverse, subst, arith}
+use Rattle.std.proofs.Common.{reverse, subst, arith}
 use Rattle.count.specs.Advance.{IsDue}
 use Rattle.count.specs.Books.{contest_of}
 use Rattle.count.proofs.MoveLemmas.{IsLawful, surplus-lawful}

@@ -1,4 +1,4 @@
-use Rattle.std.proofs.Common.{rules, ◌≡◌, ◌∙◌, ◌==◌, ℕ, List, [], drop, reverse, ap}
+use Rattle.std.proofs.Common.{◌∙◌, ℕ, List, [], drop, reverse, ap}
 use Rattle.paper.specs.Standing.{from_first, is_continuing as continues}
 use Rattle.count.specs.Elected.{is_continuing}
 use Rattle.count.specs.Places.{first_of}

@@ -1,7 +1,7 @@
-use Rattle.std.proofs.Common.{rules, ◌≡◌, ◌∙◌, ℕ, ◌+◌, ◌*◌, ◌<◌, ◌≤◌, List, length, get_or, take, reverse, ap, sym, arith}
+use Rattle.std.proofs.Common.{◌≡◌, ◌∙◌, ℕ, ◌<◌, List, length, get_or, reverse, ap, arith}
 use Rattle.std.proofs.lemmas.List.Sums.{sum_by_more}
 use Rattle.count.specs.Contest.{Contest, History}
-use Rattle.count.specs.Places.{Place, moved}
+use Rattle.count.specs.Places.{moved}
 use Rattle.count.specs.Figures.{value_with}
 use Rattle.count.specs.Books.{contest_of}
 use Rattle.count.specs.Plain.{at_of, moved_papers}

@@ -1,12 +1,11 @@
-use Rattle.std.proofs.Common.{rules, ◌≡◌, ℕ, ◌+◌, List, length, ap, sym, ◌∙◌, subst, Some}
+use Rattle.std.proofs.Common.{◌≡◌, ◌+◌, length, ap, sym, ◌∙◌, subst, Some}
 use Rattle.count.specs.Advance.{AdvancesBy, end_after}
 use Rattle.count.specs.Contest.{IsContest, Contest, History}
 use Rattle.count.specs.Due.{lot_for}
-use Rattle.count.specs.Right.{IsRight, BeginsEachRight}
+use Rattle.count.specs.Right.{BeginsEachRight}
 use Rattle.count.specs.Laws.{FillsSeats}
 use Rattle.count.specs.declared.stages.Stage.{Stage}
 use Rattle.count.specs.declared.run.CountEnd.{CountEnd}
-use Rattle.count.specs.declared.run.CountEnd.TheVariants.{Finished as has_finished}
 use Rattle.count.proofs.ActionLemmas.{steps-smaller}
 use Rattle.count.proofs.RightLemmas.{begins_each_right, one_begins}
 use Rattle.count.proofs.FinishLemmas.{finished-filled}

@@ -1,4 +1,4 @@
-use Rattle.std.proofs.Common.{rules, ◌≡◌, ◌∙◌, ℕ, ◌+◌, ◌-◌, ◌<◌, List, length, ap, refl, arith}
+use Rattle.std.proofs.Common.{rules, ◌≡◌, ◌∙◌, ℕ, ◌+◌, ◌-◌, ◌<◌, length, ap, refl}
 use Rattle.count.specs.Holdings.{total_of}
 use Rattle.count.proofs.HoldingLemmas.{total_of-set}
 use Rattle.count.proofs.sorting.add_paper.Goals as goal

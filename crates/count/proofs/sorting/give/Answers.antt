@@ -1,4 +1,4 @@
-use Rattle.std.proofs.Common.{rules, ◌≡◌, ◌∙◌, ℕ, ◌+◌, ◌<◌, List, length, ap, refl, sym, arith}
+use Rattle.std.proofs.Common.{rules, ◌≡◌, ◌∙◌, ℕ, ◌+◌, ◌<◌, length, ap, refl, arith}
 use Rattle.count.specs.Places.{first_of}
 use Rattle.count.specs.Holdings.{total}
 use Rattle.count.proofs.HoldingLemmas.{total-set, numbered-at, numbered-set}

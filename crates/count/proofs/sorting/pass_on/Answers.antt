@@ -1,6 +1,6 @@
-use Rattle.std.proofs.Common.{rules, ◌≡◌, ◌∙◌, ℕ, ◌+◌, ◌<◌, List, length, take, ap, sym, subst, vec_len, arith}
+use Rattle.std.proofs.Common.{◌<◌, length, ap, arith}
 use Rattle.paper.specs.Standing.{is_continuing}
-use Rattle.count.specs.Holdings.{total, total_of, total_passed, at_passed, AreNumbered}
+use Rattle.count.specs.Holdings.{total_of, at_passed}
 use Rattle.count.proofs.HoldingLemmas.{passed-more, passed-other}
 use Rattle.count.proofs.sorting.pass_on.Goals as goal
 use Rattle.count.proofs.sorting.pass_on.Goals.{then-holding-c+in_ok-pass_parcels, else-holding-c}

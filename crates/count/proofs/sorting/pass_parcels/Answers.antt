@@ -1,8 +1,8 @@
-use Rattle.std.proofs.Common.{rules, ◌≡◌, ◌∙◌, ℕ, ◌+◌, ◌<◌, List, length, take, ap, sym, arith, Bor}
+use Rattle.std.proofs.Common.{◌≡◌, ℕ, ◌<◌, List, length, ap, arith, Bor}
 use Rattle.std.specs.List.{sum_by}
 use Rattle.count.specs.Places.{first_of}
 use Rattle.paper.specs.Standing.{is_continuing}
-use Rattle.count.specs.Holdings.{total, total_of, at_passed, passed_to, new_value}
+use Rattle.count.specs.Holdings.{at_passed, passed_to, new_value}
 use Rattle.count.proofs.HoldingLemmas.{total_of-more}
 use Rattle.count.proofs.sorting.pass_parcels.Goals as goal
 

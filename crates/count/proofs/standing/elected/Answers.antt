@@ -1,5 +1,4 @@
-use Rattle.std.proofs.Common.{◌≡◌, ◌&&◌, ◌||◌, not, nat_lt, nat_eq, [], reverse, rules}
-use Rattle.std.specs.List.{list_any}
+use Rattle.std.proofs.Common.{◌&&◌, ◌||◌, not, [], reverse, rules}
 use Rattle.count.specs.Books.{contest_of}
 use Rattle.count.specs.Elected.{has_reached, is_excluded}
 use Rattle.count.proofs.ColumnLemmas.{columns-more}

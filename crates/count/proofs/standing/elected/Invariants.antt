@@ -1,5 +1,5 @@
-use Rattle.std.proofs.Common.{◌≡◌, ◌&&◌, ◌||◌, not, nat_lt, nat_eq, [], take, reverse}
-use Rattle.std.specs.List.{list_any, filter}
+use Rattle.std.proofs.Common.{◌≡◌, ◌&&◌, ◌||◌, not, [], take, reverse}
+use Rattle.std.specs.List.{filter}
 use Rattle.count.specs.Books.{contest_of}
 use Rattle.count.specs.Elected.{has_reached, is_excluded}
 use Rattle.count.proofs.standing.elected.Given as goal

@@ -1,4 +1,4 @@
-use Rattle.std.proofs.Common.{◌≡◌, ◌∙◌, sym, ap, true, nat_le, rules}
+use Rattle.std.proofs.Common.{◌≡◌, ◌∙◌, sym, ap, true, rules}
 use Rattle.count.specs.Elected.{excludes}
 use Rattle.count.proofs.ColumnLemmas.{found-reverse, none-reverse}
 use Rattle.count.proofs.standing.is_excluded.Goals as goal

@@ -1,5 +1,4 @@
-use Rattle.std.proofs.Common.{◌≡◌, ◌&&◌, ◌||◌, not, nat_lt, nat_eq, [], reverse, rules}
-use Rattle.std.specs.List.{list_any}
+use Rattle.std.proofs.Common.{nat_lt, rules}
 use Rattle.count.specs.Contest.{votes_at}
 use Rattle.count.proofs.ColumnLemmas.{columns-more}
 use Rattle.count.proofs.standing.with_surplus.Goals as goal

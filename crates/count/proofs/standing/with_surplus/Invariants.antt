@@ -1,5 +1,5 @@
-use Rattle.std.proofs.Common.{◌≡◌, ◌&&◌, ◌||◌, not, nat_lt, nat_eq, [], take, reverse}
-use Rattle.std.specs.List.{list_any, filter}
+use Rattle.std.proofs.Common.{◌≡◌, nat_lt, take}
+use Rattle.std.specs.List.{filter}
 use Rattle.count.specs.Contest.{votes_at}
 use Rattle.count.proofs.standing.with_surplus.Given as goal
 

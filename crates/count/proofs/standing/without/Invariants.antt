@@ -1,4 +1,4 @@
-use Rattle.std.proofs.Common.{◌≡◌, ◌&&◌, ◌||◌, not, nat_lt, nat_eq, [], take, reverse}
+use Rattle.std.proofs.Common.{◌≡◌, not, nat_eq, take}
 use Rattle.std.specs.List.{list_any, filter}
 use Rattle.count.proofs.standing.without.Given as goal
 

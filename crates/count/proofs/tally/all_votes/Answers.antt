@@ -1,4 +1,4 @@
-use Rattle.std.proofs.Common.{◌≡◌, ◌+◌, ℕ, length, reverse, rules, arith}
+use Rattle.std.proofs.Common.{reverse, rules, arith}
 use Rattle.std.proofs.Math.ListN.{length-set}
 use Rattle.count.specs.Holdings.{votes_with}
 use Rattle.count.proofs.ArrayLemmas.{made-more, made-all}

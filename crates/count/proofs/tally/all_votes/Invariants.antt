@@ -1,4 +1,4 @@
-use Rattle.std.proofs.Common.{◌≡◌, ◌≤◌, map, take, length, reverse}
+use Rattle.std.proofs.Common.{◌≡◌, map, take, length, reverse}
 use Rattle.std.specs.List.{range_with_len}
 use Rattle.count.specs.Holdings.{votes_with}
 use Rattle.count.proofs.tally.all_votes.Given as goal

@@ -1,4 +1,4 @@
-use Rattle.std.proofs.Common.{rules, ◌≡◌, ℕ, ◌+◌, ◌≤◌, reverse, ap, arith, ◌∙◌}
+use Rattle.std.proofs.Common.{◌≡◌, reverse, ap, arith}
 use Rattle.count.specs.Holdings.{newest_non_transferable}
 use Rattle.count.proofs.ColumnLemmas.{reverse-newest}
 use Rattle.count.proofs.WorthLemmas.{worth_to-within}

@@ -1,4 +1,4 @@
-use Rattle.std.proofs.Common.{rules, ◌≡◌, ℕ, ◌+◌, ◌≤◌, arith}
+use Rattle.std.proofs.Common.{arith}
 use Rattle.count.proofs.WorthLemmas.{worth_to-within}
 use Rattle.count.proofs.tally.votes_with.Goals as goal
 

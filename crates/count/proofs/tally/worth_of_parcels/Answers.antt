@@ -1,4 +1,4 @@
-use Rattle.std.proofs.Common.{rules, ◌≡◌, ℕ, ◌+◌, ◌*◌, ◌<◌, List, length, arith, ◌∙◌, sym}
+use Rattle.std.proofs.Common.{rules, ◌≡◌, ◌<◌, length, arith, sym}
 use Rattle.count.proofs.WorthLemmas.{parcels-more, parcels-within}
 use Rattle.count.proofs.tally.worth_of_parcels.Goals as goal
 

@@ -1,4 +1,4 @@
-use Rattle.std.proofs.Common.{◌≡◌, ℕ, List, take}
+use Rattle.std.proofs.Common.{◌≡◌, take}
 use Rattle.count.specs.Holdings.{total_of}
 use Rattle.count.proofs.tally.worth_of_parcels.Given as goal
 

@@ -1,4 +1,4 @@
-use Rattle.std.proofs.Common.{rules, ◌≡◌, ℕ, ◌+◌, ◌<◌, List, length, ap, arith, ◌∙◌, sym}
+use Rattle.std.proofs.Common.{◌≡◌, ◌<◌, length, ap, arith, ◌∙◌}
 use Rattle.count.specs.Holdings.{total_of}
 use Rattle.count.proofs.WorthLemmas.{worth_to-more, worth_to-other, worth_to-within-more}
 use Rattle.count.proofs.tally.worth_to.Goals as goal

@@ -1,4 +1,4 @@
-use Rattle.std.proofs.Common.{◌≡◌, ◌&&◌, ◌||◌, not, nat_lt, nat_eq, [], take, reverse}
+use Rattle.std.proofs.Common.{◌≡◌, not, take, reverse}
 use Rattle.std.specs.List.{list_any, filter}
 use Rattle.count.specs.Due.{is_above}
 use Rattle.count.proofs.ties.highest.Given as goal

@@ -1,4 +1,4 @@
-use Rattle.std.proofs.Common.{◌≡◌, ◌&&◌, ◌||◌, not, nat_lt, nat_eq, [], reverse, rules}
+use Rattle.std.proofs.Common.{not, reverse, rules}
 use Rattle.std.specs.List.{list_any}
 use Rattle.count.specs.Due.{is_above}
 use Rattle.count.proofs.ColumnLemmas.{columns-more}

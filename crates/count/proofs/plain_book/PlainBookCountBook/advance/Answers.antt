@@ -1,4 +1,4 @@
-use Rattle.std.proofs.Common.{rules, ◌≡◌, ◌<◌, ◌∙◌, length, reverse, ap, sym, subst, List, arith, Some, Option}
+use Rattle.std.proofs.Common.{◌≡◌, length, reverse, ap, sym, subst, List, arith, Some}
 use Rattle.count.specs.Contest.{Contest}
 use Rattle.count.specs.Due.{drawn, due_after}
 use Rattle.count.specs.Books.{contest_of}

@@ -1,4 +1,4 @@
-use Rattle.std.proofs.Common.{rules, ◌≡◌, ◌<◌, length, ap, arith}
+use Rattle.std.proofs.Common.{length, ap, arith}
 use Rattle.count.specs.Books.{contest_of}
 use Rattle.count.proofs.BookLemmas.{plain-few}
 use Rattle.count.proofs.plain_book.PlainBookCountBook.due.Goals as goal
