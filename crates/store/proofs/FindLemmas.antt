@@ -44,6 +44,7 @@ one_found {X} {cmp} q apart (x ∷ xs) up = go (q x) refl (one_found q apart xs 
         go_y : (b : Bool) → q y ≡ b → q y ≡ false
         go_y true passes = absurd (let e : Less ≡ Equal = sym below ∙ apart x y is passes in cc)
         go_y false is_not = is_not
+
     go : (b : Bool) → q x ≡ b → filter q xs ≡ option_to_list (find q xs) → filter q (x ∷ xs) ≡ option_to_list (find q (x ∷ xs))
     go true is later = rw is (ap (λ l. x ∷ l) (none_pass q (λ y. cmp x y ≡ Less) (fails is) xs (sorted_head cmp x xs up)))
     go false is later = rw is later

@@ -58,7 +58,11 @@ stores_seen c s trees sees same = stores_from c s.now trees sees.office same
 -- a transaction that commits what it saw leaves that, or what could be left before
 pub survives_storing : (c : Contents) (old inside new : State) → Survives old new (λ trees. trees ≡ inside.now.trees) → (HasCleanDisk new → Sees c inside) → Survives old new (Stores c)
 survives_storing c old inside new s sees = record {
-  clean = s.clean; shield = s.shield; counts = s.counts; limit = s.limit; closes = s.closes;
+  clean = s.clean;
+  shield = s.shield;
+  counts = s.counts;
+  limit = s.limit;
+  closes = s.closes;
   crash = λ clean trees may. elim (s.crash clean trees may) [
     | inl was ↦ inl was
     | inr made ↦ inr (stores_seen c inside trees (sees clean) made)

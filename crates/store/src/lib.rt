@@ -16,21 +16,21 @@
 //! afterwards and what a stop may leave of them.
 #![tactic(auto)]
 
-pub mod fault;
-pub mod tables;
-pub mod storage;
-mod opening;
+mod cells;
 mod conditions;
-mod listing;
-mod views;
-mod writing;
 mod entries;
-mod making;
+pub mod fault;
 mod insertion;
+mod listing;
+mod making;
+mod opening;
+mod presence;
 mod reading;
 mod rowids;
-mod presence;
-mod cells;
+pub mod storage;
+pub mod tables;
+mod views;
+mod writing;
 
 pub use fault::Fault;
 pub use storage::Store;

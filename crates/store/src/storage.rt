@@ -104,10 +104,7 @@ impl<S: Alter> Store<S> {
     /// `WrongDatabase` where there is no office table or no row in it, `NewerSchema` where a later program
     /// made it, `Damaged` where the rows are the tables of no state. `Store` too where the connection is
     /// inside a transaction. The connection is handed back with a fault, its database as it was.
-    pub fn open_from(
-        alloc: Global,
-        mut conn: Connection<S>,
-    ) -> Result<Self, (Fault, Connection<S>)>
+    pub fn open_from(alloc: Global, mut conn: Connection<S>) -> Result<Self, (Fault, Connection<S>)>
         ensures opened { IfOk result (λ store. HasCleanDisk (state S.Store store) → (db : Database) → IsOurs db.schema → RestsAt db (state S.Store conn)
             → (s : OfficeState) × HoldsState db s × IsAt s (state S.Store store)) }
         ensures told { IfErr result (λ e. HasCleanDisk (state S.Store e.1) → (db : Database) → IsOurs db.schema → RestsAt db (state S.Store conn) → IsToldBy db e.0) }

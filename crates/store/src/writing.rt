@@ -63,7 +63,10 @@ fn write_ward<S: Alter>(tx: &mut Transaction<'_, S>, ward: &Ward) -> Result<(), 
 }
 
 /// Adds the row of a receipt.
-fn write_receipt<S: Alter>(tx: &mut Transaction<'_, S>, receipt: &Receipt) -> Result<(), Fault>
+pub(crate) fn write_receipt<S: Alter>(
+    tx: &mut Transaction<'_, S>,
+    receipt: &Receipt,
+) -> Result<(), Fault>
     ensures same_reference { tx.new.conn.ghost_name ≡ tx.old.conn.ghost_name }
     ensures writes { HasCleanDisk (state S.Store tx.new.conn.now) → (s : OfficeState) → Sees (tables_of s) (state S.Store tx.old.conn.now)
         → OnOk result (Sees (tables_of (with_receipt (receipt_entry receipt.now) s)) (state S.Store tx.new.conn.now)) }
@@ -84,7 +87,10 @@ fn added_ward(effect: &Effect) -> &Ward
 }
 
 /// Writes what a command does to the state, row by row.
-fn write_effect<S: Alter>(tx: &mut Transaction<'_, S>, effect: &Effect) -> Result<(), Fault>
+pub(crate) fn write_effect<S: Alter>(
+    tx: &mut Transaction<'_, S>,
+    effect: &Effect,
+) -> Result<(), Fault>
     ensures same_reference { tx.new.conn.ghost_name ≡ tx.old.conn.ghost_name }
     ensures writes { HasCleanDisk (state S.Store tx.new.conn.now) → (s : OfficeState) → Sees (tables_of s) (state S.Store tx.old.conn.now)
         → OnOk result (Sees (tables_of (with_effect effect.now s)) (state S.Store tx.new.conn.now)) }

@@ -11,8 +11,8 @@ returns-in_err-commit-clause-survives g c was now change rests =
     let begun : Sees was (state g.S.Store c.transaction-tx.result.conn.now) = search rules in
     let before : HasCleanDisk (state g.S.Store c.commit.new.self.0) → HasCleanDisk (state g.S.Store c.write_change.new.tx.conn.now) = λ clean. let low = c.commit.ensures.survives.clean in omega (arith, low, clean) in
     let it : Survives (state g.S.Store c.args.conn.now) (state g.S.Store c.commit.new.self.0) (Stores now) =
-        survives_storing now (state g.S.Store c.args.conn.now) (state g.S.Store c.write_change.new.tx.conn.now) (state g.S.Store c.commit.new.self.0) both
-        (λ clean. c.in_ok-write_change.ensures.writes (before clean) was now change begun) in
+    survives_storing now (state g.S.Store c.args.conn.now) (state g.S.Store c.write_change.new.tx.conn.now) (state g.S.Store c.commit.new.self.0) both
+    (λ clean. c.in_ok-write_change.ensures.writes (before clean) was now change begun) in
     search (rules, it)
 
 pub returns-clause-survives : goal.returns-clause-survives
@@ -21,8 +21,8 @@ returns-clause-survives g c was now change rests =
     let begun : Sees was (state g.S.Store c.transaction-tx.result.conn.now) = search rules in
     let before : HasCleanDisk (state g.S.Store c.commit.new.self.0) → HasCleanDisk (state g.S.Store c.write_change.new.tx.conn.now) = λ clean. let low = c.commit.ensures.survives.clean in omega (arith, low, clean) in
     let it : Survives (state g.S.Store c.args.conn.now) (state g.S.Store c.commit.new.self.0) (Stores now) =
-        survives_storing now (state g.S.Store c.args.conn.now) (state g.S.Store c.write_change.new.tx.conn.now) (state g.S.Store c.commit.new.self.0) both
-        (λ clean. c.in_ok-write_change.ensures.writes (before clean) was now change begun) in
+    survives_storing now (state g.S.Store c.args.conn.now) (state g.S.Store c.write_change.new.tx.conn.now) (state g.S.Store c.commit.new.self.0) both
+    (λ clean. c.in_ok-write_change.ensures.writes (before clean) was now change begun) in
     search (rules, it)
 
 pub returns-clause-done : goal.returns-clause-done

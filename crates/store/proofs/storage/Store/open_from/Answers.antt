@@ -6,7 +6,7 @@ use Rattle.store.proofs.storage.Store.open_from.Goals as goal
 pub returns-in-Ok-clause-opened : goal.returns-in-Ok-clause-opened
 returns-in-Ok-clause-opened g c clean db ours at =
     opened_is_at db (state g.S.Store c.args.conn) (state g.S.Store c.check.new.conn) (λ trees is_open may. g.met.S.Store.settled c.check.new.conn.store trees is_open may)
-      clean (c.in-Ok.ensures.opens clean) (c.check.ensures.reads) at (c.in-Ok.ensures.holds clean db ours at)
+    clean (c.in-Ok.ensures.opens clean) (c.check.ensures.reads) at (c.in-Ok.ensures.holds clean db ours at)
 
 pub returns-in-Ok-clause-alone : goal.returns-in-Ok-clause-alone
 returns-in-Ok-clause-alone g c = one_state
