@@ -179,5 +179,3 @@ pub fn check<S: Alter>(alloc: Global, conn: &mut Connection<S>) -> Result<(), Fa
     Ok(())
 }
 
-#[cfg(test)]
-mod tests;
