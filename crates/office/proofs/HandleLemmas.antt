@@ -1,6 +1,5 @@
 -- What an answer says, from what was decided.
-use Rattle.std.proofs.Common.{◌≡◌, ◌⊎◌, inl, inr, Bool, true, false, Ok, Err, refl, sym, ap, subst, ◌∙◌, string_bytes}
-use Rattle.sqlite.specs.Tree.{Trees}
+use Rattle.std.proofs.Common.{◌≡◌, ◌⊎◌, inr, Bool, true, false, Ok, Err, ap, subst, ◌∙◌}
 use Rattle.sqlite.specs.State.{State}
 use Rattle.register.specs.Offices.{OfficeState}
 use Rattle.register.specs.Machine.{Outcome, state_after}
@@ -8,7 +7,7 @@ use Rattle.store.specs.declared.fault.Fault.{Fault}
 use Rattle.store.specs.declared.fault.Fault.TheVariants.{Memory, Store}
 use Rattle.store.specs.Offices.{IsAt, LeavesState}
 use Rattle.office.specs.declared.answers.Answer.{Answer}
-use Rattle.office.specs.Answers.{told, told_of, IsOpenAt, Handled}
+use Rattle.office.specs.Answers.{told, told_of, Handled}
 
 -- an answer that tells the outcome, at the state that it leads to
 pub handled_ok : (s : OfficeState) (o x : Outcome) (a : Answer) (closed : Bool) (st : State) → x ≡ o → told a ≡ told_of x → closed ≡ false → IsAt (state_after s x) st → Handled s o (Ok a) closed st

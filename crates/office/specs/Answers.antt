@@ -1,11 +1,9 @@
 -- What an answer tells, and what it says of the office.
-use Rattle.std.specs.Prelude.{◌≡◌, ◌⊎◌, ℕ, Bool, true, false, List, [], ◌∷◌, string_bytes, Result, Ok, Err}
+use Rattle.std.specs.Prelude.{◌≡◌, ◌⊎◌, ℕ, Bool, true, false, List, string_bytes, Result, Ok, Err}
 use Rattle.sqlite.specs.State.{State}
 use Rattle.register.specs.declared.refusal.Refusal.{Refusal}
-use Rattle.register.specs.declared.command.Command.{Command}
-use Rattle.register.specs.declared.command.Request.{Request}
 use Rattle.register.specs.Offices.{OfficeState}
-use Rattle.register.specs.Machine.{Outcome, accepted, kept, refused, step, step_of, state_after, after_one}
+use Rattle.register.specs.Machine.{Outcome, accepted, kept, refused, state_after}
 use Rattle.store.specs.declared.fault.Fault.{Fault}
 use Rattle.store.specs.declared.fault.Fault.TheVariants.{Memory, Store}
 use Rattle.store.specs.Offices.{IsAt, LeavesState}

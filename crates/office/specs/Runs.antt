@@ -1,10 +1,12 @@
 -- A list of requests, answered one after the other.
-use Rattle.std.specs.Prelude.{◌≡◌, ◌≤◌, ◌<◌, ◌+◌, ℕ, Bool, List, [], ◌∷◌, ◌++◌, length, map, take, Option, Some, None}
+use Rattle.std.specs.Prelude.{◌≡◌, ◌⊎◌, ◌≤◌, ◌<◌, ◌+◌, ℕ, Bool, true, List, [], ◌∷◌, ◌++◌, length, map, take}
 use Rattle.sqlite.specs.State.{State}
 use Rattle.register.specs.declared.command.Request.{Request}
 use Rattle.register.specs.Offices.{OfficeState, empty_office}
 use Rattle.register.specs.Machine.{Outcome, step_of, after_one, after, accepted_of}
 use Rattle.store.specs.Offices.{LeavesState}
+use Rattle.store.specs.declared.fault.Fault.{Fault}
+use Rattle.store.specs.declared.fault.Fault.TheVariants.{Memory}
 use Rattle.office.specs.declared.answers.Answer.{Answer}
 use Rattle.office.specs.Answers.{told, told_of, IsOpenAt}
 
@@ -25,3 +27,10 @@ pub record IsAfterBeginning (earlier requests : List Request) (answered : ℕ) (
   pub one_more : count ≤ answered + 1
   pub within : count ≤ length requests
   pub is : s ≡ after empty_office (accepted_of empty_office (earlier ++ take count requests))
+
+-- A fault ended the list after so many answers. Where the office stays open, it keeps the state after the answered requests; else a stop
+-- leaves that state, or the one after the request that met the fault.
+pub record StopsAfter (s : OfficeState) (requests : List Request) (answered : ℕ) (closed : Bool) (st : State) (f : Fault) : Type 0 where
+  pub some : answered < length requests ⊎ (f ≡ Memory)
+  pub exit : IsOpenAt (after s (take answered requests)) closed st
+      ⊎ ((closed ≡ true) × LeavesState st (λ x. (x ≡ after s (take answered requests)) ⊎ (x ≡ after s (take (answered + 1) requests))))

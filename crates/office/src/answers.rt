@@ -1,7 +1,9 @@
 //! What the office answers.
 
-use register::decision::Reply;
+ghost use Rattle.std.specs.Prelude.{◌≡◌, Some};
+
 use register::Refusal;
+use register::decision::Reply;
 use store::Fault;
 
 /// The answer to a request.
@@ -20,4 +22,17 @@ pub enum Answer {
 pub struct Run {
     pub answers: Vec<Answer>,
     pub fault: Option<Fault>,
+}
+
+impl Run {
+    /// A run that a fault ended.
+    pub(crate) fn stopped(answers: Vec<Answer>, fault: Fault) -> Run
+        ensures answers { result.answers ≡ answers }
+        ensures fault { result.fault ≡ Some fault }
+    {
+        Run {
+            answers,
+            fault: Some(fault),
+        }
+    }
 }

@@ -1,6 +1,6 @@
 //! An office, open or closed.
 
-ghost use Rattle.std.specs.Prelude.{◌≡◌, ◌⊎◌, ◌++◌, true, false, take, length, vec_len, None, IfOk, IfErr, IsTrue};
+ghost use Rattle.std.specs.Prelude.{◌≡◌, ◌⊎◌, ◌+◌, ◌<◌, ◌≤◌, ◌++◌, ◌∷◌, [], List, true, false, take, length, vec_len, vec_capacity, Some, None, IfOk, IfErr, IfNone, IfSome, IsTrue};
 ghost use Rattle.sqlite.specs.Tree.{Trees};
 ghost use Rattle.sqlite.specs.Effect.{Database};
 ghost use Rattle.sqlite.specs.State.{HasCleanDisk};
@@ -12,11 +12,13 @@ ghost use Rattle.store.specs.Presence.{has_some_table, IsOurs};
 ghost use Rattle.store.specs.Reading.{OnlyReads};
 ghost use Rattle.store.specs.Offices.{tables_of, HoldsState, IsAt, LeavesState};
 ghost use Rattle.store.specs.Openings.{IsBlank, IsToldBy};
+ghost use Rattle.register.specs.declared.command.Request.{Request};
 ghost use Rattle.office.specs.Answers.{IsOpenAt, Handled};
+ghost use Rattle.office.specs.Runs.{AnswersFirst, IsAfterBeginning, StopsAfter};
 
-use crate::answers::Answer;
+use crate::answers::{Answer, Run};
 use crate::deciding::decision_of;
-use register::{Command, Decision};
+use register::{Command, Decision, Request};
 use sqlite::{Alter, Connection};
 use std::alloc::Global;
 use std::marker::Model;
@@ -128,4 +130,47 @@ impl<S: Alter> Office<S> {
             }
         }
     }
+
+    /// Answers a list of requests in order, up to the first fault.
+    ///
+    /// Room for all answers is made first; where that is refused, nothing is handled and `Memory` is told.
+    /// A closed office tells `Closed`, whatever the list.
+    pub fn run(&mut self, requests: &[Request]) -> Run
+        ensures answers { HasCleanDisk (state S.Store self.new.held) → self.old.closed ≡ false → (s : OfficeState) → IsAt s (state S.Store self.old.held)
+            → AnswersFirst s requests.now result.answers.items }
+        ensures all { HasCleanDisk (state S.Store self.new.held) → self.old.closed ≡ false → (s : OfficeState) → IsAt s (state S.Store self.old.held)
+            → IfNone result.fault ((vec_len result.answers ≡ length requests.now) × IsOpenAt (after s requests.now) self.new.closed (state S.Store self.new.held)) }
+        ensures fault { HasCleanDisk (state S.Store self.new.held) → self.old.closed ≡ false → (s : OfficeState) → IsAt s (state S.Store self.old.held)
+            → IfSome result.fault (StopsAfter s requests.now (vec_len result.answers) self.new.closed (state S.Store self.new.held)) }
+        ensures headline { HasCleanDisk (state S.Store self.new.held) → self.old.closed ≡ false → (earlier : List Request) → IsAt (after empty_office earlier) (state S.Store self.old.held)
+            → LeavesState (state S.Store self.new.held) (IsAfterBeginning earlier requests.now (vec_len result.answers)) }
+        ensures closed { self.old.closed ≡ true → (result.fault ≡ Some Fault.Closed) × (vec_len result.answers ≡ 0) × (self.new ≡ self.old) }
+    {
+        if self.closed {
+            return Run::stopped(Vec::new(self.alloc), Fault::Closed);
+        }
+        let Ok(mut answers) = Vec::with_capacity(self.alloc, requests.len()) else {
+            return Run::stopped(Vec::new(self.alloc), Fault::Memory);
+        };
+        for request in requests {
+            match self.handle(request.actor, request.id.as_str(), &request.command) {
+                Ok(answer) => put_answer(&mut answers, answer),
+                Err(fault) => return Run::stopped(answers, fault),
+            }
+        }
+        Run {
+            answers,
+            fault: None,
+        }
+    }
+}
+
+/// Puts an answer behind the others, where there is room for it.
+fn put_answer(answers: &mut Vec<Answer>, answer: Answer)
+    requires { vec_len answers.old < vec_capacity answers.old }
+    ensures items { answers.new.items ≡ answers.old.items ++ answer ∷ [] }
+    ensures count { vec_len answers.new ≡ vec_len answers.old + 1 }
+    ensures room { vec_capacity answers.old ≤ vec_capacity answers.new }
+{
+    let _ = answers.push(answer);
 }

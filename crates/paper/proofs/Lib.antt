@@ -2,3 +2,7 @@ pub mod PaddedLists
 pub mod Rankings
 pub mod ColumnSets
 pub mod Standings
+pub mod Fields
+pub mod Markings
+pub mod Preferences
+pub mod Spelling

@@ -1,4 +1,9 @@
-pub mod Padded
 pub mod Columns
+pub mod Marking
+pub mod MarksText
+pub mod Numbers
+pub mod Preferences
+pub mod Bearers
 pub mod Ranking
 pub mod Standing
+pub mod Padded

@@ -1,15 +1,32 @@
-//! Ballot papers: the marks on them, their preferences, and the next available preference.
+//! Ballot papers: what a clerk keyed of one, its preferences, and whether it is valid.
 //!
-//! [`Columns`] is a set of candidates' numbers 1 to 30, walked in ascending order. [`Prefs`] is the
-//! list of preferences of a valid paper. A [`Standing`] gives each number a [`Status`], and
-//! [`next_available`] finds the next preference that is for a continuing candidate.
+//! [`Marks::read`] gives what is [`Keyed`] by a text, or the exact [`MarkFault`], and
+//! [`Keyed::text`] gives the text back. [`judge`] finds the preferences of a [`Marked`] paper, or why
+//! it is rejected. [`Columns`] is a set of candidates' numbers 1 to 30, walked in ascending order;
+//! a [`Standing`] gives each number a [`Status`], by which [`next_available`] passes over preferences.
+//!
+//! ```text
+//! let columns = Columns::empty().with(1).with(2).with(3);
+//! if let Keyed::Marked(marked) = Marks::read(b"2,1,3", columns)? {
+//!     let prefs = judge(&marked)?;                        // 2, 1, 3
+//!     next_available(prefs.as_slice(), 1, &standing);     // Some(1), where 1 continues
+//! }
+//! ```
 #![tactic(auto)]
 
 mod columns;
+mod marked;
+mod marks;
 mod padded;
 mod prefs;
 mod standing;
+#[cfg(test)]
+mod tests;
+mod validity;
 
 pub use columns::Columns;
+pub use marked::{Keyed, Marked};
+pub use marks::{MarkFault, Marks};
 pub use prefs::Prefs;
 pub use standing::{Standing, Status, available_from, next_available};
+pub use validity::{Rejection, judge};

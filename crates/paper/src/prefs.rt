@@ -1,6 +1,7 @@
 //! The preferences of a ballot paper.
 
 ghost use Rattle.std.specs.Prelude.{◌≡◌, ℕ, ◌≤◌, length, IfSome, IsSome, IsTrue, ◌↔◌};
+ghost use Rattle.paper.specs.Padded.{listed, padded};
 ghost use Rattle.paper.specs.Ranking.{IsRanking};
 
 use crate::padded::{list_in, padded_numbers};
@@ -45,6 +46,16 @@ impl Prefs {
         Some(Prefs {
             numbers: padded_numbers(list),
         })
+    }
+
+    /// The preferences that stand in an array, with zeros behind them.
+    pub(crate) fn from_ranking(numbers: [u8; 30]) -> Prefs
+        requires whole { padded (listed numbers) ≡ numbers }
+        requires some { 1 ≤ length (listed numbers) }
+        requires ranking { IsRanking (listed numbers) }
+        ensures { result ≡ listed numbers }
+    {
+        Prefs { numbers }
     }
 
     /// The candidates' numbers, the first preference first.

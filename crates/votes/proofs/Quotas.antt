@@ -1,4 +1,4 @@
-use Rattle.std.proofs.Common.{◌≡◌, ℕ, ◌+◌, ◌*◌, ◌/◌, ◌%◌, ◌<◌, ◌≤◌, arith}
+use Rattle.std.proofs.Common.{ℕ, ◌+◌, ◌/◌, arith}
 use Rattle.std.proofs.lemmas.Nat.{div-add-mod', div_below}
 use Rattle.votes.specs.Units.{IsQuota, quota_of}
 

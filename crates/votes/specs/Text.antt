@@ -1,4 +1,5 @@
-use Rattle.std.specs.Prelude.{ℕ, ◌+◌, ◌/◌, ◌%◌, List, [], ◌∷◌, ◌++◌, decimal}
+use Rattle.std.specs.Prelude.{◌≡◌, ℕ, ◌+◌, ◌/◌, ◌%◌, List, [], ◌∷◌, ◌++◌, drop, decimal}
+use Rattle.std.specs.Str.Parse.{digits_value}
 
 -- the last digit of a number
 abbrev pub last_digit : ℕ → ℕ
@@ -12,3 +13,7 @@ fraction_text units =
 -- votes as text: the whole votes without leading zeros, a point, and five digits
 abbrev pub votes_text : ℕ → List ℕ
 votes_text units = decimal (units / 100000) ++ fraction_text units
+
+-- the text is exact: its digits, the point left out, write the number of units
+abbrev pub TellsUnits : ℕ → Type 0
+TellsUnits units = digits_value 10 (decimal (units / 100000) ++ drop 1 (fraction_text units)) ≡ units

@@ -4,7 +4,7 @@ ghost use Rattle.std.specs.Prelude.{◌≡◌, ℕ, ◌+◌, ◌-◌, ◌*◌, �
 ghost use Rattle.std.specs.Io.KnownBytes.{Appends};
 ghost use Rattle.votes.specs.Streams.{AppendsBeginning};
 ghost use Rattle.votes.specs.Units.{IsQuota, quota_of, IsCut, cut, GivesWithin};
-ghost use Rattle.votes.specs.Text.{votes_text, fraction_text};
+ghost use Rattle.votes.specs.Text.{TellsUnits, fraction_text, votes_text};
 
 use crate::streams::{Broken, Sink, put_all};
 use itoa::Buffer;
@@ -46,13 +46,15 @@ impl Votes {
     pub fn write<W: Sink>(self, sink: &mut W) -> Result<(), Broken>
         requires { W.failed sink.old < 2 ^ 64 - 1 }
         ensures written { OnOk result (Appends (W.taken sink.old) (W.taken sink.new) (votes_text self)) }
+        ensures exact { TellsUnits self }
         ensures ok { OnOk result (W.failed sink.new ≡ W.failed sink.old) }
         ensures cut_off { OnErr result (AppendsBeginning (W.taken sink.old) (W.taken sink.new) (votes_text self)) }
         ensures err { OnErr result (W.failed sink.new ≡ W.failed sink.old + 1) }
     {
+        let units = self.units();
         let mut buffer = Buffer::new();
-        put_all(sink, buffer.format(self.0 / 100000).as_bytes())?;
-        put_all(sink, &fraction(self.0))?;
+        put_all(sink, buffer.format(units / 100000).as_bytes())?;
+        put_all(sink, &fraction(units))?;
         Ok(())
     }
 }

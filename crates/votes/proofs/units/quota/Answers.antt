@@ -1,4 +1,4 @@
-use Rattle.std.proofs.Common.{rules, arith, ◌≡◌, ◌+◌, ◌*◌, ◌/◌, sym, subst}
+use Rattle.std.proofs.Common.{rules, ◌≡◌, ◌+◌, ◌*◌, ◌/◌, subst}
 use Rattle.votes.specs.Units.{IsQuota, quota_of}
 use Rattle.votes.proofs.Quotas.{quota_of-IsQuota}
 use Rattle.votes.proofs.units.quota.Goals as goal

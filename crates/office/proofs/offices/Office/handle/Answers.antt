@@ -1,7 +1,7 @@
-use Rattle.std.proofs.Common.{◌≡◌, false, true, refl, sym, ap, subst, ◌∙◌, IsTrue, string_bytes}
+use Rattle.std.proofs.Common.{◌≡◌, false, true, refl, sym, ap, subst, ◌∙◌, string_bytes}
 use Rattle.sqlite.specs.Held.{state}
 use Rattle.sqlite.specs.State.{HasCleanDisk}
-use Rattle.register.specs.Offices.{OfficeState, IsState}
+use Rattle.register.specs.Offices.{IsState}
 use Rattle.register.specs.Machine.{Outcome, accepted, kept, refused, state_after, step}
 use Rattle.register.specs.Views.{with_change}
 use Rattle.store.specs.Offices.{IsAt}

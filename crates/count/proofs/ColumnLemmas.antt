@@ -1,0 +1,80 @@
+use Rattle.std.proofs.Common.{◌≡◌, ℕ, ◌+◌, ◌<◌, ◌≤◌, ◌||◌, Bool, true, false, cond, nat_eq, List, [], ◌∷◌, ◌++◌, length, take, get_or, reverse, refl, sym, ap, ◌∙◌, arith, subst, slice_index}
+use Rattle.std.proofs.lemmas.List.{reverse-append}
+use Rattle.std.specs.List.{list_any, filter}
+use Rattle.std.proofs.lemmas.Bool.{eq-eqb}
+use Rattle.std.proofs.lemmas.List.Sorted.{list_any-IsPermutation, IsPermutation-reverse}
+use Rattle.std.proofs.lemmas.List.Folds.{list_any_at}
+use Rattle.std.proofs.lemmas.List.Kept.{IsStrictlyIncreasing-filter}
+use Rattle.paper.specs.Columns.{IsColumnSet, IsColumn}
+use Rattle.std.proofs.lemmas.List.{get_or-take, length-take, take_all}
+use Rattle.std.proofs.lemmas.List.Elements.{filter_more}
+use Rattle.count.specs.Contest.{In}
+use Rattle.count.specs.Holdings.{OnlyColumns}
+use Rattle.count.proofs.ActionLemmas.{in-filter, column-in}
+
+-- a test finds the same in either direction
+pub any-reverse : {X : Type 0} (p : X → Bool) (xs : List X) → list_any p (reverse xs) ≡ list_any p xs
+any-reverse p xs = sym (list_any-IsPermutation p xs (reverse xs) (IsPermutation-reverse xs))
+
+-- those of a set of columns that pass a test are one
+pub columns-filter : (p : ℕ → Bool) (xs : List ℕ) → IsColumnSet xs → IsColumnSet (filter p xs)
+columns-filter p xs set = record {
+  ascending = IsStrictlyIncreasing-filter p xs set.ascending;
+  within = λ k at. column-in (slice_index (filter p xs) k) xs set
+      (in-filter (slice_index (filter p xs) k) p xs (list_any_at (nat_eq (slice_index (filter p xs) k)) (filter p xs) k 0 at (eq-eqb _ _ refl))).1;
+}
+
+-- and so are its first
+pub columns-take : (n : ℕ) (xs : List ℕ) → IsColumnSet xs → IsColumnSet (take n xs)
+columns-take n xs set = record {
+  ascending = λ k at.
+      let size = length-take n xs in
+      let here : slice_index (take n xs) k ≡ slice_index xs k = get_or-take n xs k 0 (omega (arith, size, at)) in
+      let next : slice_index (take n xs) (k + 1) ≡ slice_index xs (k + 1) = get_or-take n xs (k + 1) 0 (omega (arith, size, at)) in
+      omega (arith, here, next, set.ascending k (omega (arith, size, at)));
+  within = λ k at.
+      let size = length-take n xs in
+      let here : slice_index (take n xs) k ≡ slice_index xs k = get_or-take n xs k 0 (omega (arith, size, at)) in
+      subst IsColumn (sym here) (set.within k (omega (arith, size, at)));
+}
+
+-- one more that passes the test
+pub columns-more : (p : ℕ → Bool) (xs chosen : List ℕ) (i : ℕ) → IsColumnSet xs → chosen ≡ filter p (take i xs) → i < length xs → p (slice_index xs i) ≡ true → IsColumnSet (chosen ++ slice_index xs i ∷ [])
+columns-more p xs chosen i set is within passes =
+    let more : filter p (take (i + 1) xs) ≡ filter p (take i xs) ++ slice_index xs i ∷ [] =
+    filter_more p xs i 0 within ∙ ap (λ b. filter p (take i xs) ++ cond b (slice_index xs i ∷ []) []) passes in
+    subst IsColumnSet (more ∙ ap (λ l. l ++ slice_index xs i ∷ []) (sym is)) (columns-filter p (take (i + 1) xs) (columns-take (i + 1) xs set))
+
+-- a test that one passes, and one that none does, in the other direction
+pub found-reverse : {X : Type 0} (p : X → Bool) (xs : List X) (i : ℕ) (d : X) → i < length xs → p (get_or xs i d) ≡ true → true ≡ list_any p (reverse xs)
+found-reverse p xs i d within passes = sym (any-reverse p xs ∙ list_any_at p xs i d within passes)
+
+pub none-reverse : {X : Type 0} (p : X → Bool) (xs : List X) (i : ℕ) → list_any p (take i xs) ≡ false → length xs ≤ i → false ≡ list_any p (reverse xs)
+none-reverse p xs i none all = sym (any-reverse p xs ∙ (ap (list_any p) (sym (take_all i xs all)) ∙ none))
+
+-- a list with one more at the end, the last first
+pub reverse-newest : {X : Type 0} (xs before : List X) (newest : X) → xs ≡ before ++ newest ∷ [] → reverse xs ≡ newest ∷ reverse before
+reverse-newest xs before newest is = ap reverse is ∙ reverse-append before (newest ∷ [])
+
+last_in : (chosen : List ℕ) (c : ℕ) → In c (chosen ++ c ∷ [])
+last_in [] c = ap (λ b. b || false) (eq-eqb c c refl)
+last_in (x ∷ xs) c = or_later (nat_eq c x) (list_any (nat_eq c) (xs ++ c ∷ [])) (last_in xs c)
+  where
+    or_later : (a b : Bool) → b ≡ true → (a || b) ≡ true
+    or_later true b h = refl
+    or_later false b h = h
+
+-- the last of a set of columns is one
+pub last-some : (chosen : List ℕ) (c : ℕ) → IsColumnSet (chosen ++ c ∷ []) → 1 ≤ c
+last-some chosen c set = (column-in c (chosen ++ c ∷ []) set (last_in chosen c)).0
+
+pub last-few : (chosen : List ℕ) (c : ℕ) → IsColumnSet (chosen ++ c ∷ []) → c ≤ 30
+last-few chosen c set = (column-in c (chosen ++ c ∷ []) set (last_in chosen c)).1
+
+pub ruleset last_column = (last-some, last-few)
+
+-- who is in a set of columns is one
+pub only-columns : (columns : List ℕ) (continues : ℕ → Bool) → IsColumnSet columns → ((c : ℕ) → continues c ≡ list_any (nat_eq c) columns) → OnlyColumns continues
+only-columns columns continues set is c h = column-in c columns set (sym (is c) ∙ h)
+
+pub ruleset only_columns = only-columns

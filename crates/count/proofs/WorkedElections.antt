@@ -1,0 +1,245 @@
+use Rattle.std.proofs.Common.{◌-◌, ℕ, List, [], ◌∷◌, ◌++◌, replicate, refl, length}
+use Rattle.count.specs.Contest.{Contest, History, contest_for}
+use Rattle.count.specs.Right.{IsRight, IsCount}
+use Rattle.count.specs.declared.stages.Stage.{Stage}
+use Rattle.count.specs.declared.stages.Action.{Action}
+use Rattle.count.specs.declared.stages.Action.TheVariants.{First, Surplus, Exclude, ExcludeLast}
+
+-- Small elections counted by hand, evaluated against the definitions: a wrong figure, action or tie is refused.
+
+-- so many papers alike
+abbrev times : ℕ → List ℕ → List (List ℕ)
+times n paper = replicate n paper
+
+-- a stage whose other numbers have no votes
+abbrev stage : Action → List ℕ → List ℕ → ℕ → ℕ → Stage
+stage action votes elected non_transferable lost =
+    record { action = action; votes = votes ++ replicate (30 - length votes) 0; elected = elected; non_transferable = non_transferable; lost = lost }
+
+-- Two seats: a surplus whose values are cut to 0.33333, and an exclusion that fills the last vacancy.
+abbrev fractions : Contest
+fractions = contest_for (1 ∷ 2 ∷ 3 ∷ []) 2
+    (times 4 (1 ∷ 2 ∷ []) ++ times 2 (1 ∷ 3 ∷ []) ++ times 1 (2 ∷ []) ++ times 2 (3 ∷ []))
+
+abbrev fractions_lots : List (ℕ × ℕ)
+fractions_lots = []
+
+abbrev fractions_1 : History
+fractions_1 = stage First (600000 ∷ 100000 ∷ 200000 ∷ []) (1 ∷ []) 0 0 ∷ []
+
+fractions_right_1 : IsRight fractions fractions_lots fractions_1
+fractions_right_1 = (tt, record { was_due = refl; tells = record { votes_told = refl; elected_told = refl; non_transferable_told = refl; lost_told = refl } })
+
+abbrev fractions_2 : History
+fractions_2 = stage (Surplus 1) (400000 ∷ 233332 ∷ 266666 ∷ []) ([]) 0 2 ∷ fractions_1
+
+fractions_right_2 : IsRight fractions fractions_lots fractions_2
+fractions_right_2 = (fractions_right_1, record { was_due = refl; tells = record { votes_told = refl; elected_told = refl; non_transferable_told = refl; lost_told = refl } })
+
+abbrev fractions_3 : History
+fractions_3 = stage (ExcludeLast 2) (400000 ∷ 233332 ∷ 266666 ∷ []) (3 ∷ []) 0 2 ∷ fractions_2
+
+fractions_right_3 : IsRight fractions fractions_lots fractions_3
+fractions_right_3 = (fractions_right_2, record { was_due = refl; tells = record { votes_told = refl; elected_told = refl; non_transferable_told = refl; lost_told = refl } })
+
+fractions_count : IsCount fractions fractions_lots fractions_3
+fractions_count = (fractions_right_3, refl)
+
+-- Three seats: a second surplus cuts each paper at the value at which it came, 1.00000 or 0.50000.
+abbrev two_surpluses : Contest
+two_surpluses = contest_for (1 ∷ 2 ∷ 3 ∷ 4 ∷ 5 ∷ []) 3
+    (times 7 (1 ∷ 2 ∷ 3 ∷ []) ++ times 1 (1 ∷ 4 ∷ []) ++ times 3 (2 ∷ 3 ∷ []) ++ times 1 (3 ∷ []) ++ times 2 (4 ∷ []) ++ times 1 (5 ∷ []))
+
+abbrev two_surpluses_lots : List (ℕ × ℕ)
+two_surpluses_lots = []
+
+abbrev two_surpluses_1 : History
+two_surpluses_1 = stage First (800000 ∷ 300000 ∷ 100000 ∷ 200000 ∷ 100000 ∷ []) (1 ∷ []) 0 0 ∷ []
+
+two_surpluses_right_1 : IsRight two_surpluses two_surpluses_lots two_surpluses_1
+two_surpluses_right_1 = (tt, record { was_due = refl; tells = record { votes_told = refl; elected_told = refl; non_transferable_told = refl; lost_told = refl } })
+
+abbrev two_surpluses_2 : History
+two_surpluses_2 = stage (Surplus 1) (400000 ∷ 650000 ∷ 100000 ∷ 250000 ∷ 100000 ∷ []) (2 ∷ []) 0 0 ∷ two_surpluses_1
+
+two_surpluses_right_2 : IsRight two_surpluses two_surpluses_lots two_surpluses_2
+two_surpluses_right_2 = (two_surpluses_right_1, record { was_due = refl; tells = record { votes_told = refl; elected_told = refl; non_transferable_told = refl; lost_told = refl } })
+
+abbrev two_surpluses_3 : History
+two_surpluses_3 = stage (Surplus 2) (400000 ∷ 400000 ∷ 349993 ∷ 250000 ∷ 100000 ∷ []) ([]) 0 7 ∷ two_surpluses_2
+
+two_surpluses_right_3 : IsRight two_surpluses two_surpluses_lots two_surpluses_3
+two_surpluses_right_3 = (two_surpluses_right_2, record { was_due = refl; tells = record { votes_told = refl; elected_told = refl; non_transferable_told = refl; lost_told = refl } })
+
+abbrev two_surpluses_4 : History
+two_surpluses_4 = stage (Exclude 5) (400000 ∷ 400000 ∷ 349993 ∷ 250000 ∷ 0 ∷ []) ([]) 100000 7 ∷ two_surpluses_3
+
+two_surpluses_right_4 : IsRight two_surpluses two_surpluses_lots two_surpluses_4
+two_surpluses_right_4 = (two_surpluses_right_3, record { was_due = refl; tells = record { votes_told = refl; elected_told = refl; non_transferable_told = refl; lost_told = refl } })
+
+abbrev two_surpluses_5 : History
+two_surpluses_5 = stage (ExcludeLast 4) (400000 ∷ 400000 ∷ 349993 ∷ 250000 ∷ 0 ∷ []) (3 ∷ []) 100000 7 ∷ two_surpluses_4
+
+two_surpluses_right_5 : IsRight two_surpluses two_surpluses_lots two_surpluses_5
+two_surpluses_right_5 = (two_surpluses_right_4, record { was_due = refl; tells = record { votes_told = refl; elected_told = refl; non_transferable_told = refl; lost_told = refl } })
+
+two_surpluses_count : IsCount two_surpluses two_surpluses_lots two_surpluses_5
+two_surpluses_count = (two_surpluses_right_5, refl)
+
+-- One seat: a tie for exclusion is settled by the first stage, at which the two differed.
+abbrev earlier_stage : Contest
+earlier_stage = contest_for (1 ∷ 2 ∷ 3 ∷ 4 ∷ []) 1
+    (times 5 (1 ∷ []) ++ times 3 (2 ∷ []) ++ times 2 (3 ∷ []) ++ times 1 (4 ∷ 3 ∷ []))
+
+abbrev earlier_stage_lots : List (ℕ × ℕ)
+earlier_stage_lots = []
+
+abbrev earlier_stage_1 : History
+earlier_stage_1 = stage First (500000 ∷ 300000 ∷ 200000 ∷ 100000 ∷ []) ([]) 0 0 ∷ []
+
+earlier_stage_right_1 : IsRight earlier_stage earlier_stage_lots earlier_stage_1
+earlier_stage_right_1 = (tt, record { was_due = refl; tells = record { votes_told = refl; elected_told = refl; non_transferable_told = refl; lost_told = refl } })
+
+abbrev earlier_stage_2 : History
+earlier_stage_2 = stage (Exclude 4) (500000 ∷ 300000 ∷ 300000 ∷ 0 ∷ []) ([]) 0 0 ∷ earlier_stage_1
+
+earlier_stage_right_2 : IsRight earlier_stage earlier_stage_lots earlier_stage_2
+earlier_stage_right_2 = (earlier_stage_right_1, record { was_due = refl; tells = record { votes_told = refl; elected_told = refl; non_transferable_told = refl; lost_told = refl } })
+
+abbrev earlier_stage_3 : History
+earlier_stage_3 = stage (Exclude 3) (500000 ∷ 300000 ∷ 0 ∷ 0 ∷ []) ([]) 300000 0 ∷ earlier_stage_2
+
+earlier_stage_right_3 : IsRight earlier_stage earlier_stage_lots earlier_stage_3
+earlier_stage_right_3 = (earlier_stage_right_2, record { was_due = refl; tells = record { votes_told = refl; elected_told = refl; non_transferable_told = refl; lost_told = refl } })
+
+abbrev earlier_stage_4 : History
+earlier_stage_4 = stage (ExcludeLast 2) (500000 ∷ 300000 ∷ 0 ∷ 0 ∷ []) (1 ∷ []) 300000 0 ∷ earlier_stage_3
+
+earlier_stage_right_4 : IsRight earlier_stage earlier_stage_lots earlier_stage_4
+earlier_stage_right_4 = (earlier_stage_right_3, record { was_due = refl; tells = record { votes_told = refl; elected_told = refl; non_transferable_told = refl; lost_told = refl } })
+
+earlier_stage_count : IsCount earlier_stage earlier_stage_lots earlier_stage_4
+earlier_stage_count = (earlier_stage_right_4, refl)
+
+-- Three seats: two equal surpluses need a lot at stage 2.
+abbrev lot_for_surplus : Contest
+lot_for_surplus = contest_for (1 ∷ 2 ∷ 3 ∷ 4 ∷ 5 ∷ []) 3
+    (times 5 (1 ∷ 3 ∷ []) ++ times 5 (2 ∷ 4 ∷ []) ++ times 2 (3 ∷ []) ++ times 1 (4 ∷ []) ++ times 1 (5 ∷ []))
+
+abbrev lot_for_surplus_lots : List (ℕ × ℕ)
+lot_for_surplus_lots = (2, 1) ∷ []
+
+abbrev lot_for_surplus_1 : History
+lot_for_surplus_1 = stage First (500000 ∷ 500000 ∷ 200000 ∷ 100000 ∷ 100000 ∷ []) (1 ∷ 2 ∷ []) 0 0 ∷ []
+
+lot_for_surplus_right_1 : IsRight lot_for_surplus lot_for_surplus_lots lot_for_surplus_1
+lot_for_surplus_right_1 = (tt, record { was_due = refl; tells = record { votes_told = refl; elected_told = refl; non_transferable_told = refl; lost_told = refl } })
+
+abbrev lot_for_surplus_2 : History
+lot_for_surplus_2 = stage (Surplus 1) (400000 ∷ 500000 ∷ 300000 ∷ 100000 ∷ 100000 ∷ []) ([]) 0 0 ∷ lot_for_surplus_1
+
+lot_for_surplus_right_2 : IsRight lot_for_surplus lot_for_surplus_lots lot_for_surplus_2
+lot_for_surplus_right_2 = (lot_for_surplus_right_1, record { was_due = refl; tells = record { votes_told = refl; elected_told = refl; non_transferable_told = refl; lost_told = refl } })
+
+abbrev lot_for_surplus_3 : History
+lot_for_surplus_3 = stage (Surplus 2) (400000 ∷ 400000 ∷ 300000 ∷ 200000 ∷ 100000 ∷ []) ([]) 0 0 ∷ lot_for_surplus_2
+
+lot_for_surplus_right_3 : IsRight lot_for_surplus lot_for_surplus_lots lot_for_surplus_3
+lot_for_surplus_right_3 = (lot_for_surplus_right_2, record { was_due = refl; tells = record { votes_told = refl; elected_told = refl; non_transferable_told = refl; lost_told = refl } })
+
+abbrev lot_for_surplus_4 : History
+lot_for_surplus_4 = stage (Exclude 5) (400000 ∷ 400000 ∷ 300000 ∷ 200000 ∷ 0 ∷ []) ([]) 100000 0 ∷ lot_for_surplus_3
+
+lot_for_surplus_right_4 : IsRight lot_for_surplus lot_for_surplus_lots lot_for_surplus_4
+lot_for_surplus_right_4 = (lot_for_surplus_right_3, record { was_due = refl; tells = record { votes_told = refl; elected_told = refl; non_transferable_told = refl; lost_told = refl } })
+
+abbrev lot_for_surplus_5 : History
+lot_for_surplus_5 = stage (ExcludeLast 4) (400000 ∷ 400000 ∷ 300000 ∷ 200000 ∷ 0 ∷ []) (3 ∷ []) 100000 0 ∷ lot_for_surplus_4
+
+lot_for_surplus_right_5 : IsRight lot_for_surplus lot_for_surplus_lots lot_for_surplus_5
+lot_for_surplus_right_5 = (lot_for_surplus_right_4, record { was_due = refl; tells = record { votes_told = refl; elected_told = refl; non_transferable_told = refl; lost_told = refl } })
+
+lot_for_surplus_count : IsCount lot_for_surplus lot_for_surplus_lots lot_for_surplus_5
+lot_for_surplus_count = (lot_for_surplus_right_5, refl)
+
+-- One seat: the most recent stage at which two differed decides, and not the first.
+abbrev most_recent_stage : Contest
+most_recent_stage = contest_for (1 ∷ 2 ∷ 3 ∷ 4 ∷ 5 ∷ []) 1
+    (times 10 (1 ∷ []) ++ times 5 (2 ∷ []) ++ times 4 (3 ∷ []) ++ times 2 (4 ∷ 3 ∷ []) ++ times 2 (5 ∷ []) ++ times 1 (5 ∷ 2 ∷ []))
+
+abbrev most_recent_stage_lots : List (ℕ × ℕ)
+most_recent_stage_lots = []
+
+abbrev most_recent_stage_1 : History
+most_recent_stage_1 = stage First (1000000 ∷ 500000 ∷ 400000 ∷ 200000 ∷ 300000 ∷ []) ([]) 0 0 ∷ []
+
+most_recent_stage_right_1 : IsRight most_recent_stage most_recent_stage_lots most_recent_stage_1
+most_recent_stage_right_1 = (tt, record { was_due = refl; tells = record { votes_told = refl; elected_told = refl; non_transferable_told = refl; lost_told = refl } })
+
+abbrev most_recent_stage_2 : History
+most_recent_stage_2 = stage (Exclude 4) (1000000 ∷ 500000 ∷ 600000 ∷ 0 ∷ 300000 ∷ []) ([]) 0 0 ∷ most_recent_stage_1
+
+most_recent_stage_right_2 : IsRight most_recent_stage most_recent_stage_lots most_recent_stage_2
+most_recent_stage_right_2 = (most_recent_stage_right_1, record { was_due = refl; tells = record { votes_told = refl; elected_told = refl; non_transferable_told = refl; lost_told = refl } })
+
+abbrev most_recent_stage_3 : History
+most_recent_stage_3 = stage (Exclude 5) (1000000 ∷ 600000 ∷ 600000 ∷ 0 ∷ 0 ∷ []) ([]) 200000 0 ∷ most_recent_stage_2
+
+most_recent_stage_right_3 : IsRight most_recent_stage most_recent_stage_lots most_recent_stage_3
+most_recent_stage_right_3 = (most_recent_stage_right_2, record { was_due = refl; tells = record { votes_told = refl; elected_told = refl; non_transferable_told = refl; lost_told = refl } })
+
+abbrev most_recent_stage_4 : History
+most_recent_stage_4 = stage (Exclude 2) (1000000 ∷ 0 ∷ 600000 ∷ 0 ∷ 0 ∷ []) ([]) 800000 0 ∷ most_recent_stage_3
+
+most_recent_stage_right_4 : IsRight most_recent_stage most_recent_stage_lots most_recent_stage_4
+most_recent_stage_right_4 = (most_recent_stage_right_3, record { was_due = refl; tells = record { votes_told = refl; elected_told = refl; non_transferable_told = refl; lost_told = refl } })
+
+abbrev most_recent_stage_5 : History
+most_recent_stage_5 = stage (ExcludeLast 3) (1000000 ∷ 0 ∷ 600000 ∷ 0 ∷ 0 ∷ []) (1 ∷ []) 800000 0 ∷ most_recent_stage_4
+
+most_recent_stage_right_5 : IsRight most_recent_stage most_recent_stage_lots most_recent_stage_5
+most_recent_stage_right_5 = (most_recent_stage_right_4, record { was_due = refl; tells = record { votes_told = refl; elected_told = refl; non_transferable_told = refl; lost_told = refl } })
+
+most_recent_stage_count : IsCount most_recent_stage most_recent_stage_lots most_recent_stage_5
+most_recent_stage_count = (most_recent_stage_right_5, refl)
+
+-- Three seats: papers pass over a candidate who was elected earlier.
+abbrev passed_over : Contest
+passed_over = contest_for (1 ∷ 2 ∷ 3 ∷ 4 ∷ 5 ∷ []) 3
+    (times 6 (1 ∷ 2 ∷ 3 ∷ []) ++ times 5 (2 ∷ []) ++ times 1 (3 ∷ []) ++ times 2 (4 ∷ []) ++ times 1 (5 ∷ []))
+
+abbrev passed_over_lots : List (ℕ × ℕ)
+passed_over_lots = []
+
+abbrev passed_over_1 : History
+passed_over_1 = stage First (600000 ∷ 500000 ∷ 100000 ∷ 200000 ∷ 100000 ∷ []) (1 ∷ 2 ∷ []) 0 0 ∷ []
+
+passed_over_right_1 : IsRight passed_over passed_over_lots passed_over_1
+passed_over_right_1 = (tt, record { was_due = refl; tells = record { votes_told = refl; elected_told = refl; non_transferable_told = refl; lost_told = refl } })
+
+abbrev passed_over_2 : History
+passed_over_2 = stage (Surplus 1) (400000 ∷ 500000 ∷ 299998 ∷ 200000 ∷ 100000 ∷ []) ([]) 0 2 ∷ passed_over_1
+
+passed_over_right_2 : IsRight passed_over passed_over_lots passed_over_2
+passed_over_right_2 = (passed_over_right_1, record { was_due = refl; tells = record { votes_told = refl; elected_told = refl; non_transferable_told = refl; lost_told = refl } })
+
+abbrev passed_over_3 : History
+passed_over_3 = stage (Surplus 2) (400000 ∷ 400000 ∷ 299998 ∷ 200000 ∷ 100000 ∷ []) ([]) 100000 2 ∷ passed_over_2
+
+passed_over_right_3 : IsRight passed_over passed_over_lots passed_over_3
+passed_over_right_3 = (passed_over_right_2, record { was_due = refl; tells = record { votes_told = refl; elected_told = refl; non_transferable_told = refl; lost_told = refl } })
+
+abbrev passed_over_4 : History
+passed_over_4 = stage (Exclude 5) (400000 ∷ 400000 ∷ 299998 ∷ 200000 ∷ 0 ∷ []) ([]) 200000 2 ∷ passed_over_3
+
+passed_over_right_4 : IsRight passed_over passed_over_lots passed_over_4
+passed_over_right_4 = (passed_over_right_3, record { was_due = refl; tells = record { votes_told = refl; elected_told = refl; non_transferable_told = refl; lost_told = refl } })
+
+abbrev passed_over_5 : History
+passed_over_5 = stage (ExcludeLast 4) (400000 ∷ 400000 ∷ 299998 ∷ 200000 ∷ 0 ∷ []) (3 ∷ []) 200000 2 ∷ passed_over_4
+
+passed_over_right_5 : IsRight passed_over passed_over_lots passed_over_5
+passed_over_right_5 = (passed_over_right_4, record { was_due = refl; tells = record { votes_told = refl; elected_told = refl; non_transferable_told = refl; lost_told = refl } })
+
+passed_over_count : IsCount passed_over passed_over_lots passed_over_5
+passed_over_count = (passed_over_right_5, refl)

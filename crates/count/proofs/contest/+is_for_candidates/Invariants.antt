@@ -1,0 +1,5 @@
+use Rattle.std.proofs.Common.{length}
+use Rattle.count.proofs.contest.+is_for_candidates.Given as goal
+
+abbrev pub decreases-is_for_candidates : goal.decreases-is_for_candidates
+decreases-is_for_candidates l = length l.preferences.now

@@ -1,0 +1,6 @@
+use Rattle.std.proofs.Common.{take}
+use Rattle.count.specs.Contest.{AreForCandidates}
+use Rattle.count.proofs.contest.are_for_candidates.Given as goal
+
+abbrev pub invariant-loop-paper : goal.invariant-loop-paper
+invariant-loop-paper l = AreForCandidates l.candidates (take l.paper-index l.papers)

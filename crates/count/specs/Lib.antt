@@ -1,0 +1,11 @@
+pub mod Contest
+pub mod Elected
+pub mod Places
+pub mod Figures
+pub mod Due
+pub mod Right
+pub mod Laws
+pub mod Advance
+pub mod Holdings
+pub mod Books
+pub mod Plain

@@ -1,0 +1,64 @@
+//! A count that is under way, however its papers are kept.
+
+ghost use Rattle.std.specs.Prelude.{◌≡◌, ℕ, reverse, OnOk, OnErr, IfSome, IfNone, IsOkUnless};
+ghost use Rattle.count.specs.Contest.{Contest, History, IsContest};
+ghost use Rattle.count.specs.Due.{due_after};
+ghost use Rattle.count.specs.Right.{IsRightByItself};
+ghost use Rattle.count.specs.Laws.{IsConserved, IsShort, FillsSeats};
+ghost use Rattle.count.specs.Advance.{refusal, Advances};
+
+use crate::stages::{Due, Stage};
+use thiserror::Error;
+
+/// Why a book didn't advance; it is unchanged.
+#[derive(Clone, Copy, Debug, PartialEq, Eq, Error)]
+pub enum AdvanceError {
+    /// 1: no vacancy is left.
+    #[error("count finished")]
+    Finished,
+    /// 2: a lot is due, and none was handed.
+    #[error("lot needed")]
+    LotNeeded,
+    /// 3: a lot is due, and the one handed names none of the tied.
+    #[error("lot not among the tied")]
+    LotNotAmong,
+    /// A growth was refused.
+    #[error("memory")]
+    Memory,
+}
+
+/// A count of a contest: the stages that are done, and what comes next.
+pub trait CountBook {
+    /// Candidates, seats, quota and papers.
+    ghost contest: { Self → Contest };
+
+    /// The stages so far, the newest first.
+    ghost history: { Self → History };
+
+    /// The stages so far, in their order. They are right for the contest and the lots that their
+    /// own actions name; the votes of each stage add up, and the stages are few.
+    fn stages(&self) -> &[Stage]
+        ensures is { reverse result.now ≡ history self.now }
+        ensures right { IsRightByItself (contest self.now) (history self.now) }
+        ensures conserved { IsConserved (contest self.now) (history self.now) }
+        ensures short { IsShort (contest self.now) (history self.now) };
+
+    /// What comes next: an action, a lot among the tied, or nothing, exactly where the count is
+    /// finished and all seats are filled.
+    fn due(&self) -> Due
+        ensures is { result ≡ due_after (contest self.now) (history self.now) }
+        ensures fair { IsContest (contest self.now) }
+        ensures filled { result ≡ Due.Finished → FillsSeats (contest self.now) (history self.now) };
+
+    /// Adds the one stage that is due, with the lot where one is needed; else the lot is ignored.
+    ///
+    /// Answers 1 where the count is finished, 2 and 3 where a lot is due and none, or one for a
+    /// candidate who isn't tied, is handed, and takes no memory for these. After every error the
+    /// book is unchanged.
+    fn advance(&mut self, lot: Option<u8>) -> Result<(), AdvanceError>
+        ensures same { contest self.new ≡ contest self.old }
+        ensures ok { OnOk result (Advances (contest self.old) (history self.old) lot (history self.new)) }
+        ensures err { OnErr result (history self.new ≡ history self.old) }
+        ensures refused { IfSome (refusal lot (due_after (contest self.old) (history self.old))) (λ e. result ≡ Err e) }
+        ensures otherwise { IfNone (refusal lot (due_after (contest self.old) (history self.old))) (IsOkUnless result AdvanceError.Memory) };
+}

@@ -1,0 +1,50 @@
+//! Whether a count may be held.
+
+ghost use Rattle.std.specs.Prelude.{◌≡◌, ◌↔◌, IsTrue};
+ghost use Rattle.std.specs.List.{AllByRecursion};
+ghost use Rattle.count.specs.Contest.{contest_for, In, AreForCandidates, IsContest};
+
+use paper::{Columns, Prefs};
+
+/// Whether all preferences of a paper are for candidates.
+fn is_for_candidates(candidates: &Columns, preferences: &[u8]) -> bool
+    ensures { IsTrue result ↔ AllByRecursion (λ c. In c candidates.now) preferences.now }
+{
+    match preferences.split_first() {
+        None => true,
+        Some((c, others)) => {
+            if !candidates.has(*c) {
+                return false;
+            }
+            is_for_candidates(candidates, others)
+        }
+    }
+}
+
+/// Whether all preferences of all papers are for candidates.
+fn are_for_candidates(candidates: &Columns, papers: &[Prefs]) -> bool
+    ensures { IsTrue result ↔ AreForCandidates candidates.now papers.now }
+{
+    for paper in papers {
+        if !is_for_candidates(candidates, paper.as_slice()) {
+            return false;
+        }
+    }
+    true
+}
+
+/// Whether a count may be held: seats 1 to 15, more candidates than seats, at most 4,999,500 papers,
+/// and preferences for candidates only.
+#[tactic(auto, using(crate::proofs::ContestLemmas::contests))]
+pub fn is_contest(candidates: &Columns, seats: u8, papers: &[Prefs]) -> bool
+    ensures { IsTrue result ↔ IsContest (contest_for candidates.now seats papers.now) }
+{
+    if seats < 1 || seats > 15 {
+        return false;
+    }
+    if candidates.len() <= usize::from(seats) || papers.len() > 4999500 {
+        return false;
+    }
+    let _set = candidates.as_slice();
+    are_for_candidates(candidates, papers)
+}

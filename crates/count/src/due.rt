@@ -1,0 +1,108 @@
+//! What is due after some stages.
+
+ghost use Rattle.std.specs.Prelude.{◌≡◌, ℕ, ◌<◌, [], length, reverse, IfOk, IfErr, Some};
+ghost use Rattle.count.specs.Due.{due_after, drawn, exclusion as exclusion_of, action_on as action_on_of, among as among_of, due_for as due_for_of};
+ghost use Rattle.count.specs.Advance.{refusal};
+ghost use Rattle.count.specs.Books.{contest_of};
+
+use crate::book::AdvanceError;
+use crate::stages::{Action, Due, Kind, Stage};
+use crate::standing::{continuing, elected, vacancies, with_surplus};
+use crate::terms::Terms;
+use crate::ties::{highest, lowest};
+use paper::{Columns, Prefs};
+
+/// The exclusion of a candidate.
+fn exclusion(terms: &Terms, stages: &[Stage], c: u8) -> Action
+    ensures { result ≡ exclusion_of (contest_of terms.now []) (reverse stages.now) c }
+{
+    if continuing(terms, stages).len().saturating_sub(1) == vacancies(terms, stages) {
+        return Action::ExcludeLast(c);
+    }
+    Action::Exclude(c)
+}
+
+/// The action of a kind on a candidate.
+fn action_on(terms: &Terms, stages: &[Stage], kind: Kind, c: u8) -> Action
+    ensures { result ≡ action_on_of (contest_of terms.now []) (reverse stages.now) kind c }
+{
+    match kind {
+        Kind::Surplus => Action::Surplus(c),
+        Kind::Exclusion => exclusion(terms, stages, c),
+    }
+}
+
+/// The action on the one candidate of a group, or the lot among several.
+#[tactic(auto, using(crate::proofs::DueLemmas::among_sizes))]
+fn among(terms: &Terms, stages: &[Stage], kind: Kind, group: &Columns) -> Due
+    requires few { length stages.now < 255 }
+    ensures { result ≡ among_of (contest_of terms.now []) (reverse stages.now) kind group.now }
+{
+    if group.len() == 0 {
+        return Due::Finished;
+    }
+    if group.len() == 1 {
+        return Due::Act(action_on(terms, stages, kind, group.as_slice()[0]));
+    }
+    Due::Lot {
+        stage: stages.len() as u8 + 1,
+        kind,
+        among: *group,
+    }
+}
+
+/// What is due while a vacancy is left, where these have a surplus.
+#[tactic(auto, using(crate::proofs::DueLemmas::due_sizes))]
+fn due_for(terms: &Terms, stages: &[Stage], group: &Columns) -> Due
+    requires few { length stages.now < 255 }
+    ensures { result ≡ due_for_of (contest_of terms.now []) (reverse stages.now) group.now }
+{
+    if group.len() == 0 {
+        let others = continuing(terms, stages);
+        return among(terms, stages, Kind::Exclusion, &lowest(stages, &others));
+    }
+    among(terms, stages, Kind::Surplus, &highest(stages, group))
+}
+
+/// What is due after some stages; the papers themselves aren't read.
+pub fn due(terms: &Terms, papers: &[Prefs], stages: &[Stage]) -> Due
+    requires few { length stages.now < 255 }
+    ensures { result ≡ due_after (contest_of terms.now papers.now) (reverse stages.now) }
+{
+    match stages.split_last() {
+        None => Due::Act(Action::First),
+        Some((newest, _)) => {
+            if vacancies(terms, stages) == 0 {
+                return Due::Finished;
+            }
+            let group = with_surplus(&elected(terms, stages), terms.quota, newest);
+            due_for(terms, stages, &group)
+        }
+    }
+}
+
+/// The action that is due, where a lot is handed; the papers themselves aren't read.
+pub fn action_by(
+    terms: &Terms,
+    papers: &[Prefs],
+    stages: &[Stage],
+    lot: Option<u8>,
+) -> Result<Action, AdvanceError>
+    requires few { length stages.now < 255 }
+    ensures ok { IfOk result (λ action. drawn (contest_of terms.now papers.now) (reverse stages.now) lot (due_after (contest_of terms.now papers.now) (reverse stages.now)) ≡ Some action) }
+    ensures err { IfErr result (λ e. refusal lot (due_after (contest_of terms.now papers.now) (reverse stages.now)) ≡ Some e) }
+{
+    match due(terms, papers, stages) {
+        Due::Act(action) => Ok(action),
+        Due::Finished => Err(AdvanceError::Finished),
+        Due::Lot { kind, among, .. } => match lot {
+            None => Err(AdvanceError::LotNeeded),
+            Some(c) => {
+                if among.has(c) {
+                    return Ok(action_on(terms, stages, kind, c));
+                }
+                Err(AdvanceError::LotNotAmong)
+            }
+        },
+    }
+}

@@ -1,0 +1,41 @@
+//! The Order's count by the single transferable vote, stage by stage.
+//!
+//! A [`CountBook`] is a count that is under way: the stages that are done, what is [`Due`], and
+//! [`CountBook::advance`], which adds the one stage that is due. [`ParcelBook`] keeps the papers in
+//! parcels, as a teller does. [`run_count`] counts to the end with the lots that are recorded.
+//!
+//! ```text
+//! if is_contest(&candidates, seats, &papers) {
+//!     let mut book = ParcelBook::new(alloc, candidates, seats, &papers)?;
+//!     let end = run_count(&mut book, &lots)?;      // finished, or a lot is needed
+//!     for stage in book.stages() { .. }            // each with votes, elected and sums
+//! }
+//! ```
+#![tactic(auto)]
+
+mod act;
+mod book;
+mod contest;
+mod due;
+mod moving;
+mod parcel;
+mod parcel_book;
+mod plain_book;
+mod record;
+mod run;
+mod sorting;
+mod stages;
+mod standing;
+mod tally;
+mod terms;
+mod ties;
+
+pub use book::{AdvanceError, CountBook};
+pub use contest::is_contest;
+pub use parcel_book::ParcelBook;
+pub use plain_book::PlainBook;
+pub use run::{CountEnd, run_count};
+pub use stages::{Action, Due, Kind, Stage};
+
+#[cfg(test)]
+mod tests;

@@ -1,0 +1,97 @@
+//! Moving the papers that an action takes from their holder.
+
+ghost use Rattle.std.specs.Prelude.{◌≡◌, ℕ, ◌+◌, ◌-◌, ◌<◌, ◌≤◌, List, not, reverse, vec_len, vec_capacity, IfOk, OnOk};
+ghost use Rattle.std.specs.List.{filter};
+ghost use Rattle.count.specs.Advance.{IsDue};
+ghost use Rattle.count.specs.Holdings.{total, passes_on as passes_on_of, kept_by, IsTransferRule};
+ghost use Rattle.count.specs.Books.{contest_of, AreRankings, IsMovedBy, IsBook};
+
+use crate::parcel::{Holding, TransferRule};
+use crate::sorting::{first_holdings, pass_on};
+use crate::stages::{Action, Stage};
+use crate::standing::{newest_votes, standing};
+use crate::terms::Terms;
+use paper::Prefs;
+use std::alloc::{AllocError, Global};
+use votes::Votes;
+
+/// How a surplus cuts values: by the part that it is of the votes credited.
+pub fn share(quota: Votes, credited: Votes) -> TransferRule
+    requires some { 0 < quota }
+    requires above { quota < credited }
+    requires few { credited ≤ 499950000000 }
+    ensures is { result ≡ TransferRule.Share (credited - quota) credited }
+    ensures rule { IsTransferRule result }
+{
+    let surplus = Votes::from_units(credited.units() - quota.units());
+    TransferRule::Share { surplus, credited }
+}
+
+/// The holdings of the papers that a due action moves, at their new holders and values.
+pub fn moved_by<'a>(
+    alloc: Global,
+    terms: &Terms,
+    papers: &'a [Prefs],
+    holdings: &[Holding<'a>],
+    stages: &[Stage],
+    action: &Action,
+) -> Result<Vec<Holding<'a>>, AllocError>
+    requires book { IsBook (contest_of terms.now papers.now) (reverse stages.now) holdings.now }
+    requires due { IsDue (contest_of terms.now papers.now) (reverse stages.now) action.now }
+    ensures moved { IfOk result (λ moved. IsMovedBy (contest_of terms.now papers.now) (reverse stages.now) action.now holdings.now moved.items) }
+    ensures rankings { OnOk result (AreRankings papers.now) }
+{
+    match action {
+        Action::First => {
+            let moved = first_holdings(alloc, papers)?;
+            Ok(moved)
+        }
+        Action::Surplus(c) => {
+            let rule = share(terms.quota, newest_votes(stages, *c));
+            let moved = pass_on(alloc, holdings, *c, &standing(terms, stages), &rule)?;
+            Ok(moved)
+        }
+        Action::Exclude(c) => {
+            let moved = pass_on(
+                alloc,
+                holdings,
+                *c,
+                &standing(terms, stages),
+                &TransferRule::AsReceived,
+            )?;
+            Ok(moved)
+        }
+        Action::ExcludeLast(_) => Ok(Vec::new(alloc)),
+    }
+}
+
+/// Whether an action passes on the papers of a holder.
+pub fn passes_on(action: &Action, holder: u8) -> bool
+    ensures { result ≡ passes_on_of action.now holder }
+{
+    match action {
+        Action::First => false,
+        Action::Surplus(c) => *c == holder,
+        Action::Exclude(c) => *c == holder,
+        Action::ExcludeLast(_) => false,
+    }
+}
+
+/// Leaves out the holdings whose papers an action passes on.
+fn leave_out<'a>(holdings: &mut Vec<Holding<'a>>, action: &Action)
+    ensures kept { holdings.new.items ≡ filter (λ holding. not (passes_on_of action.now holding.holder)) holdings.old.items }
+    ensures capacity { vec_capacity holdings.new ≡ vec_capacity holdings.old }
+    ensures len { vec_len holdings.new ≤ vec_len holdings.old }
+{
+    holdings.retain(|holding| !passes_on(action, holding.holder));
+}
+
+/// Puts the holdings that an action made in the place of those whose papers it passed on.
+pub fn replace<'a>(holdings: &mut Vec<Holding<'a>>, action: &Action, moved: Vec<Holding<'a>>)
+    requires { vec_len holdings.old + vec_len moved ≤ vec_capacity holdings.old }
+    ensures { (f : ℕ → List ℕ → ℕ → ℕ) → total f holdings.new.items ≡ total f moved.entry.items + total (kept_by f action.now) holdings.old.items }
+{
+    let mut moved = moved;
+    leave_out(holdings, action);
+    let _ = holdings.append(&mut moved);
+}

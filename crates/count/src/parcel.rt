@@ -1,0 +1,29 @@
+//! Papers in parcels, by holder.
+
+ghost use Rattle.std.specs.Prelude.{◌≤◌};
+
+use votes::Votes;
+
+/// Papers that were received at one value: of each the preferences from its holder's on.
+#[derive(Drop)]
+pub struct Parcel<'a> {
+    pub value: Votes,
+    pub papers: Vec<&'a [u8]>,
+    ghost small: { value ≤ 100000 },
+}
+
+/// The parcels that one stage brought to a candidate, or with 0 to no one.
+#[derive(Drop)]
+pub struct Holding<'a> {
+    pub holder: u8,
+    pub parcels: Vec<Parcel<'a>>,
+}
+
+/// What becomes of the value of a paper that is passed on ("Transfer values").
+#[derive(Clone, Copy, Debug)]
+pub enum TransferRule {
+    /// It keeps the value at which it was received.
+    AsReceived,
+    /// Its value is cut by the part that the surplus is of the votes credited.
+    Share { surplus: Votes, credited: Votes },
+}

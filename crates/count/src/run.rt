@@ -1,0 +1,95 @@
+//! A count from where it stands to its end.
+
+ghost use Rattle.std.specs.Prelude.{◌≡◌, OnOk, OnErr, IfOk, IfSome, IfNone, None, Some};
+ghost use Rattle.count.specs.Contest.{IsContest};
+ghost use Rattle.count.specs.Due.{due_after, lot_for};
+ghost use Rattle.count.specs.Right.{IsRight, BeginsEachRight, OneBeginsOther};
+ghost use Rattle.count.specs.Laws.{FillsSeats};
+ghost use Rattle.count.specs.Advance.{AdvancesBy, Advances, refusal, end_after};
+
+use crate::book::{AdvanceError, CountBook};
+use crate::stages::Due;
+use paper::Columns;
+use std::alloc::AllocError;
+
+/// Why a count ended.
+#[derive(Clone, Copy, Debug, PartialEq, Eq)]
+pub enum CountEnd {
+    /// No vacancy is left.
+    Finished,
+    /// A lot is needed for this stage among these, and none is recorded.
+    LotNeeded { stage: u8, among: Columns },
+    /// A lot is needed for this stage, and the recorded one names none of the tied.
+    LotNotAmong { stage: u8 },
+}
+
+/// The candidate that the lot for a stage names.
+fn lot_at(lots: &[(u8, u8)], stage: u8) -> Option<u8>
+    ensures { result ≡ lot_for lots.now stage }
+{
+    lots.iter().find(|lot| lot.0 == stage).map(|lot| lot.1)
+}
+
+/// Adds the stage that is due, where there is one.
+fn advanced<B: CountBook>(book: &mut B, lot: Option<u8>) -> Result<Option<CountEnd>, AllocError>
+    requires { refusal lot (due_after (B.contest book.old) (B.history book.old)) ≡ None }
+    ensures same { B.contest book.new ≡ B.contest book.old }
+    ensures none { IfOk result (λ end. end ≡ None) }
+    ensures ok { OnOk result (Advances (B.contest book.old) (B.history book.old) lot (B.history book.new)) }
+    ensures err { OnErr result (B.history book.new ≡ B.history book.old) }
+{
+    match book.advance(lot) {
+        Ok(()) => Ok(None),
+        Err(_) => Err(AllocError),
+    }
+}
+
+/// Adds the stage that is due, or tells why there is none.
+#[tactic(auto, using(crate::proofs::DueLemmas::due_lot))]
+fn step<B: CountBook>(book: &mut B, lots: &[(u8, u8)]) -> Result<Option<CountEnd>, AllocError>
+    ensures same { B.contest book.new ≡ B.contest book.old }
+    ensures fair { IsContest (B.contest book.old) }
+    ensures end { IfOk result (λ end. end ≡ end_after (B.contest book.old) lots.now (B.history book.old)) }
+    ensures ended { IfOk result (λ end. IfSome end (λ _. B.history book.new ≡ B.history book.old)) }
+    ensures stepped { IfOk result (λ end. IfNone end (AdvancesBy (B.contest book.old) lots.now (B.history book.old) (B.history book.new))) }
+    ensures err { OnErr result (B.history book.new ≡ B.history book.old) }
+{
+    match book.due() {
+        Due::Finished => Ok(Some(CountEnd::Finished)),
+        Due::Act(_) => advanced(book, None),
+        Due::Lot { stage, among, .. } => match lot_at(lots, stage) {
+            None => Ok(Some(CountEnd::LotNeeded { stage, among })),
+            Some(c) => {
+                if among.has(c) {
+                    advanced(book, Some(c))
+                } else {
+                    Ok(Some(CountEnd::LotNotAmong { stage }))
+                }
+            }
+        },
+    }
+}
+
+/// Adds stages until the count is finished, or a lot is needed that isn't recorded.
+///
+/// A lot is a pair of a stage, counted from 1, and the candidate that it names; where two are for
+/// one stage, the first counts. The stages so far have to be right for these lots. Whatever list
+/// of stages is right for the same lots and papers, in any order, is a beginning of those that the
+/// book has then; so of two right lists one is a beginning of the other. After want of memory the book has the stages made so far.
+#[tactic(auto, using(crate::proofs::RightLemmas::whole_count))]
+pub fn run_count<B: CountBook>(book: &mut B, lots: &[(u8, u8)]) -> Result<CountEnd, AllocError>
+    requires { IsRight (B.contest book.old) lots.now (B.history book.old) }
+    ensures same { B.contest book.new ≡ B.contest book.old }
+    ensures right { IsRight (B.contest book.old) lots.now (B.history book.new) }
+    ensures end { IfOk result (λ end. end_after (B.contest book.old) lots.now (B.history book.new) ≡ Some end) }
+    ensures whole { OnOk result (BeginsEachRight (B.contest book.old) lots.now (B.history book.new)) }
+    ensures unique { OneBeginsOther (B.contest book.old) lots.now }
+    ensures filled { IfOk result (λ end. end ≡ CountEnd.Finished → FillsSeats (B.contest book.old) (B.history book.new)) }
+{
+    'stages: loop {
+        match step(book, lots)? {
+            Some(end) => return Ok(end),
+            None => {}
+        }
+    }
+}

@@ -1,0 +1,57 @@
+//! The stages of a count, and what comes next in it.
+
+use paper::Columns;
+use votes::Votes;
+
+/// What is done at a stage; candidates go by their numbers, 1 to 30.
+#[derive(Clone, Copy, Debug, PartialEq, Eq)]
+pub enum Action {
+    /// Each paper goes to its first preference, as one vote.
+    First,
+    /// The surplus of a candidate is transferred ("Transfer of ballot papers").
+    Surplus(u8),
+    /// A candidate is excluded, and his papers are transferred ("Exclusion of candidates").
+    Exclude(u8),
+    /// A candidate is excluded so that the last vacancies are filled; nothing is transferred
+    /// ("Filling of last vacancies").
+    ExcludeLast(u8),
+}
+
+/// A stage that is done: its action, and where it leaves the candidates.
+#[derive(Clone, Copy, Debug, PartialEq, Eq)]
+pub struct Stage {
+    pub action: Action,
+    /// The votes of candidate c at place c - 1, and 0 for numbers that are no candidates.
+    pub votes: [Votes; 30],
+    /// Who is newly elected at this stage.
+    pub elected: Columns,
+    /// The values of the papers without a next preference, of all stages up to this one.
+    pub non_transferable: Votes,
+    /// What surpluses lost by fractions, at all stages up to this one.
+    pub lost: Votes,
+}
+
+/// What candidates are tied for.
+#[derive(Clone, Copy, Debug, PartialEq, Eq)]
+pub enum Kind {
+    /// Equal highest surpluses.
+    Surplus,
+    /// Equal fewest votes.
+    Exclusion,
+}
+
+/// What comes next in a count.
+#[derive(Clone, Copy, Debug, PartialEq, Eq)]
+pub enum Due {
+    /// An action is due.
+    Act(Action),
+    /// A lot has to be drawn for this stage, counted from 1, among candidates whose votes were
+    /// equal at all stages.
+    Lot {
+        stage: u8,
+        kind: Kind,
+        among: Columns,
+    },
+    /// No vacancy is left.
+    Finished,
+}

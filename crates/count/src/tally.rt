@@ -1,0 +1,144 @@
+//! What a stage records.
+
+ghost use Rattle.std.specs.Prelude.{◌≡◌, ℕ, ◌+◌, ◌-◌, ◌<◌, ◌≤◌, ◌||◌, [], ◌∷◌, List, map, reverse, vec_len, vec_capacity};
+ghost use Rattle.count.specs.Contest.{numbers};
+ghost use Rattle.count.specs.Elected.{is_transferred as is_transferred_of, transfers as transfers_of};
+ghost use Rattle.count.specs.Holdings.{total_of, total, worth as worth_of, worth_to as worth_to_of, votes_with as votes_with_of, lost_with as lost_with_of, newest_non_transferable, newest_lost as newest_lost_of, AreSmall};
+ghost use Rattle.count.specs.Books.{Records};
+
+use crate::moving::passes_on;
+use crate::parcel::{Holding, Parcel};
+use crate::record::add_stage;
+use crate::stages::{Action, Stage};
+use crate::standing::{is_transferred_with, newest_votes};
+use crate::terms::Terms;
+use paper::Columns;
+use votes::Votes;
+
+/// What the papers of some parcels are worth, in units.
+fn worth_of_parcels(parcels: &[Parcel]) -> u64
+    requires { total_of (λ rest v. v) parcels.now ≤ 499950000000 }
+    ensures { result ≡ total_of (λ rest v. v) parcels.now }
+{
+    let mut sum = 0u64;
+    for parcel in parcels {
+        sum += parcel.value.units() * parcel.papers.len() as u64;
+    }
+    sum
+}
+
+/// What the papers of some holdings are worth to a holder, in units.
+fn worth_to(holder: u8, holdings: &[Holding]) -> u64
+    requires { worth_of holdings.now ≤ 499950000000 }
+    ensures { result ≡ worth_to_of holder holdings.now }
+{
+    let mut sum = 0u64;
+    for holding in holdings {
+        if holding.holder == holder {
+            sum += worth_of_parcels(&holding.parcels);
+        }
+    }
+    sum
+}
+
+/// What the papers of some holdings are worth together, in units.
+fn worth(holdings: &[Holding]) -> u64
+    requires { worth_of holdings.now ≤ 499950000000 }
+    ensures { result ≡ worth_of holdings.now }
+{
+    let mut sum = 0u64;
+    for holding in holdings {
+        sum += worth_of_parcels(&holding.parcels);
+    }
+    sum
+}
+
+/// The votes of a candidate once an action has moved papers: just the quota once the surplus has
+/// gone, else what he has kept and what he is given.
+fn votes_with(quota: Votes, stages: &[Stage], action: &Action, moved: &[Holding], c: u8) -> Votes
+    requires some { 1 ≤ c }
+    requires few { c ≤ 30 }
+    requires small { AreSmall (reverse stages.now) moved.now }
+    ensures { result ≡ votes_with_of quota (reverse stages.now) action.now moved.now c }
+{
+    if is_transferred_with(stages, action, c) {
+        return quota;
+    }
+    let given = worth_to(c, moved);
+    if passes_on(action, c) {
+        return Votes::from_units(given);
+    }
+    Votes::from_units(given + newest_votes(stages, c).units())
+}
+
+/// The votes of all numbers once an action has moved papers.
+fn all_votes(quota: Votes, stages: &[Stage], action: &Action, moved: &[Holding]) -> [Votes; 30]
+    requires { AreSmall (reverse stages.now) moved.now }
+    ensures { result ≡ map (votes_with_of quota (reverse stages.now) action.now moved.now) numbers }
+{
+    let mut votes = [Votes::from_units(0); 30];
+    for i in 0..30usize {
+        votes[i] = votes_with(quota, stages, action, moved, i as u8 + 1);
+    }
+    votes
+}
+
+/// The non-transferable once an action has moved papers.
+fn non_transferable_with(stages: &[Stage], moved: &[Holding]) -> Votes
+    requires { AreSmall (reverse stages.now) moved.now }
+    ensures { result ≡ newest_non_transferable (reverse stages.now) + worth_to_of 0 moved.now }
+{
+    let given = worth_to(0, moved);
+    match stages.split_last() {
+        None => Votes::from_units(given),
+        Some((newest, _)) => Votes::from_units(newest.non_transferable.units() + given),
+    }
+}
+
+/// What the stages so far have lost by fractions.
+pub fn newest_lost(stages: &[Stage]) -> u64
+    ensures { result ≡ newest_lost_of (reverse stages.now) }
+{
+    match stages.split_last() {
+        None => 0,
+        Some((newest, _)) => newest.lost.units(),
+    }
+}
+
+/// What is lost by fractions once an action has moved papers: a surplus loses what it holds beyond
+/// the values that it gives.
+fn lost_with(quota: Votes, stages: &[Stage], action: &Action, moved: &[Holding]) -> Votes
+    requires column { (c : ℕ) → action.now ≡ Action.Surplus c → (1 ≤ c) × (c ≤ 30) }
+    requires small { AreSmall (reverse stages.now) moved.now }
+    ensures { result ≡ lost_with_of quota (reverse stages.now) action.now moved.now }
+{
+    let before = newest_lost(stages);
+    match action {
+        Action::First => Votes::from_units(before),
+        Action::Surplus(c) => {
+            let surplus = newest_votes(stages, *c)
+                .units()
+                .saturating_sub(quota.units());
+            Votes::from_units(before + surplus.saturating_sub(worth(moved)))
+        }
+        Action::Exclude(_) => Votes::from_units(before),
+        Action::ExcludeLast(_) => Votes::from_units(before),
+    }
+}
+
+/// Adds the stage of an action to those before it, where there is room.
+pub fn record_stage(terms: &Terms, stages: &mut Vec<Stage>, action: &Action, moved: &[Holding])
+    requires room { vec_len stages.old < vec_capacity stages.old }
+    requires column { (c : ℕ) → action.now ≡ Action.Surplus c → (1 ≤ c) × (c ≤ 30) }
+    requires small { AreSmall (reverse stages.old.items) moved.now }
+    ensures { Records terms.now (reverse stages.old.items) action.now moved.now (reverse stages.new.items) }
+{
+    let stage = Stage {
+        action: *action,
+        votes: all_votes(terms.quota, stages, action, moved),
+        elected: Columns::empty(),
+        non_transferable: non_transferable_with(stages, moved),
+        lost: lost_with(terms.quota, stages, action, moved),
+    };
+    add_stage(terms, stages, stage);
+}

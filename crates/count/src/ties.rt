@@ -1,0 +1,87 @@
+//! Who has the most votes, or the fewest, in a group of candidates.
+
+ghost use Rattle.std.specs.Prelude.{◌≡◌, ℕ, ◌≤◌, reverse};
+ghost use Rattle.std.specs.List.{list_any};
+ghost use Rattle.count.specs.Due.{is_above as is_above_of, highest as highest_of, lowest as lowest_of};
+
+use crate::stages::Stage;
+use crate::standing::{choose, votes_after};
+use paper::Columns;
+
+/// Whether a candidate had more votes than another at the most recent stage at which they differed.
+fn is_above(stages: &[Stage], c: u8, d: u8) -> bool
+    requires some { 1 ≤ c }
+    requires few { c ≤ 30 }
+    requires some_other { 1 ≤ d }
+    requires few_other { d ≤ 30 }
+    ensures { result ≡ is_above_of (reverse stages.now) c d }
+{
+    match stages.split_last() {
+        None => false,
+        Some((newest, before)) => {
+            let of_c = votes_after(newest, c).units();
+            let of_d = votes_after(newest, d).units();
+            if of_d < of_c {
+                return true;
+            }
+            if of_d == of_c {
+                return is_above(before, c, d);
+            }
+            false
+        }
+    }
+}
+
+/// Whether one of a group is above a candidate.
+fn has_above(stages: &[Stage], group: &Columns, c: u8) -> bool
+    requires some { 1 ≤ c }
+    requires few { c ≤ 30 }
+    ensures { result ≡ list_any (λ d. is_above_of (reverse stages.now) d c) group.now }
+{
+    for d in group.as_slice() {
+        if is_above(stages, *d, c) {
+            return true;
+        }
+    }
+    false
+}
+
+/// Whether a candidate is above one of a group.
+fn has_below(stages: &[Stage], group: &Columns, c: u8) -> bool
+    requires some { 1 ≤ c }
+    requires few { c ≤ 30 }
+    ensures { result ≡ list_any (λ d. is_above_of (reverse stages.now) c d) group.now }
+{
+    for d in group.as_slice() {
+        if is_above(stages, c, *d) {
+            return true;
+        }
+    }
+    false
+}
+
+/// Those of a group whom none of it is above.
+pub fn highest(stages: &[Stage], group: &Columns) -> Columns
+    ensures { result ≡ highest_of (reverse stages.now) group.now }
+{
+    let mut chosen = Columns::empty();
+    for c in group.as_slice() {
+        if !has_above(stages, group, *c) {
+            choose(&mut chosen, *c);
+        }
+    }
+    chosen
+}
+
+/// Those of a group who are above none of it.
+pub fn lowest(stages: &[Stage], group: &Columns) -> Columns
+    ensures { result ≡ lowest_of (reverse stages.now) group.now }
+{
+    let mut chosen = Columns::empty();
+    for c in group.as_slice() {
+        if !has_below(stages, group, *c) {
+            choose(&mut chosen, *c);
+        }
+    }
+    chosen
+}

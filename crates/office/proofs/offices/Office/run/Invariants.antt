@@ -1,0 +1,20 @@
+use Rattle.std.proofs.Common.{◌≡◌, ◌≤◌, false, length, map, take, vec_len, vec_capacity}
+use Rattle.sqlite.specs.State.{HasCleanDisk}
+use Rattle.sqlite.specs.Held.{state}
+use Rattle.register.specs.Offices.{OfficeState}
+use Rattle.register.specs.Machine.{after}
+use Rattle.store.specs.Offices.{IsAt}
+use Rattle.office.specs.Answers.{IsOpenAt, told, told_of}
+use Rattle.office.specs.Runs.{outcomes}
+use Rattle.office.proofs.offices.Office.run.Given as goal
+
+abbrev pub invariant-loop-request : goal.invariant-loop-request
+invariant-loop-request g l = record {
+  count : vec_len l.answers ≡ l.request-index;
+  room : length l.requests ≤ vec_capacity l.answers;
+  clean : HasCleanDisk (state g.S.Store l.self.held) → HasCleanDisk (state g.S.Store l.initial.self.held);
+  open_at : HasCleanDisk (state g.S.Store l.self.held) → l.initial.self.closed ≡ false → (s : OfficeState) → IsAt s (state g.S.Store l.initial.self.held)
+      → IsOpenAt (after s (take l.request-index l.requests)) l.self.closed (state g.S.Store l.self.held);
+  answers : HasCleanDisk (state g.S.Store l.self.held) → l.initial.self.closed ≡ false → (s : OfficeState) → IsAt s (state g.S.Store l.initial.self.held)
+      → map told l.answers.items ≡ map told_of (outcomes s (take l.request-index l.requests));
+}

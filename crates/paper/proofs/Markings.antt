@@ -1,0 +1,68 @@
+use Rattle.std.proofs.Common.{◌≡◌, ℕ, suc, zero, ◌+◌, ◌<◌, ◌≤◌, ◌==◌, Bool, true, false, cond, List, [], ◌∷◌, ◌++◌, length, take, drop, get_or, map, refl, sym, ap, ◌∙◌, arith, append-nil}
+use Rattle.std.specs.List.{zip, filter}
+use Rattle.std.proofs.lemmas.Bool.{eq-eqb, ne_eqb}
+use Rattle.std.proofs.lemmas.List.{take_all}
+use Rattle.paper.specs.Bearers.{bearers_of, one_more}
+use Rattle.paper.specs.Marking.{Marking, candidates_of, marked_with}
+use Rattle.paper.specs.declared.marked.Bearers.{Bearers}
+
+-- the first of two lists side by side, and one more of each
+zip-take_more : (xs ys : List ℕ) (i : ℕ) → i < length xs → i < length ys → take (i + 1) (zip xs ys) ≡ take i (zip xs ys) ++ (get_or xs i 0, get_or ys i 0) ∷ []
+zip-take_more [] ys i here there = absurd (omega (arith, here))
+zip-take_more (x ∷ xs) [] i here there = absurd (omega (arith, there))
+zip-take_more (x ∷ xs) (y ∷ ys) zero here there = refl
+zip-take_more (x ∷ xs) (y ∷ ys) (suc i) here there =
+    let e : suc i + 1 ≡ suc (i + 1) = omega arith in
+    ap (λ n. take n ((x, y) ∷ zip xs ys)) e ∙ ap (λ l. (x, y) ∷ l) (zip-take_more xs ys i (omega (arith, here)) (omega (arith, there)))
+
+-- a candidate more, whose mark is the number or isn't
+marked_with-append : (n : ℕ) (ms : Marking) (c mark : ℕ) → marked_with n (ms ++ (c, mark) ∷ []) ≡ marked_with n ms ++ cond (mark == n) (c ∷ []) []
+marked_with-append n [] c mark = by_mark (mark == n)
+  where
+    by_mark : (b : Bool) → map (λ (m : ℕ × ℕ). m.0) (cond b ((c, mark) ∷ []) []) ≡ cond b (c ∷ []) []
+    by_mark true = refl
+    by_mark false = refl
+marked_with-append n (m ∷ ms) c mark = by_mark (m.1 == n) (marked_with-append n ms c mark)
+  where
+    by_mark : (b : Bool) → marked_with n (ms ++ (c, mark) ∷ []) ≡ marked_with n ms ++ cond (mark == n) (c ∷ []) [] →
+        map (λ (k : ℕ × ℕ). k.0) (cond b (m ∷ filter (λ (k : ℕ × ℕ). k.1 == n) (ms ++ (c, mark) ∷ [])) (filter (λ (k : ℕ × ℕ). k.1 == n) (ms ++ (c, mark) ∷ [])))
+        ≡ map (λ (k : ℕ × ℕ). k.0) (cond b (m ∷ filter (λ (k : ℕ × ℕ). k.1 == n) ms) (filter (λ (k : ℕ × ℕ). k.1 == n) ms)) ++ cond (mark == n) (c ∷ []) []
+    by_mark true others = ap (λ l. m.0 ∷ l) others
+    by_mark false others = others
+
+bearers_of-append : (cs : List ℕ) (c : ℕ) → bearers_of (cs ++ c ∷ []) ≡ one_more (bearers_of cs) c
+bearers_of-append [] c = refl
+bearers_of-append (d ∷ []) c = refl
+bearers_of-append (d ∷ e ∷ cs) c = refl
+
+-- as many candidates as marks at least
+pub zip-within : (xs ys : List ℕ) → candidates_of (zip xs ys) ≡ xs → length xs ≤ length ys
+zip-within [] ys same = omega arith
+zip-within (x ∷ xs) [] same = cc
+zip-within (x ∷ xs) (y ∷ ys) same = omega (arith, zip-within xs ys (ap (drop 1) same))
+
+-- the bearers among the first, with a candidate more who is one, or isn't
+pub bearers-yes : (n : ℕ) (xs ys : List ℕ) (i : ℕ) (found more : Bearers) → found ≡ bearers_of (marked_with n (take i (zip xs ys))) → i < length xs → i < length ys →
+    get_or ys i 0 ≡ n → more ≡ one_more found (get_or xs i 0) → more ≡ bearers_of (marked_with n (take (i + 1) (zip xs ys)))
+bearers-yes n xs ys i found more so_far here there same one =
+    one ∙ ap (λ b. one_more b (get_or xs i 0)) so_far ∙ sym (bearers_of-append (marked_with n (take i (zip xs ys))) (get_or xs i 0))
+    ∙ ap (λ b. bearers_of (marked_with n (take i (zip xs ys)) ++ cond b (get_or xs i 0 ∷ []) [])) (sym (eq-eqb (get_or ys i 0) n same))
+    ∙ ap bearers_of (sym (marked_with-append n (take i (zip xs ys)) (get_or xs i 0) (get_or ys i 0)))
+    ∙ ap (λ ms. bearers_of (marked_with n ms)) (sym (zip-take_more xs ys i here there))
+
+pub bearers-no : (n : ℕ) (xs ys : List ℕ) (i : ℕ) (found : Bearers) → found ≡ bearers_of (marked_with n (take i (zip xs ys))) → i < length xs → i < length ys →
+    (get_or ys i 0 ≡ n → ⊥) → found ≡ bearers_of (marked_with n (take (i + 1) (zip xs ys)))
+bearers-no n xs ys i found so_far here there other =
+    so_far ∙ ap bearers_of (sym (append-nil (marked_with n (take i (zip xs ys)))))
+    ∙ ap (λ b. bearers_of (marked_with n (take i (zip xs ys)) ++ cond b (get_or xs i 0 ∷ []) [])) (sym (ne_eqb (get_or ys i 0) n other))
+    ∙ ap bearers_of (sym (marked_with-append n (take i (zip xs ys)) (get_or xs i 0) (get_or ys i 0)))
+    ∙ ap (λ ms. bearers_of (marked_with n ms)) (sym (zip-take_more xs ys i here there))
+
+-- the first of a pair of lists are all
+pub zip-all : (xs ys : List ℕ) (i : ℕ) → length xs ≤ i → take i (zip xs ys) ≡ zip xs ys
+zip-all xs ys i all = take_all i (zip xs ys) (omega (arith, zip-short xs ys, all))
+  where
+    zip-short : (ks vs : List ℕ) → length (zip ks vs) ≤ length ks
+    zip-short [] vs = omega arith
+    zip-short (k ∷ ks) [] = omega arith
+    zip-short (k ∷ ks) (v ∷ vs) = omega (arith, zip-short ks vs)

@@ -1,0 +1,10 @@
+use Rattle.std.proofs.Common.{◌≡◌, ◌+◌, ◌-◌, ◌++◌, length, take, drop, replicate}
+use Rattle.paper.specs.Preferences.{preferences, preferences_from}
+use Rattle.paper.proofs.validity.preferred.Given as goal
+
+abbrev pub invariant-loop-place : goal.invariant-loop-place
+invariant-loop-place l = record {
+  whole : preferences l.m ≡ take l.place l.numbers ++ preferences_from (30 - l.place) (l.place + 1) l.m;
+  zeros : drop l.place l.numbers ≡ replicate (30 - l.place) 0;
+  size : length l.numbers ≡ 30;
+}

@@ -1,0 +1,133 @@
+//! What a clerk keyed of a ballot paper, and its text.
+
+ghost use Rattle.std.specs.Prelude.{◌≡◌, ℕ, ◌+◌, ◌≤◌, ◌++◌, length, IfOk, OnOk, string_bytes};
+ghost use Rattle.std.specs.List.{zip};
+ghost use Rattle.paper.specs.Bearers.{bearers_of, one_more};
+ghost use Rattle.paper.specs.MarksText.{ReadsBack, field_text, spelling};
+ghost use Rattle.paper.specs.Marking.{IsMarking, candidates_of, marks_of, marked_with};
+ghost use Rattle.paper.specs.Padded.{padded};
+
+use crate::columns::Columns;
+use std::alloc::{AllocError, Global};
+use std::fmt::Write;
+use std::marker::Model;
+
+/// The marks on a ballot paper, seen as each candidate's number beside the number in the field for
+/// him, 0 where that is empty, in ascending order of the candidates.
+#[derive(Clone, Copy, Debug, PartialEq, Eq)]
+pub struct Marked {
+    columns: Columns,
+    marks: [u8; 30],
+}
+
+impl Model for Marked {
+    ghost use Rattle.paper.specs.Marking.{Marking};
+
+    ghost Value = { Marking };
+
+    ghost use Rattle.std.specs.Prelude.{◌≡◌};
+    ghost use Rattle.std.specs.List.{zip};
+    ghost use Rattle.paper.specs.Marking.{IsMarking, candidates_of, marks_of};
+    ghost use Rattle.paper.specs.Padded.{padded};
+
+    ghost view = { λ a. zip a.columns a.marks };
+
+    ghost invariant = { λ a. (candidates_of (zip a.columns a.marks) ≡ a.columns) × (padded (marks_of (zip a.columns a.marks)) ≡ a.marks) × IsMarking (zip a.columns a.marks) };
+
+    ghost inverse = { λ m. record { columns = candidates_of m; marks = padded (marks_of m) } };
+
+    ghost inverse_ok = { λ a h. Prim.rw (h.0, h.1) };
+}
+
+/// What a clerk keyed of a ballot paper.
+#[derive(Clone, Copy, Debug, PartialEq, Eq)]
+pub enum Keyed {
+    /// The clerk leaves the paper to the returning officer.
+    Doubtful,
+    Marked(Marked),
+}
+
+impl Keyed {
+    /// The one text that is read as what was keyed, or want of memory.
+    pub fn text(&self, alloc: Global) -> Result<String, AllocError>
+        ensures is { IfOk result (λ text. string_bytes text ≡ spelling self.now) }
+        ensures reads_back { ReadsBack self.now }
+    {
+        match self {
+            Keyed::Doubtful => String::from_str(alloc, "D"),
+            Keyed::Marked(marked) => marked.text(alloc),
+        }
+    }
+}
+
+impl Marked {
+    /// The fields of the columns in their order, parted by commas.
+    fn text(&self, alloc: Global) -> Result<String, AllocError>
+        ensures is { IfOk result (λ text. string_bytes text ≡ spelling (Keyed.Marked self.now)) }
+        ensures marking { IsMarking self.now }
+    {
+        let mut text = String::new(alloc);
+        for (i, mark) in self.marks[..self.columns.len()].iter().enumerate() {
+            push_field(&mut text, i, *mark)?;
+        }
+        Ok(text)
+    }
+
+    /// The marks of some columns, in their order.
+    pub(crate) fn new(columns: Columns, marks: [u8; 30]) -> Marked
+        requires columns { candidates_of (zip columns marks) ≡ columns }
+        requires marks { padded (marks_of (zip columns marks)) ≡ marks }
+        requires marking { IsMarking (zip columns marks) }
+        ensures { result ≡ zip columns marks }
+    {
+        Marked { columns, marks }
+    }
+
+    /// Who has a number beside him.
+    pub(crate) fn bearers(&self, n: u8) -> Bearers
+        ensures is { result ≡ bearers_of (marked_with n self.now) }
+        ensures marking { IsMarking self.now }
+    {
+        let mut bearers = Bearers::Nobody;
+        for (i, c) in self.columns.as_slice().iter().enumerate() {
+            if self.marks[i] == n {
+                bearers = bearers.and(*c);
+            }
+        }
+        bearers
+    }
+}
+
+/// Puts a field to the end of a text, with a comma in front of every field but the first.
+fn push_field(text: &mut String, i: usize, mark: u8) -> Result<(), AllocError>
+    ensures { OnOk result (string_bytes text.new ≡ string_bytes text.old ++ field_text i mark) }
+{
+    if i > 0 {
+        text.push(',')?;
+    }
+    if mark > 0 {
+        write!(text, "{mark}")?;
+    }
+    Ok(())
+}
+
+/// The candidates beside whom one number stands.
+#[derive(Clone, Copy, Debug, PartialEq, Eq)]
+pub(crate) enum Bearers {
+    Nobody,
+    One(u8),
+    Several,
+}
+
+impl Bearers {
+    /// The same with one candidate more.
+    fn and(self, c: u8) -> Bearers
+        ensures { result ≡ one_more self c }
+    {
+        match self {
+            Bearers::Nobody => Bearers::One(c),
+            Bearers::One(_) => Bearers::Several,
+            Bearers::Several => Bearers::Several,
+        }
+    }
+}
