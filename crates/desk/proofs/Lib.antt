@@ -1,0 +1,2 @@
+pub mod NumbersRead
+pub mod OrdersNamed

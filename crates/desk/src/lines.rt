@@ -1,0 +1,120 @@
+//! The line that an order prints, and its exit status.
+
+ghost use Rattle.std.specs.Prelude.{◌≡◌, ◌⊎◌, ◌+◌, ◌-◌, ◌^◌, ◌<◌, OnOk, OnErr};
+
+use crate::words::WordsFault;
+use arrayvec::ArrayString;
+use register::{Refusal, Reply};
+use std::fmt::Write;
+use store::Fault;
+use thiserror::Error;
+use votes::{Broken, Sink, put_all};
+
+/// Room for a line about a refusal or a fault, which therefore takes no memory. None is longer.
+const LINE: usize = 240;
+
+/// What an order came to.
+#[derive(Debug, Drop)]
+pub enum Outcome {
+    /// An office was made.
+    Ready,
+    /// A request was accepted, now or before, and this is replied.
+    Replied(Reply),
+    /// A request was refused.
+    Refused(Refusal),
+    /// The office gave up.
+    Gave(Fault),
+}
+
+/// Why the program gives up: a fault of the office, told by its number 101 to 106, or an output that
+/// fails, 107.
+#[derive(Clone, Copy, Debug, PartialEq, Eq, Drop, Error)]
+pub enum Failure {
+    #[error("{0}")]
+    Office(Fault),
+    #[error("socket or output")]
+    Output,
+}
+
+impl Failure {
+    fn number(&self) -> u32 {
+        match self {
+            Failure::Office(fault) => fault.number(),
+            Failure::Output => 107,
+        }
+    }
+}
+
+fn tell_text<O: Sink>(text: &str, out: &mut O) -> Result<(), Broken>
+    requires { O.failed out.old < 2 ^ 64 - 1 }
+    ensures ok { OnOk result (O.failed out.new ≡ O.failed out.old) }
+{
+    put_all(out, text.as_bytes())?;
+    put_all(out, b"\n")
+}
+
+fn tell_refusal<E: Sink>(refusal: &Refusal, err: &mut E) -> Result<(), Broken>
+    requires { E.failed err.old < 2 ^ 64 - 1 }
+    ensures ok { OnOk result (E.failed err.new ≡ E.failed err.old) }
+{
+    let mut line = ArrayString::<LINE>::new();
+    let _ = writeln!(line, "refused {}: {}", refusal.number(), refusal.text());
+    put_all(err, line.as_bytes())
+}
+
+/// Tells a failure on the error output, and gives its status.
+///
+/// Where the error output fails too, nothing more can be told.
+pub fn tell_failure<E: Sink>(failure: Failure, err: &mut E) -> u8
+    requires { E.failed err.old < 2 ^ 64 - 1 }
+    ensures { result ≡ 3 }
+{
+    let mut line = ArrayString::<LINE>::new();
+    let _ = writeln!(line, "fault {}: {failure}", failure.number());
+    let _ = put_all(err, line.as_bytes());
+    3
+}
+
+/// Tells an outcome, and gives its status: 0 with a line on the output; 1 with a refusal, or 3 with a
+/// fault, on the error output; and 3 where one of the two fails.
+pub fn tell<O: Sink, E: Sink>(outcome: &Outcome, out: &mut O, err: &mut E) -> u8
+    requires out { O.failed out.old < 2 ^ 64 - 1 }
+    requires err { E.failed err.old < 2 ^ 64 - 1 }
+    ensures broken { (result ≡ 3) ⊎ ((O.failed out.new ≡ O.failed out.old) × (E.failed err.new ≡ E.failed err.old)) }
+{
+    let told = match outcome {
+        Outcome::Ready => tell_text("office ready", out),
+        Outcome::Replied(reply) => tell_text(reply.as_str(), out),
+        Outcome::Refused(refusal) => {
+            return match tell_refusal(refusal, err) {
+                Ok(()) => 1,
+                Err(Broken) => 3,
+            };
+        }
+        Outcome::Gave(fault) => return tell_failure(Failure::Office(*fault), err),
+    };
+    match told {
+        Ok(()) => 0,
+        Err(Broken) => tell_failure(Failure::Output, err),
+    }
+}
+
+/// Tells why the words are no order, and gives the status: 0 with help on the output, 2 with a text on
+/// the error output, and 3 for want of memory or where one of the two fails.
+pub fn tell_words<O: Sink, E: Sink>(fault: &WordsFault, out: &mut O, err: &mut E) -> u8
+    requires out { O.failed out.old < 2 ^ 64 - 1 }
+    requires err { E.failed err.old < 2 ^ 64 - 1 }
+    ensures broken { (result ≡ 3) ⊎ ((O.failed out.new ≡ O.failed out.old) × (E.failed err.new ≡ E.failed err.old)) }
+{
+    match fault {
+        WordsFault::Memory => tell_failure(Failure::Office(Fault::Memory), err),
+        WordsFault::Words { text, status: 0 } => match put_all(out, text.as_bytes()) {
+            Ok(()) => 0,
+            Err(Broken) => tell_failure(Failure::Output, err),
+        },
+        WordsFault::Words { text, status } => match put_all(err, text.as_bytes()) {
+            Ok(()) => *status,
+            Err(Broken) => 3,
+        },
+    }
+}
