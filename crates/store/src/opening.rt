@@ -178,4 +178,3 @@ pub fn check<S: Alter>(alloc: Global, conn: &mut Connection<S>) -> Result<(), Fa
     check_tables(alloc, conn)?;
     Ok(())
 }
-

@@ -1,16 +1,14 @@
 //! Databases that are no office, or the office of a later program, or hold what no office holds.
 
-use super::memory::{new_desk, say};
+use super::memory::{ADDED, Desk, FOREIGN, HARBOUR, INIT, READY, Told};
 use std::test::Fail;
 
-const FOREIGN: (u8, &str, &str) = (3, "", "fault 105: wrong database\n");
+const DAMAGED: Told<'static> = (3, "", "fault 103: damaged\n");
 
-const DAMAGED: (u8, &str, &str) = (3, "", "fault 103: damaged\n");
-
-const NEWER: (u8, &str, &str) = (3, "", "fault 106: newer schema\n");
+const NEWER: Told<'static> = (3, "", "fault 106: newer schema\n");
 
 /// What is done to an office with one ward, and what it then says.
-const CHANGES: [(&str, (u8, &str, &str)); 20] = [
+const CHANGES: [(&str, Told<'static>); 20] = [
     ("DROP TABLE office", FOREIGN),
     ("DELETE FROM office", FOREIGN),
     ("UPDATE office SET version = 3", NEWER),
@@ -33,33 +31,32 @@ const CHANGES: [(&str, (u8, &str, &str)); 20] = [
     ("CREATE TABLE note (text TEXT)", (0, "ward 8 added\n", "")),
 ];
 
+const QUAY: [&str; 7] = ["DB", "ward", "8", "2", "Quay", "--id", "w2"];
+
 #[test]
 fn only_the_tables_of_a_state_are_opened(rt: HostRuntime) -> Result<(), Fail> {
-    let alloc = rt.alloc();
     for (change, wanted) in CHANGES {
-        let (_, conn) = say(alloc, new_desk(alloc)?, &["DB", "init"])?;
-        let ward = ["DB", "ward", "7", "2", "Harbour", "--id", "w1"];
-        let (_, mut conn) = say(alloc, conn, &ward)?;
-        conn.execute_batch(change)?;
-        let (said, _) = say(alloc, conn, &["DB", "ward", "8", "2", "Quay", "--id", "w2"])?;
-        assert_eq!(rt; said.told(), wanted, "{change}");
+        let desk = Desk::new(rt.alloc())?.hears(&rt, &INIT, READY)?;
+        let mut desk = desk.hears(&rt, &HARBOUR, ADDED)?;
+        desk.change(change)?;
+        desk.hears(&rt, &QUAY, wanted)?;
     }
     Ok(())
 }
 
 #[test]
-fn an_office_is_made_beside_other_tables_but_not_over_its_own(rt: HostRuntime) -> Result<(), Fail> {
-    let alloc = rt.alloc();
-    let mut conn = new_desk(alloc)?;
-    conn.execute_batch("CREATE TABLE note (text TEXT)")?;
-    let ward = ["DB", "ward", "7", "2", "Harbour", "--id", "w1"];
-    let (said, conn) = say(alloc, conn, &ward)?;
-    assert_eq!(rt; said.told(), FOREIGN);
-    let (said, _) = say(alloc, conn, &["DB", "init"])?;
-    assert_eq!(rt; said.told(), (0, "office ready\n", ""));
-    let mut conn = new_desk(alloc)?;
-    conn.execute_batch("CREATE TABLE ward (text TEXT)")?;
-    let (said, _) = say(alloc, conn, &["DB", "init"])?;
-    assert_eq!(rt; said.told(), FOREIGN);
+fn an_office_is_made_beside_other_tables(rt: HostRuntime) -> Result<(), Fail> {
+    let mut desk = Desk::new(rt.alloc())?;
+    desk.change("CREATE TABLE note (text TEXT)")?;
+    let desk = desk.hears(&rt, &HARBOUR, FOREIGN)?;
+    desk.hears(&rt, &INIT, READY)?;
+    Ok(())
+}
+
+#[test]
+fn no_office_is_made_over_a_table_of_its_name(rt: HostRuntime) -> Result<(), Fail> {
+    let mut desk = Desk::new(rt.alloc())?;
+    desk.change("CREATE TABLE ward (text TEXT)")?;
+    desk.hears(&rt, &INIT, FOREIGN)?;
     Ok(())
 }

@@ -1,20 +1,13 @@
 //! A store that stops at each of its calls in turn, while an office is made and a ward is added.
 
-use super::memory::{Desk, contents, files, new_desk, open, restarted, say};
+use super::memory::{ADDED, Desk, Disks, HARBOUR, INIT, READY, Told};
 use sqlite::{Error, ErrorCode};
 use std::alloc::Global;
 use std::process::Abort;
 use std::test::Fail;
 
-const INIT: [&str; 2] = ["DB", "init"];
-
-const WARD: [&str; 7] = ["DB", "ward", "7", "2", "Harbour", "--id", "w1"];
-
-const STORE: (u8, &str, &str) = (3, "", "fault 102: store\n");
-
-const READY: (u8, &str, &str) = (0, "office ready\n", "");
-
-const ADDED: (u8, &str, &str) = (0, "ward 7 added\n", "");
+/// What an order is told that a stop met, and never that memory was wanting.
+const STOPPED: Told<'static> = (3, "", "fault 102: store\n");
 
 /// What a database holds before `init`, after it, and after `ward`.
 #[derive(Debug, Drop)]
@@ -25,12 +18,12 @@ struct Steps {
 }
 
 fn found_unstopped(alloc: Global) -> Result<Steps, Fail> {
-    let mut conn = new_desk(alloc)?;
-    let nothing = contents(alloc, &mut conn)?;
-    let (_, mut conn) = say(alloc, conn, &INIT)?;
-    let office = contents(alloc, &mut conn)?;
-    let (_, mut conn) = say(alloc, conn, &WARD)?;
-    let ward = contents(alloc, &mut conn)?;
+    let mut desk = Desk::new(alloc)?;
+    let nothing = desk.contents(alloc)?;
+    let (_, mut desk) = desk.say(alloc, &INIT)?;
+    let office = desk.contents(alloc)?;
+    let (_, mut desk) = desk.say(alloc, &HARBOUR)?;
+    let ward = desk.contents(alloc)?;
     Ok(Steps {
         nothing,
         office,
@@ -47,21 +40,19 @@ enum Reached {
     End,
 }
 
-/// Gives both orders until one is told a fault, which must be the store's.
-fn run(rt: &(impl Abort + AllocGlobal), conn: Desk) -> Result<(Reached, Desk), Fail> {
-    let (said, conn) = say(rt.alloc(), conn, &INIT)?;
-    if said.status != 0 {
-        assert_eq!(rt; said.told(), STORE);
-        return Ok((Reached::Init, conn));
+/// Gives both orders until one is told of a stop.
+fn run(rt: &(impl Abort + AllocGlobal), desk: Desk) -> Result<(Reached, Desk), Fail> {
+    let (said, desk) = desk.say(rt.alloc(), &INIT)?;
+    if said.told() == STOPPED {
+        return Ok((Reached::Init, desk));
     }
     assert_eq!(rt; said.told(), READY);
-    let (said, conn) = say(rt.alloc(), conn, &WARD)?;
-    if said.status != 0 {
-        assert_eq!(rt; said.told(), STORE);
-        return Ok((Reached::Ward, conn));
+    let (said, desk) = desk.say(rt.alloc(), &HARBOUR)?;
+    if said.told() == STOPPED {
+        return Ok((Reached::Ward, desk));
     }
     assert_eq!(rt; said.told(), ADDED);
-    Ok((Reached::End, conn))
+    Ok((Reached::End, desk))
 }
 
 /// What was answered stands, and of what was not answered there is all or nothing.
@@ -77,54 +68,41 @@ fn stands(reached: Reached, found: &str, steps: &Steps) -> bool {
 /// The same orders, given again to what was found, end with the same replies and tables.
 fn retry(
     rt: &(impl Abort + AllocGlobal),
-    conn: Desk,
+    mut desk: Desk,
     found: &str,
     steps: &Steps,
 ) -> Result<(), Fail> {
-    let mut conn = conn;
     if found == steps.nothing.as_str() {
-        let (said, back) = say(rt.alloc(), conn, &INIT)?;
-        assert_eq!(rt; said.told(), READY);
-        conn = back;
+        desk = desk.hears(rt, &INIT, READY)?;
     }
-    let (said, mut conn) = say(rt.alloc(), conn, &WARD)?;
-    assert_eq!(rt; said.told(), ADDED);
-    assert_eq!(rt;
-        contents(rt.alloc(), &mut conn)?.as_str(),
-        steps.ward.as_str()
-    );
+    let mut desk = desk.hears(rt, &HARBOUR, ADDED)?;
+    let after = desk.contents(rt.alloc())?;
+    assert!(rt; after.as_str() == steps.ward.as_str());
     Ok(())
 }
 
-/// Runs over files that stop, restarts, and judges what is found.
-fn stop(
-    rt: &(impl Abort + AllocGlobal),
-    log: u64,
-    db: u64,
-    steps: &Steps,
-) -> Result<Reached, Fail> {
-    let (reached, left) = match open(rt.alloc(), files(rt.alloc(), log, db)) {
+/// Runs over disks that stop, restarts, and judges what is found.
+fn stop(rt: &(impl Abort + AllocGlobal), disks: Disks, steps: &Steps) -> Result<Reached, Fail> {
+    let (reached, left) = match Desk::open(rt.alloc(), disks) {
         Err((error, left)) => {
             assert!(rt; error != Some(Error::SqliteFailure(ErrorCode::OutOfMemory)));
             (Reached::Opening, left)
         }
-        Ok(conn) => {
-            let (reached, conn) = run(rt, conn)?;
-            (reached, conn.into_store().close())
+        Ok(desk) => {
+            let (reached, desk) = run(rt, desk)?;
+            (reached, desk.into_disks())
         }
     };
-    match open(rt.alloc(), restarted(left)) {
-        Ok(mut conn) => {
-            let found = contents(rt.alloc(), &mut conn)?;
-            assert!(rt;
-                stands(reached, found.as_str(), steps),
-                "{reached:?} found {found}"
-            );
-            retry(rt, conn, found.as_str(), steps)?;
-            Ok(reached)
-        }
-        Err(_) => Err(Fail::from("the database is not opened again")),
-    }
+    let Ok(mut desk) = Desk::open(rt.alloc(), left.restarted()) else {
+        return Err(Fail::from("the database is not opened again"));
+    };
+    let found = desk.contents(rt.alloc())?;
+    assert!(rt;
+        stands(reached, found.as_str(), steps),
+        "{reached:?} found {found}"
+    );
+    retry(rt, desk, found.as_str(), steps)?;
+    Ok(reached)
 }
 
 /// More calls than a run makes of either file.
@@ -134,7 +112,7 @@ const CALLS: u64 = 200;
 fn a_log_that_stops_leaves_old_or_new(rt: HostRuntime) -> Result<(), Fail> {
     let steps = found_unstopped(rt.alloc())?;
     for calls in 0..CALLS {
-        if stop(&rt, calls, u64::MAX, &steps)? == Reached::End {
+        if stop(&rt, Disks::stopping(rt.alloc(), calls, u64::MAX), &steps)? == Reached::End {
             return Ok(());
         }
     }
@@ -145,7 +123,7 @@ fn a_log_that_stops_leaves_old_or_new(rt: HostRuntime) -> Result<(), Fail> {
 fn a_database_that_stops_leaves_old_or_new(rt: HostRuntime) -> Result<(), Fail> {
     let steps = found_unstopped(rt.alloc())?;
     for calls in 0..CALLS {
-        if stop(&rt, u64::MAX, calls, &steps)? == Reached::End {
+        if stop(&rt, Disks::stopping(rt.alloc(), u64::MAX, calls), &steps)? == Reached::End {
             return Ok(());
         }
     }
