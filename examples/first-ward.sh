@@ -9,7 +9,7 @@ folder=$(mktemp -d)
 trap 'rm -rf "$folder"' EXIT
 
 # The program is built before the first order, so that only orders are played.
-"$office" DB --help >/dev/null
+"$office" --help >/dev/null
 
 play() {
     local status=0

@@ -74,7 +74,21 @@ fn perform_at<O: Sink, E: Sink>(
     }
 }
 
-/// Does what the words ask, and gives the status.
+/// Does what the words from DB on ask, and gives the status.
+fn follow<O: Sink, E: Sink>(rt: &HostRuntime, words: &[&str], out: &mut O, err: &mut E) -> u8
+    requires out { O.failed out.old < 2 ^ 64 - 1 }
+    requires err { E.failed err.old < 2 ^ 64 - 1 }
+{
+    match words::order(rt.alloc(), words) {
+        Ok(order) => {
+            let path = words.first().copied().unwrap_or("");
+            perform_at(rt, path, &order, out, err)
+        }
+        Err(fault) => tell_words(&fault, out, err),
+    }
+}
+
+/// Does what the program's words ask, and gives the status. Help is told without a database too.
 fn run<O: Sink, E: Sink>(rt: &HostRuntime, out: &mut O, err: &mut E) -> u8
     requires out { O.failed out.old < 2 ^ 64 - 1 }
     requires err { E.failed err.old < 2 ^ 64 - 1 }
@@ -87,12 +101,9 @@ fn run<O: Sink, E: Sink>(rt: &HostRuntime, out: &mut O, err: &mut E) -> u8
         Ok(words) => words,
         Err(_) => return tell_failure(Failure::Office(Fault::Memory), err),
     };
-    match words::order(rt.alloc(), words.as_slice()) {
-        Ok(order) => {
-            let path = words.first().copied().unwrap_or("");
-            perform_at(rt, path, &order, out, err)
-        }
-        Err(fault) => tell_words(&fault, out, err),
+    match words.as_slice() {
+        ["--help" | "-h"] => follow(rt, &["DB", "--help"], out, err),
+        all => follow(rt, all, out, err),
     }
 }
 

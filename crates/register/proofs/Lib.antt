@@ -1,4 +1,5 @@
 pub mod MapLemmas
 pub mod StateLemmas
+pub mod AgainLemmas
 pub mod ListLaws
 mod Rows

@@ -60,3 +60,13 @@ none_found {X} p q f (y ∷ ys) none = go (p y) refl (q y) refl (λ later. none_
     go true is c is_q later = absurd (let e = rw is at none in cc)
     go false is true is_q later = absurd (true≢false (sym (f y is_q) ∙ is))
     go false is false is_q later = rw is_q (later (rw is at none))
+
+-- where no entry was found, the one that is put in is
+pub found_put : {X : Type 0} (cmp : X → X → Ordering) (p : X → Bool) (x : X) (ys : List X) → p x ≡ true → find p ys ≡ None → find p (put cmp x ys) ≡ Some x
+found_put cmp p x [] is none = rw is refl
+found_put {X} cmp p x (y ∷ ys) is none = go (p y) refl (is_lt (cmp x y)) (λ later. found_put cmp p x ys is later)
+  where
+    go : (b : Bool) → p y ≡ b → (first : Bool) → (find p ys ≡ None → find p (put cmp x ys) ≡ Some x) → find p (cond first (x ∷ y ∷ ys) (y ∷ put cmp x ys)) ≡ Some x
+    go true found first later = absurd (let e = rw found at none in cc)
+    go false other true later = rw is refl
+    go false other false later = rw other (later (rw other at none))

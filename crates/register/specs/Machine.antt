@@ -1,5 +1,5 @@
 -- What each request makes of the state of an office.
-use Rattle.std.specs.Prelude.{ℕ, Bool, true, false, not, ◌&&◌, ◌==◌, if◌then◌else◌, List, [], ◌∷◌, ◌++◌, fold, codes, string_bytes, Option, Some, None, is_some}
+use Rattle.std.specs.Prelude.{◌≡◌, ⊤, ℕ, Bool, true, false, not, ◌&&◌, ◌==◌, if◌then◌else◌, List, [], ◌∷◌, ◌++◌, fold, codes, string_bytes, Option, Some, None, is_some}
 use Rattle.std.specs.Fmt.{decimal}
 use Rattle.std.specs.Str.{bytes_eq}
 use Rattle.register.specs.declared.ward.Phase.TheVariants.{Nominations}
@@ -66,6 +66,12 @@ answered s actor id command None = judged s actor id command (first_objection (o
 -- a bad id is refused; a known one gets its kept reply, or is refused for another subject; the rest is judged
 unfoldable pub step : OfficeState → ℕ → List ℕ → Command → Outcome
 step s actor id command = if is_id id then answered s actor id command (receipt_at s actor id) else refused BadId
+
+-- an accepted request that comes again gets the same reply, and changes nothing more
+abbrev pub IsKeptAgain : ℕ → List ℕ → Command → Outcome → Type 0
+IsKeptAgain actor id command (accepted next reply) = step next actor id command ≡ kept reply
+IsKeptAgain actor id command (kept reply) = ⊤
+IsKeptAgain actor id command (refused why) = ⊤
 
 -- ---- lists of requests
 

@@ -2,7 +2,7 @@
 
 ghost use Rattle.std.specs.Prelude.{◌≡◌, None, IfOk, string_bytes, option_map, is_some};
 ghost use Rattle.register.specs.Offices.{OfficeState, IsState, WardEntry, ward_entry, receipt_entry, ward_at};
-ghost use Rattle.register.specs.Machine.{step, state_after, is_in_range, first_objection, objections, effect_of, subject_of, judged};
+ghost use Rattle.register.specs.Machine.{step, state_after, IsKeptAgain, is_in_range, first_objection, objections, effect_of, subject_of, judged};
 ghost use Rattle.register.specs.Views.{ShowsState, with_effect, outcome_of};
 
 use crate::command::Command;
@@ -91,6 +91,7 @@ fn accept(
 /// number is told. An error is want of memory, and nothing was decided then.
 pub fn decide(alloc: Global, view: &View<'_>, command: &Command) -> Result<Decision, AllocError>
     ensures decides { IfOk result (λ decision. (s : OfficeState) → ShowsState s command.now view.now → outcome_of s decision ≡ step s view.now.actor view.now.id.now command.now) }
+    ensures kept_again { (s : OfficeState) → IsKeptAgain view.now.actor view.now.id.now command.now (step s view.now.actor view.now.id.now command.now) }
     ensures stays_a_state { (s : OfficeState) → IsState s → IsState (state_after s (step s view.now.actor view.now.id.now command.now)) }
 {
     if !is_id(view.id) {
