@@ -1,5 +1,5 @@
 -- An accepted request that comes again.
-use Rattle.std.proofs.Common.{◌==◌, ◌≡◌, ℕ, Bool, true, false, ◌&&◌, cond, List, Option, Some, None, refl, sym, ap, subst, ◌∙◌, find}
+use Rattle.std.proofs.Common.{◌≡◌, ℕ, Bool, true, false, cond, List, Option, Some, None, refl, ap, ◌∙◌, find}
 use Rattle.std.specs.Str.{bytes_eq}
 use Rattle.std.proofs.lemmas.Bool.{and_from}
 use Rattle.std.proofs.lemmas.Bool.Decides.{Decides-eqb}
@@ -10,7 +10,7 @@ use Rattle.register.specs.declared.command.Command.{Command}
 use Rattle.register.specs.declared.command.Command.TheVariants.{AddWard}
 use Rattle.register.specs.Ranges.{is_id}
 use Rattle.register.specs.Offices.{OfficeState, ReceiptEntry, receipt_cmp, is_receipt_of, receipt_at}
-use Rattle.register.specs.Machine.{Outcome, kept, refused, subject_of, reply_to, effect_of, with_receipt, first_objection, objections, judged, answered, step, IsKeptAgain}
+use Rattle.register.specs.Machine.{kept, refused, subject_of, reply_to, effect_of, with_receipt, first_objection, objections, judged, answered, step, IsKeptAgain}
 use Rattle.register.proofs.MapLemmas.{found_put}
 
 same_bytes : (t : List ℕ) → bytes_eq t t ≡ true

@@ -1,11 +1,11 @@
 -- A first morning of the office, computed: which requests are accepted, kept and refused, and with which replies.
-use Rattle.std.proofs.Common.{true, ◌≡◌, ℕ, List, [], ◌∷◌, codes, refl, string_bytes, ap, ◌∙◌}
+use Rattle.std.proofs.Common.{true, ◌≡◌, [], ◌∷◌, codes, refl, string_bytes}
 use Rattle.std.specs.Fmt.{digits}
 use Rattle.std.specs.declared.string.String.{String}
 use Rattle.std.specs.declared.alloc.Global.{Global}
 use Rattle.register.specs.declared.ward.Phase.TheVariants.{Nominations}
 use Rattle.register.specs.declared.command.Command.TheVariants.{AddWard}
-use Rattle.register.specs.declared.refusal.Refusal.TheVariants.{BadId, IdUsed, NumberOutOfRange, BadName, WardExists}
+use Rattle.register.specs.declared.refusal.Refusal.TheVariants.{BadId, IdUsed, NumberOutOfRange, WardExists}
 use Rattle.register.specs.Ranges.{is_name, is_id}
 use Rattle.register.specs.Offices.{OfficeState, empty_office}
 use Rattle.register.specs.Machine.{accepted, kept, refused, step, subject_of, reply_to}

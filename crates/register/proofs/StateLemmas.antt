@@ -1,7 +1,6 @@
 -- Each step leads from a state to a state.
-use Rattle.std.proofs.Common.{rules, ◌==◌, inl, inr, ◌≡◌, ℕ, ◌<◌, ◌≤◌, ◌+◌, ◌^◌, Bool, true, false, not, ◌&&◌, ◌||◌, cond, List, [], ◌∷◌, ◌++◌, length, codes, find, Option, Some, None, is_some, string_bytes, refl, sym, ap, subst, ◌∙◌, arith, length-append, get_or}
-use Rattle.std.specs.List.{list_all, list_any}
-use Rattle.std.specs.List.Sorted.{IsStrictlySortedBy}
+use Rattle.std.proofs.Common.{rules, ◌==◌, inl, inr, ◌≡◌, ℕ, ◌<◌, ◌≤◌, ◌+◌, ◌^◌, Bool, true, false, not, ◌||◌, cond, List, [], ◌∷◌, ◌++◌, length, codes, Option, Some, None, is_some, string_bytes, refl, sym, ap, ◌∙◌, arith, length-append, get_or}
+use Rattle.std.specs.List.{list_all}
 use Rattle.std.specs.Fmt.{decimal}
 use Rattle.std.specs.Str.{IsAscii, all_ascii_digits, is_utf8, bytes_eq}
 use Rattle.std.specs.Str.Parse.{digits_value}
@@ -10,7 +9,7 @@ use Rattle.std.specs.declared.cmp.Ordering.TheVariants.{Less, Equal, Greater}
 use Rattle.std.specs.Ordering.{nat_cmp, is_eq, ordering_then}
 use Rattle.std.specs.Cmp.Lexicographic.{slice_cmp}
 use Rattle.std.specs.Cmp.{IsTotalOrder, Equal-is}
-use Rattle.std.proofs.lemmas.Bool.{and_parts, and_from, leb-true, le-leb, cases_Bool, not-true, true≢false}
+use Rattle.std.proofs.lemmas.Bool.{and_parts, and_from, leb-true, le-leb, true≢false}
 use Rattle.std.proofs.lemmas.Bool.Decides.{eqb_tells, Decides-eqb}
 use Rattle.std.proofs.lemmas.Cmp.{ranked, nat_cmp_total, on_total, then_total, nat_list_cmp_total}
 use Rattle.std.proofs.lemmas.Fmt.{decimal_is_IsNumeral, digits_decimal, first_decimal, length-decimal-le, IsAscii-decimal}
@@ -19,13 +18,12 @@ use Rattle.std.proofs.lemmas.Slice.Eq.{bytes_eq-Decides}
 use Rattle.std.proofs.lemmas.Map.Text.{is_eq-slice_cmp}
 use Rattle.std.proofs.lemmas.Str.{IsAscii-append, IsUtf8-from_ascii, is_utf8-from_IsUtf8}
 use Rattle.std.proofs.lemmas.Str.Parse.{IsNumeralModel, numerals_by_value}
-use Rattle.register.specs.declared.ward.Phase.TheVariants.{Nominations}
 use Rattle.std.specs.declared.string.String.{String}
 use Rattle.std.specs.declared.alloc.Global.{Global}
 use Rattle.register.specs.declared.refusal.Refusal.TheVariants.{BadId, IdUsed, NumberOutOfRange, BadName, WardExists}
 use Rattle.register.specs.declared.command.Command.{Command}
 use Rattle.register.specs.declared.command.Command.TheVariants.{AddWard}
-use Rattle.register.specs.Ranges.{is_between, is_ward_number, is_seat_number, is_line_byte, is_name, is_id, is_reply}
+use Rattle.register.specs.Ranges.{is_between, is_ward_number, is_line_byte, is_name, is_id, is_reply}
 use Rattle.register.specs.Subjects.{is_plain_number, is_office_subject}
 use Rattle.register.specs.Offices.{WardEntry, ReceiptEntry, OfficeState, IsState, put, ward_cmp, receipt_cmp, ward_at, receipt_at, is_ward_numbered, is_receipt_of, is_ward, is_receipt, is_begun}
 use Rattle.register.specs.Machine.{kept, refused, subject_of, reply_to, is_in_range, objections, effect_of, first_objection, with_receipt, judged, answered, step, state_after}

@@ -9,7 +9,7 @@ use Rattle.register.specs.declared.command.Command.{Command}
 use Rattle.register.specs.declared.command.Command.TheVariants.{AddWard}
 use Rattle.register.specs.declared.command.Request.{Request}
 use Rattle.register.specs.Ranges.{is_ward_number, is_seat_number, is_name, is_id}
-use Rattle.register.specs.Offices.{WardEntry, ReceiptEntry, OfficeState, put, ward_cmp, receipt_cmp, ward_at, receipt_at}
+use Rattle.register.specs.Offices.{ReceiptEntry, OfficeState, put, ward_cmp, receipt_cmp, ward_at, receipt_at}
 
 -- ---- what each command is, asks and does
 

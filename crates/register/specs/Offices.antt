@@ -7,7 +7,6 @@ use Rattle.std.specs.Ordering.{nat_cmp, on, then_cmp, is_lt}
 use Rattle.std.specs.Cmp.Lexicographic.{slice_cmp}
 use Rattle.std.specs.Str.{bytes_eq, is_utf8}
 use Rattle.register.specs.declared.ward.Phase.{Phase}
-use Rattle.register.specs.declared.ward.Phase.TheVariants.{Nominations}
 use Rattle.register.specs.declared.ward.Ward.{Ward}
 use Rattle.register.specs.declared.receipt.Receipt.{Receipt}
 use Rattle.register.specs.Phases.{phase_number}
