@@ -1,0 +1,19 @@
+use Rattle.std.proofs.Common.{ℕ, sym, subst, string_bytes}
+use Rattle.paper.specs.Columns.{IsColumn}
+use Rattle.votes.specs.Streams.{AppendsBeginning}
+use Rattle.sheet.specs.Stages.{candidate_line}
+use Rattle.sheet.proofs.Candidates.{IsColumn-candidate}
+use Rattle.sheet.proofs.Texts.{AppendsBeginning-item, OnErr-holds}
+use Rattle.sheet.proofs.stage.write_candidate_lines.Goals as goal
+
+pub write_candidate_line-requires-clause-column : goal.write_candidate_line-requires-clause-column
+write_candidate_line-requires-clause-column g c =
+    subst (λ candidate. IsColumn candidate.0) (sym c.candidate-item.is)
+    (IsColumn-candidate (λ candidate. candidate.0) c.args.ward.now.candidates.now c.loop-candidate.candidate-index c.candidate-item.result c.loop-candidate-test.true c.requires.candidate_set)
+
+pub returns-in_err-write_candidate_line-clause-cut_off : goal.returns-in_err-write_candidate_line-clause-cut_off
+returns-in_err-write_candidate_line-clause-cut_off g c =
+    let next = subst (λ candidate. AppendsBeginning (g.W.Sink.taken c.loop-candidate.sink) (g.W.Sink.taken c.write_candidate_line.new.sink) (candidate_line c.args.earlier.now c.args.stage.now candidate.0 (string_bytes candidate.1)))
+        c.candidate-item.is (rw c.as_str.ensures.value at c.in_err-write_candidate_line.ensures.cut_off) in
+    OnErr-holds c.from_residual.result (AppendsBeginning-item _ _ _ (λ candidate. candidate_line c.args.earlier.now c.args.stage.now candidate.0 (string_bytes candidate.1))
+        c.args.ward.now.candidates.now c.loop-candidate.candidate-index c.candidate-item.result c.loop-candidate-test.true c.loop-candidate.invariant.taken next)

@@ -1,0 +1,11 @@
+//! Stage sheet.
+#![tactic(auto)]
+
+mod declaration;
+mod line;
+mod opening;
+mod sheets;
+mod stage;
+mod ward;
+
+pub use ward::{Poll, Ward};
