@@ -1,14 +1,15 @@
-use Rattle.std.specs.Prelude.{Result, Ok, Err, OnErr, if◌then◌else◌, Bool, true, false}
-use Rattle.std.proofs.Common.{◌≡◌, ℕ, ◌+◌, ◌<◌, List, [], ◌∷◌, ◌++◌, length, take, drop, get_or, map, Option, refl, sym, ◌∙◌, ap, subst, codes}
-use Rattle.std.specs.List.{flat_map, filter}
+use Rattle.std.specs.Prelude.{Result, Ok, Err, OnErr}
+use Rattle.std.proofs.Common.{◌≡◌, ℕ, zero, ◌+◌, ◌-◌, ◌<◌, List, [], ◌∷◌, ◌++◌, length, take, drop, get_or, map, Option, refl, sym, ◌∙◌, ap, subst, codes, replicate, arith}
+use Rattle.std.specs.List.{flat_map}
 use Rattle.std.proofs.KnownBytes.{Appends-trans}
 use Rattle.std.specs.Io.KnownBytes.{Appends}
 use Rattle.std.proofs.lemmas.Grind.{flat_map-append}
 use Rattle.std.proofs.lemmas.List.{append-nil, take_more, take-append-drop}
 use Rattle.std.proofs.lemmas.List.Folds.{flat_map-map}
+use Rattle.std.proofs.lemmas.Str.{IsUtf8-append}
 use Rattle.votes.specs.Streams.{AppendsBeginning}
 use Rattle.votes.proofs.Beginnings.{AppendsBeginning-front, AppendsBeginning-behind}
-use Rattle.sheet.specs.Lines.{line}
+use Rattle.sheet.specs.Lines.{line, right_in}
 
 -- a line of pieces is their texts and one newline
 pub line-map : {X : Type 0} (f : X → List ℕ) (xs : List X) → line (map f xs) ≡ flat_map f xs ++ codes "\n"
@@ -52,27 +53,10 @@ pub AppendsBeginning-third : (old first second new : Option (List ℕ)) (xs ys z
 AppendsBeginning-third old first second new xs ys zs one two cut_off =
     AppendsBeginning-behind old second new (xs ++ ys) zs (Appends-trans old first second xs ys one two) cut_off
 
-pub ruleset beginnings = (Appends-trans, AppendsBeginning-front, AppendsBeginning-behind, AppendsBeginning-third)
+pub ruleset beginnings = (Appends-trans, AppendsBeginning-front, AppendsBeginning-behind, AppendsBeginning-third, IsUtf8-append)
 
-chosen : {X : Type 0} (f : X → List ℕ) (b : Bool) (x : X) (xs : List X) →
-    flat_map f (if b then x ∷ xs else xs) ≡ (if b then f x else []) ++ flat_map f xs
-chosen f true x xs = refl
-chosen f false x xs = refl
+-- right in no place is as it is
+pub right_in_none : (text : List ℕ) → right_in 0 text ≡ text
+right_in_none text = let none : 0 - length text ≡ 0 = omega arith in ap (λ (n : ℕ). replicate n 32 ++ text) none
 
--- the texts of the elements that pass a test
-flat_map-filter : {X : Type 0} (f : X → List ℕ) (test : X → Bool) (xs : List X) →
-    flat_map f (filter test xs) ≡ flat_map (λ x. if test x then f x else []) xs
-flat_map-filter f test [] = refl
-flat_map-filter f test (x ∷ xs) =
-    chosen f (test x) x (filter test xs) ∙ ap (λ text. (if test x then f x else []) ++ text) (flat_map-filter f test xs)
-
--- in a loop that puts the texts of the elements that pass a test
-pub AppendsBeginning-chosen : {X : Type 0} (old mid new : Option (List ℕ)) (f : X → List ℕ) (test : X → Bool) (xs : List X) (i : ℕ) (d : X) → i < length xs →
-    test (get_or xs i d) ≡ true → Appends old mid (flat_map f (filter test (take i xs))) → AppendsBeginning mid new (f (get_or xs i d)) →
-    AppendsBeginning old new (flat_map f (filter test xs))
-AppendsBeginning-chosen old mid new f test xs i d within passes taken cut_off =
-    let text = λ (b : Bool). if b then f (get_or xs i d) else [] in
-    let front = subst (Appends old mid) (flat_map-filter f test (take i xs)) taken in
-    let next = subst (λ b. AppendsBeginning mid new (text b)) (sym passes) cut_off in
-    subst (AppendsBeginning old new) (sym (flat_map-filter f test xs))
-    (AppendsBeginning-item old mid new (λ x. if test x then f x else []) xs i d within front next)
+pub ruleset unaligned = (right_in_none)

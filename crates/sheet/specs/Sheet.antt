@@ -1,5 +1,5 @@
-use Rattle.std.specs.Prelude.{ℕ, ◌+◌, nat_eq, List, [], ◌∷◌, ◌++◌, length, slice_index, codes, decimal, string_bytes, Option, Some, None}
-use Rattle.std.specs.List.{list_any, filter, flat_map}
+use Rattle.std.specs.Prelude.{ℕ, ◌+◌, if◌then◌else◌, nat_eq, List, [], ◌∷◌, ◌++◌, length, slice_index, codes, decimal, string_bytes, Option, Some, None}
+use Rattle.std.specs.List.{list_any, flat_map}
 use Rattle.votes.specs.Units.{quota_of}
 use Rattle.votes.specs.Text.{votes_text}
 use Rattle.count.specs.declared.stages.Stage.{Stage}
@@ -58,14 +58,13 @@ sheet ward stages = ward_line ward ++ below_ward ward ward.poll stages
 abbrev pub elected_heading : List ℕ
 elected_heading = line (codes "Elected" ∷ [])
 
--- ` 1 Ann`
-abbrev pub elected_line : ℕ → List ℕ → List ℕ
-elected_line c name = line (number_column c ∷ codes " " ∷ name ∷ [])
+-- ` 1 Ann`, for a candidate who is among the elected
+abbrev pub elected_line : List ℕ → ℕ → List ℕ → List ℕ
+elected_line elected c name = if list_any (nat_eq c) elected then line (number_column c ∷ codes " " ∷ name ∷ []) else []
 
--- the lines of the candidates who are among the elected
+-- the lines of all elected candidates
 abbrev pub elected_lines : Ward → List ℕ → List ℕ
-elected_lines ward elected =
-    flat_map (λ candidate. elected_line candidate.0 (string_bytes candidate.1)) (filter (λ candidate. list_any (nat_eq candidate.0) elected) ward.candidates.now)
+elected_lines ward elected = flat_map (λ candidate. elected_line elected candidate.0 (string_bytes candidate.1)) ward.candidates.now
 
 -- the declaration of a ward, by the numbers of its elected
 abbrev pub declaration : Ward → List ℕ → List ℕ

@@ -2,6 +2,7 @@
 
 ghost use Rattle.std.specs.Prelude.{◌≡◌, ◌+◌, ◌-◌, ◌^◌, ◌<◌, OnOk, OnErr};
 ghost use Rattle.std.specs.Io.KnownBytes.{Appends};
+ghost use Rattle.std.specs.Str.{IsUtf8};
 ghost use Rattle.votes.specs.Streams.{AppendsBeginning};
 ghost use Rattle.sheet.specs.Sheet.{elected_heading, elected_line, elected_lines, declaration};
 ghost use Rattle.sheet.specs.Wards.{IsWard};
@@ -12,18 +13,29 @@ use crate::ward::Ward;
 use paper::Columns;
 use votes::{Broken, Sink};
 
-/// Writes the line of an elected candidate.
-fn write_elected_line<W: Sink>(sink: &mut W, c: u8, name: &str) -> Result<(), Broken>
+/// Writes the line of a candidate if he is among the elected.
+fn write_elected_line<W: Sink>(
+    sink: &mut W,
+    elected: &Columns,
+    c: u8,
+    name: &str,
+) -> Result<(), Broken>
     requires { W.failed sink.old < 2 ^ 64 - 1 }
-    ensures written { OnOk result (Appends (W.taken sink.old) (W.taken sink.new) (elected_line c name.now)) }
+    ensures written { OnOk result (Appends (W.taken sink.old) (W.taken sink.new) (elected_line elected.now c name.now)) }
+    ensures utf8 { OnOk result (IsUtf8 (elected_line elected.now c name.now)) }
     ensures ok { OnOk result (W.failed sink.new ≡ W.failed sink.old) }
-    ensures cut_off { OnErr result (AppendsBeginning (W.taken sink.old) (W.taken sink.new) (elected_line c name.now)) }
+    ensures cut_off { OnErr result (AppendsBeginning (W.taken sink.old) (W.taken sink.new) (elected_line elected.now c name.now)) }
     ensures err { OnErr result (W.failed sink.new ≡ W.failed sink.old + 1) }
 {
-    write_line(
-        sink,
-        &[Piece::NumberColumn(c), Piece::Text(" "), Piece::Text(name)],
-    )
+    if !elected.has(c) {
+        return Ok(());
+    }
+    let pieces = [
+        Piece::NumberColumn(c),
+        Piece::Text(" "),
+        Piece::Text(name),
+    ];
+    write_line(sink, &pieces)
 }
 
 /// Writes the lines of the elected candidates.
@@ -34,14 +46,13 @@ fn write_elected_lines<W: Sink>(
 ) -> Result<(), Broken>
     requires { W.failed sink.old < 2 ^ 64 - 1 }
     ensures written { OnOk result (Appends (W.taken sink.old) (W.taken sink.new) (elected_lines ward.now elected.now)) }
+    ensures utf8 { OnOk result (IsUtf8 (elected_lines ward.now elected.now)) }
     ensures ok { OnOk result (W.failed sink.new ≡ W.failed sink.old) }
     ensures cut_off { OnErr result (AppendsBeginning (W.taken sink.old) (W.taken sink.new) (elected_lines ward.now elected.now)) }
     ensures err { OnErr result (W.failed sink.new ≡ W.failed sink.old + 1) }
 {
     for candidate in ward.candidates {
-        if elected.has(candidate.0) {
-            write_elected_line(sink, candidate.0, candidate.1.as_str())?;
-        }
+        write_elected_line(sink, elected, candidate.0, candidate.1.as_str())?;
     }
     Ok(())
 }
@@ -60,6 +71,7 @@ pub fn write_declaration<W: Sink>(
     requires ward { IsWard ward.now }
     requires failures { W.failed sink.old < 2 ^ 64 - 1 }
     ensures written { OnOk result (Appends (W.taken sink.old) (W.taken sink.new) (declaration ward.now elected)) }
+    ensures utf8 { OnOk result (IsUtf8 (declaration ward.now elected)) }
     ensures ok { OnOk result (W.failed sink.new ≡ W.failed sink.old) }
     ensures cut_off { OnErr result (AppendsBeginning (W.taken sink.old) (W.taken sink.new) (declaration ward.now elected)) }
     ensures err { OnErr result (W.failed sink.new ≡ W.failed sink.old + 1) }

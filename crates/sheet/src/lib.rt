@@ -4,6 +4,7 @@
 mod declaration;
 mod line;
 mod opening;
+mod page;
 mod sheets;
 mod stage;
 mod ward;

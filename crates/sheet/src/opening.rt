@@ -2,6 +2,7 @@
 
 ghost use Rattle.std.specs.Prelude.{◌≡◌, ◌+◌, ◌-◌, ◌^◌, ◌<◌, ◌≤◌, OnOk, OnErr};
 ghost use Rattle.std.specs.Io.KnownBytes.{Appends};
+ghost use Rattle.std.specs.Str.{IsUtf8};
 ghost use Rattle.votes.specs.Streams.{AppendsBeginning};
 ghost use Rattle.sheet.specs.Sheet.{ward_line, uncontested_line, seats_line, rejected_line};
 
@@ -13,6 +14,7 @@ use votes::{Broken, Sink, quota};
 pub fn write_ward_line<W: Sink>(sink: &mut W, ward: &Ward) -> Result<(), Broken>
     requires { W.failed sink.old < 2 ^ 64 - 1 }
     ensures written { OnOk result (Appends (W.taken sink.old) (W.taken sink.new) (ward_line ward.now)) }
+    ensures utf8 { OnOk result (IsUtf8 (ward_line ward.now)) }
     ensures ok { OnOk result (W.failed sink.new ≡ W.failed sink.old) }
     ensures cut_off { OnErr result (AppendsBeginning (W.taken sink.old) (W.taken sink.new) (ward_line ward.now)) }
     ensures err { OnErr result (W.failed sink.new ≡ W.failed sink.old + 1) }
@@ -30,6 +32,7 @@ pub fn write_ward_line<W: Sink>(sink: &mut W, ward: &Ward) -> Result<(), Broken>
 pub fn write_uncontested_line<W: Sink>(sink: &mut W, seats: u8) -> Result<(), Broken>
     requires { W.failed sink.old < 2 ^ 64 - 1 }
     ensures written { OnOk result (Appends (W.taken sink.old) (W.taken sink.new) (uncontested_line seats)) }
+    ensures utf8 { OnOk result (IsUtf8 (uncontested_line seats)) }
     ensures ok { OnOk result (W.failed sink.new ≡ W.failed sink.old) }
     ensures cut_off { OnErr result (AppendsBeginning (W.taken sink.old) (W.taken sink.new) (uncontested_line seats)) }
     ensures err { OnErr result (W.failed sink.new ≡ W.failed sink.old + 1) }
@@ -49,6 +52,7 @@ pub fn write_seats_line<W: Sink>(sink: &mut W, seats: u8, valid: u32) -> Result<
     requires few { valid ≤ 4999500 }
     requires failures { W.failed sink.old < 2 ^ 64 - 1 }
     ensures written { OnOk result (Appends (W.taken sink.old) (W.taken sink.new) (seats_line seats valid)) }
+    ensures utf8 { OnOk result (IsUtf8 (seats_line seats valid)) }
     ensures ok { OnOk result (W.failed sink.new ≡ W.failed sink.old) }
     ensures cut_off { OnErr result (AppendsBeginning (W.taken sink.old) (W.taken sink.new) (seats_line seats valid)) }
     ensures err { OnErr result (W.failed sink.new ≡ W.failed sink.old + 1) }
@@ -68,6 +72,7 @@ pub fn write_seats_line<W: Sink>(sink: &mut W, seats: u8, valid: u32) -> Result<
 pub fn write_rejected_line<W: Sink>(sink: &mut W, rejected: &[u32; 5]) -> Result<(), Broken>
     requires { W.failed sink.old < 2 ^ 64 - 1 }
     ensures written { OnOk result (Appends (W.taken sink.old) (W.taken sink.new) (rejected_line rejected.now)) }
+    ensures utf8 { OnOk result (IsUtf8 (rejected_line rejected.now)) }
     ensures ok { OnOk result (W.failed sink.new ≡ W.failed sink.old) }
     ensures cut_off { OnErr result (AppendsBeginning (W.taken sink.old) (W.taken sink.new) (rejected_line rejected.now)) }
     ensures err { OnErr result (W.failed sink.new ≡ W.failed sink.old + 1) }

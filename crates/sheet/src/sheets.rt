@@ -2,6 +2,7 @@
 
 ghost use Rattle.std.specs.Prelude.{◌≡◌, ◌+◌, ◌-◌, ◌^◌, ◌<◌, [], map, OnOk, OnErr};
 ghost use Rattle.std.specs.Io.KnownBytes.{Appends};
+ghost use Rattle.std.specs.Str.{IsUtf8};
 ghost use Rattle.paper.specs.Columns.{IsColumnSet};
 ghost use Rattle.votes.specs.Streams.{AppendsBeginning};
 ghost use Rattle.sheet.specs.Sheet.{seats_line, rejected_line, stages_text, below_ward, sheet};
@@ -20,6 +21,7 @@ fn write_stages<W: Sink>(sink: &mut W, ward: &Ward, stages: &[Stage]) -> Result<
     requires candidate_set { IsColumnSet (map (λ candidate. candidate.0) ward.now.candidates.now) }
     requires failures { W.failed sink.old < 2 ^ 64 - 1 }
     ensures written { OnOk result (Appends (W.taken sink.old) (W.taken sink.new) (stages_text ward.now [] stages.now)) }
+    ensures utf8 { OnOk result (IsUtf8 (stages_text ward.now [] stages.now)) }
     ensures ok { OnOk result (W.failed sink.new ≡ W.failed sink.old) }
     ensures cut_off { OnErr result (AppendsBeginning (W.taken sink.old) (W.taken sink.new) (stages_text ward.now [] stages.now)) }
     ensures err { OnErr result (W.failed sink.new ≡ W.failed sink.old + 1) }
@@ -36,6 +38,7 @@ fn write_below_ward<W: Sink>(sink: &mut W, ward: &Ward, stages: &[Stage]) -> Res
     requires ward { IsWard ward.now }
     requires failures { W.failed sink.old < 2 ^ 64 - 1 }
     ensures written { OnOk result (Appends (W.taken sink.old) (W.taken sink.new) (below_ward ward.now ward.now.poll stages.now)) }
+    ensures utf8 { OnOk result (IsUtf8 (below_ward ward.now ward.now.poll stages.now)) }
     ensures ok { OnOk result (W.failed sink.new ≡ W.failed sink.old) }
     ensures cut_off { OnErr result (AppendsBeginning (W.taken sink.old) (W.taken sink.new) (below_ward ward.now ward.now.poll stages.now)) }
     ensures err { OnErr result (W.failed sink.new ≡ W.failed sink.old + 1) }
@@ -59,6 +62,7 @@ pub fn write_sheet<W: Sink>(sink: &mut W, ward: &Ward, stages: &[Stage]) -> Resu
     requires ward { IsWard ward.now }
     requires failures { W.failed sink.old < 2 ^ 64 - 1 }
     ensures written { OnOk result (Appends (W.taken sink.old) (W.taken sink.new) (sheet ward.now stages.now)) }
+    ensures utf8 { OnOk result (IsUtf8 (sheet ward.now stages.now)) }
     ensures ok { OnOk result (W.failed sink.new ≡ W.failed sink.old) }
     ensures cut_off { OnErr result (AppendsBeginning (W.taken sink.old) (W.taken sink.new) (sheet ward.now stages.now)) }
     ensures err { OnErr result (W.failed sink.new ≡ W.failed sink.old + 1) }

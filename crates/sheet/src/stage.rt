@@ -2,6 +2,7 @@
 
 ghost use Rattle.std.specs.Prelude.{◌≡◌, ◌+◌, ◌-◌, ◌^◌, ◌<◌, ◌≤◌, nat_eq, map, OnOk, OnErr};
 ghost use Rattle.std.specs.Io.KnownBytes.{Appends};
+ghost use Rattle.std.specs.Str.{IsUtf8};
 ghost use Rattle.std.specs.List.{list_any};
 ghost use Rattle.paper.specs.Columns.{IsColumnSet, IsColumn};
 ghost use Rattle.votes.specs.Streams.{AppendsBeginning};
@@ -18,6 +19,7 @@ use votes::{Broken, Sink, Votes};
 fn write_heading<W: Sink>(sink: &mut W, k: u64, action: Action) -> Result<(), Broken>
     requires { W.failed sink.old < 2 ^ 64 - 1 }
     ensures written { OnOk result (Appends (W.taken sink.old) (W.taken sink.new) (heading k action)) }
+    ensures utf8 { OnOk result (IsUtf8 (heading k action)) }
     ensures ok { OnOk result (W.failed sink.new ≡ W.failed sink.old) }
     ensures cut_off { OnErr result (AppendsBeginning (W.taken sink.old) (W.taken sink.new) (heading k action)) }
     ensures err { OnErr result (W.failed sink.new ≡ W.failed sink.old + 1) }
@@ -94,6 +96,7 @@ fn write_candidate_line<W: Sink>(
     requires column { IsColumn c }
     requires failures { W.failed sink.old < 2 ^ 64 - 1 }
     ensures written { OnOk result (Appends (W.taken sink.old) (W.taken sink.new) (candidate_line earlier.now stage.now c name.now)) }
+    ensures utf8 { OnOk result (IsUtf8 (candidate_line earlier.now stage.now c name.now)) }
     ensures ok { OnOk result (W.failed sink.new ≡ W.failed sink.old) }
     ensures cut_off { OnErr result (AppendsBeginning (W.taken sink.old) (W.taken sink.new) (candidate_line earlier.now stage.now c name.now)) }
     ensures err { OnErr result (W.failed sink.new ≡ W.failed sink.old + 1) }
@@ -120,6 +123,7 @@ fn write_candidate_lines<W: Sink>(
     requires candidate_set { IsColumnSet (map (λ candidate. candidate.0) ward.now.candidates.now) }
     requires failures { W.failed sink.old < 2 ^ 64 - 1 }
     ensures written { OnOk result (Appends (W.taken sink.old) (W.taken sink.new) (candidate_lines ward.now earlier.now stage.now)) }
+    ensures utf8 { OnOk result (IsUtf8 (candidate_lines ward.now earlier.now stage.now)) }
     ensures ok { OnOk result (W.failed sink.new ≡ W.failed sink.old) }
     ensures cut_off { OnErr result (AppendsBeginning (W.taken sink.old) (W.taken sink.new) (candidate_lines ward.now earlier.now stage.now)) }
     ensures err { OnErr result (W.failed sink.new ≡ W.failed sink.old + 1) }
@@ -134,6 +138,7 @@ fn write_candidate_lines<W: Sink>(
 fn write_non_transferable_line<W: Sink>(sink: &mut W, sum: Votes) -> Result<(), Broken>
     requires { W.failed sink.old < 2 ^ 64 - 1 }
     ensures written { OnOk result (Appends (W.taken sink.old) (W.taken sink.new) (non_transferable_line sum)) }
+    ensures utf8 { OnOk result (IsUtf8 (non_transferable_line sum)) }
     ensures ok { OnOk result (W.failed sink.new ≡ W.failed sink.old) }
     ensures cut_off { OnErr result (AppendsBeginning (W.taken sink.old) (W.taken sink.new) (non_transferable_line sum)) }
     ensures err { OnErr result (W.failed sink.new ≡ W.failed sink.old + 1) }
@@ -150,6 +155,7 @@ fn write_non_transferable_line<W: Sink>(sink: &mut W, sum: Votes) -> Result<(), 
 fn write_lost_line<W: Sink>(sink: &mut W, sum: Votes) -> Result<(), Broken>
     requires { W.failed sink.old < 2 ^ 64 - 1 }
     ensures written { OnOk result (Appends (W.taken sink.old) (W.taken sink.new) (lost_line sum)) }
+    ensures utf8 { OnOk result (IsUtf8 (lost_line sum)) }
     ensures ok { OnOk result (W.failed sink.new ≡ W.failed sink.old) }
     ensures cut_off { OnErr result (AppendsBeginning (W.taken sink.old) (W.taken sink.new) (lost_line sum)) }
     ensures err { OnErr result (W.failed sink.new ≡ W.failed sink.old + 1) }
@@ -167,6 +173,7 @@ fn write_lost_line<W: Sink>(sink: &mut W, sum: Votes) -> Result<(), Broken>
 fn write_sum_lines<W: Sink>(sink: &mut W, stage: &Stage) -> Result<(), Broken>
     requires { W.failed sink.old < 2 ^ 64 - 1 }
     ensures written { OnOk result (Appends (W.taken sink.old) (W.taken sink.new) (sum_lines stage.now)) }
+    ensures utf8 { OnOk result (IsUtf8 (sum_lines stage.now)) }
     ensures ok { OnOk result (W.failed sink.new ≡ W.failed sink.old) }
     ensures cut_off { OnErr result (AppendsBeginning (W.taken sink.old) (W.taken sink.new) (sum_lines stage.now)) }
     ensures err { OnErr result (W.failed sink.new ≡ W.failed sink.old + 1) }
@@ -187,6 +194,7 @@ pub fn write_stage<W: Sink>(
     requires candidate_set { IsColumnSet (map (λ candidate. candidate.0) ward.now.candidates.now) }
     requires failures { W.failed sink.old < 2 ^ 64 - 1 }
     ensures written { OnOk result (Appends (W.taken sink.old) (W.taken sink.new) (stage_text ward.now earlier.now stage.now)) }
+    ensures utf8 { OnOk result (IsUtf8 (stage_text ward.now earlier.now stage.now)) }
     ensures ok { OnOk result (W.failed sink.new ≡ W.failed sink.old) }
     ensures cut_off { OnErr result (AppendsBeginning (W.taken sink.old) (W.taken sink.new) (stage_text ward.now earlier.now stage.now)) }
     ensures err { OnErr result (W.failed sink.new ≡ W.failed sink.old + 1) }
