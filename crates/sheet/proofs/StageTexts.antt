@@ -29,5 +29,5 @@ pub AppendsBeginning-stage : (old mid new : Option (List ℕ)) (ward : Ward) (st
     AppendsBeginning old new (stages_text ward [] stages)
 AppendsBeginning-stage old mid new ward stages i d within taken cut_off =
     let parted = ap (λ text. text ++ stages_text ward (take (i + 1) stages) (drop (i + 1) stages)) (sym (stages_text-take_more ward stages i d within))
-        ∙ sym (stages_text-append ward [] (take (i + 1) stages) (drop (i + 1) stages)) ∙ ap (stages_text ward []) (take-append-drop (i + 1) stages) in
+    ∙ sym (stages_text-append ward [] (take (i + 1) stages) (drop (i + 1) stages)) ∙ ap (stages_text ward []) (take-append-drop (i + 1) stages) in
     subst (AppendsBeginning old new) parted (AppendsBeginning-within old mid new _ _ _ taken cut_off)

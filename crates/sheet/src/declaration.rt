@@ -30,20 +30,12 @@ fn write_elected_line<W: Sink>(
     if !elected.has(c) {
         return Ok(());
     }
-    let pieces = [
-        Piece::NumberColumn(c),
-        Piece::Text(" "),
-        Piece::Text(name),
-    ];
+    let pieces = [Piece::NumberColumn(c), Piece::Text(" "), Piece::Text(name)];
     write_line(sink, &pieces)
 }
 
 /// Writes the lines of the elected candidates.
-fn write_elected_lines<W: Sink>(
-    sink: &mut W,
-    ward: &Ward,
-    elected: &Columns,
-) -> Result<(), Broken>
+fn write_elected_lines<W: Sink>(sink: &mut W, ward: &Ward, elected: &Columns) -> Result<(), Broken>
     requires { W.failed sink.old < 2 ^ 64 - 1 }
     ensures written { OnOk result (Appends (W.taken sink.old) (W.taken sink.new) (elected_lines ward.now elected.now)) }
     ensures utf8 { OnOk result (IsUtf8 (elected_lines ward.now elected.now)) }
@@ -63,11 +55,7 @@ fn write_elected_lines<W: Sink>(
 /// Takes no memory. `Broken` comes only from the sink, which has then taken a beginning of the
 /// declaration and counts one failure more.
 #[tactic(auto, using(crate::proofs::Texts::beginnings))]
-pub fn write_declaration<W: Sink>(
-    sink: &mut W,
-    ward: &Ward,
-    elected: Columns,
-) -> Result<(), Broken>
+pub fn write_declaration<W: Sink>(sink: &mut W, ward: &Ward, elected: Columns) -> Result<(), Broken>
     requires ward { IsWard ward.now }
     requires failures { W.failed sink.old < 2 ^ 64 - 1 }
     ensures written { OnOk result (Appends (W.taken sink.old) (W.taken sink.new) (declaration ward.now elected)) }

@@ -2,6 +2,7 @@
 #![tactic(auto)]
 
 mod declaration;
+mod fitness;
 mod line;
 mod opening;
 mod page;
@@ -9,4 +10,11 @@ mod sheets;
 mod stage;
 mod ward;
 
+pub use declaration::write_declaration;
+pub use fitness::is_ward;
+pub use page::sheet_text;
+pub use sheets::write_sheet;
 pub use ward::{Poll, Ward};
+
+#[cfg(test)]
+mod tests;

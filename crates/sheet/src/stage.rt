@@ -39,7 +39,10 @@ fn write_heading<W: Sink>(sink: &mut W, k: u64, action: Action) -> Result<(), Br
         Action::ExcludeLast(c) => {
             let candidate = Piece::Number(u64::from(c));
             let last = Piece::Text(", last vacancies");
-            write_line(sink, &[stage, k, Piece::Text(": exclusion of "), candidate, last])
+            write_line(
+                sink,
+                &[stage, k, Piece::Text(": exclusion of "), candidate, last],
+            )
         }
     }
 }

@@ -11,14 +11,14 @@ use Rattle.sheet.proofs.declaration.write_elected_lines.Goals as goal
 pub returns-in_err-write_elected_line-clause-cut_off : goal.returns-in_err-write_elected_line-clause-cut_off
 returns-in_err-write_elected_line-clause-cut_off g c =
     let next = subst (λ candidate. AppendsBeginning (g.W.Sink.taken c.loop-candidate.sink) (g.W.Sink.taken c.write_elected_line.new.sink) (elected_line c.args.elected.now candidate.0 (string_bytes candidate.1)))
-        c.candidate-item.is (rw c.as_str.ensures.value at c.in_err-write_elected_line.ensures.cut_off) in
+    c.candidate-item.is (rw c.as_str.ensures.value at c.in_err-write_elected_line.ensures.cut_off) in
     OnErr-holds c.from_residual.result (AppendsBeginning-item _ _ _ (λ candidate. elected_line c.args.elected.now candidate.0 (string_bytes candidate.1))
-        c.args.ward.now.candidates.now c.loop-candidate.candidate-index c.candidate-item.result c.loop-candidate-test.true c.loop-candidate.invariant.taken next)
+    c.args.ward.now.candidates.now c.loop-candidate.candidate-index c.candidate-item.result c.loop-candidate-test.true c.loop-candidate.invariant.taken next)
 
 pub loop-candidate-preserved : goal.loop-candidate-preserved
 loop-candidate-preserved g c =
     let next = subst (λ candidate. Appends (g.W.Sink.taken c.loop-candidate.sink) (g.W.Sink.taken c.write_elected_line.new.sink) (elected_line c.args.elected.now candidate.0 (string_bytes candidate.1)))
-        c.candidate-item.is (rw c.as_str.ensures.value at c.in_ok-write_elected_line.ensures.written) in
+    c.candidate-item.is (rw c.as_str.ensures.value at c.in_ok-write_elected_line.ensures.written) in
     let text = subst (λ candidate. IsUtf8 (elected_line c.args.elected.now candidate.0 (string_bytes candidate.1))) c.candidate-item.is (rw c.as_str.ensures.value at c.in_ok-write_elected_line.ensures.utf8) in
     record {
       taken = subst (Appends (g.W.Sink.taken c.args.sink.now) (g.W.Sink.taken c.write_elected_line.new.sink))

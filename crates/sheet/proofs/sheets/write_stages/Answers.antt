@@ -12,13 +12,13 @@ use Rattle.sheet.proofs.sheets.write_stages.Goals as goal
 pub returns-in_err-write_stage-clause-cut_off : goal.returns-in_err-write_stage-clause-cut_off
 returns-in_err-write_stage-clause-cut_off g c =
     let next = subst (λ stage. AppendsBeginning (g.W.Sink.taken c.loop-k.sink) (g.W.Sink.taken c.write_stage.new.sink) (stage_text c.args.ward.now (take c.loop-k.k c.args.stages.now) stage))
-        c.index-stages-k.is c.in_err-write_stage.ensures.cut_off in
+    c.index-stages-k.is c.in_err-write_stage.ensures.cut_off in
     OnErr-holds c.from_residual.result (AppendsBeginning-stage _ _ _ c.args.ward.now c.args.stages.now c.loop-k.k c.index-stages-k.result c.loop-k-test.true c.loop-k.invariant.taken next)
 
 pub loop-k-preserved : goal.loop-k-preserved
 loop-k-preserved g c =
     let next = subst (λ stage. Appends (g.W.Sink.taken c.loop-k.sink) (g.W.Sink.taken c.write_stage.new.sink) (stage_text c.args.ward.now (take c.loop-k.k c.args.stages.now) stage))
-        c.index-stages-k.is c.in_ok-write_stage.ensures.written in
+    c.index-stages-k.is c.in_ok-write_stage.ensures.written in
     let text = subst (λ stage. IsUtf8 (stage_text c.args.ward.now (take c.loop-k.k c.args.stages.now) stage)) c.index-stages-k.is c.in_ok-write_stage.ensures.utf8 in
     record {
       taken = rw (stages_text-take_more c.args.ward.now c.args.stages.now c.loop-k.k c.index-stages-k.result c.loop-k-test.true) (Appends-trans _ _ _ _ _ c.loop-k.invariant.taken next);
