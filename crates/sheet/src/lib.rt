@@ -1,4 +1,15 @@
-//! Stage sheet.
+//! Stage sheets and declarations: the two texts of a ward that people hold in their hands.
+//!
+//! A [`Ward`] has what they tell of it, with its [`Poll`] if it is contested. [`write_sheet`] and
+//! [`write_declaration`] write them to a sink, line by line, and take no memory; [`sheet_text`]
+//! gives the sheet as a text. [`is_ward`] is the test of what they ask of a ward.
+//!
+//! ```text
+//! let ward = Ward { number: 7, name: "Harbour", seats: 2, candidates: &candidates, poll: Some(poll) };
+//! if is_ward(&ward) {
+//!     write_sheet(&mut Counted::new(&mut page), &ward, book.stages())?;
+//! }
+//! ```
 #![tactic(auto)]
 
 mod declaration;
