@@ -1,7 +1,5 @@
-use Rattle.std.specs.Prelude.{ℕ, List, ◌++◌, codes, decimal}
+use Rattle.std.specs.Prelude.{ℕ, List, decimal}
 use Rattle.votes.specs.Text.{votes_text}
-use Rattle.count.specs.declared.stages.Action.{Action}
-use Rattle.count.specs.declared.stages.Action.TheVariants.{First, Surplus, Exclude, ExcludeLast}
 use Rattle.sheet.specs.Lines.{number_column, value_column}
 use Rattle.sheet.specs.declared.line.Piece.{Piece}
 use Rattle.sheet.specs.declared.line.Piece.TheVariants.{Text, Number, Value, NumberColumn, ValueColumn}

@@ -1,4 +1,4 @@
-use Rattle.std.specs.Prelude.{ℕ, ◌+◌, Bool, if◌then◌else◌, nat_eq, List, [], ◌∷◌, ◌++◌, length, codes, decimal}
+use Rattle.std.specs.Prelude.{ℕ, Bool, if◌then◌else◌, nat_eq, List, [], ◌∷◌, ◌++◌, codes, decimal}
 use Rattle.std.specs.List.{list_any}
 use Rattle.count.specs.Contest.{votes_at}
 use Rattle.count.specs.Elected.{excludes}

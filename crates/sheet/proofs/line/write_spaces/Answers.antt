@@ -1,4 +1,4 @@
-use Rattle.std.proofs.Common.{◌≡◌, ℕ, List, take, replicate, OnOk, OnErr, subst}
+use Rattle.std.proofs.Common.{ℕ, List, OnOk, OnErr, subst}
 use Rattle.std.specs.Io.KnownBytes.{Appends}
 use Rattle.std.proofs.lemmas.List.{take-replicate}
 use Rattle.votes.specs.Streams.{AppendsBeginning}

@@ -1,10 +1,10 @@
-use Rattle.std.proofs.Common.{◌∙◌, sym, subst, take}
+use Rattle.std.proofs.Common.{◌∙◌, subst, take}
 use Rattle.std.proofs.KnownBytes.{Appends-trans}
 use Rattle.std.specs.Io.KnownBytes.{Appends}
 use Rattle.votes.specs.Streams.{AppendsBeginning}
 use Rattle.std.specs.Str.{IsUtf8}
 use Rattle.std.proofs.lemmas.Str.{IsUtf8-append}
-use Rattle.sheet.specs.Sheet.{stage_text, stages_text}
+use Rattle.sheet.specs.Sheet.{stage_text}
 use Rattle.sheet.proofs.StageTexts.{stages_text-take_more, AppendsBeginning-stage}
 use Rattle.sheet.proofs.Texts.{OnErr-holds}
 use Rattle.sheet.proofs.sheets.write_stages.Goals as goal
