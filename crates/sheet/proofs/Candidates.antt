@@ -1,0 +1,31 @@
+use Rattle.std.proofs.Common.{ℕ, ◌<◌, ◌≤◌, List, [], ◌∷◌, length, get_or, map, subst, arith}
+use Rattle.std.proofs.lemmas.List.{get_or-map, length-map}
+use Rattle.paper.specs.Columns.{IsColumnSet, IsColumn}
+use Rattle.paper.proofs.ColumnSets.{Ascends, columns_from_ascends, ascends_from_columns}
+use Rattle.sheet.specs.Wards.{Ascend, HasFewPapers, IsWard}
+use Rattle.sheet.specs.declared.ward.Ward.{Ward}
+
+-- the number of each candidate is 1 to 30
+pub IsColumn-candidate : {X : Type 0} (number : X → ℕ) (xs : List X) (i : ℕ) (d : X) → i < length xs → IsColumnSet (map number xs) → IsColumn (number (get_or xs i d))
+IsColumn-candidate number xs i d within set =
+    subst IsColumn (get_or-map number xs i d 0 within) (set.within i (omega (arith, length-map xs number)))
+
+ascends_of : (low : ℕ) (cs : List ℕ) → Ascend low cs → Ascends low cs
+ascends_of low [] up = tt
+ascends_of low (c ∷ cs) up = (up.0, up.1, ascends_of c cs up.2)
+
+ascend_of : (low : ℕ) (cs : List ℕ) → Ascends low cs → Ascend low cs
+ascend_of low [] up = tt
+ascend_of low (c ∷ cs) up = (up.0, up.1, ascend_of c cs up.2)
+
+-- a ward by its parts
+pub IsWard-made : (ward : Ward) → 1 ≤ ward.seats → ward.seats ≤ 15 → HasFewPapers ward.poll → Ascend 0 (map (λ candidate. candidate.0) ward.candidates.now) → IsWard ward
+IsWard-made ward some few papers up = record {
+  some_seats = some;
+  few_seats = few;
+  candidate_set = columns_from_ascends 0 _ (ascends_of 0 _ up);
+  few_papers = papers;
+}
+
+pub IsWard-ascends : (ward : Ward) → IsWard ward → Ascend 0 (map (λ candidate. candidate.0) ward.candidates.now)
+IsWard-ascends ward is_ward = ascend_of 0 _ (ascends_from_columns _ is_ward.candidate_set)

@@ -1,0 +1,13 @@
+use Rattle.std.specs.Prelude.{ℕ, List, decimal}
+use Rattle.votes.specs.Text.{votes_text}
+use Rattle.sheet.specs.Lines.{number_column, value_column}
+use Rattle.sheet.specs.declared.line.Piece.{Piece}
+use Rattle.sheet.specs.declared.line.Piece.TheVariants.{Text, Number, Value, NumberColumn, ValueColumn}
+
+-- the text of a piece of a line
+abbrev pub piece_text : Piece → List ℕ
+piece_text (Text text) = text.now
+piece_text (Number number) = decimal number
+piece_text (Value units) = votes_text units
+piece_text (NumberColumn c) = number_column c
+piece_text (ValueColumn units) = value_column units

@@ -1,0 +1,46 @@
+use Rattle.std.specs.Prelude.{ℕ, Bool, if◌then◌else◌, nat_eq, List, [], ◌∷◌, ◌++◌, codes, decimal}
+use Rattle.std.specs.List.{list_any}
+use Rattle.count.specs.Contest.{votes_at}
+use Rattle.count.specs.Elected.{excludes}
+use Rattle.count.specs.declared.stages.Stage.{Stage}
+use Rattle.count.specs.declared.stages.Action.{Action}
+use Rattle.count.specs.declared.stages.Action.TheVariants.{First, Surplus, Exclude, ExcludeLast}
+use Rattle.sheet.specs.Lines.{line, number_column, value_column}
+
+-- `Stage 1: first preferences`, `Stage 2: surplus of 1`, `Stage 3: exclusion of 2, last vacancies`
+abbrev pub heading : ℕ → Action → List ℕ
+heading k First = line (codes "Stage " ∷ decimal k ∷ codes ": first preferences" ∷ [])
+heading k (Surplus c) = line (codes "Stage " ∷ decimal k ∷ codes ": surplus of " ∷ decimal c ∷ [])
+heading k (Exclude c) = line (codes "Stage " ∷ decimal k ∷ codes ": exclusion of " ∷ decimal c ∷ [])
+heading k (ExcludeLast c) = line (codes "Stage " ∷ decimal k ∷ codes ": exclusion of " ∷ decimal c ∷ codes ", last vacancies" ∷ [])
+
+-- whether a candidate is newly elected at one of some stages, and whether he is excluded at one of them
+abbrev pub is_elected_at : List Stage → ℕ → Bool
+is_elected_at stages c = list_any (λ s. list_any (nat_eq c) s.elected) stages
+
+abbrev pub is_excluded_at : List Stage → ℕ → Bool
+is_excluded_at stages c = list_any (λ s. excludes s.action c) stages
+
+-- a candidate's letter at a stage: E elected at it, e elected at an earlier one, x excluded at it or earlier, - else
+abbrev pub letter : List Stage → Stage → ℕ → List ℕ
+letter earlier stage c =
+    if is_elected_at (stage ∷ []) c then codes "E" else (
+    if is_elected_at earlier c then codes "e" else (
+    if is_excluded_at (stage ∷ earlier) c then codes "x" else codes "-"))
+
+-- ` 1       4.00000 e Ann`
+abbrev pub candidate_line : List Stage → Stage → ℕ → List ℕ → List ℕ
+candidate_line earlier stage c name =
+    line (number_column c ∷ codes " " ∷ value_column (votes_at stage c) ∷ codes " " ∷ letter earlier stage c ∷ codes " " ∷ name ∷ [])
+
+-- `         0.00000 non-transferable`
+abbrev pub non_transferable_line : ℕ → List ℕ
+non_transferable_line units = line (codes "   " ∷ value_column units ∷ codes " non-transferable" ∷ [])
+
+-- `         0.00002 lost by fractions`
+abbrev pub lost_line : ℕ → List ℕ
+lost_line units = line (codes "   " ∷ value_column units ∷ codes " lost by fractions" ∷ [])
+
+-- the running sums of a stage
+abbrev pub sum_lines : Stage → List ℕ
+sum_lines stage = non_transferable_line stage.non_transferable ++ lost_line stage.lost

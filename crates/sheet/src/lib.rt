@@ -1,0 +1,31 @@
+//! Stage sheets and declarations: the two texts of a ward that people hold in their hands.
+//!
+//! A [`Ward`] has what they tell of it, with its [`Poll`] if it is contested. [`write_sheet`] and
+//! [`write_declaration`] write them to a sink, line by line, and take no memory; [`sheet_text`]
+//! gives the sheet as a text. [`is_ward`] is the test of what they ask of a ward.
+//!
+//! ```text
+//! let ward = Ward { number: 7, name: "Harbour", seats: 2, candidates: &candidates, poll: Some(poll) };
+//! if is_ward(&ward) {
+//!     write_sheet(&mut Counted::new(&mut page), &ward, book.stages())?;
+//! }
+//! ```
+#![tactic(auto)]
+
+mod declaration;
+mod fitness;
+mod line;
+mod opening;
+mod page;
+mod sheets;
+mod stage;
+mod ward;
+
+pub use declaration::write_declaration;
+pub use fitness::is_ward;
+pub use page::sheet_text;
+pub use sheets::write_sheet;
+pub use ward::{Poll, Ward};
+
+#[cfg(test)]
+mod tests;

@@ -1,0 +1,55 @@
+//! The stage sheet as a text in memory.
+
+ghost use Rattle.std.specs.Prelude.{◌≡◌, Some, IfOk, string_bytes};
+ghost use Rattle.sheet.specs.Sheet.{sheet};
+ghost use Rattle.sheet.specs.Wards.{IsWard};
+
+use crate::sheets::write_sheet;
+use crate::ward::Ward;
+use count::Stage;
+use std::alloc::{AllocError, Global};
+use votes::{Broken, Sink};
+
+/// A sink in memory, which fails where its growth is refused.
+#[derive(Drop)]
+struct Page {
+    text: Vec<u8>,
+    failed: u64,
+}
+
+impl Sink for Page {
+    ghost taken = { λ s. Some s.text.items };
+
+    ghost failed = { λ s. s.failed };
+
+    fn put(&mut self, bytes: &[u8]) -> Result<usize, Broken> {
+        match self.text.extend_from_slice(bytes) {
+            Ok(()) => Ok(bytes.len()),
+            Err(AllocError) => {
+                self.failed += 1;
+                Err(Broken)
+            }
+        }
+    }
+
+    fn failures(&self) -> u64 {
+        self.failed
+    }
+}
+
+/// The stage sheet of a ward, as [`write_sheet`] writes it.
+///
+/// The only error is want of memory.
+pub fn sheet_text(alloc: Global, ward: &Ward, stages: &[Stage]) -> Result<String, AllocError>
+    requires { IsWard ward.now }
+    ensures { IfOk result (λ text. string_bytes text ≡ sheet ward.now stages.now) }
+{
+    let mut page = Page {
+        text: Vec::new(alloc),
+        failed: 0,
+    };
+    if write_sheet(&mut page, ward, stages).is_err() {
+        return Err(AllocError);
+    }
+    Ok(String::from_utf8(page.text).unwrap())
+}

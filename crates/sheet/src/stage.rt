@@ -1,0 +1,209 @@
+//! The lines of one stage.
+
+ghost use Rattle.std.specs.Prelude.{◌≡◌, ◌+◌, ◌-◌, ◌^◌, ◌<◌, ◌≤◌, nat_eq, map, OnOk, OnErr};
+ghost use Rattle.std.specs.Io.KnownBytes.{Appends};
+ghost use Rattle.std.specs.Str.{IsUtf8};
+ghost use Rattle.std.specs.List.{list_any};
+ghost use Rattle.paper.specs.Columns.{IsColumnSet, IsColumn};
+ghost use Rattle.votes.specs.Streams.{AppendsBeginning};
+ghost use Rattle.count.specs.Elected.{excludes as excludes_of};
+ghost use Rattle.sheet.specs.Stages.{is_elected_at as is_elected_of, is_excluded_at as is_excluded_of, letter as letter_of, heading, candidate_line, non_transferable_line, lost_line, sum_lines};
+ghost use Rattle.sheet.specs.Sheet.{candidate_lines, stage_text};
+
+use crate::line::{Piece, write_line};
+use crate::ward::Ward;
+use count::{Action, Stage};
+use votes::{Broken, Sink, Votes};
+
+/// Writes what is done at stage k.
+fn write_heading<W: Sink>(sink: &mut W, k: u64, action: Action) -> Result<(), Broken>
+    requires { W.failed sink.old < 2 ^ 64 - 1 }
+    ensures written { OnOk result (Appends (W.taken sink.old) (W.taken sink.new) (heading k action)) }
+    ensures utf8 { OnOk result (IsUtf8 (heading k action)) }
+    ensures ok { OnOk result (W.failed sink.new ≡ W.failed sink.old) }
+    ensures cut_off { OnErr result (AppendsBeginning (W.taken sink.old) (W.taken sink.new) (heading k action)) }
+    ensures err { OnErr result (W.failed sink.new ≡ W.failed sink.old + 1) }
+{
+    let stage = Piece::Text("Stage ");
+    let k = Piece::Number(k);
+    match action {
+        Action::First => write_line(sink, &[stage, k, Piece::Text(": first preferences")]),
+        Action::Surplus(c) => {
+            let candidate = Piece::Number(u64::from(c));
+            write_line(sink, &[stage, k, Piece::Text(": surplus of "), candidate])
+        }
+        Action::Exclude(c) => {
+            let candidate = Piece::Number(u64::from(c));
+            write_line(sink, &[stage, k, Piece::Text(": exclusion of "), candidate])
+        }
+        Action::ExcludeLast(c) => {
+            let candidate = Piece::Number(u64::from(c));
+            let last = Piece::Text(", last vacancies");
+            write_line(
+                sink,
+                &[stage, k, Piece::Text(": exclusion of "), candidate, last],
+            )
+        }
+    }
+}
+
+/// Whether a candidate is newly elected at one of some stages.
+fn is_elected_at(stages: &[Stage], c: u8) -> bool
+    ensures { result ≡ is_elected_of stages.now c }
+{
+    stages.iter().any(|stage| stage.elected.has(c))
+}
+
+/// Whether an action excludes a candidate.
+fn excludes(action: &Action, c: u8) -> bool
+    ensures { result ≡ excludes_of action.now c }
+{
+    match action {
+        Action::First | Action::Surplus(_) => false,
+        Action::Exclude(d) | Action::ExcludeLast(d) => *d == c,
+    }
+}
+
+/// Whether a candidate is excluded at one of some stages.
+fn is_excluded_at(stages: &[Stage], c: u8) -> bool
+    ensures { result ≡ is_excluded_of stages.now c }
+{
+    stages.iter().any(|stage| excludes(&stage.action, c))
+}
+
+/// The letter of a candidate at a stage: `E` elected at it, `e` elected at an earlier one, `x`
+/// excluded at it or earlier, `-` else.
+fn letter(earlier: &[Stage], stage: &Stage, c: u8) -> &'static str
+    ensures { result.now ≡ letter_of earlier.now stage.now c }
+{
+    if stage.elected.has(c) {
+        return "E";
+    }
+    if is_elected_at(earlier, c) {
+        return "e";
+    }
+    if excludes(&stage.action, c) || is_excluded_at(earlier, c) {
+        return "x";
+    }
+    "-"
+}
+
+/// Writes the line of a candidate at a stage.
+fn write_candidate_line<W: Sink>(
+    sink: &mut W,
+    earlier: &[Stage],
+    stage: &Stage,
+    c: u8,
+    name: &str,
+) -> Result<(), Broken>
+    requires column { IsColumn c }
+    requires failures { W.failed sink.old < 2 ^ 64 - 1 }
+    ensures written { OnOk result (Appends (W.taken sink.old) (W.taken sink.new) (candidate_line earlier.now stage.now c name.now)) }
+    ensures utf8 { OnOk result (IsUtf8 (candidate_line earlier.now stage.now c name.now)) }
+    ensures ok { OnOk result (W.failed sink.new ≡ W.failed sink.old) }
+    ensures cut_off { OnErr result (AppendsBeginning (W.taken sink.old) (W.taken sink.new) (candidate_line earlier.now stage.now c name.now)) }
+    ensures err { OnErr result (W.failed sink.new ≡ W.failed sink.old + 1) }
+{
+    let pieces = [
+        Piece::NumberColumn(c),
+        Piece::Text(" "),
+        Piece::ValueColumn(stage.votes[usize::from(c - 1)]),
+        Piece::Text(" "),
+        Piece::Text(letter(earlier, stage, c)),
+        Piece::Text(" "),
+        Piece::Text(name),
+    ];
+    write_line(sink, &pieces)
+}
+
+/// Writes the lines of all candidates at a stage.
+fn write_candidate_lines<W: Sink>(
+    sink: &mut W,
+    ward: &Ward,
+    earlier: &[Stage],
+    stage: &Stage,
+) -> Result<(), Broken>
+    requires candidate_set { IsColumnSet (map (λ candidate. candidate.0) ward.now.candidates.now) }
+    requires failures { W.failed sink.old < 2 ^ 64 - 1 }
+    ensures written { OnOk result (Appends (W.taken sink.old) (W.taken sink.new) (candidate_lines ward.now earlier.now stage.now)) }
+    ensures utf8 { OnOk result (IsUtf8 (candidate_lines ward.now earlier.now stage.now)) }
+    ensures ok { OnOk result (W.failed sink.new ≡ W.failed sink.old) }
+    ensures cut_off { OnErr result (AppendsBeginning (W.taken sink.old) (W.taken sink.new) (candidate_lines ward.now earlier.now stage.now)) }
+    ensures err { OnErr result (W.failed sink.new ≡ W.failed sink.old + 1) }
+{
+    for candidate in ward.candidates {
+        write_candidate_line(sink, earlier, stage, candidate.0, candidate.1.as_str())?;
+    }
+    Ok(())
+}
+
+/// Writes the running sum of what isn't transferable.
+fn write_non_transferable_line<W: Sink>(sink: &mut W, sum: Votes) -> Result<(), Broken>
+    requires { W.failed sink.old < 2 ^ 64 - 1 }
+    ensures written { OnOk result (Appends (W.taken sink.old) (W.taken sink.new) (non_transferable_line sum)) }
+    ensures utf8 { OnOk result (IsUtf8 (non_transferable_line sum)) }
+    ensures ok { OnOk result (W.failed sink.new ≡ W.failed sink.old) }
+    ensures cut_off { OnErr result (AppendsBeginning (W.taken sink.old) (W.taken sink.new) (non_transferable_line sum)) }
+    ensures err { OnErr result (W.failed sink.new ≡ W.failed sink.old + 1) }
+{
+    let pieces = [
+        Piece::Text("   "),
+        Piece::ValueColumn(sum),
+        Piece::Text(" non-transferable"),
+    ];
+    write_line(sink, &pieces)
+}
+
+/// Writes the running sum of what is lost by fractions.
+fn write_lost_line<W: Sink>(sink: &mut W, sum: Votes) -> Result<(), Broken>
+    requires { W.failed sink.old < 2 ^ 64 - 1 }
+    ensures written { OnOk result (Appends (W.taken sink.old) (W.taken sink.new) (lost_line sum)) }
+    ensures utf8 { OnOk result (IsUtf8 (lost_line sum)) }
+    ensures ok { OnOk result (W.failed sink.new ≡ W.failed sink.old) }
+    ensures cut_off { OnErr result (AppendsBeginning (W.taken sink.old) (W.taken sink.new) (lost_line sum)) }
+    ensures err { OnErr result (W.failed sink.new ≡ W.failed sink.old + 1) }
+{
+    let pieces = [
+        Piece::Text("   "),
+        Piece::ValueColumn(sum),
+        Piece::Text(" lost by fractions"),
+    ];
+    write_line(sink, &pieces)
+}
+
+/// Writes the running sums of a stage.
+#[tactic(auto, using(crate::proofs::Texts::beginnings))]
+fn write_sum_lines<W: Sink>(sink: &mut W, stage: &Stage) -> Result<(), Broken>
+    requires { W.failed sink.old < 2 ^ 64 - 1 }
+    ensures written { OnOk result (Appends (W.taken sink.old) (W.taken sink.new) (sum_lines stage.now)) }
+    ensures utf8 { OnOk result (IsUtf8 (sum_lines stage.now)) }
+    ensures ok { OnOk result (W.failed sink.new ≡ W.failed sink.old) }
+    ensures cut_off { OnErr result (AppendsBeginning (W.taken sink.old) (W.taken sink.new) (sum_lines stage.now)) }
+    ensures err { OnErr result (W.failed sink.new ≡ W.failed sink.old + 1) }
+{
+    write_non_transferable_line(sink, stage.non_transferable)?;
+    write_lost_line(sink, stage.lost)?;
+    Ok(())
+}
+
+/// Writes a stage after earlier ones.
+#[tactic(auto, using(crate::proofs::Texts::beginnings))]
+pub fn write_stage<W: Sink>(
+    sink: &mut W,
+    ward: &Ward,
+    earlier: &[Stage],
+    stage: &Stage,
+) -> Result<(), Broken>
+    requires candidate_set { IsColumnSet (map (λ candidate. candidate.0) ward.now.candidates.now) }
+    requires failures { W.failed sink.old < 2 ^ 64 - 1 }
+    ensures written { OnOk result (Appends (W.taken sink.old) (W.taken sink.new) (stage_text ward.now earlier.now stage.now)) }
+    ensures utf8 { OnOk result (IsUtf8 (stage_text ward.now earlier.now stage.now)) }
+    ensures ok { OnOk result (W.failed sink.new ≡ W.failed sink.old) }
+    ensures cut_off { OnErr result (AppendsBeginning (W.taken sink.old) (W.taken sink.new) (stage_text ward.now earlier.now stage.now)) }
+    ensures err { OnErr result (W.failed sink.new ≡ W.failed sink.old + 1) }
+{
+    write_heading(sink, earlier.len() as u64 + 1, stage.action)?;
+    write_candidate_lines(sink, ward, earlier, stage)?;
+    write_sum_lines(sink, stage)?;
+    Ok(())
+}

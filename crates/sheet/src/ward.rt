@@ -1,0 +1,22 @@
+//! A ward as a sheet and a declaration tell it.
+
+/// The papers of a contested ward.
+#[derive(Clone, Copy, Debug, PartialEq, Eq)]
+pub struct Poll {
+    /// How many papers are valid, at most 4999500.
+    pub valid: u32,
+    /// How many papers are rejected, by code 1 to 5.
+    pub rejected: [u32; 5],
+}
+
+/// A ward: its number and name, 1 to 15 seats, and its candidates in ascending number 1 to 30, each
+/// with his name.
+#[derive(Clone, Copy, Debug)]
+pub struct Ward<'a> {
+    pub number: u8,
+    pub name: &'a str,
+    pub seats: u8,
+    pub candidates: &'a [(u8, String)],
+    /// None for an uncontested ward.
+    pub poll: Option<Poll>,
+}
