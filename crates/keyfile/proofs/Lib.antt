@@ -1,4 +1,6 @@
-pub mod Records
-pub mod Reading
-pub mod Judging
-pub mod Standing
+pub mod FieldLemmas
+pub mod MapLemmas
+pub mod RecordLemmas
+pub mod ReadLemmas
+pub mod FileLemmas
+pub mod StandLemmas

@@ -2,7 +2,8 @@
 
 ghost use Rattle.std.specs.Prelude.{◌≡◌, ◌≤◌, ◌⊎◌, true, false, length, map, take, IfOk, IfErr};
 ghost use Rattle.std.specs.List.{list_all};
-ghost use Rattle.std.specs.Str.{is_utf8, all_ascii_digits};
+ghost use Rattle.std.specs.Char.{is_ascii_digit};
+ghost use Rattle.std.specs.Str.{is_utf8};
 ghost use Rattle.csv.specs.Records.{fields_of};
 ghost use Rattle.keyfile.specs.Numbers.{number_in};
 
@@ -47,7 +48,7 @@ pub(crate) fn number_in(text: &str) -> Option<u32>
 }
 
 fn all_digits(digits: &[u8]) -> bool
-    ensures { result ≡ all_ascii_digits digits.now }
+    ensures { result ≡ list_all is_ascii_digit digits.now }
 {
     digits.iter().all(|b| b.is_ascii_digit())
 }

@@ -1,6 +1,7 @@
 //! The file of a clerk's keying of a batch: `paper` and the candidates' numbers, then the papers.
 
-ghost use Rattle.std.specs.Prelude.{◌≡◌, ◌++◌, List, ℕ, map, IfOk, IfErr, OnOk, Ok, Err, string_bytes};
+ghost use Rattle.std.specs.Prelude.{◌≡◌, ◌++◌, ◌==◌, List, ℕ, length, map, IfOk, IfErr, OnOk, Ok, Err, string_bytes};
+ghost use Rattle.std.specs.List.{join_with_byte, list_all, list_any};
 ghost use Rattle.keyfile.specs.Files.{IsFaultOf, file_rows};
 ghost use Rattle.keyfile.specs.Keying.{are_columns, breaks_marks, field_text, is_doubtful, keying, marks_text, of_number};
 ghost use Rattle.keyfile.specs.Numbers.{number_in};
@@ -88,6 +89,7 @@ fn are_columns(texts: &[&str], columns: &[u8]) -> bool
 }
 
 /// Makes sure that a paper's number is the record's and that its mark fields can be joined.
+#[tactic(auto, using(crate::proofs::MapLemmas::list_any_map))]
 fn check_paper(number: u32, paper: &str, marks: &[&str]) -> Result<(), Flaw>
     ensures ok { OnOk result (of_number number (number_in paper.now) (map (λ t. t.now) marks.now) ≡ Ok (marks_text (map (λ t. t.now) marks.now))) }
     ensures err { IfErr result (λ flaw. of_number number (number_in paper.now) (map (λ t. t.now) marks.now) ≡ Err flaw) }
@@ -95,9 +97,15 @@ fn check_paper(number: u32, paper: &str, marks: &[&str]) -> Result<(), Flaw>
     match number_in(paper) {
         None => Err(Flaw::Number),
         Some(told) if told != number => Err(Flaw::PaperOrder),
-        Some(_) if marks.iter().any(|mark| breaks_marks(mark)) => Err(Flaw::Marks),
+        Some(_) if any_breaks(marks) => Err(Flaw::Marks),
         Some(_) => Ok(()),
     }
+}
+
+fn any_breaks(marks: &[&str]) -> bool
+    ensures { result ≡ list_any (λ t. breaks_marks t.now) marks.now }
+{
+    marks.iter().any(|mark| breaks_marks(mark))
 }
 
 /// Whether a mark field holds a comma, a double quote or a line end.
@@ -116,6 +124,13 @@ fn marks_text(alloc: Global, marks: &[&str]) -> Result<String, AllocError>
     if is_doubtful(marks) {
         return String::from_str(alloc, "D");
     }
+    joined(alloc, marks)
+}
+
+/// The fields parted by commas.
+fn joined(alloc: Global, marks: &[&str]) -> Result<String, AllocError>
+    ensures { IfOk result (λ text. string_bytes text ≡ join_with_byte 44 (map (λ t. t.now) marks.now)) }
+{
     let mut text = String::new(alloc);
     for (i, mark) in marks.iter().enumerate() {
         push_field(&mut text, i, mark)?;
@@ -123,13 +138,20 @@ fn marks_text(alloc: Global, marks: &[&str]) -> Result<String, AllocError>
     Ok(text)
 }
 
+#[tactic(auto, using(crate::proofs::MapLemmas::list_all_map))]
 fn is_doubtful(marks: &[&str]) -> bool
     ensures { result ≡ is_doubtful (map (λ t. t.now) marks.now) }
 {
     match marks {
         [] => false,
-        [first, others @ ..] => *first == "D" && others.iter().all(|mark| mark.is_empty()),
+        [first, others @ ..] => *first == "D" && are_empty(others),
     }
+}
+
+fn are_empty(marks: &[&str]) -> bool
+    ensures { result ≡ list_all (λ t. length t.now == 0) marks.now }
+{
+    marks.iter().all(|mark| mark.is_empty())
 }
 
 /// Puts a field to the end of a text, with a comma in front of every field but the first.

@@ -14,22 +14,28 @@ use Rattle.keyfile.specs.Reading.{Begins}
 takes : (cfg : Config) (s : State) (fields : Record) (field : List ℕ) (b : ℕ) (xs : List ℕ) (p : Read) → next_record cfg s fields field (b ∷ xs) ≡ Some p
     → length p.2 ≤ length xs
 unfolding next_record
-takes cfg s fields field b xs p is = by_end (is_end (step cfg s b).1) xs is
+takes cfg s fields field b [] p is = by_end (is_end (step cfg s b).1) is
   where
-    by_end : (ends : Bool) (xs : List ℕ)
-        → cond ends (Some (fields_after (step cfg s b).1 fields field, (step cfg s b).0, xs))
-        (next_record cfg (step cfg s b).0 (fields_after (step cfg s b).1 fields field) (field_after (step cfg s b).1 b field) xs) ≡ Some p
-        → length p.2 ≤ length xs
-    by_end true xs is = let same : xs ≡ p.2 = cc in rw (← same) (omega arith)
-    by_end false [] is = by_state (ends_at_end (step cfg s b).0) is
-      where
-        by_state : (ends : Bool) → cond ends (Some (fields_after (step cfg s b).1 fields field ++ (field_after (step cfg s b).1 b field ∷ []), st.StartRecord, [])) None ≡ Some p
-            → length p.2 ≤ 0
-        by_state true is = let same : [] ≡ p.2 = cc in rw (← same) (omega arith)
-        by_state false is = cc
-    by_end false (c ∷ rest) is =
-        let shorter = takes cfg (step cfg s b).0 (fields_after (step cfg s b).1 fields field) (field_after (step cfg s b).1 b field) c rest p is in
-        omega (arith, shorter)
+    by_state : (ends : Bool) → cond ends (Some (fields_after (step cfg s b).1 fields field ++ (field_after (step cfg s b).1 b field ∷ []), st.StartRecord, [])) None ≡ Some p
+        → length p.2 ≤ 0
+    by_state true is = let same : [] ≡ p.2 = cc in rw (← same) (omega arith)
+    by_state false is = cc
+    by_end : (ends : Bool)
+        → cond ends (Some (fields_after (step cfg s b).1 fields field, (step cfg s b).0, []))
+        (next_record cfg (step cfg s b).0 (fields_after (step cfg s b).1 fields field) (field_after (step cfg s b).1 b field) []) ≡ Some p
+        → length p.2 ≤ 0
+    by_end true is = let same : [] ≡ p.2 = cc in rw (← same) (omega arith)
+    by_end false is = by_state (ends_at_end (step cfg s b).0) is
+takes cfg s fields field b (c ∷ rest) p is =
+    by_end (is_end (step cfg s b).1) is (takes cfg (step cfg s b).0 (fields_after (step cfg s b).1 fields field) (field_after (step cfg s b).1 b field) c rest p)
+  where
+    by_end : (ends : Bool)
+        → cond ends (Some (fields_after (step cfg s b).1 fields field, (step cfg s b).0, c ∷ rest))
+        (next_record cfg (step cfg s b).0 (fields_after (step cfg s b).1 fields field) (field_after (step cfg s b).1 b field) (c ∷ rest)) ≡ Some p
+        → (next_record cfg (step cfg s b).0 (fields_after (step cfg s b).1 fields field) (field_after (step cfg s b).1 b field) (c ∷ rest) ≡ Some p → length p.2 ≤ length rest)
+        → length p.2 ≤ length (c ∷ rest)
+    by_end true is ih = let same : c ∷ rest ≡ p.2 = cc in rw (← same) (omega arith)
+    by_end false is ih = let shorter = ih is in omega (arith, shorter)
 
 -- enough turns for the records of these bytes: one more than there are bytes; none where there is no record
 abbrev Suffices : ℕ → State → List ℕ → Type 0
@@ -76,12 +82,12 @@ pub file-begins : (bytes : List ℕ) (records : List Record) (s : State) (ys : L
     → Begins bytes records
 file-begins bytes records s ys h = let (m, is) = reached-begins bytes records s ys h in (records_from default_config m s ys, is)
 
+no_more : (records : List Record) (s : State) (ys : List ℕ) (m : ℕ) → next_record default_config s [] [] ys ≡ None → records ++ records_from default_config m s ys ≡ records
+unfolding records_from
+no_more records s ys zero end = append-nil records
+no_more records s ys (suc m) end = rw end (append-nil records)
+
 -- and all of them, where no other follows
 pub file-whole : (bytes : List ℕ) (records : List Record) (s : State) (ys : List ℕ) → Reached default_config st.StartRecord (strip_bom bytes) records s ys
     → next_record default_config s [] [] ys ≡ None → file_records bytes ≡ records
-file-whole bytes records s ys h end = let (m, is) = reached-begins bytes records s ys h in is ∙ by_turns m
-  where
-    by_turns : (m : ℕ) → records ++ records_from default_config m s ys ≡ records
-    unfolding records_from
-    by_turns zero = append-nil records
-    by_turns (suc m) = rw end (append-nil records)
+file-whole bytes records s ys h end = let (m, is) = reached-begins bytes records s ys h in is ∙ no_more records s ys m end

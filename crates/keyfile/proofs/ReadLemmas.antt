@@ -12,7 +12,7 @@ use Rattle.csv.proofs.ReadFacts.{rows-more}
 use Rattle.keyfile.specs.Faults.{flaw_of}
 use Rattle.keyfile.specs.Reading.{Begins, EndsBefore, Follows, IsAfter, IsNext, IsUneven, Known, wanted}
 use Rattle.keyfile.specs.Records.{Record, file_records}
-use Rattle.keyfile.proofs.Records.{file-begins, file-whole}
+use Rattle.keyfile.proofs.RecordLemmas.{file-begins, file-whole}
 
 -- no record was read of a file that was just opened
 pub opened : (bytes : Option (List ℕ)) (s : State) → s ≡ st.StartRecord → Follows bytes [] s (option_map strip_bom bytes)
@@ -29,6 +29,18 @@ wanted_next [] fields old new is keeps now = (now, tt)
 wanted_next (r ∷ rs) fields old new is keeps now =
     let kept : new ≡ Some (length r) = rw is at keeps in
     (kept, same_length _ _ (sym now ∙ kept))
+
+reached_next : (s0 s s2 : State) (xs ys zs : List ℕ) (records : List Record) (fields : Record) → Reached default_config s0 xs records s ys
+    → NextIs (next_record default_config s [] [] ys) true fields s2 zs → Reached default_config s0 xs (records ++ fields ∷ []) s2 zs
+unfolding Reached
+reached_next s0 s s2 xs ys zs [] fields h n = last (next_record default_config s [] [] ys) refl n
+  where
+    last : (o : Option Read) → next_record default_config s [] [] ys ≡ o → NextIs o true fields s2 zs → Reached default_config s0 xs (fields ∷ []) s2 zs
+    last None e m = cc m
+    last (Some p) e m = (p, rw (h.0, h.1) e, m.1, (sym m.2, sym m.3))
+reached_next s0 s s2 xs ys zs (r ∷ rs) fields h n =
+    let (p, is, same, rest) = h in
+    (p, is, same, reached_next p.1 s s2 p.2 ys zs rs fields rest n)
 
 module _ {R : Type 0} (rem : R → Option (List ℕ)) where
   follows_next : (a b : Reader R) (bytes left : Option (List ℕ)) (records : List Record) (fields : Record) → source_of rem a ≡ left → IsAfter rem bytes records a
@@ -93,18 +105,6 @@ module _ {R : Type 0} (rem : R → Option (List ℕ)) where
       go (Some xs) (Some ys) None t h = absurd t
       go (Some xs) (Some ys) (Some zs) t h =
           (fields, n, file-begins xs (records ++ fields ∷ []) b.state zs (reached_next st.StartRecord a.state b.state (strip_bom xs) ys zs records fields h t), sym after.length ∙ expected, differs)
-        where
-          reached_next : (s0 s s2 : State) (xs ys zs : List ℕ) (records : List Record) (fields : Record) → Reached default_config s0 xs records s ys
-              → NextIs (next_record default_config s [] [] ys) true fields s2 zs → Reached default_config s0 xs (records ++ fields ∷ []) s2 zs
-          unfolding Reached
-          reached_next s0 s s2 xs ys zs [] fields h n = last (next_record default_config s [] [] ys) refl n
-            where
-              last : (o : Option Read) → next_record default_config s [] [] ys ≡ o → NextIs o true fields s2 zs → Reached default_config s0 xs (fields ∷ []) s2 zs
-              last None e m = cc m
-              last (Some p) e m = (p, rw (h.0, h.1) e, m.1, (sym m.2, sym m.3))
-          reached_next s0 s s2 xs ys zs (r ∷ rs) fields h n =
-              let (p, is, same, rest) = h in
-              (p, is, same, reached_next p.1 s s2 p.2 ys zs rs fields rest n)
 
   -- a read that failed
   pub read-failed : (a b : Reader R) (bytes : Option (List ℕ)) (records : List Record) (k : ErrorKind) → IsAfter rem bytes records a
