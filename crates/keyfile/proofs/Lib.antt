@@ -1,3 +1,4 @@
+pub mod MarkLemmas
 pub mod FieldLemmas
 pub mod MapLemmas
 pub mod RecordLemmas

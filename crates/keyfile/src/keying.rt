@@ -79,13 +79,13 @@ impl FileFormat for KeyingFile {
 fn are_columns(texts: &[&str], columns: &[u8]) -> bool
     ensures { result ≡ are_columns (map (λ t. t.now) texts.now) columns.now }
 {
-    match (texts, columns) {
-        ([], []) => true,
-        ([text, others @ ..], [column, more @ ..]) => {
-            number_in(text) == Some(u32::from(*column)) && are_columns(others, more)
-        }
-        _ => false,
-    }
+    let [text, others @ ..] = texts else {
+        return columns.is_empty();
+    };
+    let [column, more @ ..] = columns else {
+        return false;
+    };
+    number_in(text) == Some(u32::from(*column)) && are_columns(others, more)
 }
 
 /// Makes sure that a paper's number is the record's and that its mark fields can be joined.
