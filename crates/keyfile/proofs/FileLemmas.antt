@@ -30,6 +30,7 @@ module _ {Row : Type 0} (read : ℕ → Record → Result Row Flaw) where
       pushed : (row : Row) (later : List Row) (rest : Result (List Row) FileFault) → and_rows k (Ok row) (before later rest) ≡ before (row ∷ later) rest
       pushed row later (Ok rest) = refl
       pushed row later (Err fault) = refl
+
       by_results : (one : Result Row Flaw) (more : Result (List Row) FileFault) → rows_from read (suc k) rs ≡ more → and_rows k one more ≡ Ok rows
           → ((later : List Row) → rows_from read (suc k) rs ≡ Ok later → rows_from read (suc k) (rs ++ others) ≡ before later (rows_from read (suc k + length rs) others))
           → and_rows k one (rows_from read (suc k) (rs ++ others)) ≡ before rows (rows_from read (k + length (r ∷ rs)) others)

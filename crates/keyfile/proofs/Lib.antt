@@ -1,3 +1,4 @@
+pub mod KeyedLemmas
 pub mod MarkLemmas
 pub mod FieldLemmas
 pub mod MapLemmas

@@ -37,5 +37,5 @@ joined_more marks i other text more there is pushed =
     let count : length (take i texts) ≡ i = omega (arith, front, within) in
     let field : get_or texts i [] ≡ (get_or marks i other).now = get_or-map (λ t. t.now) marks i other [] there in
     let whole : join_with_byte 44 (take (i + 1) texts) ≡ join_with_byte 44 (take i texts) ++ field_text (length (take i texts)) (get_or texts i []) =
-        ap (join_with_byte 44) (take_more texts i [] within) ∙ join_push (take i texts) (get_or texts i []) in
+    ap (join_with_byte 44) (take_more texts i [] within) ∙ join_push (take i texts) (get_or texts i []) in
     pushed ∙ rw is (sym (whole ∙ rw (count, field) refl))

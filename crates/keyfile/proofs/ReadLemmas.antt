@@ -78,6 +78,7 @@ module _ {R : Type 0} (rem : R → Option (List ℕ)) where
       ended : (o : Option Read) (s : State) (rest : List ℕ) → NextIs o false fields s rest → o ≡ None
       ended None s rest h = refl
       ended (Some p) s rest h = cc h.0
+
       go : (bytes left right : Option (List ℕ)) → ReadsNext default_config a.state left right false fields b.state → Follows bytes records a.state left
           → Known bytes (λ xs. file_records xs ≡ records)
       go None left right t h = tt

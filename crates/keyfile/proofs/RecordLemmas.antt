@@ -20,6 +20,7 @@ takes cfg s fields field b [] p is = by_end (is_end (step cfg s b).1) is
         → length p.2 ≤ 0
     by_state true is = let same : [] ≡ p.2 = cc in rw (← same) (omega arith)
     by_state false is = cc
+
     by_end : (ends : Bool)
         → cond ends (Some (fields_after (step cfg s b).1 fields field, (step cfg s b).0, []))
         (next_record cfg (step cfg s b).0 (fields_after (step cfg s b).1 fields field) (field_after (step cfg s b).1 b field) []) ≡ Some p

@@ -116,6 +116,7 @@ module _ {Row : Type 0} (format : Format Row) where
         late : (result : Result (List Row) FileFault) → IfErr result (λ first. 0 ≤ first.record)
         late (Ok rows) = tt
         late (Err first) = omega arith
+
         by_bytes : (bytes : Option (List ℕ)) → Told format bytes fault
         by_bytes None = tt
         by_bytes (Some xs) = record {
@@ -158,7 +159,7 @@ module _ {Row : Type 0} (format : Format Row) where
       header-other fault at is other =
           known-map bytes
           (λ xs (starts : Begins xs (fields ∷ [])).
-              rw starts.1 (own_fault (fields ∷ starts.0) fault (rw other (ap Err (sym (same fault at is)))) (omega (arith, at))))
+          rw starts.1 (own_fault (fields ∷ starts.0) fault (rw other (ap Err (sym (same fault at is)))) (omega (arith, at))))
           (after-begins rem b bytes (fields ∷ []) next.after)
 
 -- ---- results

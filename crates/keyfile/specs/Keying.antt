@@ -1,6 +1,8 @@
 -- The file of a keying.
-use Rattle.std.specs.Prelude.{ℕ, Bool, true, false, ◌&&◌, ◌||◌, ◌==◌, if◌then◌else◌, List, [], ◌∷◌, length, Option, Some, None, Result, Ok, Err, codes, bytes_eq}
+use Rattle.std.specs.Prelude.{◌≡◌, ◌≤◌, ℕ, Bool, true, false, ◌&&◌, ◌||◌, ◌==◌, if◌then◌else◌, List, [], ◌∷◌, length, Option, Some, None, Result, Ok, Err, codes, bytes_eq}
 use Rattle.std.specs.List.{list_all, list_any, join_with_byte}
+use Rattle.paper.specs.MarksText.{beside, marks_in, reading}
+use Rattle.paper.specs.declared.marked.Keyed.TheVariants.{Doubtful}
 use Rattle.keyfile.specs.Records.{Record}
 use Rattle.keyfile.specs.Numbers.{number_in}
 use Rattle.keyfile.specs.Files.{Format}
@@ -56,3 +58,10 @@ paper_in k (paper ∷ marks) = of_number k (number_in paper) marks
 -- the file of a keying of papers with some columns: the papers of one batch at most
 abbrev pub keying : List ℕ → Format (List ℕ)
 keying columns = record { is_header = is_keying_header columns; most = 500; read = paper_in }
+
+-- the marks text of a paper with some columns is read as its mark fields say: as doubtful, or as the mark of each field
+-- beside its column
+abbrev pub AreReadAsKeyed : List ℕ → Type 0
+AreReadAsKeyed columns =
+    (marks : List (List ℕ)) → 1 ≤ length columns → length marks ≡ length columns → list_any breaks_marks marks ≡ false →
+    reading columns (marks_text marks) ≡ (if is_doubtful marks then Ok Doubtful else beside columns (marks_in marks))

@@ -30,10 +30,7 @@ pub struct CandidateRow {
 /// The header is `ward,candidate,name`; at most 2970 records follow it. The rows are those of the
 /// file's records as `csv` has them, or the fault is that of the first faulty record, and of that
 /// its first flaw. `ReadFailed` and `Memory` may come at any record that no fault stands before.
-pub fn read_candidates<R: Read + Drop>(
-    alloc: Global,
-    r: R,
-) -> Result<Vec<CandidateRow>, FileFault>
+pub fn read_candidates<R: Read + Drop>(alloc: Global, r: R) -> Result<Vec<CandidateRow>, FileFault>
     ensures rows { Known (R.remaining r) (λ bytes. IfOk result (λ rows. file_rows candidates (file_records bytes) ≡ Ok (map candidate_entry rows.items))) }
     ensures fault { Known (R.remaining r) (λ bytes. IfErr result (IsFaultOf candidates (file_records bytes))) }
 {

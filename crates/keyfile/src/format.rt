@@ -88,11 +88,7 @@ fn read_header<R: Read + Drop, F: FileFormat>(
 }
 
 /// Whether a record is the header; `Header` says that it isn't.
-fn check_header<F: FileFormat>(
-    alloc: Global,
-    raw: &ByteRecord,
-    format: &F,
-) -> Result<(), Flaw>
+fn check_header<F: FileFormat>(alloc: Global, raw: &ByteRecord, format: &F) -> Result<(), Flaw>
     ensures ok { OnOk result (is_text_header (F.format format.now) (fields_of raw.now) ≡ true) }
     ensures err { IfErr result (λ flaw. (flaw ≡ Flaw.Memory) ⊎ ((flaw ≡ Flaw.Header) × (is_text_header (F.format format.now) (fields_of raw.now) ≡ false))) }
 {

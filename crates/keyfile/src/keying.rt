@@ -3,7 +3,7 @@
 ghost use Rattle.std.specs.Prelude.{◌≡◌, ◌++◌, ◌==◌, List, ℕ, length, map, IfOk, IfErr, OnOk, Ok, Err, string_bytes};
 ghost use Rattle.std.specs.List.{join_with_byte, list_all, list_any};
 ghost use Rattle.keyfile.specs.Files.{IsFaultOf, file_rows};
-ghost use Rattle.keyfile.specs.Keying.{are_columns, breaks_marks, field_text, is_doubtful, keying, marks_text, of_number};
+ghost use Rattle.keyfile.specs.Keying.{AreReadAsKeyed, are_columns, breaks_marks, field_text, is_doubtful, keying, marks_text, of_number};
 ghost use Rattle.keyfile.specs.Numbers.{number_in};
 ghost use Rattle.keyfile.specs.Reading.{Known};
 ghost use Rattle.keyfile.specs.Records.{file_records};
@@ -32,6 +32,8 @@ pub fn read_keying<R: Read + Drop>(
 ) -> Result<Vec<String>, FileFault>
     ensures rows { Known (R.remaining r) (λ bytes. IfOk result (λ papers. file_rows (keying columns) (file_records bytes) ≡ Ok (map string_bytes papers.items))) }
     ensures fault { Known (R.remaining r) (λ bytes. IfErr result (IsFaultOf (keying columns) (file_records bytes))) }
+    // a marks text says what the fields say
+    ensures spelled { AreReadAsKeyed columns }
 {
     read_file(alloc, r, &KeyingFile { columns })
 }

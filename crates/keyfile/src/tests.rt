@@ -53,7 +53,13 @@ fn candidates_text<R: Read + Drop>(alloc: Global, file: R) -> Result<String, All
         Ok(rows) => {
             let mut text = String::new(alloc);
             for row in &rows {
-                write!(text, "|{} {} {}", row.ward, row.candidate, row.name.as_str())?;
+                write!(
+                    text,
+                    "|{} {} {}",
+                    row.ward,
+                    row.candidate,
+                    row.name.as_str()
+                )?;
             }
             Ok(text)
         }
@@ -106,11 +112,26 @@ fn keyings_are_read_whole_or_refused(rt: HostRuntime) -> Result<(), Fail> {
 #[test]
 fn the_first_flaw_of_the_first_faulty_record_is_told(rt: HostRuntime) -> Result<(), Fail> {
     let cases: [(&[u8], &str); 6] = [
-        (b"paper,1,2,3\n1,\xff\n", "file fault 2 at record 1: record length"),
-        (b"paper,1,2,3\nx,\xff,\"1,2\",\n", "file fault 6 at record 1: not UTF-8"),
-        (b"paper,1,2,3\n02,\"1,2\",,\n", "file fault 3 at record 1: number"),
-        (b"paper,1,2,3\n2,\"1,2\",,\n", "file fault 4 at record 1: paper order"),
-        (b"paper,1,2,3\n1,,,\n2,\"1,2\",,\n3\n", "file fault 5 at record 2: marks"),
+        (
+            b"paper,1,2,3\n1,\xff\n",
+            "file fault 2 at record 1: record length",
+        ),
+        (
+            b"paper,1,2,3\nx,\xff,\"1,2\",\n",
+            "file fault 6 at record 1: not UTF-8",
+        ),
+        (
+            b"paper,1,2,3\n02,\"1,2\",,\n",
+            "file fault 3 at record 1: number",
+        ),
+        (
+            b"paper,1,2,3\n2,\"1,2\",,\n",
+            "file fault 4 at record 1: paper order",
+        ),
+        (
+            b"paper,1,2,3\n1,,,\n2,\"1,2\",,\n3\n",
+            "file fault 5 at record 2: marks",
+        ),
         (b"paper,1,3,2\n1\n", "file fault 1 at record 0: header"),
     ];
     for (file, wanted) in cases {
@@ -155,7 +176,10 @@ fn candidates_are_read_whole_or_refused(rt: HostRuntime) -> Result<(), Fail> {
         (b"7,1,Ann\n7,2,\"Bob, jr\"\n", "|7 1 Ann|7 2 Bob, jr"),
         (b"7,1,Ann\n7,2,\"Bob", "|7 1 Ann|7 2 Bob"),
         (b"99999,99999,\n", "|99999 99999 "),
-        ("7,1,Zo\u{eb} \u{201c}Q\u{201d}\n".as_bytes(), "|7 1 Zo\u{eb} \u{201c}Q\u{201d}"),
+        (
+            "7,1,Zo\u{eb} \u{201c}Q\u{201d}\n".as_bytes(),
+            "|7 1 Zo\u{eb} \u{201c}Q\u{201d}",
+        ),
         (b"100000,1,Ann\n", "file fault 3 at record 1: number"),
         (b"7,1,Ann\n7,0,Bob\n", "file fault 3 at record 2: number"),
         (b"7,1,Ann\n,2,Bob\n", "file fault 3 at record 2: number"),
@@ -191,7 +215,10 @@ fn the_limits_are_held(rt: HostRuntime) -> Result<(), Fail> {
     let mut bytes = Vec::from_slice(alloc, file.as_bytes())?;
     bytes.extend_from_slice(b",,\xff")?;
     let text = keying_text(alloc, bytes.as_slice())?;
-    assert_eq!(&rt; text.as_str(), "file fault 7 at record 501: too many records");
+    assert_eq!(&rt;
+        text.as_str(),
+        "file fault 7 at record 501: too many records"
+    );
     let mut file = String::from_str(alloc, "ward,candidate,name\n")?;
     for _ in 0..2970 {
         file.push_str("7,1,A\n")?;
@@ -199,7 +226,10 @@ fn the_limits_are_held(rt: HostRuntime) -> Result<(), Fail> {
     assert_eq!(&rt; read_candidates(alloc, file.as_bytes())?.len(), 2970);
     file.push_str("7,1,A")?;
     let text = candidates_text(alloc, file.as_bytes())?;
-    assert_eq!(&rt; text.as_str(), "file fault 7 at record 2971: too many records");
+    assert_eq!(&rt;
+        text.as_str(),
+        "file fault 7 at record 2971: too many records"
+    );
     Ok(())
 }
 
@@ -210,14 +240,25 @@ fn a_failed_read_is_told_at_its_record(rt: HostRuntime) -> Result<(), Fail> {
         (b"", "file fault 8 at record 0: read failed"),
         (b"paper,1,2", "file fault 8 at record 0: read failed"),
         (b"paper,1,2,3\n", "file fault 8 at record 1: read failed"),
-        (b"paper,1,2,3\n1,,,\n2,,", "file fault 8 at record 2: read failed"),
-        (b"paper,1,2,3\n1,,\n2,,", "file fault 2 at record 1: record length"),
+        (
+            b"paper,1,2,3\n1,,,\n2,,",
+            "file fault 8 at record 2: read failed",
+        ),
+        (
+            b"paper,1,2,3\n1,,\n2,,",
+            "file fault 2 at record 1: record length",
+        ),
         (b"paper,1,2\n1,,\n2,,", "file fault 1 at record 0: header"),
     ];
     for (left, wanted) in cases {
         assert_eq!(&rt; keying_text(alloc, Torn { left })?.as_str(), wanted);
     }
-    let text = candidates_text(alloc, Torn { left: b"ward,candidate,name\n7" })?;
+    let text = candidates_text(
+        alloc,
+        Torn {
+            left: b"ward,candidate,name\n7",
+        },
+    )?;
     assert_eq!(&rt; text.as_str(), "file fault 8 at record 1: read failed");
     Ok(())
 }
