@@ -6,3 +6,4 @@ pub mod RecordLemmas
 pub mod ReadLemmas
 pub mod FileLemmas
 pub mod StandLemmas
+pub mod Rows

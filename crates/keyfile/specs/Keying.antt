@@ -9,14 +9,15 @@ use Rattle.keyfile.specs.Files.{Format}
 use Rattle.keyfile.specs.declared.fault.Flaw.{Flaw}
 use Rattle.keyfile.specs.declared.fault.Flaw.TheVariants.{RecordLength, Number, PaperOrder, Marks}
 
-abbrev pub is_number : Option ℕ → ℕ → Bool
-is_number (Some n) k = n == k
-is_number None k = false
+-- whether a number was read and is this one
+abbrev pub is_told : Option ℕ → ℕ → Bool
+is_told (Some n) k = n == k
+is_told None k = false
 
 -- fields that write some numbers, one each
 abbrev pub are_columns : Record → List ℕ → Bool
 are_columns [] [] = true
-are_columns (field ∷ fields) (column ∷ columns) = is_number (number_in field) column && are_columns fields columns
+are_columns (field ∷ fields) (column ∷ columns) = is_told (number_in field) column && are_columns fields columns
 are_columns fields columns = false
 
 -- `paper` and the columns in ascending order
