@@ -267,15 +267,12 @@ fn a_failed_read_is_told_at_its_record(rt: HostRuntime) -> Result<(), Fail> {
 fn texts_are_spelled_as_papers_are_read(rt: HostRuntime) -> Result<(), Fail> {
     let file = b"paper,1,2,3\n1,1,2,\n2,D,,\n3,,,\n".as_slice();
     let papers = read_keying(rt.alloc(), file, three())?;
-    let mut doubtful = 0;
     for paper in &papers {
         let keyed = Marks::read(paper.as_bytes(), three())?;
-        if keyed == Keyed::Doubtful {
-            doubtful += 1;
-        }
+        assert_eq!(&rt; keyed == Keyed::Doubtful, paper.as_str() == "D");
         assert_eq!(&rt; keyed.text(rt.alloc())?.as_str(), paper.as_str());
     }
-    assert_eq!(&rt; doubtful, 1);
+    assert_eq!(&rt; papers.len(), 3);
     Ok(())
 }
 
