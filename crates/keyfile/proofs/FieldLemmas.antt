@@ -1,5 +1,5 @@
 -- The texts and the numbers in fields.
-use Rattle.std.proofs.Common.{◌≡◌, ◌∙◌, ◌<◌, ◌≤◌, ◌+◌, ◌∷◌, ◌++◌, ◌&&◌, ℕ, Bool, true, false, List, [], length, get_or, map, take, Option, Some, None, Result, refl, sym, ap, subst, arith, Bor}
+use Rattle.std.proofs.Common.{◌≡◌, ◌∙◌, ◌<◌, ◌≤◌, ◌+◌, ◌∷◌, ◌++◌, ◌&&◌, ℕ, Bool, true, false, List, [], length, get_or, map, take, Option, Some, None, Result, refl, sym, ap, arith, Bor}
 use Rattle.std.specs.Prelude.{option_map, unwrap_or, slice_get, IsUtf8}
 use Rattle.std.specs.Char.{is_ascii_digit}
 use Rattle.std.specs.List.{list_all}

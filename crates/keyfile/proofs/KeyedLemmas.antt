@@ -1,12 +1,12 @@
 -- A marks text of an import file is read as its mark fields say.
-use Rattle.std.proofs.Common.{◌≡◌, ◌∙◌, ◌<◌, ◌≤◌, ◌∷◌, ◌==◌, ◌||◌, ℕ, suc, zero, Bool, true, false, cond, List, [], length, Result, Ok, Err, refl, sym, ap, arith, codes, bytes_eq}
+use Rattle.std.proofs.Common.{◌≡◌, ◌∙◌, ◌∷◌, ◌==◌, ℕ, suc, zero, Bool, true, false, cond, List, [], length, Ok, refl, sym, ap, arith, codes, bytes_eq}
 use Rattle.std.specs.List.{All, join_with_byte, list_any}
 use Rattle.std.proofs.lemmas.Bool.{eq-eqb, or_parts}
 use Rattle.std.proofs.lemmas.List.Splits.{slice_split_at, slice_split_none}
 use Rattle.std.proofs.lemmas.Slice.Eq.{bytes_eq-Decides}
 use Rattle.paper.specs.MarksText.{beside, fields, marks_in, reading}
 use Rattle.paper.specs.declared.marked.Keyed.TheVariants.{Doubtful}
-use Rattle.keyfile.specs.Keying.{AreReadAsKeyed, breaks_marks, is_break, is_doubtful, marks_text}
+use Rattle.keyfile.specs.Keying.{AreReadAsKeyed, breaks_marks, is_break, is_doubtful}
 
 no_comma : (mark : List ℕ) → breaks_marks mark ≡ false → All (λ b. (b == 44) ≡ false) mark
 no_comma [] plain k d below = absurd (omega (arith, below))

@@ -1,6 +1,6 @@
 -- The mark fields of a paper, as lent texts.
-use Rattle.std.proofs.Common.{◌≡◌, ◌∙◌, ◌<◌, ◌≤◌, ◌+◌, ◌-◌, ◌∷◌, ◌++◌, ◌==◌, ◌&&◌, ◌||◌, ℕ, suc, zero, Bool, true, false, cond, List, [], length, get_or, map, take, drop, refl, sym, ap, arith, codes, bytes_eq, Bor, append_assoc}
-use Rattle.std.specs.List.{join_with_byte, list_all, list_any}
+use Rattle.std.proofs.Common.{◌≡◌, ◌∙◌, ◌<◌, ◌≤◌, ◌+◌, ◌-◌, ◌∷◌, ◌++◌, ◌==◌, ℕ, suc, true, List, [], length, get_or, map, take, drop, refl, sym, ap, arith, codes, bytes_eq, Bor, append_assoc}
+use Rattle.std.specs.List.{join_with_byte, list_all}
 use Rattle.std.proofs.lemmas.Bool.{ne_eqb}
 use Rattle.std.proofs.lemmas.List.{get_or-map, length-map, length-take, take_all, take_more}
 use Rattle.keyfile.specs.Keying.{field_text, is_doubtful}

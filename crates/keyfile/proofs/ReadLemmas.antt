@@ -1,6 +1,6 @@
 -- What one read does to where a reader stands.
-use Rattle.std.proofs.Common.{◌≡◌, ◌≢◌, ◌∙◌, ◌∷◌, ◌++◌, ℕ, Bool, List, Option, Some, None, [], true, false, length, refl, sym, ap, subst}
-use Rattle.std.specs.Prelude.{IfSome, ⊤, option_map, unwrap_or}
+use Rattle.std.proofs.Common.{◌≡◌, ◌≢◌, ◌∙◌, ◌∷◌, ◌++◌, ℕ, List, Option, Some, None, [], true, false, length, refl, sym, ap}
+use Rattle.std.specs.Prelude.{IfSome, option_map, unwrap_or}
 use Rattle.csv.specs.Machine.{next_record, Read}
 use Rattle.csv.specs.Reading.{ExplainsRead, NextIs, Reached, ReadRecord, ReadsNext, ReadsOn, TookRecord, default_config, has_failed, pending_of, source_of, strip_bom}
 use Rattle.csv.specs.declared.reader.Reader.{Reader}

@@ -1,16 +1,16 @@
 -- What is told of a file where its reader stands behind some of its records.
-use Rattle.std.proofs.Common.{◌≡◌, ◌∙◌, ◌≤◌, ◌+◌, ◌∷◌, ◌++◌, ℕ, suc, Bool, true, false, List, [], length, Option, Some, None, Result, Ok, Err, refl, sym, ap, subst, arith, length-append, append_assoc}
+use Rattle.std.proofs.Common.{◌≡◌, ◌∙◌, ◌≤◌, ◌+◌, ◌∷◌, ◌++◌, ℕ, true, false, List, [], length, Option, Some, None, Result, Ok, Err, refl, sym, ap, subst, arith, length-append, append_assoc}
 use Rattle.std.specs.Prelude.{IfErr, ⊤}
 use Rattle.std.specs.Result.{IsErrAnd}
 use Rattle.csv.specs.declared.reader.Reader.{Reader}
 use Rattle.keyfile.specs.Faults.{is_stop}
 use Rattle.keyfile.specs.Files.{Format, IsFaultOf, fault_at, file_rows, is_text_header, read_as_text}
-use Rattle.keyfile.specs.Reading.{Begins, EndsBefore, IsAfter, IsNext, IsUneven, Known, StandsAt}
+use Rattle.keyfile.specs.Reading.{Begins, EndsBefore, IsNext, IsUneven, Known, StandsAt}
 use Rattle.keyfile.specs.Records.{Record, file_records}
 use Rattle.keyfile.specs.declared.fault.FileFault.{FileFault}
 use Rattle.keyfile.specs.declared.fault.Flaw.{Flaw}
 use Rattle.keyfile.specs.declared.fault.Flaw.TheVariants.{Header, RecordLength, Number, PaperOrder, Marks, NotUtf8, TooManyRecords, ReadFailed, Memory}
-use Rattle.keyfile.proofs.FileLemmas.{file_rows-append, file_rows-late, file_rows-more, file_rows-told, read_behind, read_behind-even, read_behind-many, read_behind-uneven, some_record}
+use Rattle.keyfile.proofs.FileLemmas.{file_rows-late, file_rows-more, file_rows-told, read_behind, read_behind-even, read_behind-many, read_behind-uneven, some_record}
 use Rattle.keyfile.proofs.ReadLemmas.{after-begins}
 
 -- what is told of a file whose bytes are known

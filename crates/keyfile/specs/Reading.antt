@@ -1,5 +1,5 @@
 -- Where the reader of an import file stands.
-use Rattle.std.specs.Prelude.{◌≡◌, ◌≢◌, ◌∷◌, ◌++◌, ℕ, Bool, true, false, List, [], Option, Some, None, length, IfSome, Ok, ⊤}
+use Rattle.std.specs.Prelude.{◌≡◌, ◌≢◌, ◌∷◌, ◌++◌, ℕ, false, List, [], Option, Some, None, length, IfSome, Ok, ⊤}
 use Rattle.csv.specs.Reading.{Reached, Ready, default_config, expected_len, has_failed, is_flexible, reader_config, reader_state, reader_trim, source_of, strip_bom}
 use Rattle.csv.specs.declared.reader.Reader.{Reader}
 use Rattle.csv.specs.declared.parser.State.{State}

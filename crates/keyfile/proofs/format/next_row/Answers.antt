@@ -1,4 +1,4 @@
-use Rattle.std.proofs.Common.{◌≡◌, ◌∙◌, true, inl, inr, refl, sym, ap, rules}
+use Rattle.std.proofs.Common.{inl, inr, ap}
 use Rattle.csv.specs.Records.{fields_of}
 use Rattle.keyfile.specs.Faults.{is_stop}
 use Rattle.keyfile.proofs.StandLemmas.{passed-on, stands-ended, stands-more, stands-stopped, stands-told}

@@ -1,8 +1,7 @@
-use Rattle.std.proofs.Common.{[], inl, inr, ◌∙◌, ap, sym}
+use Rattle.std.proofs.Common.{[], inl, inr, ap}
 use Rattle.std.proofs.lemmas.Result.{IfErr-weaker}
 use Rattle.csv.specs.Records.{fields_of}
 use Rattle.keyfile.specs.Faults.{is_stop}
-use Rattle.keyfile.specs.declared.fault.FileFault.{FileFault}
 use Rattle.keyfile.proofs.StandLemmas.{Told, header-other, header-stopped}
 use Rattle.keyfile.proofs.format.read_header.Goals as goal
 

@@ -1,4 +1,4 @@
-use Rattle.std.proofs.Common.{rules, refl, ◌≡◌, sym, subst}
+use Rattle.std.proofs.Common.{rules, refl, sym, subst}
 use Rattle.csv.specs.Records.{fields_of}
 use Rattle.keyfile.specs.Reading.{EndsBefore}
 use Rattle.keyfile.proofs.ReadLemmas.{read-more, read-end, read-failed}
