@@ -1,0 +1,9 @@
+pub mod KeyedLemmas
+pub mod MarkLemmas
+pub mod FieldLemmas
+pub mod MapLemmas
+pub mod RecordLemmas
+pub mod ReadLemmas
+pub mod FileLemmas
+pub mod StandLemmas
+pub mod Rows

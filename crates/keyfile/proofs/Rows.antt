@@ -1,0 +1,75 @@
+-- Import files, computed: their rows, and their faults.
+use Rattle.std.proofs.Common.{◌≡◌, ℕ, List, [], ◌∷◌, ◌++◌, codes, Result, Ok, Err, refl}
+use Rattle.std.specs.Str.{chars, is_utf8}
+use lib.Utf8.{encode}
+use Rattle.csv.specs.Machine.{next_record}
+use Rattle.csv.specs.Reading.{records_from, strip_bom}
+use Rattle.keyfile.specs.Candidates.{CandidateEntry, candidates}
+use Rattle.keyfile.specs.Files.{fault_at, file_rows}
+use Rattle.keyfile.specs.Keying.{keying}
+use Rattle.keyfile.specs.Records.{file_records}
+use Rattle.keyfile.specs.declared.fault.FileFault.{FileFault}
+use Rattle.keyfile.specs.declared.fault.Flaw.TheVariants.{Header, RecordLength, Number, PaperOrder, Marks, NotUtf8}
+
+-- a keying of papers with the columns 1, 2, 3
+abbrev keying_of : List ℕ → Result (List (List ℕ)) FileFault
+keying_of bytes = file_rows (keying (1 ∷ 2 ∷ 3 ∷ [])) (file_records bytes)
+
+-- the same of the records behind its header
+abbrev papers_of : List ℕ → Result (List (List ℕ)) FileFault
+papers_of bytes = keying_of (codes "paper,1,2,3" ++ 10 ∷ bytes)
+
+abbrev candidates_of : List ℕ → Result (List CandidateEntry) FileFault
+candidates_of bytes = file_rows candidates (file_records (codes "ward,candidate,name" ++ 10 ∷ bytes))
+
+two_papers : papers_of (codes "1,1,2," ++ 10 ∷ codes "2,D,," ++ 10 ∷ []) ≡ Ok (codes "1,2," ∷ codes "D" ∷ [])
+unfolding chars encode is_utf8 next_record records_from strip_bom
+two_papers = refl
+
+cut_in_a_record : papers_of (codes "1,1,2," ++ 10 ∷ codes "2,D") ≡ Err (fault_at 2 RecordLength)
+unfolding chars encode is_utf8 next_record records_from strip_bom
+cut_in_a_record = refl
+
+cut_between_records : papers_of (codes "1,1,2," ++ 10 ∷ []) ≡ Ok (codes "1,2," ∷ [])
+unfolding chars encode is_utf8 next_record records_from strip_bom
+cut_between_records = refl
+
+empty_file : keying_of [] ≡ Err (fault_at 0 Header)
+unfolding chars encode is_utf8 next_record records_from strip_bom
+empty_file = refl
+
+columns_not_ascending : keying_of (codes "paper,1,3,2") ≡ Err (fault_at 0 Header)
+unfolding chars encode is_utf8 next_record records_from strip_bom
+columns_not_ascending = refl
+
+byte_order_mark : keying_of (239 ∷ 187 ∷ 191 ∷ codes "paper,1,2,3") ≡ Ok []
+unfolding chars encode is_utf8 next_record records_from strip_bom
+byte_order_mark = refl
+
+short_record : papers_of (codes "1,1,2") ≡ Err (fault_at 1 RecordLength)
+unfolding chars encode is_utf8 next_record records_from strip_bom
+short_record = refl
+
+leading_zero : papers_of (codes "01,1,2,") ≡ Err (fault_at 1 Number)
+unfolding chars encode is_utf8 next_record records_from strip_bom
+leading_zero = refl
+
+second_paper_first : papers_of (codes "2,1,2,") ≡ Err (fault_at 1 PaperOrder)
+unfolding chars encode is_utf8 next_record records_from strip_bom
+second_paper_first = refl
+
+comma_in_a_mark : papers_of (codes "1,\"1,2\",,") ≡ Err (fault_at 1 Marks)
+unfolding chars encode is_utf8 next_record records_from strip_bom
+comma_in_a_mark = refl
+
+no_text : papers_of (codes "1," ++ 255 ∷ codes ",,") ≡ Err (fault_at 1 NotUtf8)
+unfolding chars encode is_utf8 next_record records_from strip_bom
+no_text = refl
+
+letter_beside_a_mark : papers_of (codes "1,D,1,") ≡ Ok (codes "D,1," ∷ [])
+unfolding chars encode is_utf8 next_record records_from strip_bom
+letter_beside_a_mark = refl
+
+quoted_name : candidates_of (codes "7,1,Ann" ++ 10 ∷ codes "7,2,\"Bob, jr\"") ≡ Ok ((7, 1, codes "Ann") ∷ (7, 2, codes "Bob, jr") ∷ [])
+unfolding chars encode is_utf8 next_record records_from strip_bom
+quoted_name = refl

@@ -1,0 +1,34 @@
+-- The file of candidates.
+use Rattle.std.specs.Prelude.{ℕ, Bool, false, ◌&&◌, List, [], ◌∷◌, Option, Some, None, Result, Ok, Err, codes, bytes_eq, string_bytes}
+use Rattle.keyfile.specs.Records.{Record}
+use Rattle.keyfile.specs.Numbers.{number_in}
+use Rattle.keyfile.specs.Files.{Format}
+use Rattle.keyfile.specs.declared.candidates.CandidateRow.{CandidateRow}
+use Rattle.keyfile.specs.declared.fault.Flaw.{Flaw}
+use Rattle.keyfile.specs.declared.fault.Flaw.TheVariants.{RecordLength, Number}
+
+-- a candidate to be added: the ward's number, his number, his name
+abbrev pub CandidateEntry : Type 0
+CandidateEntry = ℕ × ℕ × List ℕ
+
+abbrev pub candidate_entry : CandidateRow → CandidateEntry
+candidate_entry row = (row.ward, row.candidate, string_bytes row.name)
+
+-- `ward,candidate,name`
+abbrev pub is_candidate_header : Record → Bool
+is_candidate_header (ward ∷ candidate ∷ name ∷ []) = bytes_eq ward (codes "ward") && (bytes_eq candidate (codes "candidate") && bytes_eq name (codes "name"))
+is_candidate_header other = false
+
+abbrev pub numbered : Option ℕ → Option ℕ → List ℕ → Result CandidateEntry Flaw
+numbered (Some ward) (Some candidate) name = Ok (ward, candidate, name)
+numbered (Some ward) None name = Err Number
+numbered None candidate name = Err Number
+
+-- a record is a candidate where ward and candidate are numbers
+abbrev pub candidate_in : Record → Result CandidateEntry Flaw
+candidate_in (ward ∷ candidate ∷ name ∷ []) = numbered (number_in ward) (number_in candidate) name
+candidate_in other = Err RecordLength
+
+-- the file of candidates: 30 of each of 99 wards at most
+abbrev pub candidates : Format CandidateEntry
+candidates = record { is_header = is_candidate_header; most = 2970; read = λ k fields. candidate_in fields }

@@ -1,0 +1,56 @@
+-- What an import file is read as.
+use Rattle.std.specs.Prelude.{◌≡◌, ℕ, suc, ◌≤◌, Bool, true, false, not, ◌&&◌, ◌==◌, nat_lt, if◌then◌else◌, List, [], ◌∷◌, length, Result, Ok, Err, IfErr}
+use Rattle.std.specs.List.{list_all}
+use Rattle.std.specs.Str.{is_utf8}
+use Rattle.keyfile.specs.Records.{Record}
+use Rattle.keyfile.specs.Faults.{is_stop}
+use Rattle.keyfile.specs.declared.fault.FileFault.{FileFault}
+use Rattle.keyfile.specs.declared.fault.Flaw.{Flaw}
+use Rattle.keyfile.specs.declared.fault.Flaw.TheVariants.{Header, RecordLength, NotUtf8, TooManyRecords}
+
+-- what a file holds: its header, how many records may stand behind it, and what the one of some number is read as
+pub record Format (Row : Type 0) : Type 0 where
+  pub is_header : Record → Bool
+  pub most : ℕ
+  pub read : ℕ → Record → Result Row Flaw
+
+-- whether a record is the header
+abbrev pub is_text_header : {Row : Type 0} → Format Row → Record → Bool
+is_text_header format fields = list_all is_utf8 fields && format.is_header fields
+
+-- what a record is read as once all its fields are text
+abbrev pub read_as_text : {Row : Type 0} → Format Row → ℕ → Record → Result Row Flaw
+read_as_text format k fields = if list_all is_utf8 fields then format.read k fields else Err NotUtf8
+
+-- what the record of some number is read as; its length is judged first, and then its place
+abbrev pub read_record : {Row : Type 0} → Format Row → Record → ℕ → Record → Result Row Flaw
+read_record format header k fields =
+    if not (length fields == length header) then Err RecordLength else (
+    if nat_lt format.most k then Err TooManyRecords else read_as_text format k fields)
+
+-- a flaw of the record of some number
+abbrev pub fault_at : ℕ → Flaw → FileFault
+fault_at k flaw = record { flaw = flaw; «record» = k }
+
+-- a row and the rows behind it; its own fault comes first
+abbrev pub and_rows : {Row : Type 0} → ℕ → Result Row Flaw → Result (List Row) FileFault → Result (List Row) FileFault
+and_rows k (Err flaw) later = Err (fault_at k flaw)
+and_rows k (Ok row) (Err fault) = Err fault
+and_rows k (Ok row) (Ok rows) = Ok (row ∷ rows)
+
+-- the rows of records whose first has some number, or the fault of the first faulty one
+abbrev pub rows_from : {Row : Type 0} → (ℕ → Record → Result Row Flaw) → ℕ → List Record → Result (List Row) FileFault
+rows_from read k [] = Ok []
+rows_from read k (fields ∷ others) = and_rows k (read k fields) (rows_from read (suc k) others)
+
+-- the rows of a file's records behind its header, or its fault; the header is record 0
+abbrev pub file_rows : {Row : Type 0} → Format Row → List Record → Result (List Row) FileFault
+file_rows format [] = Err (fault_at 0 Header)
+file_rows format (header ∷ others) =
+    if is_text_header format header then rows_from (read_record format header) 1 others else Err (fault_at 0 Header)
+
+-- what is told of a file: its own fault; or that reading was stopped at a record, and then no fault stands before that
+pub record IsFaultOf {Row : Type 0} (format : Format Row) (records : List Record) (fault : FileFault) : Type 0 where
+  pub own : is_stop fault.flaw ≡ false → file_rows format records ≡ Err fault
+  pub within : is_stop fault.flaw ≡ true → fault.record ≤ length records
+  pub before : is_stop fault.flaw ≡ true → IfErr (file_rows format records) (λ first. fault.record ≤ first.record)

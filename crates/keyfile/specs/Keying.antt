@@ -1,0 +1,68 @@
+-- The file of a keying.
+use Rattle.std.specs.Prelude.{◌≡◌, ◌≤◌, ℕ, Bool, true, false, ◌&&◌, ◌||◌, ◌==◌, if◌then◌else◌, List, [], ◌∷◌, length, Option, Some, None, Result, Ok, Err, codes, bytes_eq}
+use Rattle.std.specs.List.{list_all, list_any, join_with_byte}
+use Rattle.paper.specs.MarksText.{beside, marks_in, reading}
+use Rattle.paper.specs.declared.marked.Keyed.TheVariants.{Doubtful}
+use Rattle.keyfile.specs.Records.{Record}
+use Rattle.keyfile.specs.Numbers.{number_in}
+use Rattle.keyfile.specs.Files.{Format}
+use Rattle.keyfile.specs.declared.fault.Flaw.{Flaw}
+use Rattle.keyfile.specs.declared.fault.Flaw.TheVariants.{RecordLength, Number, PaperOrder, Marks}
+
+-- whether a number was read and is this one
+abbrev pub is_told : Option ℕ → ℕ → Bool
+is_told (Some n) k = n == k
+is_told None k = false
+
+-- fields that write some numbers, one each
+abbrev pub are_columns : Record → List ℕ → Bool
+are_columns [] [] = true
+are_columns (field ∷ fields) (column ∷ columns) = is_told (number_in field) column && are_columns fields columns
+are_columns fields columns = false
+
+-- `paper` and the columns in ascending order
+abbrev pub is_keying_header : List ℕ → Record → Bool
+is_keying_header columns [] = false
+is_keying_header columns (first ∷ numbers) = bytes_eq first (codes "paper") && are_columns numbers columns
+
+-- a comma, a double quote or a line end
+abbrev pub is_break : ℕ → Bool
+is_break b = (b == 44) || ((b == 34) || ((b == 10) || (b == 13)))
+
+abbrev pub breaks_marks : List ℕ → Bool
+breaks_marks mark = list_any is_break mark
+
+-- the first mark is the letter D, and the others are empty
+abbrev pub is_doubtful : List (List ℕ) → Bool
+is_doubtful [] = false
+is_doubtful (first ∷ others) = bytes_eq first (codes "D") && list_all (λ mark. length mark == 0) others
+
+-- a field of a marks text, with a comma in front of every one but the first
+abbrev pub field_text : ℕ → List ℕ → List ℕ
+field_text i mark = if i == 0 then mark else 44 ∷ mark
+
+-- the marks text of a paper's mark fields: the letter D of a doubtful paper, else the fields parted by commas
+abbrev pub marks_text : List (List ℕ) → List ℕ
+marks_text marks = if is_doubtful marks then codes "D" else join_with_byte 44 marks
+
+-- the flaw of a paper whose number is told, by its mark fields
+abbrev pub of_number : ℕ → Option ℕ → List (List ℕ) → Result (List ℕ) Flaw
+of_number k None marks = Err Number
+of_number k (Some told) marks =
+    if told == k then (if list_any breaks_marks marks then Err Marks else Ok (marks_text marks)) else Err PaperOrder
+
+-- a record is the paper of its own number
+abbrev pub paper_in : ℕ → Record → Result (List ℕ) Flaw
+paper_in k [] = Err RecordLength
+paper_in k (paper ∷ marks) = of_number k (number_in paper) marks
+
+-- the file of a keying of papers with some columns: the papers of one batch at most
+abbrev pub keying : List ℕ → Format (List ℕ)
+keying columns = record { is_header = is_keying_header columns; most = 500; read = paper_in }
+
+-- the marks text of a paper with some columns is read as its mark fields say: as doubtful, or as the mark of each field
+-- beside its column
+abbrev pub AreReadAsKeyed : List ℕ → Type 0
+AreReadAsKeyed columns =
+    (marks : List (List ℕ)) → 1 ≤ length columns → length marks ≡ length columns → list_any breaks_marks marks ≡ false →
+    reading columns (marks_text marks) ≡ (if is_doubtful marks then Ok Doubtful else beside columns (marks_in marks))

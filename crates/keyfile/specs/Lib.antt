@@ -1,0 +1,7 @@
+pub mod Faults
+pub mod Records
+pub mod Numbers
+pub mod Files
+pub mod Candidates
+pub mod Keying
+pub mod Reading

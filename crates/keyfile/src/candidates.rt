@@ -1,0 +1,92 @@
+//! The file of candidates, of one ward or several: `ward,candidate,name`.
+
+ghost use Rattle.std.specs.Prelude.{◌≡◌, ◌⊎◌, map, IfOk, IfErr, Ok, Err};
+ghost use Rattle.keyfile.specs.Candidates.{CandidateEntry, candidate_entry, candidates, numbered};
+ghost use Rattle.keyfile.specs.Files.{IsFaultOf, file_rows};
+ghost use Rattle.keyfile.specs.Numbers.{number_in};
+ghost use Rattle.keyfile.specs.Reading.{Known};
+ghost use Rattle.keyfile.specs.Records.{file_records};
+
+use crate::fault::{FileFault, Flaw};
+use crate::fields::number_in;
+use crate::format::{FileFormat, read_file};
+use std::alloc::Global;
+use std::io::Read;
+
+/// The most candidates of a file: 30 in each of 99 wards.
+const MOST_CANDIDATES: u32 = 2970;
+
+/// A candidate of an import file. The numbers have 1 to 5 digits and the name is any text: whether
+/// they are in range is decided when the candidate is added.
+#[derive(Debug, Drop)]
+pub struct CandidateRow {
+    pub ward: u32,
+    pub candidate: u32,
+    pub name: String,
+}
+
+/// The candidates of a file, in its order.
+///
+/// The header is `ward,candidate,name`; at most 2970 records follow it. The rows are those of the
+/// file's records as `csv` has them, or the fault is that of the first faulty record, and of that
+/// its first flaw. `ReadFailed` and `Memory` may come at any record that no fault stands before.
+pub fn read_candidates<R: Read + Drop>(alloc: Global, r: R) -> Result<Vec<CandidateRow>, FileFault>
+    ensures rows { Known (R.remaining r) (λ bytes. IfOk result (λ rows. file_rows candidates (file_records bytes) ≡ Ok (map candidate_entry rows.items))) }
+    ensures fault { Known (R.remaining r) (λ bytes. IfErr result (IsFaultOf candidates (file_records bytes))) }
+{
+    read_file(alloc, r, &CandidateFile)
+}
+
+/// The format of the file of candidates.
+#[derive(Drop)]
+struct CandidateFile;
+
+impl FileFormat for CandidateFile {
+    type Row = CandidateRow;
+
+    ghost Entry = { CandidateEntry };
+
+    ghost format = { λ _. candidates };
+
+    ghost entry = { candidate_entry };
+
+    fn most(&self) -> u32 {
+        MOST_CANDIDATES
+    }
+
+    fn is_header(&self, fields: &[&str]) -> bool {
+        match fields {
+            [ward, candidate, name] => {
+                *ward == "ward" && *candidate == "candidate" && *name == "name"
+            }
+            _ => false,
+        }
+    }
+
+    fn read(&self, alloc: Global, _number: u32, fields: &[&str]) -> Result<CandidateRow, Flaw> {
+        match fields {
+            [ward, candidate, name] => candidate_row(alloc, ward, candidate, name),
+            _ => Err(Flaw::RecordLength),
+        }
+    }
+}
+
+fn candidate_row(
+    alloc: Global,
+    ward: &str,
+    candidate: &str,
+    name: &str,
+) -> Result<CandidateRow, Flaw>
+    ensures ok { IfOk result (λ row. numbered (number_in ward.now) (number_in candidate.now) name.now ≡ Ok (candidate_entry row)) }
+    ensures err { IfErr result (λ flaw. (flaw ≡ Flaw.Memory) ⊎ (numbered (number_in ward.now) (number_in candidate.now) name.now ≡ Err flaw)) }
+{
+    let (Some(ward), Some(candidate)) = (number_in(ward), number_in(candidate)) else {
+        return Err(Flaw::Number);
+    };
+    let name = String::from_str(alloc, name)?;
+    Ok(CandidateRow {
+        ward,
+        candidate,
+        name,
+    })
+}

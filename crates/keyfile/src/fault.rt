@@ -1,0 +1,100 @@
+//! What is wrong with an import file.
+
+ghost use Rattle.std.specs.Prelude.{◌≡◌, IfOk, IfErr, Ok, Err};
+ghost use Rattle.keyfile.specs.declared.fault.Flaw.TheVariants.{Memory};
+ghost use Rattle.keyfile.specs.Faults.{flaw_number};
+
+use std::alloc::AllocError;
+use thiserror::Error;
+
+/// Why a record of an import file can't be taken. Of several the first in this order is told: header,
+/// record length, too many records, not UTF-8, number, paper order, marks.
+#[derive(Clone, Copy, Debug, PartialEq, Eq, Error)]
+pub enum Flaw {
+    /// There is no record, or the first isn't the header.
+    #[error("header")]
+    Header,
+    /// It isn't as long as the header.
+    #[error("record length")]
+    RecordLength,
+    /// A number field isn't 1 to 5 digits, the first not 0.
+    #[error("number")]
+    Number,
+    /// The paper's number isn't the record's.
+    #[error("paper order")]
+    PaperOrder,
+    /// A mark field holds a comma, a double quote or a line end.
+    #[error("marks")]
+    Marks,
+    /// A field isn't UTF-8.
+    #[error("not UTF-8")]
+    NotUtf8,
+    /// It stands past the limit.
+    #[error("too many records")]
+    TooManyRecords,
+    /// The file can't be opened, or a read failed.
+    #[error("read failed")]
+    ReadFailed,
+    /// Memory was wanting.
+    #[error("memory")]
+    Memory,
+}
+
+/// The fault for which an import file is refused.
+#[derive(Clone, Copy, Debug, PartialEq, Eq, Error)]
+#[error("file fault {} at record {record}: {flaw}", .flaw.number())]
+pub struct FileFault {
+    pub flaw: Flaw,
+    /// The record's number: 0 is the header. Of `ReadFailed` and `Memory` it is the record under way.
+    pub record: u32,
+}
+
+impl Flaw {
+    /// The number by which a flaw is told, 1 to 9.
+    pub fn number(&self) -> u32
+        ensures { result ≡ flaw_number self.now }
+    {
+        match self {
+            Flaw::Header => 1,
+            Flaw::RecordLength => 2,
+            Flaw::Number => 3,
+            Flaw::PaperOrder => 4,
+            Flaw::Marks => 5,
+            Flaw::NotUtf8 => 6,
+            Flaw::TooManyRecords => 7,
+            Flaw::ReadFailed => 8,
+            Flaw::Memory => 9,
+        }
+    }
+}
+
+impl FileFault {
+    /// The number of the fault, 1 to 9.
+    pub fn number(&self) -> u32
+        ensures { result ≡ flaw_number self.now.flaw }
+    {
+        self.flaw.number()
+    }
+}
+
+impl From<AllocError> for Flaw {
+    ghost from_gives = { λ _ flaw. flaw ≡ Memory };
+
+    fn from(_: AllocError) -> Flaw {
+        Flaw::Memory
+    }
+}
+
+/// An outcome at a record of a file.
+pub(crate) fn at_record<T>(number: u32, outcome: Result<T, Flaw>) -> Result<T, FileFault>
+    ensures ok { IfOk result (λ value. outcome ≡ Ok value) }
+    ensures err { IfErr result (λ fault. (outcome ≡ Err fault.flaw) × (fault.record ≡ number)) }
+{
+    match outcome {
+        Ok(value) => Ok(value),
+        Err(flaw) => Err(FileFault {
+            flaw,
+            record: number,
+        }),
+    }
+}

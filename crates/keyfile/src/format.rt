@@ -1,0 +1,156 @@
+//! What an import file holds, and how it is read whole.
+
+ghost use Rattle.std.specs.Prelude.{◌≡◌, ◌∷◌, ◌++◌, ◌+◌, ◌<◌, ◌≤◌, ◌⊎◌, [], List, Option, ℕ, true, false, map, IfOk, IfErr, IfSome, IfNone, Ok, Err, OnOk};
+ghost use Rattle.csv.specs.Records.{fields_of};
+ghost use Rattle.keyfile.specs.Files.{Format, IsFaultOf, file_rows, is_text_header, read_as_text};
+ghost use Rattle.keyfile.specs.Reading.{IsAfter, Known, StandsAt};
+ghost use Rattle.keyfile.specs.Records.{file_records};
+
+use crate::fault::{FileFault, Flaw, at_record};
+use crate::fields::texts;
+use crate::records::{next_record, open};
+use csv::{ByteRecord, Reader};
+use std::alloc::Global;
+use std::io::Read;
+
+/// What an import file holds: its header, and the rows that its records are read as.
+pub(crate) trait FileFormat {
+    type Row: Drop;
+
+    /// What a row stands for.
+    ghost Entry: { Type 0 };
+
+    ghost format: { Self → Format Entry };
+
+    ghost entry: { Self.Row → Entry };
+
+    /// The most records behind the header.
+    fn most(&self) -> u32
+        ensures is { result ≡ (format self.now).most }
+        ensures few { result < 10000 };
+
+    /// Whether the fields of the first record are the header.
+    fn is_header(&self, fields: &[&str]) -> bool
+        ensures { result ≡ (format self.now).is_header (map (λ f. f.now) fields.now) };
+
+    /// The row of a record of some number, or the first of its flaws; `Memory` where it is wanting.
+    fn read(&self, alloc: Global, number: u32, fields: &[&str]) -> Result<Self::Row, Flaw>
+        ensures ok { IfOk result (λ row. (format self.now).read number (map (λ f. f.now) fields.now) ≡ Ok (entry row)) }
+        ensures err { IfErr result (λ flaw. (flaw ≡ Flaw.Memory) ⊎ ((format self.now).read number (map (λ f. f.now) fields.now) ≡ Err flaw)) };
+}
+
+/// The rows of a file, or its fault.
+pub(crate) fn read_file<R: Read + Drop, F: FileFormat>(
+    alloc: Global,
+    r: R,
+    format: &F,
+) -> Result<Vec<F::Row>, FileFault>
+    ensures rows { Known (R.remaining r) (λ bytes. IfOk result (λ rows. file_rows (F.format format.now) (file_records bytes) ≡ Ok (map F.entry rows.items))) }
+    ensures fault { Known (R.remaining r) (λ bytes. IfErr result (IsFaultOf (F.format format.now) (file_records bytes))) }
+{
+    let mut file = open(alloc, r);
+    read_header(alloc, &mut file, format)?;
+    let most = format.most();
+    let mut rows = Vec::new(alloc);
+    for number in 1..most + 1 {
+        let Some(row) = next_row(alloc, &mut file, format, number)? else {
+            return Ok(rows);
+        };
+        if rows.push(row).is_err() {
+            return Err(FileFault {
+                flaw: Flaw::Memory,
+                record: number,
+            });
+        }
+    }
+    check_end(alloc, &mut file, format, most + 1)?;
+    Ok(rows)
+}
+
+/// Reads the first record, which must be the header.
+fn read_header<R: Read + Drop, F: FileFormat>(
+    alloc: Global,
+    file: &mut Reader<R>,
+    format: &F,
+) -> Result<(), FileFault>
+    ensures ok { (bytes : Option (List ℕ)) → IsAfter R.remaining bytes [] file.old
+        → OnOk result (StandsAt R.remaining bytes (F.format format.now) 1 [] file.new) }
+    ensures err { (bytes : Option (List ℕ)) → IsAfter R.remaining bytes [] file.old
+        → IfErr result (λ fault. Known bytes (λ xs. IsFaultOf (F.format format.now) (file_records xs) fault)) }
+{
+    match next_record(alloc, file, 0)? {
+        Some(raw) => at_record(0, check_header(alloc, &raw, format)),
+        None => Err(FileFault {
+            flaw: Flaw::Header,
+            record: 0,
+        }),
+    }
+}
+
+/// Whether a record is the header; `Header` says that it isn't.
+fn check_header<F: FileFormat>(alloc: Global, raw: &ByteRecord, format: &F) -> Result<(), Flaw>
+    ensures ok { OnOk result (is_text_header (F.format format.now) (fields_of raw.now) ≡ true) }
+    ensures err { IfErr result (λ flaw. (flaw ≡ Flaw.Memory) ⊎ ((flaw ≡ Flaw.Header) × (is_text_header (F.format format.now) (fields_of raw.now) ≡ false))) }
+{
+    match texts(alloc, raw) {
+        Ok(fields) if format.is_header(&fields) => Ok(()),
+        Err(Flaw::Memory) => Err(Flaw::Memory),
+        _ => Err(Flaw::Header),
+    }
+}
+
+/// The row of the record of some number, or none at the end of the file.
+fn next_row<R: Read + Drop, F: FileFormat>(
+    alloc: Global,
+    file: &mut Reader<R>,
+    format: &F,
+    number: u32,
+) -> Result<Option<F::Row>, FileFault>
+    requires { number ≤ (F.format format.now).most }
+    ensures more { (bytes : Option (List ℕ)) (rows : List F.Entry) → StandsAt R.remaining bytes (F.format format.now) number rows file.old
+        → IfOk result (λ o. IfSome o (λ row. StandsAt R.remaining bytes (F.format format.now) (number + 1) (rows ++ F.entry row ∷ []) file.new)) }
+    ensures whole { (bytes : Option (List ℕ)) (rows : List F.Entry) → StandsAt R.remaining bytes (F.format format.now) number rows file.old
+        → IfOk result (λ o. IfNone o (Known bytes (λ xs. file_rows (F.format format.now) (file_records xs) ≡ Ok rows))) }
+    ensures err { (bytes : Option (List ℕ)) (rows : List F.Entry) → StandsAt R.remaining bytes (F.format format.now) number rows file.old
+        → IfErr result (λ fault. Known bytes (λ xs. IsFaultOf (F.format format.now) (file_records xs) fault)) }
+{
+    match next_record(alloc, file, number)? {
+        Some(raw) => Ok(Some(at_record(number, row_of(alloc, format, number, &raw))?)),
+        None => Ok(None),
+    }
+}
+
+fn row_of<F: FileFormat>(
+    alloc: Global,
+    format: &F,
+    number: u32,
+    raw: &ByteRecord,
+) -> Result<F::Row, Flaw>
+    ensures ok { IfOk result (λ row. read_as_text (F.format format.now) number (fields_of raw.now) ≡ Ok (F.entry row)) }
+    ensures err { IfErr result (λ flaw. (flaw ≡ Flaw.Memory) ⊎ (read_as_text (F.format format.now) number (fields_of raw.now) ≡ Err flaw)) }
+{
+    let fields = texts(alloc, raw)?;
+    format.read(alloc, number, &fields)
+}
+
+/// Makes sure that the file has ended before the record of some number, the first past the limit.
+fn check_end<R: Read + Drop, F: FileFormat>(
+    alloc: Global,
+    file: &mut Reader<R>,
+    format: &F,
+    number: u32,
+) -> Result<(), FileFault>
+    requires { number ≡ (F.format format.now).most + 1 }
+    ensures whole { (bytes : Option (List ℕ)) (rows : List F.Entry) → StandsAt R.remaining bytes (F.format format.now) number rows file.old
+        → OnOk result (Known bytes (λ xs. file_rows (F.format format.now) (file_records xs) ≡ Ok rows)) }
+    ensures err { (bytes : Option (List ℕ)) (rows : List F.Entry) → StandsAt R.remaining bytes (F.format format.now) number rows file.old
+        → IfErr result (λ fault. Known bytes (λ xs. IsFaultOf (F.format format.now) (file_records xs) fault)) }
+{
+    match next_record(alloc, file, number)? {
+        None => Ok(()),
+        Some(_) => Err(FileFault {
+            flaw: Flaw::TooManyRecords,
+            record: number,
+        }),
+    }
+}

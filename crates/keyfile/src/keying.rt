@@ -1,0 +1,168 @@
+//! The file of a clerk's keying of a batch: `paper` and the candidates' numbers, then the papers.
+
+ghost use Rattle.std.specs.Prelude.{◌≡◌, ◌++◌, ◌==◌, List, ℕ, length, map, IfOk, IfErr, OnOk, Ok, Err, string_bytes};
+ghost use Rattle.std.specs.List.{join_with_byte, list_all, list_any};
+ghost use Rattle.keyfile.specs.Files.{IsFaultOf, file_rows};
+ghost use Rattle.keyfile.specs.Keying.{AreReadAsKeyed, are_columns, breaks_marks, field_text, is_doubtful, keying, marks_text, of_number};
+ghost use Rattle.keyfile.specs.Numbers.{number_in};
+ghost use Rattle.keyfile.specs.Reading.{Known};
+ghost use Rattle.keyfile.specs.Records.{file_records};
+
+use crate::fault::{FileFault, Flaw};
+use crate::fields::number_in;
+use crate::format::{FileFormat, read_file};
+use paper::Columns;
+use std::alloc::{AllocError, Global};
+use std::io::Read;
+
+/// The most papers of a file, those of one batch.
+const MOST_PAPERS: u32 = 500;
+
+/// The marks texts of a keying of papers with some columns, in the order of the papers.
+///
+/// The header is `paper` and the columns in ascending order; at most 500 records follow it, each a
+/// paper's number, which runs 1, 2, 3, .., and one field for each column. A marks text is `D` where
+/// the first field is `D` and the others are empty, else the fields parted by commas; whether it is
+/// right isn't judged here. The fault is that of the first faulty record, and of that its first flaw.
+/// `ReadFailed` and `Memory` may come at any record that no fault stands before.
+pub fn read_keying<R: Read + Drop>(
+    alloc: Global,
+    r: R,
+    columns: Columns,
+) -> Result<Vec<String>, FileFault>
+    ensures rows { Known (R.remaining r) (λ bytes. IfOk result (λ papers. file_rows (keying columns) (file_records bytes) ≡ Ok (map string_bytes papers.items))) }
+    ensures fault { Known (R.remaining r) (λ bytes. IfErr result (IsFaultOf (keying columns) (file_records bytes))) }
+    // a marks text says what the fields say
+    ensures spelled { AreReadAsKeyed columns }
+{
+    read_file(alloc, r, &KeyingFile { columns })
+}
+
+/// The format of the file of a keying.
+#[derive(Drop)]
+struct KeyingFile {
+    columns: Columns,
+}
+
+impl FileFormat for KeyingFile {
+    type Row = String;
+
+    ghost Entry = { List ℕ };
+
+    ghost format = { λ f. keying f.columns };
+
+    ghost entry = { string_bytes };
+
+    fn most(&self) -> u32 {
+        MOST_PAPERS
+    }
+
+    fn is_header(&self, fields: &[&str]) -> bool {
+        match fields {
+            [] => false,
+            [first, numbers @ ..] => {
+                *first == "paper" && are_columns(numbers, self.columns.as_slice())
+            }
+        }
+    }
+
+    fn read(&self, alloc: Global, number: u32, fields: &[&str]) -> Result<String, Flaw> {
+        match fields {
+            [] => Err(Flaw::RecordLength),
+            [paper, marks @ ..] => {
+                check_paper(number, paper, marks)?;
+                Ok(marks_text(alloc, marks)?)
+            }
+        }
+    }
+}
+
+/// Whether texts write some numbers, one each.
+fn are_columns(texts: &[&str], columns: &[u8]) -> bool
+    ensures { result ≡ are_columns (map (λ t. t.now) texts.now) columns.now }
+{
+    let [text, others @ ..] = texts else {
+        return columns.is_empty();
+    };
+    let [column, more @ ..] = columns else {
+        return false;
+    };
+    number_in(text) == Some(u32::from(*column)) && are_columns(others, more)
+}
+
+/// Makes sure that a paper's number is the record's and that its mark fields can be joined.
+#[tactic(auto, using(crate::proofs::MapLemmas::list_any_map))]
+fn check_paper(number: u32, paper: &str, marks: &[&str]) -> Result<(), Flaw>
+    ensures ok { OnOk result (of_number number (number_in paper.now) (map (λ t. t.now) marks.now) ≡ Ok (marks_text (map (λ t. t.now) marks.now))) }
+    ensures err { IfErr result (λ flaw. of_number number (number_in paper.now) (map (λ t. t.now) marks.now) ≡ Err flaw) }
+{
+    match number_in(paper) {
+        None => Err(Flaw::Number),
+        Some(told) if told != number => Err(Flaw::PaperOrder),
+        Some(_) if any_breaks(marks) => Err(Flaw::Marks),
+        Some(_) => Ok(()),
+    }
+}
+
+fn any_breaks(marks: &[&str]) -> bool
+    ensures { result ≡ list_any (λ t. breaks_marks t.now) marks.now }
+{
+    marks.iter().any(|mark| breaks_marks(mark))
+}
+
+/// Whether a mark field holds a comma, a double quote or a line end.
+fn breaks_marks(mark: &str) -> bool
+    ensures { result ≡ breaks_marks mark.now }
+{
+    mark.as_bytes()
+        .iter()
+        .any(|b| *b == b',' || *b == b'"' || *b == b'\n' || *b == b'\r')
+}
+
+/// The letter D where the first field is D and the others are empty, else the fields parted by commas.
+fn marks_text(alloc: Global, marks: &[&str]) -> Result<String, AllocError>
+    ensures { IfOk result (λ text. string_bytes text ≡ marks_text (map (λ t. t.now) marks.now)) }
+{
+    if is_doubtful(marks) {
+        return String::from_str(alloc, "D");
+    }
+    joined(alloc, marks)
+}
+
+/// The fields parted by commas.
+fn joined(alloc: Global, marks: &[&str]) -> Result<String, AllocError>
+    ensures { IfOk result (λ text. string_bytes text ≡ join_with_byte 44 (map (λ t. t.now) marks.now)) }
+{
+    let mut text = String::new(alloc);
+    for (i, mark) in marks.iter().enumerate() {
+        push_field(&mut text, i, mark)?;
+    }
+    Ok(text)
+}
+
+#[tactic(auto, using(crate::proofs::MapLemmas::list_all_map))]
+fn is_doubtful(marks: &[&str]) -> bool
+    ensures { result ≡ is_doubtful (map (λ t. t.now) marks.now) }
+{
+    match marks {
+        [] => false,
+        [first, others @ ..] => *first == "D" && are_empty(others),
+    }
+}
+
+fn are_empty(marks: &[&str]) -> bool
+    ensures { result ≡ list_all (λ t. length t.now == 0) marks.now }
+{
+    marks.iter().all(|mark| mark.is_empty())
+}
+
+/// Puts a field to the end of a text, with a comma in front of every field but the first.
+fn push_field(text: &mut String, i: usize, mark: &str) -> Result<(), AllocError>
+    ensures { OnOk result (string_bytes text.new ≡ string_bytes text.old ++ field_text i mark.now) }
+{
+    if i > 0 {
+        text.push(',')?;
+    }
+    text.push_str(mark)?;
+    Ok(())
+}
