@@ -50,10 +50,6 @@ module _ {Row : Type 0} (format : Format Row) where
       })
 
   module _ {R : Type 0} (rem : R → Option (List ℕ)) (bytes : Option (List ℕ)) (number : ℕ) (rows : List Row) (a : Reader R) (st : StandsAt rem bytes format number rows a) where
-    -- no record was there any more
-    pub stands-whole : Known bytes (λ xs. file_records xs ≡ st.records) → Known bytes (λ xs. file_rows format (file_records xs) ≡ Ok rows)
-    stands-whole h = known-map bytes (λ xs (e : file_records xs ≡ st.records). rw e st.read) h
-
     -- the reading was stopped
     pub stands-stopped : (fault : FileFault) → fault.record ≡ number → is_stop fault.flaw ≡ true → Told format bytes fault
     stands-stopped fault at stop =
@@ -110,6 +106,7 @@ module _ {Row : Type 0} (format : Format Row) where
   -- ---- the header
 
   module _ {R : Type 0} (rem : R → Option (List ℕ)) (bytes : Option (List ℕ)) where
+    -- the reading was stopped at the header: no fault stands before that
     pub header-stopped : (fault : FileFault) → fault.record ≡ 0 → is_stop fault.flaw ≡ true → Told format bytes fault
     header-stopped fault at stop = by_bytes bytes
       where
@@ -125,36 +122,11 @@ module _ {Row : Type 0} (format : Format Row) where
           before = λ _. rw at (late (file_rows format (file_records xs)));
         }
 
-    pub header-ended : (fault : FileFault) → fault.record ≡ 0 → EndsBefore bytes [] fault.flaw → Told format bytes fault
-    header-ended fault at ends = by_flaw fault.flaw refl ends
-      where
-        by_flaw : (flaw : Flaw) → fault.flaw ≡ flaw → EndsBefore bytes [] flaw → Told format bytes fault
-        by_flaw RecordLength is ends = known-map bytes (λ xs (u : IsUneven xs []). absurd (let e : None ≡ Some u.1 = u.3 in cc)) ends
-        by_flaw ReadFailed is ends = header-stopped fault at (ap is_stop is)
-        by_flaw Memory is ends = header-stopped fault at (ap is_stop is)
-        by_flaw Header is ends = absurd ends
-        by_flaw Number is ends = absurd ends
-        by_flaw PaperOrder is ends = absurd ends
-        by_flaw Marks is ends = absurd ends
-        by_flaw NotUtf8 is ends = absurd ends
-        by_flaw TooManyRecords is ends = absurd ends
-
-    pub header-missing : (fault : FileFault) → fault ≡ fault_at 0 Header → Known bytes (λ xs. file_records xs ≡ []) → Told format bytes fault
-    header-missing fault is h =
-        known-map bytes (λ xs (e : file_records xs ≡ []). rw e (own_fault [] fault (ap Err (sym is)) (rw is (omega arith)))) h
-
     same : (fault : FileFault) → fault.record ≡ 0 → fault.flaw ≡ Header → fault ≡ fault_at 0 Header
     same fault at is = rw (← at, ← is) refl
 
     module _ (b : Reader R) (fields : Record) (next : IsNext rem bytes [] fields b) where
-      pub header-read : is_text_header format fields ≡ true → StandsAt rem bytes format 1 [] b
-      header-read is = record {
-        records = fields ∷ [];
-        count = omega arith;
-        after = next.after;
-        read = rw is refl;
-      }
-
+      -- the first record isn't the header
       pub header-other : (fault : FileFault) → fault.record ≡ 0 → fault.flaw ≡ Header → is_text_header format fields ≡ false → Told format bytes fault
       header-other fault at is other =
           known-map bytes
@@ -170,6 +142,7 @@ module _ {Row : Type 0} (format : Format Row) (bytes : Option (List ℕ)) {T : T
   passed-on (Ok x) fault is told = absurd is
   passed-on (Err f) fault is told = subst (Told format bytes) (sym is) told
 
+  -- the one fault of a result
   pub told-only : (r : Result T FileFault) (fault : FileFault) → r ≡ Err fault → Told format bytes fault → IfErr r (Told format bytes)
   told-only r fault is told = rw is told
 

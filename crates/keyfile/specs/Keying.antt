@@ -45,7 +45,7 @@ field_text i mark = if i == 0 then mark else 44 ∷ mark
 abbrev pub marks_text : List (List ℕ) → List ℕ
 marks_text marks = if is_doubtful marks then codes "D" else join_with_byte 44 marks
 
--- the flaw of a paper whose number is told, by its mark fields
+-- what the paper of some number is read as, by the number that stands in its record and by its mark fields
 abbrev pub of_number : ℕ → Option ℕ → List (List ℕ) → Result (List ℕ) Flaw
 of_number k None marks = Err Number
 of_number k (Some told) marks =

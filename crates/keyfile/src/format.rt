@@ -120,6 +120,7 @@ fn next_row<R: Read + Drop, F: FileFormat>(
     }
 }
 
+/// The row of a record of some number, or the first of its flaws behind its length and its place.
 fn row_of<F: FileFormat>(
     alloc: Global,
     format: &F,

@@ -104,6 +104,7 @@ fn check_paper(number: u32, paper: &str, marks: &[&str]) -> Result<(), Flaw>
     }
 }
 
+/// Whether some mark field breaks a marks text.
 fn any_breaks(marks: &[&str]) -> bool
     ensures { result ≡ list_any (λ t. breaks_marks t.now) marks.now }
 {
@@ -140,6 +141,7 @@ fn joined(alloc: Global, marks: &[&str]) -> Result<String, AllocError>
     Ok(text)
 }
 
+/// Whether the first field is D and the others are empty.
 #[tactic(auto, using(crate::proofs::MapLemmas::list_all_map))]
 fn is_doubtful(marks: &[&str]) -> bool
     ensures { result ≡ is_doubtful (map (λ t. t.now) marks.now) }
