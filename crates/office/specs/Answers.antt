@@ -4,8 +4,8 @@ use Rattle.sqlite.specs.State.{State}
 use Rattle.register.specs.declared.refusal.Refusal.{Refusal}
 use Rattle.register.specs.Offices.{OfficeState}
 use Rattle.register.specs.Machine.{Outcome, accepted, kept, refused, state_after}
-use Rattle.store.specs.declared.fault.Fault.{Fault}
-use Rattle.store.specs.declared.fault.Fault.TheVariants.{Memory, Store}
+use Rattle.tables.specs.declared.fault.Fault.{Fault}
+use Rattle.tables.specs.declared.fault.Fault.TheVariants.{Memory, Store}
 use Rattle.store.specs.Offices.{IsAt, LeavesState}
 use Rattle.office.specs.declared.answers.Answer.{Answer}
 use Rattle.office.specs.declared.answers.Answer.TheVariants.{Done, Kept, Refused}

@@ -6,7 +6,7 @@ ghost use Rattle.sqlite.specs.Held.{state};
 ghost use Rattle.register.specs.Offices.{OfficeState, IsState};
 ghost use Rattle.register.specs.Machine.{step, state_after};
 ghost use Rattle.register.specs.Views.{ShowsState, outcome_of};
-ghost use Rattle.store.specs.Reading.{OnlyReads};
+ghost use Rattle.tables.specs.Reading.{OnlyReads};
 ghost use Rattle.store.specs.Offices.{IsAt};
 
 use register::{Command, Decision, View, decide};

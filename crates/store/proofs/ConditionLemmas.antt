@@ -17,11 +17,11 @@ use Rattle.register.specs.Offices.{WardEntry, ReceiptEntry, OfficeState, is_ward
 use Rattle.rowcheck.specs.declared.rows.WardRow.{WardRow}
 use Rattle.rowcheck.specs.declared.rows.Rows.{Rows}
 use Rattle.rowcheck.specs.Items.{is_ward_row, is_receipt_row, is_begun_row, are_in_range, are_begun_rows}
-use Rattle.store.specs.declared.tables.Table.TheVariants.{Ward, Receipt}
+use Rattle.tables.specs.declared.table.Table.TheVariants.{Ward, Receipt}
 use Rattle.store.specs.Offices.{row_of_ward, row_of_typed, row_of_receipt}
 use Rattle.store.specs.Listing.{Sticks, begun_entry, ward_rows, receipt_rows, AreOrdered, ShowsState, AreRowsOf}
-use Rattle.store.proofs.ListLemmas.{mapped_has, has_mapped, mapped_same, mapped_twice, permuted_has}
-use Rattle.store.proofs.EntryLemmas.{row_apart}
+use Rattle.tables.proofs.ListLemmas.{mapped_has, has_mapped, mapped_same, mapped_twice, permuted_has}
+use Rattle.tables.proofs.EntryLemmas.{row_apart}
 use Rattle.store.proofs.StateLemmas.{number_in, text_in, ward_entries, receipt_entries, ward_total, receipt_total, wards_alike, receipts_alike}
 use Rattle.store.proofs.RiseLemmas.{stuck_none}
 

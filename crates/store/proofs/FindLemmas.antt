@@ -19,11 +19,11 @@ use Rattle.sqlite.proofs.Callers.{one_permutation}
 use Rattle.sqlite.specs.declared.types.Value.TheVariants.{Int, Text}
 use Rattle.sqlite.specs.Order.{Row}
 use Rattle.register.specs.Offices.{WardEntry, ReceiptEntry, OfficeState, IsState, ward_cmp, receipt_cmp, is_ward_numbered, is_receipt_of, ward_at, receipt_at}
-use Rattle.store.specs.declared.tables.Table.TheVariants.{Ward, Receipt}
-use Rattle.store.specs.Rows.{has_key}
-use Rattle.store.specs.Reading.{Finds}
+use Rattle.tables.specs.declared.table.Table.TheVariants.{Ward, Receipt}
+use Rattle.tables.specs.Rows.{has_key}
+use Rattle.tables.specs.Reading.{Finds}
 use Rattle.store.specs.Offices.{row_of_ward, row_of_receipt, tables_of}
-use Rattle.store.proofs.OrderLemmas.{equal-number, equal-Text}
+use Rattle.tables.proofs.OrderLemmas.{equal-number, equal-Text}
 
 filter_alike : {X : Type 0} (p q : X → Bool) → ((x : X) → p x ≡ q x) → (xs : List X) → filter p xs ≡ filter q xs
 filter_alike p q alike [] = refl

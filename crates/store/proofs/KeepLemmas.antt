@@ -6,11 +6,11 @@ use Rattle.sqlite.specs.State.{State, HasCleanDisk, Survives}
 use Rattle.register.specs.declared.decision.Change.{Change}
 use Rattle.register.specs.Offices.{OfficeState, IsState}
 use Rattle.register.specs.Views.{with_change}
-use Rattle.store.specs.Contents.{Contents, Stores, Rests, RestsAt}
-use Rattle.store.specs.Reading.{OnlyReads}
+use Rattle.tables.specs.Contents.{Contents, Stores, Rests, RestsAt}
+use Rattle.tables.specs.Reading.{OnlyReads}
 use Rattle.store.specs.Offices.{tables_of, ChangesTo, HoldsState, IsAt, LeavesState}
-use Rattle.store.proofs.StopLemmas.{rests_leaves}
-use Rattle.store.proofs.ReadLemmas.{rests_read, rests_from}
+use Rattle.tables.proofs.StopLemmas.{rests_leaves}
+use Rattle.tables.proofs.ReadLemmas.{rests_read, rests_from}
 
 -- a connection that rests at the tables of a state keeps that state
 pub rests_is_at : (s : OfficeState) (st : State) → ((trees : Trees) → IsTrue st.is_open → st.may_leave trees → trees ≡ st.committed.trees) → IsState s → Rests (tables_of s) st → IsAt s st

@@ -4,12 +4,12 @@ use Rattle.std.specs.Cmp.{IsTotalOrder}
 use Rattle.std.specs.List.Sorted.{IsPermutation, IsSorted, IsStrictlySortedBy}
 use Rattle.std.proofs.lemmas.Map.Keys.{sorted_from_all_adjacent}
 use Rattle.sqlite.specs.Order.{Row}
-use Rattle.store.specs.declared.tables.Table.{Table}
-use Rattle.store.specs.Rows.{row_cmp}
+use Rattle.tables.specs.declared.table.Table.{Table}
+use Rattle.tables.specs.Rows.{row_cmp}
 use Rattle.store.specs.Listing.{Sticks}
-use Rattle.store.proofs.ListLemmas.{get_mapped, mapped_length}
-use Rattle.store.proofs.EntryLemmas.{IsEntry, Repeats, no_repeat}
-use Rattle.store.proofs.OrderLemmas.{never_falls}
+use Rattle.tables.proofs.ListLemmas.{get_mapped, mapped_length}
+use Rattle.tables.proofs.EntryLemmas.{IsEntry, Repeats, no_repeat}
+use Rattle.tables.proofs.OrderLemmas.{never_falls}
 
 pub get_any : {X : Type 0} (xs : List X) (k : ℕ) (d e : X) → k < length xs → get_or xs k d ≡ get_or xs k e
 get_any [] k d e h = absurd (omega (arith, h))

@@ -10,13 +10,13 @@ use Rattle.register.specs.declared.ward.Phase.{Phase}
 use Rattle.register.specs.declared.ward.Phase.TheVariants.{Nominations, Keying as Keyed, Sealed, Declared}
 use Rattle.register.specs.Phases.{phase_number}
 use Rattle.register.specs.Offices.{WardEntry, ReceiptEntry, OfficeState, IsState, ward_cmp, receipt_cmp}
-use Rattle.store.specs.declared.tables.Table.TheVariants.{Office, Ward, Receipt}
-use Rattle.store.specs.Rows.{row_cmp}
-use Rattle.store.specs.Contents.{SameContents, IsOffice}
+use Rattle.tables.specs.declared.table.Table.TheVariants.{Office, Ward, Receipt}
+use Rattle.tables.specs.Rows.{row_cmp}
+use Rattle.tables.specs.Contents.{SameContents, IsOffice}
 use Rattle.store.specs.Offices.{office_row, row_of_ward, row_of_receipt, tables_of, HoldsState}
-use Rattle.store.proofs.EntryLemmas.{IsEntry, entries_same}
-use Rattle.store.proofs.OrderLemmas.{one_number, number_and_text}
-use Rattle.store.proofs.SameLemmas.{one_contents}
+use Rattle.tables.proofs.EntryLemmas.{IsEntry, entries_same}
+use Rattle.tables.proofs.OrderLemmas.{one_number, number_and_text}
+use Rattle.tables.proofs.SameLemmas.{one_contents}
 
 -- ---- a row tells its entry
 

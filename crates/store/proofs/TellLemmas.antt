@@ -17,23 +17,23 @@ use Rattle.sqlite.specs.State.{State, IsLive}
 use Rattle.sqlite.proofs.Callers.{one_permutation}
 use Rattle.register.specs.Offices.{is_ward, is_begun, is_receipt, OfficeState}
 use Rattle.rowcheck.specs.declared.rows.Rows.{Rows}
-use Rattle.store.specs.declared.fault.Fault.{Fault}
-use Rattle.store.specs.declared.fault.Fault.TheVariants.{Memory, Store, Damaged, Closed, WrongDatabase, NewerSchema}
-use Rattle.store.specs.declared.tables.Table.{Table}
-use Rattle.store.specs.declared.tables.Table.TheVariants.{Office, Ward, Candidate, Batch, Keying, Verdict, Lot, Receipt}
-use Rattle.store.specs.Schema.{tree_of, BeginsTo, IsOfficeSchema}
-use Rattle.store.specs.Rows.{tuples, at, column_places, Keyed}
-use Rattle.store.specs.Contents.{HoldsTable, RestsAt, IsOffice}
-use Rattle.store.specs.Faults.{fault_of, TellsQuery}
-use Rattle.store.specs.Reading.{Lists}
+use Rattle.tables.specs.declared.fault.Fault.{Fault}
+use Rattle.tables.specs.declared.fault.Fault.TheVariants.{Memory, Store, Damaged, Closed, WrongDatabase, NewerSchema}
+use Rattle.tables.specs.declared.table.Table.{Table}
+use Rattle.tables.specs.declared.table.Table.TheVariants.{Office, Ward, Candidate, Batch, Keying, Verdict, Lot, Receipt}
+use Rattle.tables.specs.Schema.{tree_of, BeginsTo, IsOfficeSchema}
+use Rattle.tables.specs.Rows.{tuples, at, column_places, Keyed}
+use Rattle.tables.specs.Contents.{HoldsTable, RestsAt, IsOffice}
+use Rattle.tables.specs.Faults.{fault_of, TellsQuery}
+use Rattle.tables.specs.Reading.{Lists}
 use Rattle.store.specs.Entries.{IsRowOfWard, IsRowOfReceipt}
 use Rattle.store.specs.Offices.{HoldsState, tables_of, office_row, row_of_ward, row_of_receipt}
-use Rattle.store.specs.Presence.{has_table, has_every_table}
+use Rattle.tables.specs.Presence.{has_table, has_every_table}
 use Rattle.store.specs.Listing.{ListsKeyed, HasOther, ListsRows, AreOrdered, ShowsState, AreRowsOf, ward_rows, receipt_rows}
 use Rattle.store.specs.Openings.{HasNoOffice, IsNewer, HoldsNoState, IsToldBy, TellsNoState, IsVersion, TellsRow, TellsRows, HasVersion, TellsOffice, TellsRowsIn, AreEmpty, HoldsEntries}
-use Rattle.store.proofs.ListLemmas.{mapped_length}
-use Rattle.store.proofs.EntryLemmas.{shown_rows, entries_held, held_listed, no_wrong}
-use Rattle.store.proofs.ListingLemmas.{begins_to}
+use Rattle.tables.proofs.ListLemmas.{mapped_length}
+use Rattle.tables.proofs.EntryLemmas.{shown_rows, entries_held, held_listed, no_wrong}
+use Rattle.tables.proofs.ListingLemmas.{begins_to}
 use Rattle.store.proofs.StateLemmas.{ward_entries, receipt_entries, version_entries}
 
 -- ---- faults of a query

@@ -7,12 +7,12 @@ use Rattle.sqlite.specs.State.{State}
 use Rattle.register.specs.Offices.{WardEntry, ReceiptEntry, OfficeState, empty_office, put, ward_cmp, receipt_cmp}
 use Rattle.register.specs.Machine.{with_receipt}
 use Rattle.register.proofs.MapLemmas.{put_same}
-use Rattle.store.specs.declared.tables.Table.{Table}
-use Rattle.store.specs.declared.tables.Table.TheVariants.{Office, Ward, Candidate, Batch, Keying, Verdict, Lot, Receipt}
-use Rattle.store.specs.Contents.{Contents, SameContents, added, Sees}
-use Rattle.store.specs.Making.{no_contents}
+use Rattle.tables.specs.declared.table.Table.{Table}
+use Rattle.tables.specs.declared.table.Table.TheVariants.{Office, Ward, Candidate, Batch, Keying, Verdict, Lot, Receipt}
+use Rattle.tables.specs.Contents.{Contents, SameContents, added, Sees}
+use Rattle.tables.specs.Making.{no_contents}
 use Rattle.store.specs.Offices.{office_row, row_of_ward, row_of_receipt, tables_of}
-use Rattle.store.proofs.SameLemmas.{sees_same}
+use Rattle.tables.proofs.SameLemmas.{sees_same}
 
 ward_put : (s : OfficeState) (w : WardEntry) → SameContents (added Ward (row_of_ward w) (tables_of s)) (tables_of (record s { wards = put ward_cmp w s.wards }))
 unfolding added

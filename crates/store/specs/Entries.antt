@@ -2,8 +2,8 @@
 use Rattle.std.specs.Prelude.{◌≡◌, true}
 use Rattle.sqlite.specs.Order.{Row}
 use Rattle.register.specs.Offices.{WardEntry, ReceiptEntry, is_ward, is_begun, is_receipt}
-use Rattle.store.specs.declared.tables.Table.TheVariants.{Ward, Receipt}
-use Rattle.store.specs.Rows.{at, column_places}
+use Rattle.tables.specs.declared.table.Table.TheVariants.{Ward, Receipt}
+use Rattle.tables.specs.Rows.{at, column_places}
 use Rattle.store.specs.Offices.{row_of_ward, row_of_receipt}
 
 -- the row shows this ward, which is in range

@@ -1,11 +1,3 @@
-pub mod Faults
-pub mod Texts
-pub mod Schema
-pub mod Rows
-pub mod Contents
-pub mod Making
-pub mod Reading
-pub mod Presence
 pub mod Offices
 pub mod Entries
 pub mod Openings

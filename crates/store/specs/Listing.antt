@@ -9,11 +9,11 @@ use Rattle.register.specs.declared.ward.Phase.TheVariants.{Nominations}
 use Rattle.register.specs.Offices.{WardEntry, OfficeState, IsState, receipt_entry}
 use Rattle.rowcheck.specs.declared.rows.WardRow.{WardRow}
 use Rattle.rowcheck.specs.declared.rows.Rows.{Rows}
-use Rattle.store.specs.declared.tables.Table.{Table}
-use Rattle.store.specs.declared.tables.Table.TheVariants.{Ward, Receipt}
-use Rattle.store.specs.Schema.{tree_of}
-use Rattle.store.specs.Rows.{Keyed, row_cmp}
-use Rattle.store.specs.Reading.{Lists}
+use Rattle.tables.specs.declared.table.Table.{Table}
+use Rattle.tables.specs.declared.table.Table.TheVariants.{Ward, Receipt}
+use Rattle.tables.specs.Schema.{tree_of}
+use Rattle.tables.specs.Rows.{Keyed, row_cmp}
+use Rattle.tables.specs.Reading.{Lists}
 use Rattle.store.specs.Offices.{row_of_ward, row_of_typed, row_of_receipt}
 
 -- all rows of a table, in the order of the key, whose rowids are their own

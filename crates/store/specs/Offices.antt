@@ -10,10 +10,10 @@ use Rattle.register.specs.Phases.{phase_number}
 use Rattle.register.specs.Offices.{WardEntry, ReceiptEntry, OfficeState, IsState}
 use Rattle.register.specs.Views.{with_change}
 use Rattle.rowcheck.specs.declared.rows.WardRow.{WardRow}
-use Rattle.store.specs.declared.tables.Table.{Table}
-use Rattle.store.specs.declared.tables.Table.TheVariants.{Office, Ward, Candidate, Batch, Keying, Verdict, Lot, Receipt}
-use Rattle.store.specs.Rows.{at, column_places}
-use Rattle.store.specs.Contents.{Contents, IsOffice, Stores, Rests}
+use Rattle.tables.specs.declared.table.Table.{Table}
+use Rattle.tables.specs.declared.table.Table.TheVariants.{Office, Ward, Candidate, Batch, Keying, Verdict, Lot, Receipt}
+use Rattle.tables.specs.Rows.{at, column_places}
+use Rattle.tables.specs.Contents.{Contents, IsOffice, Stores, Rests}
 
 -- ---- rows
 

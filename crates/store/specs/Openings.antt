@@ -5,14 +5,14 @@ use Rattle.sqlite.specs.Order.{Row}
 use Rattle.sqlite.specs.Effect.{Database, IsDatabase}
 use Rattle.sqlite.specs.State.{State}
 use Rattle.register.specs.Offices.{OfficeState, IsState}
-use Rattle.store.specs.declared.fault.Fault.{Fault}
-use Rattle.store.specs.declared.fault.Fault.TheVariants.{Memory, Store, Damaged, Closed, WrongDatabase, NewerSchema}
-use Rattle.store.specs.declared.tables.Table.{Table}
-use Rattle.store.specs.declared.tables.Table.TheVariants.{Office, Ward, Candidate, Batch, Keying, Verdict, Lot, Receipt}
-use Rattle.store.specs.Schema.{no_schema}
-use Rattle.store.specs.Rows.{tuples, at, column_places}
-use Rattle.store.specs.Contents.{HoldsTable}
-use Rattle.store.specs.Presence.{has_table}
+use Rattle.tables.specs.declared.fault.Fault.{Fault}
+use Rattle.tables.specs.declared.fault.Fault.TheVariants.{Memory, Store, Damaged, Closed, WrongDatabase, NewerSchema}
+use Rattle.tables.specs.declared.table.Table.{Table}
+use Rattle.tables.specs.declared.table.Table.TheVariants.{Office, Ward, Candidate, Batch, Keying, Verdict, Lot, Receipt}
+use Rattle.tables.specs.Schema.{no_schema}
+use Rattle.tables.specs.Rows.{tuples, at, column_places}
+use Rattle.tables.specs.Contents.{HoldsTable}
+use Rattle.tables.specs.Presence.{has_table}
 use Rattle.store.specs.Offices.{HoldsState, office_row, row_of_ward, row_of_receipt}
 
 -- there is no office table, or no row in it

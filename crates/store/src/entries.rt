@@ -2,16 +2,15 @@
 
 ghost use Rattle.std.specs.Prelude.{◌≡◌, ◌⊎◌, IfOk, IfErr};
 ghost use Rattle.register.specs.Offices.{receipt_entry};
-ghost use Rattle.store.specs.Rows.{at, column_places};
+ghost use Rattle.tables.specs.Rows.{at, column_places};
 ghost use Rattle.store.specs.Offices.{row_of_typed, row_of_receipt};
 ghost use Rattle.store.specs.Entries.{IsRowOfWard, IsRowOfReceipt};
 
-use crate::cells::{number_at, text_at};
-use crate::fault::Fault;
-use crate::tables::Table;
 use register::Receipt;
 use rowcheck::WardRow;
 use sqlite::Row;
+use tables::cells::{number_at, text_at};
+use tables::{Fault, Table};
 
 /// The typed row that a row of the table of wards holds; `Damaged` where it is that of no ward.
 pub fn ward_row_of(row: &Row) -> Result<WardRow, Fault>

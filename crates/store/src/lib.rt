@@ -11,26 +11,17 @@
 //! store.commit(&change)?;
 //! ```
 //!
-//! Below these stand the statements, generic over the table: `insertion` adds a row, `reading` reads all
-//! rows or the one with a key, each a function of one call. Its clauses say what the tables hold
-//! afterwards and what a stop may leave of them.
+//! The statements over any table stand in the crate `tables`; here stand the rows of a state.
 #![tactic(auto)]
 
-mod cells;
 mod conditions;
 mod entries;
-pub mod fault;
-mod insertion;
 mod listing;
-mod making;
 mod opening;
-mod presence;
-mod reading;
-mod rowids;
 pub mod storage;
-pub mod tables;
 mod views;
 mod writing;
 
-pub use fault::Fault;
 pub use storage::Store;
+pub use tables::fault;
+pub use tables::fault::Fault;

@@ -5,24 +5,23 @@ ghost use Rattle.sqlite.specs.Effect.{Database};
 ghost use Rattle.sqlite.specs.State.{HasCleanDisk};
 ghost use Rattle.sqlite.specs.Held.{state};
 ghost use Rattle.register.specs.Offices.{receipt_entry};
-ghost use Rattle.store.specs.Schema.{BeginsTo, IsOfficeSchema};
-ghost use Rattle.store.specs.Rows.{at, column_places};
-ghost use Rattle.store.specs.Contents.{RestsAt};
-ghost use Rattle.store.specs.Reading.{OnlyReads};
+ghost use Rattle.tables.specs.Schema.{BeginsTo, IsOfficeSchema};
+ghost use Rattle.tables.specs.Rows.{at, column_places};
+ghost use Rattle.tables.specs.Contents.{RestsAt};
+ghost use Rattle.tables.specs.Reading.{OnlyReads};
 ghost use Rattle.store.specs.Offices.{row_of_typed, row_of_receipt};
 ghost use Rattle.store.specs.Entries.{IsRowOfWard, IsRowOfReceipt};
 ghost use Rattle.store.specs.Listing.{ListsKeyed, HasOther, ListsRows};
 ghost use Rattle.store.specs.Openings.{TellsNoState};
 
 use crate::entries::{receipt_of, ward_row_of};
-use crate::fault::Fault;
-use crate::reading::all_rows;
-use crate::rowids::rowids_rise;
-use crate::tables::Table;
 use register::Receipt;
 use rowcheck::{Rows, WardRow};
 use sqlite::{Alter, Connection, Row};
 use std::alloc::Global;
+use tables::reading::all_rows;
+use tables::rowids::rowids_rise;
+use tables::{Fault, Table};
 
 /// All rows of a table in the order of the key, once their rowids are seen to be their own.
 pub(crate) fn keyed_rows<S: Alter>(

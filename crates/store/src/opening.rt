@@ -5,22 +5,21 @@ ghost use Rattle.sqlite.specs.Effect.{Database, IsDatabase};
 ghost use Rattle.sqlite.specs.State.{HasCleanDisk};
 ghost use Rattle.sqlite.specs.Held.{state};
 ghost use Rattle.register.specs.Offices.{OfficeState};
-ghost use Rattle.store.specs.Schema.{BeginsTo, IsOfficeSchema};
-ghost use Rattle.store.specs.Contents.{RestsAt, HoldsTable};
-ghost use Rattle.store.specs.Presence.{IsOurs};
-ghost use Rattle.store.specs.Reading.{OnlyReads};
+ghost use Rattle.tables.specs.Schema.{BeginsTo, IsOfficeSchema};
+ghost use Rattle.tables.specs.Contents.{RestsAt, HoldsTable};
+ghost use Rattle.tables.specs.Presence.{IsOurs};
+ghost use Rattle.tables.specs.Reading.{OnlyReads};
 ghost use Rattle.store.specs.Offices.{HoldsState};
 ghost use Rattle.store.specs.Openings.{IsToldBy, TellsNoState, IsVersion, TellsRow, TellsRows, HasVersion, TellsOffice, TellsRowsIn, AreEmpty, HoldsEntries};
 
-use crate::cells::integer_at;
 use crate::conditions::are_of_state;
-use crate::fault::Fault;
 use crate::listing::{keyed_rows, typed_rows};
-use crate::presence::{has_every_table, has_table};
-use crate::reading::all_rows;
-use crate::tables::Table;
 use sqlite::{Alter, Connection, Row};
 use std::alloc::Global;
+use tables::cells::integer_at;
+use tables::presence::{has_every_table, has_table};
+use tables::reading::all_rows;
+use tables::{Fault, Table};
 
 /// The tables that no command fills yet.
 const LATER: [Table; 5] = [

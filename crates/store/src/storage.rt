@@ -7,20 +7,20 @@ ghost use Rattle.sqlite.specs.Held.{state};
 ghost use Rattle.register.specs.Offices.{OfficeState, IsState, empty_office};
 ghost use Rattle.register.specs.Views.{with_change};
 ghost use Rattle.sqlite.specs.Effect.{Database};
-ghost use Rattle.store.specs.Contents.{Contents, Rests, RestsAt, Stores};
-ghost use Rattle.store.specs.Presence.{has_some_table, IsOurs};
-ghost use Rattle.store.specs.Reading.{OnlyReads};
+ghost use Rattle.tables.specs.Contents.{Contents, Rests, RestsAt, Stores};
+ghost use Rattle.tables.specs.Presence.{has_some_table, IsOurs};
+ghost use Rattle.tables.specs.Reading.{OnlyReads};
 ghost use Rattle.store.specs.Offices.{tables_of, ChangesTo, HoldsState, IsAt, LeavesState};
 ghost use Rattle.store.specs.Openings.{IsBlank, IsToldBy};
 
-use crate::fault::Fault;
 use crate::opening::check;
-use crate::presence::has_some_table;
 use crate::writing::{write_change, write_new_office};
 use register::Change;
 use sqlite::{Alter, Connection};
 use std::alloc::Global;
 use std::marker::Model;
+use tables::Fault;
+use tables::presence::has_some_table;
 
 /// A connection between two transactions, at the tables of an office. Contracts see it as the
 /// connection that it holds.

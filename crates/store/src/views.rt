@@ -9,18 +9,17 @@ ghost use Rattle.register.specs.declared.ward.Phase.{Phase};
 ghost use Rattle.register.specs.Offices.{OfficeState, WardEntry, ReceiptEntry, is_ward, is_begun, is_receipt, ward_entry, receipt_entry, ward_at, receipt_at};
 ghost use Rattle.register.specs.Machine.{ward_named};
 ghost use Rattle.register.specs.Views.{ShowsState};
-ghost use Rattle.store.specs.Reading.{OnlyReads};
+ghost use Rattle.tables.specs.Reading.{OnlyReads};
 ghost use Rattle.store.specs.Offices.{row_of_ward, row_of_typed, row_of_receipt, IsAt};
 
-use crate::cells::{number, text};
 use crate::entries::{receipt_of, ward_row_of};
-use crate::fault::Fault;
-use crate::reading::row_with_key;
 use crate::storage::Store;
-use crate::tables::Table;
 use register::{Command, Phase, Receipt, View, Ward};
 use rowcheck::WardRow;
 use sqlite::{Alter, Connection, Row};
+use tables::cells::{number, text};
+use tables::reading::row_with_key;
+use tables::{Fault, Table};
 
 /// The phase with a number; `Damaged` where there is none.
 fn phase_numbered(n: u32) -> Result<Phase, Fault>

@@ -7,20 +7,19 @@ ghost use Rattle.sqlite.specs.Held.{state};
 ghost use Rattle.register.specs.Offices.{OfficeState, empty_office, ward_entry, receipt_entry};
 ghost use Rattle.register.specs.Machine.{with_receipt};
 ghost use Rattle.register.specs.Views.{with_effect};
-ghost use Rattle.store.specs.Contents.{Contents, Sees};
+ghost use Rattle.tables.specs.Contents.{Contents, Sees};
 ghost use Rattle.sqlite.specs.Effect.{IsDatabase};
-ghost use Rattle.store.specs.Schema.{no_schema};
-ghost use Rattle.store.specs.Making.{no_contents};
+ghost use Rattle.tables.specs.Schema.{no_schema};
+ghost use Rattle.tables.specs.Making.{no_contents};
 ghost use Rattle.store.specs.Offices.{row_of_ward, row_of_receipt, tables_of, ChangesTo};
 
-use crate::cells::{number, text};
-use crate::fault::Fault;
-use crate::insertion::insert;
-use crate::making::create_tables;
-use crate::tables::Table;
 use register::{Change, Effect, Receipt, Ward};
 use sqlite::{Alter, Transaction};
 use sqlite_value::value::ValueRef;
+use tables::cells::{number, text};
+use tables::insertion::insert;
+use tables::making::create_tables;
+use tables::{Fault, Table};
 
 /// The schema version of this program's offices.
 const VERSION: u32 = 1;

@@ -1,9 +1,9 @@
 use Rattle.std.proofs.Common.{map}
 use Rattle.std.proofs.lemmas.Result.{err_from_is_err_and}
-use Rattle.store.specs.declared.tables.Table.TheVariants.{Receipt}
+use Rattle.tables.specs.declared.table.Table.TheVariants.{Receipt}
 use Rattle.register.specs.Offices.{receipt_entry}
 use Rattle.store.specs.Offices.{row_of_receipt}
-use Rattle.store.proofs.ListingLemmas.{begins_to}
+use Rattle.tables.proofs.ListingLemmas.{begins_to}
 use Rattle.store.proofs.TellLemmas.{told_store, told_damaged, listed_as, other_receipts}
 use Rattle.store.proofs.listing.all_receipts.Goals as goal
 

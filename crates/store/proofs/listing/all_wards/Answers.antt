@@ -1,8 +1,8 @@
 use Rattle.std.proofs.Common.{map}
 use Rattle.std.proofs.lemmas.Result.{err_from_is_err_and}
-use Rattle.store.specs.declared.tables.Table.TheVariants.{Ward}
+use Rattle.tables.specs.declared.table.Table.TheVariants.{Ward}
 use Rattle.store.specs.Offices.{row_of_typed}
-use Rattle.store.proofs.ListingLemmas.{begins_to}
+use Rattle.tables.proofs.ListingLemmas.{begins_to}
 use Rattle.store.proofs.TellLemmas.{told_store, told_damaged, listed_as, other_wards}
 use Rattle.store.proofs.listing.all_wards.Goals as goal
 

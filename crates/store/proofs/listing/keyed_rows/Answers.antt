@@ -1,6 +1,6 @@
 use Rattle.std.proofs.Common.{inl, inr}
 use Rattle.std.proofs.lemmas.Result.{err_from_is_err_and}
-use Rattle.store.proofs.ReadLemmas.{only_reads_then}
+use Rattle.tables.proofs.ReadLemmas.{only_reads_then}
 use Rattle.store.proofs.TellLemmas.{query_cause}
 use Rattle.store.proofs.listing.keyed_rows.Goals as goal
 

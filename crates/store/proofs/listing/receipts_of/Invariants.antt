@@ -1,7 +1,7 @@
 use Rattle.std.proofs.Common.{◌≡◌, map, take}
 use Rattle.register.specs.Offices.{receipt_entry}
-use Rattle.store.specs.declared.tables.Table.TheVariants.{Receipt}
-use Rattle.store.specs.Rows.{at, column_places}
+use Rattle.tables.specs.declared.table.Table.TheVariants.{Receipt}
+use Rattle.tables.specs.Rows.{at, column_places}
 use Rattle.store.specs.Offices.{row_of_receipt}
 use Rattle.store.proofs.listing.receipts_of.Given as goal
 

@@ -1,5 +1,5 @@
 use Rattle.std.proofs.lemmas.Result.{err_from_is_err_and}
-use Rattle.store.proofs.ReadLemmas.{only_reads_then}
+use Rattle.tables.proofs.ReadLemmas.{only_reads_then}
 use Rattle.store.proofs.listing.typed_rows.Goals as goal
 
 pub returns-clause-lists : goal.returns-clause-lists

@@ -1,6 +1,6 @@
 use Rattle.std.proofs.Common.{◌≡◌, map, take}
-use Rattle.store.specs.declared.tables.Table.TheVariants.{Ward}
-use Rattle.store.specs.Rows.{at, column_places}
+use Rattle.tables.specs.declared.table.Table.TheVariants.{Ward}
+use Rattle.tables.specs.Rows.{at, column_places}
 use Rattle.store.specs.Offices.{row_of_typed}
 use Rattle.store.proofs.listing.ward_rows_of.Given as goal
 

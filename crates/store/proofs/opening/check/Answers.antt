@@ -1,9 +1,9 @@
 use Rattle.std.proofs.Common.{◌≡◌, true, false, rules}
 use Rattle.std.proofs.lemmas.Result.{err_from_is_err_and}
 use Rattle.sqlite.specs.Held.{state}
-use Rattle.store.specs.declared.tables.Table.TheVariants.{Office}
-use Rattle.store.specs.Presence.{has_table, has_every_table}
-use Rattle.store.proofs.ReadLemmas.{only_reads_then}
+use Rattle.tables.specs.declared.table.Table.TheVariants.{Office}
+use Rattle.tables.specs.Presence.{has_table, has_every_table}
+use Rattle.tables.proofs.ReadLemmas.{only_reads_then}
 use Rattle.store.proofs.TellLemmas.{answered, sound_at, told_office, told_tables, this_office, missing_damaged, state_held}
 use Rattle.store.proofs.opening.check.Goals as goal
 

@@ -1,5 +1,5 @@
 use Rattle.std.proofs.Common.{◌≡◌, length, ◌<◌, ap, arith}
-use Rattle.store.proofs.ListingLemmas.{begins_to}
+use Rattle.tables.proofs.ListingLemmas.{begins_to}
 use Rattle.store.proofs.TellLemmas.{none_long, empty_held, empty_listed}
 use Rattle.store.proofs.opening.check_empty.Goals as goal
 

@@ -1,9 +1,9 @@
 use Rattle.std.proofs.Common.{◌≡◌, ℕ, [], inl, inr, get_or, arith, subst}
 use Rattle.std.proofs.lemmas.Bool.{cases_lt}
 use Rattle.std.proofs.lemmas.Result.{err_from_is_err_and}
-use Rattle.store.specs.declared.tables.Table.TheVariants.{Office}
-use Rattle.store.specs.Contents.{HoldsTable}
-use Rattle.store.proofs.ReadLemmas.{only_reads_then, only_reads_itself}
+use Rattle.tables.specs.declared.table.Table.TheVariants.{Office}
+use Rattle.tables.specs.Contents.{HoldsTable}
+use Rattle.tables.proofs.ReadLemmas.{only_reads_then, only_reads_itself}
 use Rattle.store.proofs.TellLemmas.{later_tables, told_later, all_empty}
 use Rattle.store.proofs.opening.check_later.Goals as goal
 

@@ -2,10 +2,10 @@ use Rattle.std.proofs.Common.{◌≡◌, ℕ, ◌<◌, [], false, get_or, IsTrue
 use Rattle.sqlite.specs.Effect.{Database}
 use Rattle.sqlite.specs.State.{HasCleanDisk}
 use Rattle.sqlite.specs.Held.{state}
-use Rattle.store.specs.declared.tables.Table.TheVariants.{Office}
-use Rattle.store.specs.Schema.{IsOfficeSchema}
-use Rattle.store.specs.Contents.{RestsAt, HoldsTable}
-use Rattle.store.specs.Reading.{OnlyReads}
+use Rattle.tables.specs.declared.table.Table.TheVariants.{Office}
+use Rattle.tables.specs.Schema.{IsOfficeSchema}
+use Rattle.tables.specs.Contents.{RestsAt, HoldsTable}
+use Rattle.tables.specs.Reading.{OnlyReads}
 use Rattle.store.proofs.TellLemmas.{later_tables}
 use Rattle.store.proofs.opening.check_later.Given as goal
 

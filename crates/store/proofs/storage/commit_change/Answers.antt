@@ -1,8 +1,8 @@
 use Rattle.std.proofs.Common.{rules, ◌≡◌, arith}
 use Rattle.sqlite.specs.Held.{state}
 use Rattle.sqlite.specs.State.{HasCleanDisk, Survives, Shows}
-use Rattle.store.specs.Contents.{Rests, Sees, Stores}
-use Rattle.store.proofs.StopLemmas.{rests_committed, survives_storing}
+use Rattle.tables.specs.Contents.{Rests, Sees, Stores}
+use Rattle.tables.proofs.StopLemmas.{rests_committed, survives_storing}
 use Rattle.store.proofs.storage.commit_change.Goals as goal
 
 pub returns-in_err-commit-clause-survives : goal.returns-in_err-commit-clause-survives

@@ -2,7 +2,7 @@ use Rattle.std.proofs.Common.{arith, sym, subst}
 use Rattle.sqlite.specs.Held.{state}
 use Rattle.sqlite.specs.State.{HasCleanDisk}
 use Rattle.register.specs.Views.{with_effect}
-use Rattle.store.specs.Contents.{Contents, Sees}
+use Rattle.tables.specs.Contents.{Contents, Sees}
 use Rattle.store.proofs.writing.write_change.Goals as goal
 
 pub returns-clause-writes : goal.returns-clause-writes

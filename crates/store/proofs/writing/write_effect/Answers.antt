@@ -2,7 +2,7 @@ use Rattle.std.proofs.Common.{OnOk, subst}
 use Rattle.sqlite.specs.Held.{state}
 use Rattle.register.specs.declared.decision.Effect.{Effect}
 use Rattle.register.specs.Views.{with_effect}
-use Rattle.store.specs.Contents.{Sees}
+use Rattle.tables.specs.Contents.{Sees}
 use Rattle.store.specs.Offices.{tables_of}
 use Rattle.store.proofs.writing.write_effect.Goals as goal
 

@@ -1,5 +1,5 @@
 use Rattle.sqlite.specs.Held.{state}
-use Rattle.store.specs.Making.{no_contents}
+use Rattle.tables.specs.Making.{no_contents}
 use Rattle.store.proofs.WriteLemmas.{office_seen}
 use Rattle.store.proofs.writing.write_office.Goals as goal
 

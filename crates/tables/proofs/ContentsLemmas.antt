@@ -1,0 +1,85 @@
+-- What a statement inside a transaction makes of the contents.
+use Rattle.std.proofs.Common.{◌≡◌, ◌≢◌, inl, inr, ℕ, List, [], ◌∷◌, true, false, Ok, Err, Result, OnOk, IsTrue, sym, ap, subst, ◌∙◌, map, drop, append-nil}
+use Rattle.std.specs.List.{AllByRecursion}
+use Rattle.std.specs.List.Sorted.{IsPermutation}
+use Rattle.std.proofs.lemmas.List.Sorted.{IsPermutation-trans, IsPermutation-cons}
+use Rattle.std.proofs.lemmas.Bool.{cases_Bool, and_from}
+use Rattle.sqlite_rules.proofs.ListLemmas.{all_has}
+use Rattle.sqlite.specs.declared.error.Error.{Error}
+use Rattle.sqlite.specs.declared.types.Value.TheVariants.{Null}
+use Rattle.sqlite.specs.Order.{Row}
+use Rattle.sqlite.specs.Tree.{Trees}
+use Rattle.sqlite.specs.State.{State, Executes, ExecutesInside, KeepsCommit}
+use Rattle.sqlite_schema.specs.declared.schema.Index.{Index}
+use Rattle.sqlite_schema.specs.declared.schema.View.{View}
+use Rattle.tables.specs.declared.table.Table.{Table}
+use Rattle.tables.specs.Texts.{insert_text}
+use Rattle.tables.specs.Schema.{Definition, schema_from, definition, place_of, tree_of, shape, places_from, AreFree}
+use Rattle.tables.specs.Rows.{is_row_of, Keyed}
+use Rattle.tables.specs.Contents.{Contents, changed, added, HoldsTable, Holds, IsOffice, Sees}
+use Rattle.tables.proofs.PlaceLemmas.{typed_at}
+use Rattle.tables.proofs.TableLemmas.{which_table, has_table}
+use Rattle.tables.proofs.InsertLemmas.{Adds, inserts}
+use Rattle.tables.proofs.Inserts.{inserts_row, inserted, width_of}
+
+table_kept : (t : Table) (rows : List Row) (old new : Trees) → new (tree_of t) ≡ old (tree_of t) → HoldsTable t rows old → HoldsTable t rows new
+table_kept t rows old new same h = record { same = subst (λ l. IsPermutation rows (map (drop 1) l)) (sym same) h.same; keyed = subst Keyed (sym same) h.keyed; typed = h.typed }
+
+-- one table is changed, and the others are not
+pub holds_changed : (t : Table) (f : List Row → List Row) (old new : Trees) → ((rows : List Row) → HoldsTable t rows old → HoldsTable t (f rows) new)
+    → ((u : Table) → tree_of u ≢ tree_of t → new (tree_of u) ≡ old (tree_of u)) → (c : Contents) → Holds c old → Holds (changed t f c) new
+holds_changed t f old new set others c h u = elim (which_table t u) [
+  | inl same ↦ rw same.0 (subst (λ w. HoldsTable w (f (c w)) new) (sym same.1) (set (c t) (h t)))
+  | inr other ↦ rw other.0 (table_kept u (c u) old new (others u other.1) (h u))
+]
+
+-- the trees of the office's other tables, of all other trees
+pub others_of : (rest : List Definition) (others : List Index) (views : List View) (t : Table) (old new : Trees)
+    → AllByRecursion (λ d. d.tree ≢ tree_of t → new d.tree ≡ old d.tree) (schema_from 8 rest others views).tables → (u : Table) → tree_of u ≢ tree_of t → new (tree_of u) ≡ old (tree_of u)
+others_of rest others views t old new all u = all_has (λ (d : Definition). d.tree ≢ tree_of t → new d.tree ≡ old d.tree) (schema_from 8 rest others views).tables (definition u) all (has_table rest others views u)
+
+-- ---- the last commit
+
+kept : (sql : List ℕ) (params : Row) (old new : State) (r : Result ℕ Error) → ExecutesInside 0 sql params old new r → KeepsCommit old new
+kept sql params old new (Ok count) h = record { was_open = λ _. h.1.was_open; committed = λ _. h.1.committed_is }
+kept sql params old new (Err e) (inl h) = elim h.1 [
+  | inl same ↦ record { was_open = λ _. same.0.was_open; committed = λ _. same.0.committed_is }
+  | inr undone ↦ record { was_open = undone.was_open; committed = λ is_open. (undone.undone is_open).1 }
+]
+kept sql params old new (Err e) (inr h) = record { was_open = λ _. h.2.0.was_open; committed = λ _. h.2.0.committed_is }
+
+-- what a statement keeps of the last commit, also where the transaction had ended
+pub keeps : (sql : List ℕ) (params : Row) (old new : State) (r : Result ℕ Error) → (IsTrue old.in_transaction → ExecutesInside 0 sql params old new r) → (old.in_transaction ≡ false → new ≡ old) → KeepsCommit old new
+keeps sql params old new r runs ended = elim (cases_Bool old.in_transaction) [
+  | inl inside ↦ kept sql params old new r (runs inside)
+  | inr outside ↦ let same = ended outside in record { was_open = λ h. subst (λ (s : State). IsTrue s.is_open) same h; committed = λ _. ap (λ (s : State). s.committed) same }
+]
+
+-- ---- an INSERT
+
+pub adds : (rest : List Definition) (others : List Index) (views : List View) → AreFree rest → (t : Table) (params : Row) → is_row_of t params ≡ true → (old new : State) (count : ℕ) → old.now.schema ≡ schema_from 8 rest others views
+    → Executes (insert_text t) params old new (Ok count) → Adds (schema_from 8 rest others views) (tree_of t) params old.now new.now
+adds rest others views free t params kinds old new count has h =
+    let it = inserts_row rest others views t in
+    inserts (places_from 1 (shape t).key) (shape t).name (tree_of t) (shape t).columns (shape t).checks (schema_from 8 rest others views) (it.alone free) (place_of t) it.place (insert_text t) (inserted t) (width_of t) it.is it.plain
+    params params (it.shows params ∙ ap (λ r. (Null ∷ r) ∷ []) (rw append-nil (typed_at (shape t).columns params kinds))) kinds old new count has h
+
+-- it adds the row
+pub row_added : (t : Table) (params : Row) → is_row_of t params ≡ true → (old new : State) (r : Result ℕ Error) → (IsTrue old.in_transaction → ExecutesInside 0 (insert_text t) params old new r)
+    → (c : Contents) → Sees c old → OnOk r (Sees (added t params c) new)
+unfolding added IsOffice
+row_added t params kinds old new (Err e) runs c sees = tt
+row_added t params kinds old new (Ok count) runs c sees =
+    let s = sees.office.begins in
+    let ran = runs sees.inside in
+    let change = adds s.rest s.others s.views s.free t params kinds old new count s.is ran.0 in
+    record {
+      inside = ran.1.mode;
+      office = record {
+        begins = record { rest = s.rest; others = s.others; views = s.views; free = s.free; is = change.is };
+        sound = change.sound;
+        holds = holds_changed t (λ rows. params ∷ rows) old.now.trees new.now.trees
+            (λ rows was. record { same = IsPermutation-trans _ _ _ (IsPermutation-cons params _ _ was.same) change.row; keyed = change.keyed was.keyed; typed = and_from _ _ kinds was.typed })
+            (others_of s.rest s.others s.views t old.now.trees new.now.trees change.others) c sees.office.holds;
+      };
+    }

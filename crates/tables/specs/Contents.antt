@@ -1,0 +1,76 @@
+-- The rows of all tables, and what a connection or a stop has of them.
+use Rattle.std.specs.Prelude.{◌≡◌, true, false, if◌then◌else◌, ◌==◌, List, ◌∷◌, IsTrue}
+use Rattle.std.specs.List.{list_all}
+use Rattle.std.specs.List.Sorted.{IsPermutation}
+use Rattle.sqlite.specs.Order.{Row}
+use Rattle.sqlite.specs.Tree.{Trees}
+use Rattle.sqlite.specs.Effect.{Database, IsDatabase}
+use Rattle.sqlite.specs.State.{State}
+use Rattle.tables.specs.declared.table.Table.{Table}
+use Rattle.tables.specs.Schema.{place_of, tree_of, IsOfficeSchema}
+use Rattle.tables.specs.Rows.{tuples, is_row_of, Keyed}
+
+-- for each table its rows, in some order
+abbrev pub Contents : Type 0
+Contents = Table → List Row
+
+-- the same rows in each table, in some order
+abbrev pub SameContents : Contents → Contents → Type 0
+SameContents c d = (t : Table) → IsPermutation (c t) (d t)
+
+-- the contents with the rows of one table changed
+abbrev pub changed : Table → (List Row → List Row) → Contents → Contents
+changed t f c u = if place_of u == place_of t then f (c u) else c u
+
+-- the contents with one row more; opaque, so that a search does not compute it
+unfoldable pub added : Table → Row → Contents → Contents
+added t row = changed t (λ rows. row ∷ rows)
+
+-- the rows, in some order, are those of the table, each with a value of the right kind in each column
+pub record HoldsTable (t : Table) (rows : List Row) (trees : Trees) : Type 0 where
+  pub same : IsPermutation rows (tuples t trees)
+  pub keyed : Keyed (trees (tree_of t))
+  pub typed : list_all (is_row_of t) rows ≡ true
+
+-- each table holds its rows and no other
+abbrev pub Holds : Contents → Trees → Type 0
+Holds c trees = (t : Table) → HoldsTable t (c t) trees
+
+-- a sound database that begins with the tables of an office, which hold these rows and no other
+pub record OfficeAt (c : Contents) (db : Database) : Type 0 where
+  pub begins : IsOfficeSchema db.schema
+  pub sound : IsDatabase db
+  pub holds : Holds c db.trees
+
+-- the same; opaque, so that a search does not open it
+unfoldable pub IsOffice : Contents → Database → Type 0
+IsOffice = OfficeAt
+
+-- the trees of such a database
+pub record Stores (c : Contents) (trees : Trees) : Type 0 where
+  pub db : Database
+  pub office : IsOffice c db
+  pub same : trees ≡ db.trees
+
+-- a connection between two transactions, at this database
+pub record RestsAt (db : Database) (s : State) : Type 0 where
+  pub is_open : IsTrue s.is_open
+  pub outside : s.in_transaction ≡ false
+  pub now : s.now ≡ db
+  pub committed : s.committed ≡ db
+
+-- a connection between two transactions, at an office with these contents
+pub record Rests (c : Contents) (s : State) : Type 0 where
+  pub is_open : IsTrue s.is_open
+  pub outside : s.in_transaction ≡ false
+  pub settled : s.now ≡ s.committed
+  pub office : IsOffice c s.now
+
+-- a connection inside a transaction, which sees an office with these contents
+pub record Sees (c : Contents) (s : State) : Type 0 where
+  pub inside : IsTrue s.in_transaction
+  pub office : IsOffice c s.now
+
+-- whatever a stop leaves now is an office, with contents of this kind
+abbrev pub Leaves : State → (Contents → Type 0) → Type 0
+Leaves s P = (trees : Trees) → s.may_leave trees → (c : Contents) × P c × Stores c trees

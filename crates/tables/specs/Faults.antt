@@ -1,0 +1,36 @@
+-- The faults of a store, and which error of `sqlite` each tells.
+use Rattle.std.specs.Prelude.{◌≡◌, ℕ, List, Err, IsTrue}
+use Rattle.sqlite.specs.declared.error.Error.{Error}
+use Rattle.sqlite.specs.declared.error.Error.TheVariants.{SqliteFailure}
+use Rattle.sqlite.specs.declared.error.ErrorCode.TheVariants.{OutOfMemory}
+use Rattle.sqlite.specs.Order.{Row}
+use Rattle.sqlite.specs.State.{State, HasCleanDisk, ExecutesInside, FailsToQuery}
+use Rattle.tables.specs.declared.fault.Fault.{Fault}
+use Rattle.tables.specs.declared.fault.Fault.TheVariants.{Memory, Store, Damaged, Closed, WrongDatabase, NewerSchema}
+
+-- the number that a fault is told by
+abbrev pub number_of : Fault → ℕ
+number_of Memory = 101
+number_of Store = 102
+number_of Damaged = 103
+number_of Closed = 104
+number_of WrongDatabase = 105
+number_of NewerSchema = 106
+
+-- want of memory, or another refusal of the store
+abbrev pub fault_of : Error → Fault
+fault_of (SqliteFailure OutOfMemory) = Memory
+fault_of _ = Store
+
+-- a value that does not read as what its column holds, or want of memory
+abbrev pub value_fault : Error → Fault
+value_fault (SqliteFailure OutOfMemory) = Memory
+value_fault _ = Damaged
+
+-- the fault tells why `sqlite` refused this query
+abbrev pub TellsQuery : List ℕ → Row → State → State → Fault → Type 0
+TellsQuery sql params old new f = (e : Error) × (f ≡ fault_of e) × (HasCleanDisk new → FailsToQuery sql params old new e)
+
+-- the fault tells why `sqlite` refused this statement inside a transaction
+abbrev pub TellsStatement : List ℕ → Row → State → State → Fault → Type 0
+TellsStatement sql params old new f = (e : Error) × (f ≡ fault_of e) × (HasCleanDisk new → IsTrue old.in_transaction → ExecutesInside 0 sql params old new (Err e))

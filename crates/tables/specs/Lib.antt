@@ -1,0 +1,8 @@
+pub mod Faults
+pub mod Texts
+pub mod Schema
+pub mod Rows
+pub mod Contents
+pub mod Making
+pub mod Reading
+pub mod Presence

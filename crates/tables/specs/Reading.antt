@@ -1,0 +1,73 @@
+-- What a read tells, and what it leaves.
+use Rattle.std.specs.Prelude.{◌≡◌, ◌⊎◌, ◌<◌, ◌+◌, ◌≤ℤ◌, ℕ, ℤ, List, [], ◌∷◌, map, filter, length, slice_index_or, Bool, true, false, None, Ok, Err, IsTrue}
+use Rattle.std.specs.declared.cmp.Ordering.TheVariants.{Less}
+use Rattle.std.specs.Ordering.{on}
+use Rattle.sqlite.specs.declared.types.Value.TheVariants.{Int}
+use Rattle.sqlite.specs.View.{is_int}
+use Rattle.tables.specs.Schema.{tree_of}
+use Rattle.std.specs.List.Sorted.{IsPermutation, IsSorted}
+use Rattle.sqlite.specs.Order.{Row, value_cmp}
+use Rattle.sqlite.specs.Tree.{Trees, rowid}
+use Rattle.sqlite_ast.specs.declared.Statement.{Statement}
+use Rattle.sqlite_ast.specs.declared.Statement.TheVariants.{Select}
+use Rattle.sqlite_syntax.specs.declared.statement.Parsed.{Parsed}
+use Rattle.sqlite_resolve.specs.declared.compiled.Compiled.{Compiled}
+use Rattle.sqlite_resolve.specs.Lowering.{Checked}
+use Rattle.sqlite.specs.Schema.{Schema}
+use Rattle.sqlite.specs.Listing.{understood}
+use Rattle.sqlite.specs.Effect.{Database}
+use Rattle.sqlite.specs.State.{State, HasCleanDisk}
+use Rattle.tables.specs.declared.table.Table.{Table}
+use Rattle.tables.specs.Rows.{tuples, at, column_places, has_key, row_cmp}
+use Rattle.tables.specs.Contents.{Contents, RestsAt}
+
+-- the text is a SELECT
+abbrev pub is_query : Statement → Bool
+is_query (Select s) = true
+is_query _ = false
+
+abbrev pub is_query_text : Checked Parsed → Bool
+is_query_text (Ok p) = is_query p.statement
+is_query_text (Err e) = false
+
+-- whatever the schema, the text returns no rows of a write
+abbrev pub IsQuery : List ℕ → Type 0
+IsQuery sql = (s : Schema) (c : Compiled) → understood s sql ≡ Ok c → c.returning ≡ None
+
+-- A read leaves the database as it was, if the connection is still open, and adds nothing to what a stop may leave.
+pub record OnlyReads (old new : State) : Type 0 where
+  pub clean : HasCleanDisk new → HasCleanDisk old
+  pub was_open : HasCleanDisk new → IsTrue new.is_open → IsTrue old.is_open
+  pub rests : HasCleanDisk new → IsTrue new.is_open → (db : Database) → RestsAt db old → RestsAt db new
+  pub leaves : HasCleanDisk new → (trees : Trees) → new.may_leave trees → old.may_leave trees
+
+-- the table's rows with this key, each with all its columns
+abbrev pub Finds : Table → Row → Contents → List Row → Type 0
+Finds t key c rows = IsPermutation (filter (has_key t key) (c t)) rows
+
+-- the rows of the table, each with all its columns, in the order of the key
+pub record Lists (t : Table) (db : Database) (rows : List Row) : Type 0 where
+  pub same : IsPermutation (map (at (column_places t)) (tuples t db.trees)) rows
+  pub sorted : IsSorted (row_cmp t) rows
+
+-- a row of its rowid alone
+abbrev pub alone : Row → Row
+alone r = rowid r ∷ []
+
+-- the rowids of the table, each alone in its row, in order
+pub record ListsRowids (t : Table) (db : Database) (rows : List Row) : Type 0 where
+  pub ordered : List Row
+  pub same : IsPermutation (db.trees (tree_of t)) ordered
+  pub sorted : IsSorted (on rowid value_cmp) ordered
+  pub shown : rows ≡ map alone ordered
+
+-- each rowid is an integer below the next one
+pub record RowidsRise (rows : List Row) : Type 0 where
+  pub ints : (k : ℕ) → k < length rows → is_int (rowid (slice_index_or rows k [])) ≡ true
+  pub rise : (k : ℕ) → k + 1 < length rows → value_cmp (rowid (slice_index_or rows k [])) (rowid (slice_index_or rows (k + 1) [])) ≡ Less
+
+-- some rowid is no integer, or is an integer that is not below the next one
+abbrev pub RowidsStick : List Row → Type 0
+RowidsStick rows =
+    ((k : ℕ) × (k < length rows) × (is_int (rowid (slice_index_or rows k [])) ≡ false))
+    ⊎ ((k : ℕ) × (a : ℤ) × (b : ℤ) × (k + 1 < length rows) × (rowid (slice_index_or rows k []) ≡ Int a) × (rowid (slice_index_or rows (k + 1) []) ≡ Int b) × (b ≤ℤ a))

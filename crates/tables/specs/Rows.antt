@@ -1,0 +1,87 @@
+-- Rows of the tables.
+use Rattle.std.specs.Prelude.{◌≡◌, ◌<◌, ◌+◌, ℕ, List, [], ◌∷◌, map, drop, length, slice_index_or, Bool, true, false, ◌&&◌}
+use Rattle.std.specs.declared.cmp.Ordering.{Ordering}
+use Rattle.std.specs.Ordering.{on}
+use Rattle.std.specs.List.Sorted.{IsPermutation}
+use Rattle.sqlite_rules.specs.Lists.{Has}
+use Rattle.sqlite.specs.declared.types.Value.{Value}
+use Rattle.sqlite.specs.declared.types.Value.TheVariants.{Int, Text, Blob}
+use Rattle.sqlite.specs.Kind.{Kind}
+use Rattle.sqlite.specs.Kind.TheVariants.{Integer, Text as Words, Blob as Bytes}
+use Rattle.sqlite.specs.Collation.TheVariants.{Binary}
+use Rattle.sqlite_schema.specs.declared.schema.Column.{Column}
+use Rattle.sqlite_schema.specs.Rules.{equal}
+use Rattle.sqlite_value.specs.Keys.{ascending}
+use Rattle.sqlite.specs.Query.{key_cmp}
+use Rattle.sqlite.specs.Order.{Row, column}
+use Rattle.sqlite.specs.View.{is_int}
+use Rattle.sqlite.specs.Tree.{Trees, rowid}
+use Rattle.tables.specs.declared.table.Table.{Table}
+use Rattle.tables.specs.Schema.{shape, places_from, tree_of}
+
+-- the columns of the table's rows, without the rowid
+abbrev pub tuples : Table → Trees → List Row
+tuples t trees = map (drop 1) (trees (tree_of t))
+
+-- the values at these places, and NULL past the end
+abbrev pub at : List ℕ → Row → Row
+at places row = map (column row) places
+
+-- the places of all columns
+abbrev pub column_places : Table → List ℕ
+column_places t = places_from 0 (length (shape t).columns)
+
+-- the places of the key's columns
+abbrev pub key_places : Table → List ℕ
+key_places t = places_from 0 (shape t).key
+
+-- a value of this kind
+abbrev pub is_of : Kind → Value → Bool
+is_of Integer (Int n) = true
+is_of Words (Text t) = true
+is_of Bytes (Blob b) = true
+is_of _ _ = false
+
+-- one value for each column, of its kind, and none is NULL
+abbrev pub are_of : List Column → Row → Bool
+are_of [] [] = true
+are_of (c ∷ cs) (v ∷ vs) = is_of c.kind v && are_of cs vs
+are_of _ _ = false
+
+-- the row has a value of the right kind for each column
+abbrev pub is_row_of : Table → Row → Bool
+is_row_of t = are_of (shape t).columns
+
+-- two rows have the same values at these places, as SQL's = says
+abbrev pub agree_at : List ℕ → Row → Row → Bool
+agree_at [] a b = true
+agree_at (p ∷ ps) a b = equal Binary (column a p) (column b p) && agree_at ps a b
+
+-- the row has this key
+abbrev pub has_key : Table → Row → Row → Bool
+has_key t key row = agree_at (key_places t) row key
+
+-- in the order of so many keys, each by SQL's order of values
+abbrev pub keys_cmp : ℕ → Row → Row → Ordering
+keys_cmp n = key_cmp 0 (map (λ _. ascending Binary) (places_from 0 n))
+
+-- rows in the order of the table's key
+abbrev pub row_cmp : Table → Row → Row → Ordering
+row_cmp t = on (at (key_places t)) (keys_cmp (shape t).key)
+
+-- rowids are integers, and rows that share one are equal
+pub record Keyed (rows : List Row) : Type 0 where
+  pub ints : (r : Row) → Has rows r → is_int (rowid r) ≡ true
+  pub once : (a b : Row) → Has rows a → Has rows b → rowid a ≡ rowid b → a ≡ b
+
+-- a rowid that is no integer
+abbrev pub HasWrongRowid : List Row → Type 0
+HasWrongRowid rows = (r : Row) × Has rows r × (is_int (rowid r) ≡ false)
+
+-- two rows with one rowid, neighbours where the rows are put in some order
+pub record RepeatsRowid (rows : List Row) : Type 0 where
+  pub ordered : List Row
+  pub same : IsPermutation rows ordered
+  pub place : ℕ
+  pub within : place + 1 < length ordered
+  pub equal : rowid (slice_index_or ordered place []) ≡ rowid (slice_index_or ordered (place + 1) [])

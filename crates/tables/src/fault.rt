@@ -1,0 +1,67 @@
+//! Why a call of the office gave up.
+
+ghost use Rattle.std.specs.Prelude.{◌≡◌, ◌↔◌};
+ghost use Rattle.tables.specs.Faults.{number_of, fault_of};
+
+use sqlite::{Error, ErrorCode};
+use thiserror::Error as Describe;
+
+/// The faults of an office, which are told by their numbers, 101 to 106.
+#[derive(Clone, Copy, Debug, PartialEq, Eq, Drop, Describe)]
+pub enum Fault {
+    /// Memory was wanting.
+    #[error("memory")]
+    Memory,
+    /// The store refused a call for another cause.
+    #[error("store")]
+    Store,
+    /// The rows are the tables of no state of an office.
+    #[error("damaged")]
+    Damaged,
+    /// An earlier fault closed the office.
+    #[error("closed")]
+    Closed,
+    /// The database has no office, or, where one is to be made, has a table of its name.
+    #[error("wrong database")]
+    WrongDatabase,
+    /// A later program made the tables.
+    #[error("newer schema")]
+    NewerSchema,
+}
+
+impl Fault {
+    /// The number that the fault is told by, from 101 on.
+    pub fn number(&self) -> u32
+        ensures { result ≡ number_of self.now }
+    {
+        match self {
+            Fault::Memory => 101,
+            Fault::Store => 102,
+            Fault::Damaged => 103,
+            Fault::Closed => 104,
+            Fault::WrongDatabase => 105,
+            Fault::NewerSchema => 106,
+        }
+    }
+}
+
+/// Why `sqlite` refused a call: `Memory` for want of memory, and `Store` for any other cause.
+pub fn fault_of(e: Error) -> Fault
+    ensures value { result ≡ fault_of e }
+    ensures memory { (result ≡ Fault.Memory) ↔ (e ≡ Error.SqliteFailure ErrorCode.OutOfMemory) }
+{
+    match e {
+        Error::SqliteFailure(ErrorCode::OutOfMemory) => Fault::Memory,
+        _ => Fault::Store,
+    }
+}
+
+impl From<Error> for Fault {
+    ghost use Rattle.tables.specs.Faults.{fault_of};
+
+    ghost from_gives = { λ e f. f ≡ fault_of e };
+
+    fn from(e: Error) -> Fault {
+        fault_of(e)
+    }
+}
