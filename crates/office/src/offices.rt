@@ -107,6 +107,7 @@ impl<S: Alter> Office<S> {
     pub fn handle(&mut self, actor: u32, id: &str, command: &Command) -> Result<Answer, Fault>
         ensures handled { HasCleanDisk (state S.Store self.new.held) → self.old.closed ≡ false → (s : OfficeState) → IsAt s (state S.Store self.old.held)
             → Handled s (step s actor id.now command.now) result self.new.closed (state S.Store self.new.held) }
+        ensures closes { IfErr result (λ f. (f ≡ Fault.Memory) ⊎ (self.new.closed ≡ true)) }
         ensures closed { self.old.closed ≡ true → (result ≡ Err Fault.Closed) × (self.new ≡ self.old) }
         ensures clean { HasCleanDisk (state S.Store self.new.held) → HasCleanDisk (state S.Store self.old.held) }
     {
@@ -144,6 +145,7 @@ impl<S: Alter> Office<S> {
             → IfSome result.fault (StopsAfter s requests.now (vec_len result.answers) self.new.closed (state S.Store self.new.held)) }
         ensures headline { HasCleanDisk (state S.Store self.new.held) → self.old.closed ≡ false → (earlier : List Request) → IsAt (after empty_office earlier) (state S.Store self.old.held)
             → LeavesState (state S.Store self.new.held) (IsAfterBeginning earlier requests.now (vec_len result.answers)) }
+        ensures closes { IfSome result.fault (λ f. (f ≡ Fault.Memory) ⊎ (self.new.closed ≡ true)) }
         ensures closed { self.old.closed ≡ true → (result.fault ≡ Some Fault.Closed) × (vec_len result.answers ≡ 0) × (self.new ≡ self.old) }
     {
         if self.closed {
