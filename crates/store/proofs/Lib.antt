@@ -24,3 +24,4 @@ pub mod StateLemmas
 pub mod RiseLemmas
 pub mod ConditionLemmas
 pub mod TellLemmas
+pub mod ReopenLemmas

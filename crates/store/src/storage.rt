@@ -11,7 +11,7 @@ ghost use Rattle.store.specs.Contents.{Contents, Rests, RestsAt, Stores};
 ghost use Rattle.store.specs.Presence.{has_some_table, IsOurs};
 ghost use Rattle.store.specs.Reading.{OnlyReads};
 ghost use Rattle.store.specs.Offices.{tables_of, ChangesTo, HoldsState, IsAt, LeavesState};
-ghost use Rattle.store.specs.Openings.{IsBlank, IsToldBy};
+ghost use Rattle.store.specs.Openings.{IsBlank, IsToldBy, IsLeftAt};
 
 use crate::fault::Fault;
 use crate::opening::check;
@@ -108,6 +108,8 @@ impl<S: Alter> Store<S> {
         ensures opened { IfOk result (λ store. HasCleanDisk (state S.Store store) → (db : Database) → IsOurs db.schema → RestsAt db (state S.Store conn)
             → (s : OfficeState) × HoldsState db s × IsAt s (state S.Store store)) }
         ensures told { IfErr result (λ e. HasCleanDisk (state S.Store e.1) → (db : Database) → IsOurs db.schema → RestsAt db (state S.Store conn) → IsToldBy db e.0) }
+        ensures reopens { IfOk result (λ store. HasCleanDisk (state S.Store store) → (db : Database) → RestsAt db (state S.Store conn) → (s : OfficeState) → IsLeftAt s db → IsAt s (state S.Store store)) }
+        ensures refuses { IfErr result (λ e. HasCleanDisk (state S.Store e.1) → (db : Database) → RestsAt db (state S.Store conn) → (s : OfficeState) → IsLeftAt s db → (e.0 ≡ Fault.Memory) ⊎ (e.0 ≡ Fault.Store)) }
         ensures reads { IfOk result (λ store. OnlyReads (state S.Store conn) (state S.Store store)) }
         ensures reads_too { IfErr result (λ e. OnlyReads (state S.Store conn) (state S.Store e.1)) }
         ensures alone { (db : Database) → (s t : OfficeState) → HoldsState db s → HoldsState db t → s ≡ t }
