@@ -3,7 +3,7 @@ use Rattle.std.specs.Prelude.{◌≡◌, ◌⊎◌, ℕ, Bool, true, false, List
 use Rattle.sqlite.specs.State.{State}
 use Rattle.register.specs.declared.refusal.Refusal.{Refusal}
 use Rattle.register.specs.Offices.{OfficeState}
-use Rattle.register.specs.Machine.{Outcome, accepted, kept, refused, state_after}
+use Rattle.register.specs.Machine.{Outcome, accepted, kept, refused, state_after, is_accepted}
 use Rattle.tables.specs.declared.fault.Fault.{Fault}
 use Rattle.tables.specs.declared.fault.Fault.TheVariants.{Memory, Store}
 use Rattle.store.specs.Offices.{IsAt, LeavesState}
@@ -33,11 +33,13 @@ pub record IsOpenAt (s : OfficeState) (closed : Bool) (st : State) : Type 0 wher
   pub is_open : closed ≡ false
   pub at : IsAt s st
 
--- a fault that closed the office: a stop leaves the state before the request, or the one after it
-pub record IsClosedIn (s after : OfficeState) (f : Fault) (closed : Bool) (st : State) : Type 0 where
+-- A fault that closed the office: a stop leaves the state before the request, or the one after it. Want of memory closes it only inside
+-- the transaction of an accepted request.
+pub record IsClosedIn (s : OfficeState) (outcome : Outcome) (f : Fault) (closed : Bool) (st : State) : Type 0 where
   pub is_closed : closed ≡ true
   pub fault : (f ≡ Memory) ⊎ (f ≡ Store)
-  pub leaves : LeavesState st (λ x. (x ≡ s) ⊎ (x ≡ after))
+  pub inside : f ≡ Memory → is_accepted outcome ≡ true
+  pub leaves : LeavesState st (λ x. (x ≡ s) ⊎ (x ≡ state_after s outcome))
 
 -- a fault before the transaction, for want of memory alone: nothing is changed, and the office stays open
 pub record IsKeptOpen (s : OfficeState) (f : Fault) (closed : Bool) (st : State) : Type 0 where
@@ -48,4 +50,4 @@ pub record IsKeptOpen (s : OfficeState) (f : Fault) (closed : Bool) (st : State)
 -- same unless the request was accepted. A fault: the state before, or, where it closed the office, that or the one after.
 abbrev pub Handled : OfficeState → Outcome → Result Answer Fault → Bool → State → Type 0
 Handled s outcome (Ok answer) closed st = (told answer ≡ told_of outcome) × IsOpenAt (state_after s outcome) closed st
-Handled s outcome (Err f) closed st = IsKeptOpen s f closed st ⊎ IsClosedIn s (state_after s outcome) f closed st
+Handled s outcome (Err f) closed st = IsKeptOpen s f closed st ⊎ IsClosedIn s outcome f closed st
