@@ -3,12 +3,23 @@ use Rattle.std.specs.Prelude.{ℕ, Bool, not, ◌&&◌, ◌||◌, ◌==◌, nat_
 use Rattle.std.specs.List.{list_all}
 use Rattle.std.specs.Str.{is_utf8}
 
+-- from one number to another, both included
 abbrev pub is_between : ℕ → ℕ → ℕ → Bool
 is_between low high n = nat_le low n && nat_le n high
 
+-- the office itself, as an actor
+abbrev pub is_office : ℕ → Bool
+is_office actor = actor == 0
+
+-- a clerk, as an actor
+abbrev pub is_clerk : ℕ → Bool
+is_clerk = is_between 1 999
+
+-- a ward's number
 abbrev pub is_ward_number : ℕ → Bool
 is_ward_number = is_between 1 99
 
+-- a ward's number of seats
 abbrev pub is_seat_number : ℕ → Bool
 is_seat_number = is_between 1 15
 
@@ -28,6 +39,7 @@ is_id_byte b = is_between 97 122 b || (is_between 48 57 b || (b == 45))
 unfoldable pub is_id : List ℕ → Bool
 is_id t = is_between 1 40 (length t) && list_all is_id_byte t
 
+-- a byte within a line
 abbrev pub is_line_byte : ℕ → Bool
 is_line_byte b = not (b == 10)
 

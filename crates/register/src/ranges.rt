@@ -2,7 +2,13 @@
 
 ghost use Rattle.std.specs.Prelude.{◌≡◌};
 ghost use Rattle.std.specs.List.{list_all};
-ghost use Rattle.register.specs.Ranges.{is_between, is_name_byte, is_id_byte, is_line_byte, is_name, is_id, is_reply};
+ghost use Rattle.register.specs.Ranges.{is_between, is_clerk, is_ward_number, is_seat_number, is_name_byte, is_id_byte, is_line_byte, is_name, is_id, is_reply};
+
+const MOST_CLERKS: u32 = 999;
+
+const MOST_WARDS: u32 = 99;
+
+const MOST_SEATS: u32 = 15;
 
 const SPACE: u8 = 32;
 
@@ -21,6 +27,27 @@ pub fn is_between(low: u32, high: u32, n: u32) -> bool
     ensures { result ≡ is_between low high n }
 {
     low <= n && n <= high
+}
+
+/// Whether an actor is a clerk: 1 to 999.
+pub fn is_clerk(actor: u32) -> bool
+    ensures { result ≡ is_clerk actor }
+{
+    is_between(1, MOST_CLERKS, actor)
+}
+
+/// Whether a number is that of a ward: 1 to 99.
+pub fn is_ward_number(n: u32) -> bool
+    ensures { result ≡ is_ward_number n }
+{
+    is_between(1, MOST_WARDS, n)
+}
+
+/// Whether a ward may have so many seats: 1 to 15.
+pub fn is_seat_number(n: u32) -> bool
+    ensures { result ≡ is_seat_number n }
+{
+    is_between(1, MOST_SEATS, n)
 }
 
 fn is_length(most: usize, n: usize) -> bool

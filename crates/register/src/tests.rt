@@ -3,19 +3,19 @@
 use crate::command::Command;
 use crate::decision::Decision;
 use crate::machine::decide;
+use crate::phase::Phase;
 use crate::receipt::Receipt;
-use crate::refusal::Refusal;
-use crate::view::View;
-use crate::ward::{Phase, Ward};
+use crate::view::{Part, View};
+use crate::wards::{Ward, WardCommand};
 use std::alloc::{AllocError, Global};
 use std::test::Fail;
 
 fn add(alloc: Global, ward: u32, seats: u32, name: &str) -> Result<Command, AllocError> {
-    Ok(Command::AddWard {
+    Ok(Command::Ward(WardCommand::Add {
         ward,
         seats,
         name: String::from_str(alloc, name)?,
-    })
+    }))
 }
 
 fn receipt(alloc: Global) -> Result<Receipt, AllocError> {
@@ -61,7 +61,7 @@ fn told_of(
         actor,
         id,
         receipt: kept,
-        ward,
+        part: Part { ward },
     };
     told(alloc, &decide(alloc, &view, command)?)
 }
@@ -104,11 +104,4 @@ fn the_lowest_reason_is_told(rt: HostRuntime) -> Result<(), Fail> {
         assert_eq!(rt; found.as_str(), wanted);
     }
     Ok(())
-}
-
-#[test]
-fn phases_count_from_one(rt: HostRuntime) {
-    assert_eq!(rt; Phase::Nominations.number(), 1);
-    assert_eq!(rt; Phase::Declared.number(), 4);
-    assert_eq!(rt; Refusal::WardExists.number(), 6);
 }
