@@ -12,9 +12,9 @@
 // The rows.
 pub mod rows;
 // The conditions, and what they read: subjects of receipts, and numbers in them.
+mod plain;
 mod ranges;
 mod subjects;
-mod plain;
 
 pub use ranges::{are_begun, item1};
 pub use rows::Rows;
