@@ -1,7 +1,7 @@
 -- What an answer tells, and what it says of the office.
-use Rattle.std.specs.Prelude.{◌≡◌, ◌⊎◌, ℕ, Bool, true, false, List, string_bytes, Result, Ok, Err}
+use Rattle.std.specs.Prelude.{◌≡◌, ◌⊎◌, ℕ, Bool, true, false, List, [], string_bytes, Result, Ok, Err}
 use Rattle.sqlite.specs.State.{State}
-use Rattle.register.specs.declared.refusal.Refusal.{Refusal}
+use Rattle.register.specs.declared.refusal.Reason.{Reason}
 use Rattle.register.specs.Offices.{OfficeState}
 use Rattle.register.specs.Machine.{Outcome, accepted, kept, refused, state_after, is_accepted}
 use Rattle.tables.specs.declared.fault.Fault.{Fault}
@@ -10,11 +10,11 @@ use Rattle.store.specs.Offices.{IsAt, LeavesState}
 use Rattle.office.specs.declared.answers.Answer.{Answer}
 use Rattle.office.specs.declared.answers.Answer.TheVariants.{Done, Kept, Refused}
 
--- what is told of an outcome: the reply of an accepted or a kept request, or the refusal
+-- what is told of an outcome: the reply of an accepted or a kept request, or the reason of a refusal
 pub data Told : Type 0 where
   done : List ℕ → Told
   again : List ℕ → Told
-  no : Refusal → Told
+  no : Reason → Told
 
 -- what an answer tells
 abbrev pub told : Answer → Told
@@ -27,6 +27,12 @@ abbrev pub told_of : Outcome → Told
 told_of (accepted next reply) = done reply
 told_of (kept reply) = again reply
 told_of (refused why) = no why
+
+-- the reply of an accepted or a kept request
+abbrev pub reply_of : Outcome → List ℕ
+reply_of (accepted next reply) = reply
+reply_of (kept reply) = reply
+reply_of (refused why) = []
 
 -- an open office that keeps this state
 pub record IsOpenAt (s : OfficeState) (closed : Bool) (st : State) : Type 0 where
@@ -51,3 +57,9 @@ pub record IsKeptOpen (s : OfficeState) (f : Fault) (closed : Bool) (st : State)
 abbrev pub Handled : OfficeState → Outcome → Result Answer Fault → Bool → State → Type 0
 Handled s outcome (Ok answer) closed st = (told answer ≡ told_of outcome) × IsOpenAt (state_after s outcome) closed st
 Handled s outcome (Err f) closed st = IsKeptOpen s f closed st ⊎ IsClosedIn s outcome f closed st
+
+-- A request that met a fault and was accepted all the same, sent again to an office that was opened at the state after it: it is kept, with the reply that
+-- it would have had, and nothing changes. (Where the office was opened at the state before it, it is handled as for the first time.)
+abbrev pub HandledAgain : OfficeState → Outcome → Result Answer Fault → Bool → State → Type 0
+HandledAgain s outcome (Ok answer) closed st = (told answer ≡ again (reply_of outcome)) × IsOpenAt (state_after s outcome) closed st
+HandledAgain s outcome (Err f) closed st = IsKeptOpen (state_after s outcome) f closed st ⊎ (closed ≡ true)

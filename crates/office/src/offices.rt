@@ -1,19 +1,20 @@
 //! An office, open or closed.
 
-ghost use Rattle.std.specs.Prelude.{◌≡◌, ◌⊎◌, ◌+◌, ◌<◌, ◌≤◌, ◌++◌, ◌∷◌, [], List, true, false, take, length, vec_len, vec_capacity, Some, None, IfOk, IfErr, IfNone, IfSome, IsTrue};
+ghost use Rattle.std.specs.Prelude.{◌≡◌, ◌⊎◌, ◌+◌, ◌<◌, ◌≤◌, ◌++◌, ◌∷◌, [], List, true, false, take, length, vec_len, vec_capacity, Some, None, IfOk, IfErr, OnOk, IfNone, IfSome, IsTrue};
 ghost use Rattle.sqlite.specs.Tree.{Trees};
 ghost use Rattle.sqlite.specs.Effect.{Database};
 ghost use Rattle.sqlite.specs.State.{HasCleanDisk};
 ghost use Rattle.sqlite.specs.Held.{state};
-ghost use Rattle.register.specs.Offices.{OfficeState, IsState, empty_office};
-ghost use Rattle.register.specs.Machine.{step, after};
+ghost use Rattle.register.specs.Offices.{OfficeState, empty_office};
+ghost use Rattle.register.specs.Items.{IsState};
+ghost use Rattle.register.specs.Machine.{step, state_after, is_accepted, after, IsKeptAgain};
 ghost use Rattle.tables.specs.Contents.{RestsAt, SameContents, Stores};
 ghost use Rattle.tables.specs.Presence.{has_some_table, has_every_table, IsOurs};
 ghost use Rattle.tables.specs.Reading.{OnlyReads};
 ghost use Rattle.store.specs.Offices.{tables_of, HoldsState, IsAt, LeavesState};
 ghost use Rattle.store.specs.Openings.{IsBlank, IsToldBy, IsLeftAt};
 ghost use Rattle.register.specs.declared.command.Request.{Request};
-ghost use Rattle.office.specs.Answers.{IsOpenAt, Handled};
+ghost use Rattle.office.specs.Answers.{IsOpenAt, Handled, HandledAgain};
 ghost use Rattle.office.specs.Runs.{AnswersFirst, IsAfterBeginning, StopsAfter};
 
 use crate::answers::{Answer, Run};
@@ -109,9 +110,27 @@ impl<S: Alter> Office<S> {
     /// `Memory` before the transaction leaves tables and office as they were, and the office open. Any
     /// other fault closes the office: the tables before the request are found then, or, where it was
     /// accepted, those after it. A closed office answers `Closed`.
+    ///
+    /// The request that met a fault, sent again after the office was opened again, is `Done` where the old
+    /// tables were found and `Kept` where the new ones were, with the same reply and state after.
     pub fn handle(&mut self, actor: u32, id: &str, command: &Command) -> Result<Answer, Fault>
         ensures handled { HasCleanDisk (state S.Store self.new.held) → self.old.closed ≡ false → (s : OfficeState) → IsAt s (state S.Store self.old.held)
             → Handled s (step s actor id.now command.now) result self.new.closed (state S.Store self.new.held) }
+        ensures sent_again { HasCleanDisk (state S.Store self.new.held) → self.old.closed ≡ false → (s : OfficeState) → is_accepted (step s actor id.now command.now) ≡ true
+            → IsAt (state_after s (step s actor id.now command.now)) (state S.Store self.old.held)
+            → HandledAgain s (step s actor id.now command.now) result self.new.closed (state S.Store self.new.held) }
+        ensures closes { IfErr result (λ f. (f ≡ Fault.Memory) ⊎ (self.new.closed ≡ true)) }
+        ensures closed { self.old.closed ≡ true → (result ≡ Err Fault.Closed) × (self.new ≡ self.old) }
+        ensures clean { HasCleanDisk (state S.Store self.new.held) → HasCleanDisk (state S.Store self.old.held) }
+    {
+        self.answered(actor, id, command)
+    }
+
+    /// The answer to one request, from the decision on what the store holds and the commit of its change.
+    fn answered(&mut self, actor: u32, id: &str, command: &Command) -> Result<Answer, Fault>
+        ensures handled { HasCleanDisk (state S.Store self.new.held) → self.old.closed ≡ false → (s : OfficeState) → IsAt s (state S.Store self.old.held)
+            → Handled s (step s actor id.now command.now) result self.new.closed (state S.Store self.new.held) }
+        ensures again { OnOk result ((s : OfficeState) → IsKeptAgain actor id.now command.now (step s actor id.now command.now)) }
         ensures closes { IfErr result (λ f. (f ≡ Fault.Memory) ⊎ (self.new.closed ≡ true)) }
         ensures closed { self.old.closed ≡ true → (result ≡ Err Fault.Closed) × (self.new ≡ self.old) }
         ensures clean { HasCleanDisk (state S.Store self.new.held) → HasCleanDisk (state S.Store self.old.held) }
