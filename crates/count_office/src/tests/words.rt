@@ -1,7 +1,6 @@
 //! Words that are an order, and words that are none.
 
-use crate::orders::Order;
-use crate::words::{WordsFault, order};
+use desk::{Order, WordsFault, order};
 use std::alloc::{AllocError, Global};
 use std::test::Fail;
 

@@ -1,8 +1,7 @@
 //! The program `count-office`: it reads its words to one order and does it over the database DB.
 //!
-//! [`words::order`](words) reads the words to an [`orders::Order`](orders), and
-//! [`perform::perform`](perform) does an order over an opened connection and prints its line.
-//! `main` joins the two, over the file that DB names and the two standard outputs.
+//! The crate `desk` reads the words and does the order. Here it gets the file that DB names and the two
+//! standard outputs.
 //!
 //! ```text
 //! count-office town.db init
@@ -12,15 +11,11 @@
 
 ghost use Rattle.std.specs.Prelude.{◌≡◌, ◌+◌, ◌-◌, ◌^◌, ◌<◌};
 
-mod lines;
-mod orders;
-mod perform;
 #[cfg(test)]
 mod tests;
-mod words;
 
-use lines::{Failure, tell_failure, tell_words};
-use orders::Order;
+use desk::perform::perform;
+use desk::{Failure, Order, WordsFault, order, tell_failure, tell_words};
 use sqlite::{Connection, Wary};
 use std::alloc::Global;
 use std::process::ExitCode;
@@ -28,7 +23,6 @@ use std::{env, io};
 use store::Fault;
 use store::fault::fault_of;
 use votes::{Counted, Sink};
-use words::WordsFault;
 
 /// The words from DB on.
 fn given_words(rt: &HostRuntime) -> Result<Vec<String>, WordsFault> {
@@ -64,7 +58,7 @@ fn perform_at<O: Sink, E: Sink>(
 {
     match Connection::open_from(rt, path, false, Wary) {
         Ok(conn) => {
-            let (status, conn) = perform::perform(rt.alloc(), order, conn, out, err);
+            let (status, conn) = perform(rt.alloc(), order, conn, out, err);
             // The log is copied into the file, so that DB alone is the office. Where that fails, what was
             // answered still stands in the log.
             let _ = conn.close();
@@ -79,7 +73,7 @@ fn follow<O: Sink, E: Sink>(rt: &HostRuntime, words: &[&str], out: &mut O, err: 
     requires out { O.failed out.old < 2 ^ 64 - 1 }
     requires err { E.failed err.old < 2 ^ 64 - 1 }
 {
-    match words::order(rt.alloc(), words) {
+    match order(rt.alloc(), words) {
         Ok(order) => {
             let path = words.first().copied().unwrap_or("");
             perform_at(rt, path, &order, out, err)
