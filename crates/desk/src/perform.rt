@@ -5,7 +5,7 @@ ghost use Rattle.std.specs.Prelude.{◌≡◌, ◌⊎◌, ◌+◌, ◌-◌, ◌^
 use crate::lines::{Outcome, tell};
 use crate::orders::Order;
 use office::{Answer, Office};
-use register::Command;
+use register::{Command, WardCommand};
 use sqlite::{Alter, Connection};
 use std::alloc::{AllocError, Global};
 use store::Fault;
@@ -41,11 +41,11 @@ fn request<S: Alter>(
 }
 
 fn ward_command(alloc: Global, ward: u32, seats: u32, name: &str) -> Result<Command, AllocError> {
-    Ok(Command::AddWard {
+    Ok(Command::Ward(WardCommand::Add {
         ward,
         seats,
         name: String::from_str(alloc, name)?,
-    })
+    }))
 }
 
 /// Does an order over an opened connection, which it gives back, prints its line, and gives the status.

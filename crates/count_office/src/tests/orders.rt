@@ -3,7 +3,7 @@
 
 use super::disks::Disks;
 use super::steps::{Said, Step, Told};
-use register::{Command, Request};
+use register::{Command, Request, WardCommand};
 use std::alloc::{AllocError, Global};
 use std::test::Fail;
 
@@ -143,11 +143,11 @@ fn adding(
     Ok(Request {
         actor: 0,
         id: String::from_str(alloc, id)?,
-        command: Command::AddWard {
+        command: Command::Ward(WardCommand::Add {
             ward,
             seats,
             name: String::from_str(alloc, name)?,
-        },
+        }),
     })
 }
 
