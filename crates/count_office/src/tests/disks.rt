@@ -23,17 +23,17 @@ impl Model for Disks {
     ghost view = { λ _. tt };
 }
 
-/// Opens the files, or gives them back with the error.
+/// Opens the files, or gives them back with what `sqlite` told, if it was asked.
 fn opened(
     alloc: Global,
     files: Files<Fuse<Memory>>,
-) -> Result<Connection<FileStore<Fuse<Memory>>>, (Error, Files<Fuse<Memory>>)> {
+) -> Result<Connection<FileStore<Fuse<Memory>>>, (Option<Error>, Files<Fuse<Memory>>)> {
     if !files.may_be_used() {
-        return Err((Error::SqliteFailure(ErrorCode::OutOfMemory), files));
+        return Err((None, files));
     }
     match Connection::open_files(alloc, files, Options::new(1)) {
         Ok(conn) => Ok(conn),
-        Err((error, left)) => Err((error, left.into_files())),
+        Err((error, left)) => Err((Some(error), left.into_files())),
     }
 }
 
@@ -71,10 +71,11 @@ impl Disks {
                 let files = conn.into_store().close();
                 Ok((said, Disks { files }))
             }
-            Err((Error::SqliteFailure(ErrorCode::OutOfMemory), _)) => {
-                Err(Fail::from("memory was wanting, or a file may not be used"))
+            Err((Some(Error::SqliteFailure(ErrorCode::OutOfMemory)), _)) => {
+                Err(Fail::from("memory was wanting"))
             }
-            Err((_, files)) => Ok((Vec::new(alloc), Disks { files })),
+            Err((Some(_), files)) => Ok((Vec::new(alloc), Disks { files })),
+            Err((None, _)) => Err(Fail::from("a file may not be used")),
         }
     }
 
@@ -86,9 +87,9 @@ impl Disks {
         wanted: &[Told<'_>],
     ) -> Result<Disks, Fail> {
         let (said, disks) = self.play(rt.alloc(), script)?;
-        assert!(rt; said.len() == wanted.len());
+        assert!(rt; said.len() == wanted.len(), "{script:?}: {said:?}");
         for (said, wanted) in said.iter().zip(wanted) {
-            assert_eq!(rt; said.told(), *wanted);
+            assert_eq!(rt; said.told(), *wanted, "{script:?}");
         }
         Ok(disks)
     }

@@ -79,7 +79,7 @@ const CHANGES: [(&str, Told<'static>); 20] = [
     ("CREATE TABLE note (text TEXT)", (0, "ward 8 added\n", "")),
 ];
 
-/// Texts are the same, and what was told is what is wanted.
+/// The order was told so, and the database holds these contents.
 fn is_told(said: &[Said], wanted: Told<'_>, contents: &str) -> bool {
     match said {
         [order, found] => order.told() == wanted && found.told() == (0, contents, ""),

@@ -14,7 +14,7 @@ use std::test::Fail;
 use votes::{Counted, Sink};
 
 /// One step of a script.
-#[derive(Clone, Copy)]
+#[derive(Clone, Copy, Debug)]
 pub enum Step<'a> {
     /// The order that the words are.
     Order(&'a [&'a str]),

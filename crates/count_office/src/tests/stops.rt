@@ -9,7 +9,7 @@ use std::test::Fail;
 
 /// What a database holds before `init`, after it, and after `ward`.
 #[derive(Debug, Drop)]
-struct Stages {
+struct Contents {
     nothing: String,
     office: String,
     ward: String,
@@ -22,7 +22,7 @@ fn text_of(alloc: Global, said: Option<&Said>) -> Result<String, Fail> {
     }
 }
 
-fn unstopped(alloc: Global) -> Result<Stages, Fail> {
+fn unstopped(alloc: Global) -> Result<Contents, Fail> {
     let script = [
         Step::Contents,
         INIT,
@@ -31,7 +31,7 @@ fn unstopped(alloc: Global) -> Result<Stages, Fail> {
         Step::Contents,
     ];
     let (said, _) = Disks::lasting(alloc).play(alloc, &script)?;
-    Ok(Stages {
+    Ok(Contents {
         nothing: text_of(alloc, said.first())?,
         office: text_of(alloc, said.get(2))?,
         ward: text_of(alloc, said.get(4))?,
@@ -59,36 +59,40 @@ fn how_far(said: &[Said]) -> Option<Reached> {
 }
 
 /// What was answered stands, and of what was not answered there is all or nothing.
-fn stands(reached: Reached, found: &str, stages: &Stages) -> bool {
+fn stands(reached: Reached, found: &str, contents: &Contents) -> bool {
     match reached {
-        Reached::Opening => found == stages.nothing.as_str(),
-        Reached::Init => found == stages.nothing.as_str() || found == stages.office.as_str(),
-        Reached::Ward => found == stages.office.as_str() || found == stages.ward.as_str(),
-        Reached::End => found == stages.ward.as_str(),
+        Reached::Opening => found == contents.nothing.as_str(),
+        Reached::Init => found == contents.nothing.as_str() || found == contents.office.as_str(),
+        Reached::Ward => found == contents.office.as_str() || found == contents.ward.as_str(),
+        Reached::End => found == contents.ward.as_str(),
     }
 }
 
 /// What is found stands, and the same orders, given again, end with the same reply and tables.
-fn stood(reached: Reached, said: &[Said], stages: &Stages) -> bool {
+fn stood(reached: Reached, said: &[Said], contents: &Contents) -> bool {
     match said {
         [found, init, ward, end] => {
             let found = found.told().1;
-            let wanted = if found == stages.nothing.as_str() {
+            let wanted = if found == contents.nothing.as_str() {
                 READY
             } else {
                 FOREIGN
             };
-            stands(reached, found, stages)
+            stands(reached, found, contents)
                 && init.told() == wanted
                 && ward.told() == ADDED
-                && end.told().1 == stages.ward.as_str()
+                && end.told().1 == contents.ward.as_str()
         }
         _ => false,
     }
 }
 
 /// Runs over disks that stop, restarts, and judges what is found.
-fn stop(rt: &(impl Abort + AllocGlobal), disks: Disks, stages: &Stages) -> Result<Reached, Fail> {
+fn stop(
+    rt: &(impl Abort + AllocGlobal),
+    disks: Disks,
+    contents: &Contents,
+) -> Result<Reached, Fail> {
     let (said, left) = disks.play(rt.alloc(), &[INIT, HARBOUR])?;
     let Some(reached) = how_far(said.as_slice()) else {
         return Err(Fail::from("an order was told something else"));
@@ -96,7 +100,7 @@ fn stop(rt: &(impl Abort + AllocGlobal), disks: Disks, stages: &Stages) -> Resul
     let again = [Step::Contents, INIT, HARBOUR, Step::Contents];
     let (said, _) = left.restarted().play(rt.alloc(), &again)?;
     assert!(rt;
-        stood(reached, said.as_slice(), stages),
+        stood(reached, said.as_slice(), contents),
         "{reached:?} left {said:?}"
     );
     Ok(reached)
@@ -121,11 +125,11 @@ fn stopping(alloc: Global, file: File, calls: u64) -> Disks {
 
 #[test]
 fn a_stop_leaves_old_or_new(rt: HostRuntime) -> Result<(), Fail> {
-    let stages = unstopped(rt.alloc())?;
+    let contents = unstopped(rt.alloc())?;
     for file in [File::Log, File::Database] {
         let mut last = Reached::Opening;
         for calls in 0..CALLS {
-            last = stop(&rt, stopping(rt.alloc(), file, calls), &stages)?;
+            last = stop(&rt, stopping(rt.alloc(), file, calls), &contents)?;
             if last == Reached::End {
                 break;
             }
