@@ -69,3 +69,12 @@ found_put {X} {cmp} total x (y ∷ ys) none = go (is_eq (cmp x y)) refl (is_lt (
     go true found first later = absurd (let e = rw found at none in cc)
     go false other true later = rw (own_key total x) refl
     go false other false later = rw other (later (rw other at none))
+
+-- a map whose entries pass a test, in the order of their keys
+pub record IsMap {X : Type 0} (test : X → Bool) (cmp : X → X → Ordering) (xs : List X) : Type 0 where
+  pub in_range : list_all test xs ≡ true
+  pub rises : IsStrictlySortedBy cmp xs
+
+-- an entry that passes, of a new key, put into it
+pub put_is_map : {X : Type 0} {test : X → Bool} {cmp : X → X → Ordering} → IsTotalOrder cmp → (x : X) (ys : List X) → test x ≡ true → entry_at (cmp x) ys ≡ None → IsMap test cmp ys → IsMap test cmp (put cmp x ys)
+put_is_map {X} {test} {cmp} total x ys good new is = record { in_range = put_all cmp test x ys good is.in_range; rises = put_rises total x ys new is.rises }

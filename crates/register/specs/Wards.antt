@@ -29,9 +29,9 @@ objections actor (Add ward seats name) part =
 unfoldable pub subject_of : WardCommand → List ℕ
 subject_of (Add ward seats name) = codes "ward " ++ decimal ward
 
--- what is replied where it is accepted
+-- what is replied where it is accepted (texts are grouped to the right, as they are written)
 unfoldable pub reply_to : WardCommand → PartEntries → List ℕ
-reply_to (Add ward seats name) part = codes "ward " ++ decimal ward ++ codes " added"
+reply_to (Add ward seats name) part = codes "ward " ++ (decimal ward ++ codes " added")
 
 -- what it does where it is accepted
 abbrev pub effect_of : WardCommand → PartEntries → EffectEntry
