@@ -19,7 +19,6 @@ pub mod MoveLemmas
 pub mod NewlyLemmas
 pub mod OwnLotLemmas
 pub mod PassedLemmas
-pub mod PlainLemmas
 pub mod QuotaLemmas
 pub mod RecordLemmas
 pub mod RestLemmas

@@ -8,4 +8,3 @@ pub mod Laws
 pub mod Advance
 pub mod Holdings
 pub mod Books
-pub mod Plain

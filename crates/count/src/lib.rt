@@ -20,7 +20,6 @@ mod due;
 mod moving;
 mod parcel;
 mod parcel_book;
-mod plain_book;
 mod record;
 mod run;
 mod sorting;
@@ -33,7 +32,6 @@ mod ties;
 pub use book::{AdvanceError, CountBook};
 pub use contest::is_contest;
 pub use parcel_book::ParcelBook;
-pub use plain_book::PlainBook;
 pub use run::{CountEnd, run_count};
 pub use stages::{Action, Due, Kind, Stage};
 

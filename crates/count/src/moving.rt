@@ -16,7 +16,7 @@ use std::alloc::{AllocError, Global};
 use votes::Votes;
 
 /// How a surplus cuts values: by the part that it is of the votes credited.
-pub fn share(quota: Votes, credited: Votes) -> TransferRule
+fn share(quota: Votes, credited: Votes) -> TransferRule
     requires some { 0 < quota }
     requires above { quota < credited }
     requires few { credited ≤ 499950000000 }

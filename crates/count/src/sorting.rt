@@ -13,7 +13,7 @@ use std::alloc::{AllocError, Global};
 use votes::{Votes, transfer_value};
 
 /// The first of some preferences, or 0.
-pub fn first_preference(rest: &[u8]) -> u8
+fn first_preference(rest: &[u8]) -> u8
     ensures { result ≡ first_of rest.now }
 {
     match rest.first() {
@@ -120,7 +120,7 @@ fn pass_papers<'a>(
 }
 
 /// The value that a paper takes on when it is passed on.
-pub fn value_by(rule: &TransferRule, value: Votes) -> Votes
+fn value_by(rule: &TransferRule, value: Votes) -> Votes
     requires rule { IsTransferRule rule.now }
     requires small { value ≤ 100000 }
     ensures is { result ≡ new_value rule.now value }
