@@ -46,7 +46,8 @@ drawn_lot contest stages kind group x false action e h = cc
 
 drawn-among : (contest : Contest) (stages : History) (lot : Option ℕ) (kind : Kind) (group : List ℕ) (action : Action) →
     drawn contest stages lot (among contest stages kind group) ≡ Some action → IsOn contest stages kind group action
-drawn-among contest stages lot kind [] action h = cc
+drawn-among contest stages None kind [] action h = cc
+drawn-among contest stages (Some x) kind [] action h = cc
 drawn-among contest stages lot kind (c ∷ []) action h = record { candidate = c; in_group = ap (λ t. t || false) (eq-eqb c c refl); is = cc }
 drawn-among contest stages None kind (c ∷ d ∷ tied) action h = cc
 drawn-among contest stages (Some x) kind (c ∷ d ∷ tied) action h = drawn_lot contest stages kind (c ∷ d ∷ tied) x _ action refl h

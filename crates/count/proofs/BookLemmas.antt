@@ -5,8 +5,8 @@ use Rattle.count.specs.Contest.{Contest, History}
 use Rattle.count.specs.Due.{drawn, due_after}
 use Rattle.count.specs.Right.{IsNext, IsRightByItself, candidate_of}
 use Rattle.count.specs.Advance.{Adds, Advances, IsDue}
-use Rattle.count.specs.Laws.{IsConserved, IsShort, FillsSeats}
-use Rattle.count.specs.Books.{AreHeld, AreRankings, IsBook}
+use Rattle.count.specs.Laws.{IsConserved, IsShort, FillsSeats, OnlyCandidatesHaveVotes, IsAmongSeveral}
+use Rattle.count.specs.Books.{AreHeld, IsBook}
 use Rattle.count.specs.declared.stages.Action.{Action}
 use Rattle.count.specs.declared.stages.Stage.{Stage}
 use Rattle.count.specs.declared.stages.Due.TheVariants.{Finished}
@@ -14,7 +14,8 @@ use Rattle.count.specs.declared.parcel.Holding.{Holding}
 use Rattle.count.proofs.ActionLemmas.{stages-bound}
 use Rattle.count.proofs.ConservedLemmas.{all-conserved}
 use Rattle.count.proofs.LengthLemmas.{stages-few}
-use Rattle.count.proofs.FinishLemmas.{finished-elected}
+use Rattle.count.proofs.FinishLemmas.{finished-elected, lots-several}
+use Rattle.count.proofs.VotelessLemmas.{others-voteless}
 use Rattle.count.proofs.OwnLotLemmas.{drawn-own}
 
 by_itself : History → Stage → Option ℕ
@@ -36,6 +37,14 @@ pub book-short : (contest : Contest) (history : History) (holdings : List Holdin
 unfolding by_itself
 book-short contest [] holdings book = omega arith
 book-short contest (s ∷ before) holdings book = stages-few contest by_itself (s ∷ before) book.fair book.held.1 book.right
+
+pub book-others : (contest : Contest) (history : History) (holdings : List Holding) → IsBook contest history holdings → OnlyCandidatesHaveVotes contest history
+unfolding by_itself
+book-others contest history holdings book = others-voteless contest by_itself history book.fair book.right
+
+pub book-several : (contest : Contest) (history : History) (holdings : List Holding) → IsBook contest history holdings → IsAmongSeveral (due_after contest history)
+unfolding by_itself
+book-several contest history holdings book = lots-several contest by_itself history book.fair book.right
 
 pub book-filled : (contest : Contest) (history : History) (holdings : List Holding) → IsBook contest history holdings → due_after contest history ≡ Finished → FillsSeats contest history
 unfolding by_itself
@@ -66,6 +75,6 @@ adds-book contest before lot action after old new book was adds held =
 pub drawn-due : (contest : Contest) (stages : History) (lot : Option ℕ) (action : Action) → drawn contest stages lot (due_after contest stages) ≡ Some action → IsDue contest stages action
 drawn-due contest stages lot action h = record { lot = lot; is = h }
 
-pub ruleset book_laws = (book-conserved, book-short)
+pub ruleset book_laws = (book-conserved, book-others, book-short)
 
-pub ruleset book_facts = (book-few, book-filled, adds-advances, drawn-due)
+pub ruleset book_facts = (book-few, book-several, book-filled, adds-advances, drawn-due)

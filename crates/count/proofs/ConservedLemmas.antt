@@ -16,7 +16,7 @@ use Rattle.count.specs.declared.stages.Action.TheVariants.{First, Surplus, Exclu
 use Rattle.count.proofs.ActionLemmas.{in-filter, column-in}
 use Rattle.count.proofs.SumLemmas.{sum_by-add, at_other, at_equal}
 use Rattle.count.proofs.ValueLemmas.{all_values, held}
-use Rattle.count.proofs.HolderLemmas.{columns-distinct, sum-one, sum-swap, sum-le}
+use Rattle.count.proofs.CandidateSums.{columns-distinct, sum-one, sum-swap, sum-le}
 use Rattle.count.proofs.StepLemmas.{told-votes}
 use Rattle.count.proofs.QuotaLemmas.{values-conserved}
 use Rattle.count.proofs.PassedLemmas.{has_passed, first-passes, passed-held}
@@ -68,7 +68,8 @@ one_holder candidates at true e some h =
 one_holder candidates at false e some (inl is_zero) = omega (arith, at_equal at.holder 0 at.value 0 is_zero)
 one_holder candidates at false e some (inr found) = cc
 
-sum-of : (candidates : List ℕ) (papers : List (List ℕ)) → AreForCandidates candidates papers → (f g : List ℕ → ℕ) → ((p : List ℕ) → AllByRecursion (λ c. In c candidates) p → f p ≡ g p) → sum_by f papers ≡ sum_by g papers
+-- equal at each paper for candidates, equal in sum
+pub sum-of : (candidates : List ℕ) (papers : List (List ℕ)) → AreForCandidates candidates papers → (f g : List ℕ → ℕ) → ((p : List ℕ) → AllByRecursion (λ c. In c candidates) p → f p ≡ g p) → sum_by f papers ≡ sum_by g papers
 sum-of candidates [] of f g h = refl
 sum-of candidates (p ∷ ps) of f g h = omega (arith, sum_by-cons f p ps, sum_by-cons g p ps, h p of.0, sum-of candidates ps of.1 f g h)
 

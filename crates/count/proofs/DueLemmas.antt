@@ -49,21 +49,17 @@ any_lot contest old new action lot lot' is_act h =
 pub ruleset due_lot = (stage-due, any_lot)
 
 -- what is done with a group, by its size
-pub among-none : (contest : Contest) (stages : History) (kind : Kind) (group : List ℕ) → length group ≡ 0 → Finished ≡ among contest stages kind group
-among-none contest stages kind [] h = refl
-among-none contest stages kind (c ∷ rest) h = absurd (omega (arith, h))
-
 pub among-one : (contest : Contest) (stages : History) (kind : Kind) (group : List ℕ) → length group ≡ 1 → Act (action_on contest stages kind (slice_index group 0)) ≡ among contest stages kind group
 among-one contest stages kind [] h = absurd (omega (arith, h))
 among-one contest stages kind (c ∷ []) h = refl
 among-one contest stages kind (c ∷ d ∷ rest) h = absurd (omega (arith, h))
 
-pub among-more : (contest : Contest) (stages : History) (kind : Kind) (group : List ℕ) → length group ≢ 0 → length group ≢ 1 → Lot (length stages + 1) kind group ≡ among contest stages kind group
-among-more contest stages kind [] h k = absurd (h refl)
-among-more contest stages kind (c ∷ []) h k = absurd (k refl)
-among-more contest stages kind (c ∷ d ∷ rest) h k = refl
+pub among-more : (contest : Contest) (stages : History) (kind : Kind) (group : List ℕ) → length group ≢ 1 → Lot (length stages + 1) kind group ≡ among contest stages kind group
+among-more contest stages kind [] k = refl
+among-more contest stages kind (c ∷ []) k = absurd (k refl)
+among-more contest stages kind (c ∷ d ∷ rest) k = refl
 
-pub ruleset among_sizes = (among-none, among-one, among-more)
+pub ruleset among_sizes = (among-one, among-more)
 
 pub due-none : (contest : Contest) (stages : History) (group : List ℕ) → length group ≡ 0 → among contest stages of_exclusion (lowest stages (continuing_after contest stages)) ≡ due_for contest stages group
 due-none contest stages [] h = refl

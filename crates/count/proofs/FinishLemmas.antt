@@ -4,7 +4,7 @@ use Rattle.std.proofs.lemmas.Bool.{eqb-true, eqb-false}
 use Rattle.std.proofs.lemmas.List.Sums.{sum_by-le-sum_by}
 use Rattle.count.specs.Contest.{Contest, History, IsContest, votes_at}
 use Rattle.count.specs.Advance.{end_of, end_after}
-use Rattle.count.specs.Laws.{FillsSeats}
+use Rattle.count.specs.Laws.{FillsSeats, IsAmongSeveral}
 use Rattle.count.specs.declared.run.CountEnd.TheVariants.{Finished as has_finished, LotNotAmong as misses_lot}
 use Rattle.count.specs.Right.{IsRightBy}
 use Rattle.count.specs.Due.{lot_for, due_after, due_for, among, with_surplus, highest, lowest}
@@ -17,7 +17,7 @@ use Rattle.count.specs.declared.stages.Due.{Due}
 use Rattle.count.specs.declared.stages.Due.TheVariants.{Act, Lot, Finished}
 use Rattle.count.proofs.ActionLemmas.{filter-le}
 use Rattle.count.proofs.SumLemmas.{sum_by-add}
-use Rattle.count.proofs.HolderLemmas.{columns-distinct, sum-one, sum-filter}
+use Rattle.count.proofs.CandidateSums.{columns-distinct, sum-one, sum-filter}
 use Rattle.count.proofs.StepLemmas.{IsSurplus, IsExclusion, step-is, step-first, step-vacant}
 use Rattle.count.proofs.QuotaLemmas.{few-reach}
 use Rattle.count.proofs.TieLemmas.{highest-some, lowest-some}
@@ -144,37 +144,54 @@ race-enough contest handed (s ∷ s' ∷ before) fair right =
     race_step contest s s' before fair (step-vacant contest s' before (handed (s' ∷ before) s) s.action right.1.was_due) (step-is contest s' before (handed (s' ∷ before) s) s.action right.1.was_due)
     (race-enough contest handed (s' ∷ before) fair right.0)
 
-among_some : (contest : Contest) (stages : History) (kind : Kind) (group : List ℕ) → (group ≡ [] → ⊥) → among contest stages kind group ≡ Finished → ⊥
-among_some contest stages kind [] some h = some refl
-among_some contest stages kind (c ∷ []) some h = cc
-among_some contest stages kind (c ∷ d ∷ rest) some h = cc
+never_among : (contest : Contest) (stages : History) (kind : Kind) (group : List ℕ) → among contest stages kind group ≡ Finished → ⊥
+never_among contest stages kind [] h = cc
+never_among contest stages kind (c ∷ []) h = cc
+never_among contest stages kind (c ∷ d ∷ rest) h = cc
+
+never_due : (contest : Contest) (stages : History) (group : List ℕ) → due_for contest stages group ≡ Finished → ⊥
+never_due contest stages [] h = never_among contest stages of_exclusion (lowest stages (continuing_after contest stages)) h
+never_due contest stages (c ∷ cs) h = never_among contest stages of_surplus (highest stages (c ∷ cs)) h
+
+finished_choice : (contest : Contest) (s : Stage) (before : History) (b : Bool) → (vacancies_after contest (s ∷ before) == 0) ≡ b → length (with_quota contest (s ∷ before)) ≤ contest.seats →
+    cond b Finished (due_for contest (s ∷ before) (with_surplus contest (s ∷ before))) ≡ Finished → length (elected_after contest (s ∷ before)) ≡ contest.seats
+finished_choice contest s before true full few h = omega (arith, eqb-true _ _ full, few_elected contest (s ∷ before) _ refl few)
+finished_choice contest s before false left few h = absurd (never_due contest (s ∷ before) (with_surplus contest (s ∷ before)) h)
+
+-- A count is finished where exactly as many are elected as there are seats.
+pub finished-elected : (contest : Contest) (handed : History → Stage → Option ℕ) (stages : History) → IsContest contest → IsRightBy contest handed stages →
+    due_after contest stages ≡ Finished → length (elected_after contest stages) ≡ contest.seats
+finished-elected contest handed [] fair right h = cc
+finished-elected contest handed (s ∷ before) fair right h = finished_choice contest s before _ refl (few-reach contest handed (s ∷ before) fair right) h
+
+among_several : (contest : Contest) (stages : History) (kind : Kind) (group : List ℕ) → (group ≡ [] → ⊥) → IsAmongSeveral (among contest stages kind group)
+among_several contest stages kind [] some = absurd (some refl)
+among_several contest stages kind (c ∷ []) some = tt
+among_several contest stages kind (c ∷ d ∷ rest) some = omega arith
 
 lowest_some : (stages : History) (group : List ℕ) → 0 < length group → lowest stages group ≡ [] → ⊥
 lowest_some stages [] some = absurd (omega (arith, some))
 lowest_some stages (x ∷ xs) some = lowest-some stages x xs
 
-due_some : (contest : Contest) (stages : History) (group : List ℕ) → 0 < length (continuing_after contest stages) → due_for contest stages group ≡ Finished → ⊥
-due_some contest stages [] some = among_some contest stages of_exclusion (lowest stages (continuing_after contest stages)) (lowest_some stages (continuing_after contest stages) some)
-due_some contest stages (c ∷ cs) some = among_some contest stages of_surplus (highest stages (c ∷ cs)) (highest-some stages c cs)
+due_several : (contest : Contest) (stages : History) (group : List ℕ) → 0 < length (continuing_after contest stages) → IsAmongSeveral (due_for contest stages group)
+due_several contest stages [] some = among_several contest stages of_exclusion (lowest stages (continuing_after contest stages)) (lowest_some stages (continuing_after contest stages) some)
+due_several contest stages (c ∷ cs) some = among_several contest stages of_surplus (highest stages (c ∷ cs)) (highest-some stages c cs)
 
-finished_choice : (contest : Contest) (s : Stage) (before : History) (b : Bool) → (vacancies_after contest (s ∷ before) == 0) ≡ b → length (with_quota contest (s ∷ before)) ≤ contest.seats → contest.seats ≤ length (in_race contest (s ∷ before)) →
-    cond b Finished (due_for contest (s ∷ before) (with_surplus contest (s ∷ before))) ≡ Finished → length (elected_after contest (s ∷ before)) ≡ contest.seats
-finished_choice contest s before true full few enough h =
-    omega (arith, eqb-true _ _ full, few_elected contest (s ∷ before) _ refl few)
-finished_choice contest s before false left few enough h =
+several_choice : (contest : Contest) (s : Stage) (before : History) (b : Bool) → (vacancies_after contest (s ∷ before) == 0) ≡ b → contest.seats ≤ length (in_race contest (s ∷ before)) →
+    IsAmongSeveral (cond b Finished (due_for contest (s ∷ before) (with_surplus contest (s ∷ before))))
+several_choice contest s before true full enough = tt
+several_choice contest s before false left enough =
     let stages = s ∷ before in
     let open_ = vacant-unfilled contest stages left in
     let seats_left = eqb-false _ _ left in
     let chosen : length (elected_after contest stages) ≡ length (with_quota contest stages) = ap length (elected_unfilled contest stages open_) in
     let others : length (continuing_after contest stages) ≡ length (undecided contest stages) = ap length (continuing_unfilled contest stages open_) in
-    absurd (due_some contest stages (with_surplus contest stages) (omega (arith, seats_left, chosen, others, enough, race-parts contest stages)) h)
+    due_several contest stages (with_surplus contest stages) (omega (arith, seats_left, chosen, others, enough, race-parts contest stages))
 
--- A finished count has elected_after exactly as many as there are seats; so unless they are, an action is due_after or a lot is waited for.
-pub finished-elected : (contest : Contest) (handed : History → Stage → Option ℕ) (stages : History) → IsContest contest → IsRightBy contest handed stages →
-    due_after contest stages ≡ Finished → length (elected_after contest stages) ≡ contest.seats
-finished-elected contest handed [] fair right h = cc
-finished-elected contest handed (s ∷ before) fair right h =
-    finished_choice contest s before _ refl (few-reach contest handed (s ∷ before) fair right) (race-enough contest handed (s ∷ before) fair right) h
+-- While a vacancy is left somebody continues; so where a lot is due, two or more are tied.
+pub lots-several : (contest : Contest) (handed : History → Stage → Option ℕ) (stages : History) → IsContest contest → IsRightBy contest handed stages → IsAmongSeveral (due_after contest stages)
+lots-several contest handed [] fair right = tt
+lots-several contest handed (s ∷ before) fair right = several_choice contest s before _ refl (race-enough contest handed (s ∷ before) fair right)
 
 end_finished : (lot : Option ℕ) (d : Due) → end_of lot d ≡ Some has_finished → d ≡ Finished
 end_finished lot (Act action) h = cc

@@ -11,9 +11,9 @@ pub mod DueLemmas
 pub mod FilterLemmas
 pub mod FinishLemmas
 pub mod FirstLemmas
-pub mod HeldLemmas
-pub mod HolderLemmas
-pub mod HoldingLemmas
+pub mod TransferLemmas
+pub mod CandidateSums
+pub mod ParcelTotals
 pub mod LengthLemmas
 pub mod MoveLemmas
 pub mod NewlyLemmas
@@ -28,4 +28,5 @@ pub mod SumLemmas
 pub mod TallyLemmas
 pub mod TieLemmas
 pub mod ValueLemmas
+pub mod VotelessLemmas
 pub mod WorthLemmas

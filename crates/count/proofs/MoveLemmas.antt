@@ -1,10 +1,7 @@
 use Rattle.std.proofs.Common.{◌≡◌, ℕ, ◌<◌, ◌≤◌, ◌⊎◌, inl, inr, Bool, true, false, cond, nat_eq, List, [], ◌∷◌, sym, ap, ◌∙◌, arith, subst}
 use Rattle.std.specs.List.{list_any}
-use Rattle.std.proofs.lemmas.List.Sums.{sum_by-le-sum_by}
 use Rattle.paper.specs.Columns.{IsColumn}
 use Rattle.count.specs.Contest.{Contest, History, IsContest, In, newest_votes}
-use Rattle.count.specs.Places.{place}
-use Rattle.count.specs.Figures.{value_with}
 use Rattle.count.specs.Right.{IsRightByItself, candidate_of}
 use Rattle.count.specs.Advance.{IsDue}
 use Rattle.count.specs.Books.{AreRankings, HoldPapers, IsBook}
@@ -14,7 +11,7 @@ use Rattle.count.specs.declared.stages.Action.TheVariants.{First, Surplus, Exclu
 use Rattle.count.proofs.ActionLemmas.{column-in}
 use Rattle.count.proofs.StepLemmas.{IsSurplus, IsExclusion, step-is, step-first, surplus-held}
 use Rattle.count.proofs.QuotaLemmas.{values-conserved}
-use Rattle.count.proofs.ChoiceLemmas.{within_value}
+use Rattle.count.proofs.CandidateSums.{one-within}
 
 -- the papers lie in holdings, and are rankings
 pub record IsUnderWay (contest : Contest) (stages : History) (holdings : List Holding) : Type 0 where
@@ -55,7 +52,7 @@ surplus-lawful contest (s ∷ before) c fair right due =
     let on = surplus_of_one contest (s ∷ before) c (step-is contest s before due.lot (Surplus c) due.is) in
     let column = column-in c contest.candidates fair.candidate_set on.0 in
     let own = surplus-held contest s before c right.1.tells column on.1 in
-    let within = sum_by-le-sum_by (λ p. value_with c (place contest (s ∷ before) p)) (λ p. (place contest (s ∷ before) p).value) contest.papers (λ p. within_value _ _) in
+    let within = one-within contest (s ∷ before) c in
     let all = values-conserved contest (λ h t. candidate_of t.action) s before fair right in
     record { column = column; above = on.1; some = quota_some contest fair; few = omega (arith, own, within, all, fair.few_papers) }
 

@@ -15,7 +15,7 @@ use Rattle.count.specs.declared.stages.Action.TheVariants.{First, Surplus, Exclu
 use Rattle.count.proofs.ActionLemmas.{column-in}
 use Rattle.count.proofs.SumLemmas.{sum_by-same, sum_by-add, sum_by-none}
 use Rattle.count.proofs.ValueLemmas.{all_values, held, takes, held-kept, surplus-conserves, exclude-values, first-values}
-use Rattle.count.proofs.HolderLemmas.{columns-distinct, sum-one, held-within, sum-le, sum-filter}
+use Rattle.count.proofs.CandidateSums.{columns-distinct, sum-one, held-within, sum-le, sum-filter}
 use Rattle.count.proofs.StepLemmas.{IsSurplus, IsExclusion, step-is, step-first, told-votes, reached-elected, votes-transferred, votes-held, surplus-fresh, surplus-held}
 use Rattle.count.proofs.ChoiceLemmas.{or_false}
 

@@ -1,4 +1,4 @@
-use Rattle.std.proofs.Common.{◌≡◌, ℕ, ◌+◌, ◌-◌, Bool, true, false, not, cond, ◌≤◌, inl, inr, drop, eqb, nat_eq, List, [], ◌∷◌, length, map, Option, Some, None, refl, sym, ap, ◌∙◌, arith, suc, zero, length-drop}
+use Rattle.std.proofs.Common.{◌≡◌, ℕ, ◌+◌, ◌-◌, Bool, true, false, not, cond, ◌≤◌, inl, inr, drop, eqb, nat_eq, List, [], ◌∷◌, length, map, Option, Some, None, refl, sym, ap, ◌∙◌, arith, subst, suc, zero, length-drop}
 use Rattle.std.specs.List.{sum_by, filter, list_any}
 use Rattle.std.specs.List.Sorted.{IsPermutation}
 use Rattle.std.proofs.lemmas.List.Sorted.{sum_by-IsPermutation}
@@ -7,8 +7,8 @@ use Rattle.count.specs.Places.{Place, place, moved, surplus_of}
 use Rattle.count.specs.Due.{due_after, drawn, lot_for, next_action, action_on}
 use Rattle.count.specs.Figures.{votes_after, non_transferable_after, lost_after, lost_by, value_passed_on, value_with}
 use Rattle.count.specs.Elected.{elected_after, is_elected, is_transferred}
-use Rattle.count.specs.Right.{Tells, IsRight, reordered, IsBeginning, BeginsEachRight, OneBeginsOther}
-use Rattle.count.specs.Advance.{end_of, end_after}
+use Rattle.count.specs.Right.{Tells, IsRight, IsCount, reordered, IsBeginning, BeginsEachRight, EqualsEachCount, IsWholeCount, OneBeginsOther}
+use Rattle.count.specs.Advance.{AdvancesBy, end_of, end_after}
 use Rattle.count.specs.declared.run.CountEnd.{CountEnd}
 use Rattle.count.specs.declared.run.CountEnd.TheVariants.{LotNotAmong}
 use Rattle.std.proofs.Math.Nat.{eq-or-lt_of_le}
@@ -154,7 +154,7 @@ ended-next contest stages None (Lot n k tied) end h = refl
 ended-next contest stages (Some c) (Lot n k tied) end h = ended_among (list_any (nat_eq c) tied) (LotNotAmong n) (action_on contest stages k c) end h
 
 -- Where a count ends, each right history of its papers, in any order, is a beginning of it.
-pub begins_each_right : (contest : Contest) (lots : List (ℕ × ℕ)) (whole : History) (end : CountEnd) → IsRight contest lots whole → end_after contest lots whole ≡ Some end → BeginsEachRight contest lots whole
+begins_each_right : (contest : Contest) (lots : List (ℕ × ℕ)) (whole : History) (end : CountEnd) → IsRight contest lots whole → end_after contest lots whole ≡ Some end → BeginsEachRight contest lots whole
 begins_each_right contest lots whole end right ended papers stages order right_stages =
     let here = right_reordered contest lots papers stages order right_stages in
     let within = longest contest lots whole stages right (ended-next contest whole (lot_for lots (length whole + 1)) (due_after contest whole) end ended) here in
@@ -179,4 +179,30 @@ one_begins contest lots papers one other order right_one right_other =
       | inr (inr more) ↦ inr (beginning contest lots other one here right_one (omega (arith, more)))
     ]
 
-pub ruleset whole_count = begins_each_right
+-- Where a count ends, each count of its papers, in any order, is it.
+equals_each : (contest : Contest) (lots : List (ℕ × ℕ)) (whole : History) → IsCount contest lots whole → EqualsEachCount contest lots whole
+equals_each contest lots whole count papers stages order other =
+    let here = right_reordered contest lots papers stages order other.0 in
+    let within = longest contest lots whole stages count.0 count.1 here in
+    let above = longest contest lots stages whole here other.1 count.0 in
+    right_same contest lots stages whole here count.0 (omega (arith, within, above))
+
+-- Where a count ends, it is whole.
+pub whole_count : (contest : Contest) (lots : List (ℕ × ℕ)) (whole : History) (end : CountEnd) → IsRight contest lots whole → end_after contest lots whole ≡ Some end → IsWholeCount contest lots whole
+whole_count contest lots whole end right ended =
+    let count : IsCount contest lots whole = (right, ended-next contest whole (lot_for lots (length whole + 1)) (due_after contest whole) end ended) in
+    record { ended = count; begins_each = begins_each_right contest lots whole end right ended; equals_each = equals_each contest lots whole count }
+
+-- a history is a beginning of itself, and stays one where a stage is added
+pub begins_itself : (stages : History) → IsBeginning stages stages
+begins_itself stages =
+    let none : length stages - length stages ≡ 0 = omega arith in
+    record { within = omega arith; is = ap (λ n. drop n stages) none }
+
+pub begins_next : (contest : Contest) (lots : List (ℕ × ℕ)) (stages before after : History) → IsBeginning stages before → AdvancesBy contest lots before after → IsBeginning stages after
+begins_next contest lots stages before after begun step =
+    let more : suc (length before) - length stages ≡ suc (length before - length stages) = omega (arith, begun.within) in
+    subst (IsBeginning stages) (sym step.one_more)
+    (record { within = omega (arith, begun.within); is = ap (λ n. drop n (step.stage ∷ before)) more ∙ begun.is })
+
+pub ruleset beginnings = (begins_itself, begins_next)

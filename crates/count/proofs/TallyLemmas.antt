@@ -1,7 +1,6 @@
 use Rattle.std.proofs.Common.{◌≡◌, ℕ, suc, zero, ◌++◌, ◌+◌, ◌*◌, ◌/◌, ◌≤◌, ◌||◌, ◌⊎◌, inl, inr, Bool, true, false, cond, eqb, List, [], ◌∷◌, length, map, Option, refl, sym, ap, ◌∙◌, arith, subst}
 use Rattle.std.specs.List.{sum_by, range_with_len}
 use Rattle.std.proofs.lemmas.Bool.{eqb-true}
-use Rattle.std.proofs.lemmas.List.Sums.{sum_by-le-sum_by}
 use Rattle.std.proofs.lemmas.List.FromFn.{map-range_with_len_more}
 use Rattle.std.proofs.Math.Nat.{div-le_of_le-mul}
 use Rattle.paper.specs.Columns.{IsColumn}
@@ -24,7 +23,8 @@ use Rattle.count.proofs.StepLemmas.{IsSurplus, IsExclusion, step-is, step-first,
 use Rattle.count.proofs.ValueLemmas.{held, all_values}
 use Rattle.count.proofs.MoveLemmas.{surplus-lawful}
 use Rattle.count.proofs.QuotaLemmas.{values-conserved, values-conserved-next}
-use Rattle.count.proofs.ChoiceLemmas.{eqb_swap, or_false, within_value}
+use Rattle.count.proofs.ChoiceLemmas.{eqb_swap, or_false}
+use Rattle.count.proofs.CandidateSums.{one-within}
 
 -- whoever holds a paper, an action that passes on the papers of h leaves h none of those that were there
 kept_value : (action : Action) (k h v : ℕ) (b t : Bool) → passes_on action h ≡ b → eqb k h ≡ t → let zero_ : ℕ = 0 in cond (passes_on action k) zero_ (cond t v 0) ≡ cond b zero_ (cond t v 0)
@@ -205,7 +205,7 @@ newest_small contest handed [] new fair right small = record { votes_small = λ 
 newest_small contest handed (s ∷ before) new fair right small =
     let stages : History = s ∷ before in
     let all = values-conserved contest handed s before fair right in
-    let holder : (h : ℕ) → held contest stages h ≤ all_values contest stages = λ h. sum_by-le-sum_by (λ p. value_with h (place contest stages p)) (λ p. (place contest stages p).value) contest.papers (λ p. within_value _ _) in
+    let holder : (h : ℕ) → held contest stages h ≤ all_values contest stages = λ h. one-within contest stages h in
     let quota_few : contest.quota ≤ 499950000000 = omega (arith, fair.quota_is, quota_small (length contest.papers) contest.seats fair.some_seats fair.few_papers) in
     record {
       votes_small = λ c some few.

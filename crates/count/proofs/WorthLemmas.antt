@@ -5,7 +5,7 @@ use Rattle.count.specs.Holdings.{total_of, worth, worth_to}
 use Rattle.count.specs.declared.parcel.Parcel.{Parcel}
 use Rattle.count.specs.declared.parcel.Holding.{Holding}
 use Rattle.count.proofs.SumLemmas.{sum_by-constant, at_equal, at_other}
-use Rattle.count.proofs.HoldingLemmas.{total_of-more, total-more, total_of-same, total_of-none}
+use Rattle.count.proofs.ParcelTotals.{total_of-more, total-more, total_of-same, total_of-none}
 use Rattle.count.proofs.ChoiceLemmas.{within_value}
 
 -- a parcel's papers all have its value

@@ -42,9 +42,9 @@ abbrev pub action_on : Contest → History → Kind → ℕ → Action
 action_on contest stages of_surplus c = Surplus c
 action_on contest stages of_exclusion c = exclusion contest stages c
 
--- the action on the one candidate, or a lot among several (that there is none never comes, as is proved)
+-- the action on the one candidate who is tied with nobody, else a lot among the tied; where a lot is due they are two or more, as is proved
 abbrev pub among : Contest → History → Kind → List ℕ → Due
-among contest stages kind [] = Finished
+among contest stages kind [] = Lot (length stages + 1) kind []
 among contest stages kind (c ∷ []) = Act (action_on contest stages kind c)
 among contest stages kind (c ∷ d ∷ tied) = Lot (length stages + 1) kind (c ∷ d ∷ tied)
 

@@ -59,6 +59,17 @@ abbrev pub BeginsEachRight : Contest → List (ℕ × ℕ) → History → Type 
 BeginsEachRight contest lots whole =
     (papers : List (List ℕ)) (stages : History) → IsPermutation contest.papers papers → IsRight (reordered contest papers) lots stages → IsBeginning stages whole
 
+-- each count for these lots and the same papers, in whichever order, is this one
+abbrev pub EqualsEachCount : Contest → List (ℕ × ℕ) → History → Type 0
+EqualsEachCount contest lots whole =
+    (papers : List (List ℕ)) (stages : History) → IsPermutation contest.papers papers → IsCount (reordered contest papers) lots stages → stages ≡ whole
+
+-- the whole count for recorded lots: it is at its end, begins with each right history, and is the only count
+pub record IsWholeCount (contest : Contest) (lots : List (ℕ × ℕ)) (whole : History) : Type 0 where
+  pub ended : IsCount contest lots whole
+  pub begins_each : BeginsEachRight contest lots whole
+  pub equals_each : EqualsEachCount contest lots whole
+
 -- of two histories that are right for these lots and the same papers, in whichever order, one is a beginning of the other
 abbrev pub OneBeginsOther : Contest → List (ℕ × ℕ) → Type 0
 OneBeginsOther contest lots =

@@ -32,15 +32,12 @@ fn action_on(terms: &Terms, stages: &[Stage], kind: Kind, c: u8) -> Action
     }
 }
 
-/// The action on the one candidate of a group, or the lot among several.
+/// The action on the one candidate of a group, else a lot among those in it.
 #[tactic(auto, using(crate::proofs::DueLemmas::among_sizes))]
 fn among(terms: &Terms, stages: &[Stage], kind: Kind, group: &Columns) -> Due
     requires few { length stages.now < 255 }
     ensures { result ≡ among_of (contest_of terms.now []) (reverse stages.now) kind group.now }
 {
-    if group.len() == 0 {
-        return Due::Finished;
-    }
     if group.len() == 1 {
         return Due::Act(action_on(terms, stages, kind, group.as_slice()[0]));
     }

@@ -97,7 +97,7 @@ fn give<'a>(
 }
 
 /// Passes papers on to their next available preferences, at a value.
-#[tactic(auto, using(crate::proofs::HoldingLemmas::known_holders))]
+#[tactic(auto, using(crate::proofs::ParcelTotals::known_holders))]
 fn pass_papers<'a>(
     alloc: Global,
     holdings: &mut Vec<Holding<'a>>,

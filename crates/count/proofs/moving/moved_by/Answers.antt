@@ -5,12 +5,12 @@ use Rattle.count.specs.declared.parcel.TransferRule.{TransferRule}
 use Rattle.count.specs.declared.parcel.TransferRule.TheVariants.{AsReceived, Share}
 use Rattle.count.specs.Places.{surplus_of}
 use Rattle.count.specs.Elected.{is_continuing}
-use Rattle.count.proofs.HoldingLemmas.{total_passed-same}
+use Rattle.count.proofs.ParcelTotals.{total_passed-same}
 use Rattle.count.specs.Advance.{IsDue}
 use Rattle.count.specs.Books.{contest_of, IsMovedBy}
 use Rattle.count.specs.declared.stages.Action.{Action}
 use Rattle.count.proofs.MoveLemmas.{IsLawful, surplus-lawful, under-way}
-use Rattle.count.proofs.HeldLemmas.{moved-surplus, moved-exclude, moved-last}
+use Rattle.count.proofs.TransferLemmas.{moved-surplus, moved-exclude, moved-last}
 use Rattle.count.proofs.moving.moved_by.Goals as goal
 use Rattle.count.proofs.moving.moved_by.Goals.{In-Surplus, In-Exclude, In-ExcludeLast}
 

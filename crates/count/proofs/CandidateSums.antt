@@ -51,6 +51,12 @@ held-within contest stages cs differ =
     (λ p. let at = place contest stages p in let one = sum-one at.holder at.value cs differ in omega (arith, one, within_value (list_any (nat_eq at.holder) cs) at.value)) in
     omega (arith, swapped, each)
 
+-- what one number holds is within the values of all
+pub one-within : (contest : Contest) (stages : History) (c : ℕ) → held contest stages c ≤ all_values contest stages
+one-within contest stages c =
+    sum_by-le-sum_by (λ p. value_with c (place contest stages p)) (λ p. (place contest stages p).value) contest.papers
+    (λ p. let at = place contest stages p in within_value (eqb at.holder c) at.value)
+
 -- smaller at each member, smaller in sum
 pub sum-le : (f g : ℕ → ℕ) (xs : List ℕ) → ((c : ℕ) → list_any (nat_eq c) xs ≡ true → f c ≤ g c) → sum_by f xs ≤ sum_by g xs
 sum-le f g [] h = omega arith
