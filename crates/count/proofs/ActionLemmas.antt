@@ -5,12 +5,12 @@ use Rattle.std.proofs.lemmas.List.{get_or_default}
 use Rattle.std.proofs.lemmas.Map.Views.{Contains-from_any}
 use Rattle.std.proofs.lemmas.List.FromFn.{get_or-map-range_with_len}
 use Rattle.paper.specs.Columns.{IsColumnSet, IsColumn}
-use Rattle.count.specs.Contest.{Contest, History, IsContest, In, newest_votes, numbers}
-use Rattle.count.specs.Right.{IsRight, IsRightBy, IsNext, Tells}
-use Rattle.count.specs.Due.{due_after, due_for, drawn, among, with_surplus, highest, lowest, action_on, lot_for, is_above}
-use Rattle.count.specs.Elected.{continuing_after, elected_after, is_transferred, is_excluded, is_elected, transfers, excludes}
-use Rattle.count.specs.Figures.{votes_after, value_with}
-use Rattle.count.specs.Places.{place}
+use Rattle.count.specs.Law.Contest.{Contest, History, IsContest, In, newest_votes, numbers}
+use Rattle.count.specs.Law.Right.{IsRight, IsRightBy, IsNext, Tells}
+use Rattle.count.specs.Law.Due.{due_after, due_for, drawn, among, with_surplus, highest, lowest, action_on, lot_for, is_above}
+use Rattle.count.specs.Law.Elected.{continuing_after, elected_after, is_transferred, is_excluded, is_elected, transfers, excludes}
+use Rattle.count.specs.Law.Figures.{votes_after, value_with}
+use Rattle.count.specs.Law.Places.{place}
 use Rattle.count.specs.Advance.{AdvancesBy}
 use Rattle.count.specs.declared.stages.Stage.{Stage}
 use Rattle.count.specs.declared.stages.Action.{Action}

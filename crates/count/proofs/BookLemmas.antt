@@ -1,11 +1,11 @@
 use Rattle.std.proofs.Common.{◌≡◌, ℕ, ◌<◌, List, [], ◌∷◌, length, reverse, Option, arith, subst, sym, Some}
 use Rattle.std.proofs.lemmas.List.{length-reverse}
 use Rattle.paper.proofs.ColumnSets.{length_columns}
-use Rattle.count.specs.Contest.{Contest, History}
-use Rattle.count.specs.Due.{drawn, due_after}
-use Rattle.count.specs.Right.{IsNext, IsRightByItself, candidate_of}
+use Rattle.count.specs.Law.Contest.{Contest, History}
+use Rattle.count.specs.Law.Due.{drawn, due_after}
+use Rattle.count.specs.Law.Right.{IsNext, IsRightByItself, candidate_of}
 use Rattle.count.specs.Advance.{Adds, Advances, IsDue}
-use Rattle.count.specs.Laws.{IsConserved, IsShort, FillsSeats, OnlyCandidatesHaveVotes, IsAmongSeveral}
+use Rattle.count.specs.Law.Laws.{IsConserved, IsShort, FillsSeats, OnlyCandidatesHaveVotes, IsAmongSeveral}
 use Rattle.count.specs.Books.{AreHeld, IsBook}
 use Rattle.count.specs.declared.stages.Action.{Action}
 use Rattle.count.specs.declared.stages.Stage.{Stage}

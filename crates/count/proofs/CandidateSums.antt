@@ -5,9 +5,9 @@ use Rattle.std.proofs.lemmas.List.Kept.{AllPairs-from_increasing}
 use Rattle.std.proofs.lemmas.Map.Keys.{IsDistinct-from_apart, IsDistinct-head, IsDistinct-tail}
 use Rattle.std.proofs.lemmas.Bool.{eqb-true, ne_eqb, eq-eqb}
 use Rattle.paper.specs.Columns.{IsColumnSet}
-use Rattle.count.specs.Contest.{Contest, History}
-use Rattle.count.specs.Places.{place}
-use Rattle.count.specs.Figures.{value_with}
+use Rattle.count.specs.Law.Contest.{Contest, History}
+use Rattle.count.specs.Law.Places.{place}
+use Rattle.count.specs.Law.Figures.{value_with}
 use Rattle.count.proofs.SumLemmas.{sum_by-same, sum_by-add, sum_by-none}
 use Rattle.count.proofs.ValueLemmas.{all_values, held}
 use Rattle.count.proofs.ChoiceLemmas.{within_value}

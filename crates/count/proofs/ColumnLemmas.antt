@@ -8,7 +8,7 @@ use Rattle.std.proofs.lemmas.List.Kept.{IsStrictlyIncreasing-filter}
 use Rattle.paper.specs.Columns.{IsColumnSet, IsColumn}
 use Rattle.std.proofs.lemmas.List.{get_or-take, length-take, take_all}
 use Rattle.std.proofs.lemmas.List.Elements.{filter_more}
-use Rattle.count.specs.Contest.{In}
+use Rattle.count.specs.Law.Contest.{In}
 use Rattle.count.specs.Holdings.{OnlyColumns}
 use Rattle.count.proofs.ActionLemmas.{in-filter, column-in}
 

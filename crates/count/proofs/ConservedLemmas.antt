@@ -2,13 +2,13 @@ use Rattle.std.proofs.Common.{◌≡◌, ℕ, ◌+◌, ◌*◌, ◌<◌, ◌≤�
 use Rattle.std.specs.List.{list_any, sum_by, AllByRecursion}
 use Rattle.std.proofs.lemmas.Bool.{cases_order}
 use Rattle.std.proofs.lemmas.List.Sums.{sum_by-cons}
-use Rattle.count.specs.Contest.{Contest, History, IsContest, AreForCandidates, votes_at, In}
-use Rattle.count.specs.Laws.{IsConserved}
+use Rattle.count.specs.Law.Contest.{Contest, History, IsContest, AreForCandidates, votes_at, In}
+use Rattle.count.specs.Law.Laws.{IsConserved}
 use Rattle.count.specs.Holdings.{passes_on}
-use Rattle.count.specs.Places.{Place, place, moved, first_of, after, next_available}
-use Rattle.count.specs.Right.{IsRightBy}
-use Rattle.count.specs.Elected.{is_continuing, is_excluded, is_elected, is_transferred, transfers}
-use Rattle.count.specs.Figures.{value_with, votes_after, non_transferable_after, lost_after}
+use Rattle.count.specs.Law.Places.{Place, place, moved, first_of, after, next_available}
+use Rattle.count.specs.Law.Right.{IsRightBy}
+use Rattle.count.specs.Law.Elected.{is_continuing, is_excluded, is_elected, is_transferred, transfers}
+use Rattle.count.specs.Law.Figures.{value_with, votes_after, non_transferable_after, lost_after}
 use Rattle.count.specs.Books.{AreRankings}
 use Rattle.count.specs.declared.stages.Stage.{Stage}
 use Rattle.count.specs.declared.stages.Action.{Action}

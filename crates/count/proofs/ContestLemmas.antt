@@ -1,7 +1,7 @@
 use Rattle.std.proofs.Common.{◌≡◌, ℕ, suc, zero, ◌+◌, ◌<◌, ◌≤◌, List, [], ◌∷◌, length, take, get_or, refl, arith, subst}
 use Rattle.std.specs.List.{AllByRecursion}
 use Rattle.paper.specs.Columns.{IsColumnSet}
-use Rattle.count.specs.Contest.{AreForCandidates, contest_for, IsContest}
+use Rattle.count.specs.Law.Contest.{AreForCandidates, contest_for, IsContest}
 
 -- one member more, all members, and one of them
 pub all-more : {X : Type 0} (P : X → Type 0) (xs : List X) (i : ℕ) (x : X) → i < length xs → x ≡ get_or xs i x → P x → AllByRecursion P (take i xs) → AllByRecursion P (take (i + 1) xs)

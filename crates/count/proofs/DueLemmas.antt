@@ -1,9 +1,9 @@
 use Rattle.std.proofs.Common.{◌≡◌, ℕ, ◌+◌, ◌≢◌, Bool, true, false, cond, nat_lt, List, [], ◌∷◌, length, slice_index, refl, sym, ap, subst, arith, Option}
 use Rattle.std.specs.List.{filter}
 use Rattle.std.proofs.lemmas.Bool.{eq-eqb, ne_eqb}
-use Rattle.count.specs.Contest.{Contest, History, votes_at}
-use Rattle.count.specs.Due.{due_after, due_for, among, with_surplus, action_on, lowest, highest}
-use Rattle.count.specs.Elected.{vacancies_after, continuing_after, elected_after}
+use Rattle.count.specs.Law.Contest.{Contest, History, votes_at}
+use Rattle.count.specs.Law.Due.{due_after, due_for, among, with_surplus, action_on, lowest, highest}
+use Rattle.count.specs.Law.Elected.{vacancies_after, continuing_after, elected_after}
 use Rattle.count.specs.Advance.{Advances}
 use Rattle.count.specs.declared.stages.Stage.{Stage}
 use Rattle.count.specs.declared.stages.Due.TheVariants.{Act, Lot, Finished}

@@ -1,6 +1,6 @@
 use Rattle.std.proofs.Common.{◌≡◌, ℕ, suc, zero, ◌+◌, ◌<◌, ◌≤◌, List, [], ◌∷◌, length, take, get_or, arith, subst}
 use Rattle.paper.specs.Ranking.{IsRanking}
-use Rattle.count.specs.Places.{first_of}
+use Rattle.count.specs.Law.Places.{first_of}
 use Rattle.count.specs.Books.{AreRankings}
 
 -- the first of a ranking is a number of a candidate, or 0

@@ -1,13 +1,13 @@
 use Rattle.std.proofs.Common.{◌≡◌, ℕ, ◌+◌, ◌-◌, ◌≤◌, ◌==◌, ◌||◌, ◌⊎◌, inl, inr, Bool, true, false, not, cond, eqb, nat_eq, nat_le, List, [], ◌∷◌, length, Option, refl, sym, ap, ◌∙◌, arith}
 use Rattle.std.specs.List.{list_any, filter, sum_by}
 use Rattle.std.proofs.lemmas.Bool.{eqb-true, eqb-false, eq-eqb}
-use Rattle.count.specs.Contest.{Contest, History, IsContest, votes_at, In}
+use Rattle.count.specs.Law.Contest.{Contest, History, IsContest, votes_at, In}
 use Rattle.count.specs.Holdings.{passes_on}
-use Rattle.count.specs.Right.{IsRightBy, Tells}
-use Rattle.count.specs.Places.{place, moved}
-use Rattle.count.specs.Figures.{votes_after, value_with}
-use Rattle.count.specs.Elected.{is_excluded, is_elected, is_transferred, has_reached, undecided_fill, continuing_after, vacancies_after, transfers, excludes}
-use Rattle.count.specs.Due.{exclusion}
+use Rattle.count.specs.Law.Right.{IsRightBy, Tells}
+use Rattle.count.specs.Law.Places.{place, moved}
+use Rattle.count.specs.Law.Figures.{votes_after, value_with}
+use Rattle.count.specs.Law.Elected.{is_excluded, is_elected, is_transferred, has_reached, undecided_fill, continuing_after, vacancies_after, transfers, excludes}
+use Rattle.count.specs.Law.Due.{exclusion}
 use Rattle.count.specs.Books.{AreRankings}
 use Rattle.count.specs.declared.stages.Stage.{Stage}
 use Rattle.count.specs.declared.stages.Action.{Action}

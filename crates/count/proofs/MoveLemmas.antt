@@ -1,8 +1,8 @@
 use Rattle.std.proofs.Common.{◌≡◌, ℕ, ◌<◌, ◌≤◌, ◌⊎◌, inl, inr, Bool, true, false, cond, nat_eq, List, [], ◌∷◌, sym, ap, ◌∙◌, arith, subst}
 use Rattle.std.specs.List.{list_any}
 use Rattle.paper.specs.Columns.{IsColumn}
-use Rattle.count.specs.Contest.{Contest, History, IsContest, In, newest_votes}
-use Rattle.count.specs.Right.{IsRightByItself, candidate_of}
+use Rattle.count.specs.Law.Contest.{Contest, History, IsContest, In, newest_votes}
+use Rattle.count.specs.Law.Right.{IsRightByItself, candidate_of}
 use Rattle.count.specs.Advance.{IsDue}
 use Rattle.count.specs.Books.{AreRankings, HoldPapers, IsBook}
 use Rattle.count.specs.declared.parcel.Holding.{Holding}

@@ -1,7 +1,7 @@
 use Rattle.std.proofs.Common.{◌≡◌, ℕ, Bool, true, false, not, nat_eq, List, refl, sym, ap, ◌∙◌}
 use Rattle.std.specs.List.{list_any, filter}
-use Rattle.count.specs.Contest.{Contest, History, In}
-use Rattle.count.specs.Elected.{elected_after, is_elected}
+use Rattle.count.specs.Law.Contest.{Contest, History, In}
+use Rattle.count.specs.Law.Elected.{elected_after, is_elected}
 use Rattle.count.proofs.ActionLemmas.{in-filter}
 use Rattle.count.proofs.TieLemmas.{filter-in}
 use Rattle.count.proofs.FilterLemmas.{filter-cong}

@@ -1,8 +1,8 @@
 use Rattle.std.proofs.Common.{◌≡◌, ℕ, Bool, true, false, cond, nat_eq, List, Option, Some, None, refl, sym, ap, ◌∙◌}
 use Rattle.std.specs.List.{list_any}
-use Rattle.count.specs.Contest.{Contest, History}
-use Rattle.count.specs.Due.{drawn, action_on}
-use Rattle.count.specs.Right.{candidate_of}
+use Rattle.count.specs.Law.Contest.{Contest, History}
+use Rattle.count.specs.Law.Due.{drawn, action_on}
+use Rattle.count.specs.Law.Right.{candidate_of}
 use Rattle.count.specs.declared.stages.Action.{Action}
 use Rattle.count.specs.declared.stages.Action.TheVariants.{Exclude, ExcludeLast}
 use Rattle.count.specs.declared.stages.Kind.{Kind}

@@ -2,13 +2,13 @@ use Rattle.std.proofs.Common.{◌≡◌, ℕ, ◌<◌, ◌≤◌, ◌==◌, ◌|
 use Rattle.std.specs.List.{list_any}
 use Rattle.std.proofs.lemmas.Bool.{eqb-true, eqb-false, eq-eqb, le-leb}
 use Rattle.paper.specs.Ranking.{IsRanking}
-use Rattle.count.specs.Contest.{Contest, History, newest_votes, votes_at}
+use Rattle.count.specs.Law.Contest.{Contest, History, newest_votes, votes_at}
 use Rattle.count.specs.Holdings.{passes_on}
 use Rattle.paper.specs.Standing.{from_first}
-use Rattle.count.specs.Places.{Place, place, moved, first_of, after, next_available}
-use Rattle.count.specs.Right.{IsRightBy}
-use Rattle.count.specs.Elected.{is_continuing, is_excluded, is_elected, has_reached, excludes}
-use Rattle.count.specs.Figures.{value_with}
+use Rattle.count.specs.Law.Places.{Place, place, moved, first_of, after, next_available}
+use Rattle.count.specs.Law.Right.{IsRightBy}
+use Rattle.count.specs.Law.Elected.{is_continuing, is_excluded, is_elected, has_reached, excludes}
+use Rattle.count.specs.Law.Figures.{value_with}
 use Rattle.count.specs.Books.{AreRankings}
 use Rattle.count.specs.declared.stages.Stage.{Stage}
 use Rattle.count.specs.declared.stages.Action.{Action}

@@ -3,11 +3,11 @@ use Rattle.std.specs.List.{filter, sum_by}
 use Rattle.std.proofs.lemmas.Bool.{leb-true, eqb-true, cases_order}
 use Rattle.std.proofs.lemmas.List.Sums.{sum_by-le-sum_by}
 use Rattle.std.proofs.Math.Nat.{lt-div-mul-add, mul-le-mul_right}
-use Rattle.count.specs.Contest.{Contest, History, IsContest, newest_votes, votes_at, In}
-use Rattle.count.specs.Right.{IsRightBy, Tells}
-use Rattle.count.specs.Figures.{votes_after, lost_after, lost_by}
-use Rattle.count.specs.Elected.{is_transferred, is_elected, has_reached, transfers, with_quota}
-use Rattle.count.specs.Places.{place, moved}
+use Rattle.count.specs.Law.Contest.{Contest, History, IsContest, newest_votes, votes_at, In}
+use Rattle.count.specs.Law.Right.{IsRightBy, Tells}
+use Rattle.count.specs.Law.Figures.{votes_after, lost_after, lost_by}
+use Rattle.count.specs.Law.Elected.{is_transferred, is_elected, has_reached, transfers, with_quota}
+use Rattle.count.specs.Law.Places.{place, moved}
 use Rattle.count.specs.Advance.{IsDue}
 use Rattle.count.specs.declared.stages.Stage.{Stage}
 use Rattle.count.specs.declared.stages.Action.{Action}

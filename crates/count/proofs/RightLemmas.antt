@@ -2,12 +2,12 @@ use Rattle.std.proofs.Common.{◌≡◌, ℕ, ◌+◌, ◌-◌, Bool, true, fals
 use Rattle.std.specs.List.{sum_by, filter, list_any}
 use Rattle.std.specs.List.Sorted.{IsPermutation}
 use Rattle.std.proofs.lemmas.List.Sorted.{sum_by-IsPermutation}
-use Rattle.count.specs.Contest.{Contest, History, numbers}
-use Rattle.count.specs.Places.{Place, place, moved, surplus_of}
-use Rattle.count.specs.Due.{due_after, drawn, lot_for, next_action, action_on}
-use Rattle.count.specs.Figures.{votes_after, non_transferable_after, lost_after, lost_by, value_passed_on, value_with}
-use Rattle.count.specs.Elected.{elected_after, is_elected, is_transferred}
-use Rattle.count.specs.Right.{Tells, IsRight, IsCount, reordered, IsBeginning, BeginsEachRight, EqualsEachCount, IsWholeCount, OneBeginsOther}
+use Rattle.count.specs.Law.Contest.{Contest, History, numbers}
+use Rattle.count.specs.Law.Places.{Place, place, moved, surplus_of}
+use Rattle.count.specs.Law.Due.{due_after, drawn, lot_for, next_action, action_on}
+use Rattle.count.specs.Law.Figures.{votes_after, non_transferable_after, lost_after, lost_by, value_passed_on, value_with}
+use Rattle.count.specs.Law.Elected.{elected_after, is_elected, is_transferred}
+use Rattle.count.specs.Law.Right.{Tells, IsRight, IsCount, reordered, IsBeginning, BeginsEachRight, EqualsEachCount, IsWholeCount, OneBeginsOther}
 use Rattle.count.specs.Advance.{AdvancesBy, end_of, end_after}
 use Rattle.count.specs.declared.run.CountEnd.{CountEnd}
 use Rattle.count.specs.declared.run.CountEnd.TheVariants.{LotNotAmong}

@@ -1,10 +1,10 @@
 use Rattle.std.proofs.Common.{◌≡◌, ℕ, ◌-◌, ◌<◌, ◌==◌, ◌||◌, ◌&&◌, ◌⊎◌, inl, inr, Bool, true, false, not, cond, nat_lt, List, [], ◌∷◌, Option, Some, refl, sym, ap, ◌∙◌, arith, slice_index}
 use Rattle.std.proofs.lemmas.Bool.{ltb-true}
-use Rattle.count.specs.Contest.{Contest, History, newest_votes, In}
-use Rattle.count.specs.Right.{Tells}
-use Rattle.count.specs.Due.{due_after, due_for, drawn, with_surplus, exclusion}
-use Rattle.count.specs.Elected.{elected_after, vacancies_after, is_transferred, is_excluded, is_elected, has_reached, undecided_fill}
-use Rattle.count.specs.Figures.{votes_after}
+use Rattle.count.specs.Law.Contest.{Contest, History, newest_votes, In}
+use Rattle.count.specs.Law.Right.{Tells}
+use Rattle.count.specs.Law.Due.{due_after, due_for, drawn, with_surplus, exclusion}
+use Rattle.count.specs.Law.Elected.{elected_after, vacancies_after, is_transferred, is_excluded, is_elected, has_reached, undecided_fill}
+use Rattle.count.specs.Law.Figures.{votes_after}
 use Rattle.count.specs.declared.stages.Stage.{Stage}
 use Rattle.count.specs.declared.stages.Action.{Action}
 use Rattle.count.specs.declared.stages.Action.TheVariants.{First, Surplus}

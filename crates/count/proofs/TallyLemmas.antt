@@ -4,11 +4,11 @@ use Rattle.std.proofs.lemmas.Bool.{eqb-true}
 use Rattle.std.proofs.lemmas.List.FromFn.{map-range_with_len_more}
 use Rattle.std.proofs.Math.Nat.{div-le_of_le-mul}
 use Rattle.paper.specs.Columns.{IsColumn}
-use Rattle.count.specs.Contest.{Contest, History, IsContest, newest_votes, numbers}
-use Rattle.count.specs.Elected.{transfers, is_transferred}
-use Rattle.count.specs.Places.{Place, place, moved}
-use Rattle.count.specs.Figures.{value_with, votes_after, non_transferable_after, value_passed_on, lost_after, lost_by}
-use Rattle.count.specs.Right.{IsRightBy, candidate_of}
+use Rattle.count.specs.Law.Contest.{Contest, History, IsContest, newest_votes, numbers}
+use Rattle.count.specs.Law.Elected.{transfers, is_transferred}
+use Rattle.count.specs.Law.Places.{Place, place, moved}
+use Rattle.count.specs.Law.Figures.{value_with, votes_after, non_transferable_after, value_passed_on, lost_after, lost_by}
+use Rattle.count.specs.Law.Right.{IsRightBy, candidate_of}
 use Rattle.count.specs.Advance.{IsDue, Adds}
 use Rattle.count.specs.Holdings.{total, passes_on, kept_by, worth, worth_to, votes_with, lost_with, newest_non_transferable, newest_lost, AreSmall}
 use Rattle.count.specs.Books.{contest_of, HoldPapers, IsMovedBy, AreHeld, AreRankings, IsBook, Records}

@@ -4,8 +4,8 @@ use Rattle.std.specs.Ordering.{is_lt}
 use Rattle.std.specs.declared.cmp.Ordering.TheVariants.{Less, Equal, Greater}
 use Rattle.std.proofs.lemmas.Bool.{eq-eqb, eqb-true}
 use Rattle.std.proofs.lemmas.Cmp.{nat_list_cmp_total, tied_itself}
-use Rattle.count.specs.Contest.{History, In}
-use Rattle.count.specs.Due.{trace, is_above, highest, lowest}
+use Rattle.count.specs.Law.Contest.{History, In}
+use Rattle.count.specs.Law.Due.{trace, is_above, highest, lowest}
 use Rattle.count.proofs.ChoiceLemmas.{or_later}
 
 keep_choice : (c x : ℕ) (p : ℕ → Bool) (xs : List ℕ) (b t : Bool) → p x ≡ b → eqb c x ≡ t → p c ≡ true →

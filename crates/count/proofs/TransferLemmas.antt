@@ -3,10 +3,10 @@ use Rattle.std.specs.List.{sum_by, filter}
 use Rattle.std.proofs.lemmas.List.Sums.{sum_by-cons, sum_by-append}
 use Rattle.std.proofs.lemmas.Bool.{eqb-true}
 use Rattle.paper.specs.Ranking.{IsRanking}
-use Rattle.count.specs.Contest.{Contest, History, newest_votes}
-use Rattle.count.specs.Elected.{is_continuing}
+use Rattle.count.specs.Law.Contest.{Contest, History, newest_votes}
+use Rattle.count.specs.Law.Elected.{is_continuing}
 use Rattle.paper.specs.Standing.{from_first}
-use Rattle.count.specs.Places.{Place, place, moved, passed_on, first_of, next_available, surplus_of}
+use Rattle.count.specs.Law.Places.{Place, place, moved, passed_on, first_of, next_available, surplus_of}
 use Rattle.count.specs.Holdings.{total, total_of, total_passed, at_passed, new_value, passed_to, passes_on, kept_by}
 use Rattle.count.specs.Books.{AreRankings, rest_at, at_place, HoldPapers, IsMovedBy}
 use Rattle.count.specs.declared.parcel.Parcel.{Parcel}

@@ -1,9 +1,9 @@
 use Rattle.std.proofs.Common.{◌≡◌, ℕ, ◌+◌, ◌-◌, ◌*◌, ◌<◌, ◌≤◌, Bool, true, false, cond, eqb, List, [], ◌∷◌, length, refl, sym, ap, ◌∙◌, ◌/◌, arith, subst}
 use Rattle.std.specs.List.{sum_by}
 use Rattle.votes.specs.Units.{cut}
-use Rattle.count.specs.Contest.{Contest, History, newest_votes}
-use Rattle.count.specs.Places.{Place, place, moved, surplus_of}
-use Rattle.count.specs.Figures.{value_with, value_passed_on, lost_after, lost_by}
+use Rattle.count.specs.Law.Contest.{Contest, History, newest_votes}
+use Rattle.count.specs.Law.Places.{Place, place, moved, surplus_of}
+use Rattle.count.specs.Law.Figures.{value_with, value_passed_on, lost_after, lost_by}
 use Rattle.count.specs.declared.stages.Stage.{Stage}
 use Rattle.count.specs.declared.stages.Action.{Action}
 use Rattle.count.specs.declared.stages.Action.TheVariants.{First, Surplus, Exclude, ExcludeLast}

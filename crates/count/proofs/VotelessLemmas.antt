@@ -2,12 +2,12 @@
 use Rattle.std.proofs.Common.{◌≡◌, ℕ, ◌≤◌, ◌||◌, ◌⊎◌, inl, inr, Bool, true, false, cond, nat_eq, List, [], ◌∷◌, Option, refl, sym, ap, ◌∙◌, arith}
 use Rattle.std.specs.List.{list_any}
 use Rattle.std.proofs.lemmas.Bool.{eqb-true}
-use Rattle.count.specs.Contest.{Contest, History, IsContest, In}
-use Rattle.count.specs.Elected.{is_transferred, transfers}
-use Rattle.count.specs.Figures.{value_with}
-use Rattle.count.specs.Laws.{OnlyCandidatesHaveVotes}
-use Rattle.count.specs.Places.{Place, place}
-use Rattle.count.specs.Right.{IsRightBy}
+use Rattle.count.specs.Law.Contest.{Contest, History, IsContest, In}
+use Rattle.count.specs.Law.Elected.{is_transferred, transfers}
+use Rattle.count.specs.Law.Figures.{value_with}
+use Rattle.count.specs.Law.Laws.{OnlyCandidatesHaveVotes}
+use Rattle.count.specs.Law.Places.{Place, place}
+use Rattle.count.specs.Law.Right.{IsRightBy}
 use Rattle.count.specs.declared.stages.Stage.{Stage}
 use Rattle.count.specs.declared.stages.Action.{Action}
 use Rattle.count.specs.declared.stages.Action.TheVariants.{Exclude, ExcludeLast}

@@ -1,6 +1,6 @@
 use Rattle.std.proofs.Common.{◌-◌, ℕ, List, [], ◌∷◌, ◌++◌, replicate, refl, length}
-use Rattle.count.specs.Contest.{Contest, History, contest_for}
-use Rattle.count.specs.Right.{IsRight, IsCount}
+use Rattle.count.specs.Law.Contest.{Contest, History, contest_for}
+use Rattle.count.specs.Law.Right.{IsRight, IsCount}
 use Rattle.count.specs.declared.stages.Stage.{Stage}
 use Rattle.count.specs.declared.stages.Action.{Action}
 use Rattle.count.specs.declared.stages.Action.TheVariants.{First, Surplus, Exclude, ExcludeLast}

@@ -1,10 +1,10 @@
 //! A count that is under way, however its papers are kept.
 
 ghost use Rattle.std.specs.Prelude.{◌≡◌, ℕ, reverse, OnOk, OnErr, IfSome, IfNone, IsOkUnless};
-ghost use Rattle.count.specs.Contest.{Contest, History, IsContest};
-ghost use Rattle.count.specs.Due.{due_after};
-ghost use Rattle.count.specs.Right.{IsRightByItself};
-ghost use Rattle.count.specs.Laws.{IsConserved, IsShort, FillsSeats, OnlyCandidatesHaveVotes, IsAmongSeveral};
+ghost use Rattle.count.specs.Law.Contest.{Contest, History, IsContest};
+ghost use Rattle.count.specs.Law.Due.{due_after};
+ghost use Rattle.count.specs.Law.Right.{IsRightByItself};
+ghost use Rattle.count.specs.Law.Laws.{IsConserved, IsShort, FillsSeats, OnlyCandidatesHaveVotes, IsAmongSeveral};
 ghost use Rattle.count.specs.Advance.{refusal, Advances};
 
 use crate::stages::{Due, Stage};

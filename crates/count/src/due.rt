@@ -1,13 +1,13 @@
 //! What is due after some stages.
 
 ghost use Rattle.std.specs.Prelude.{◌≡◌, ℕ, ◌<◌, [], length, reverse, IfOk, IfErr, Some};
-ghost use Rattle.count.specs.Due.{due_after, drawn, exclusion as exclusion_of, action_on as action_on_of, among as among_of, due_for as due_for_of};
+ghost use Rattle.count.specs.Law.Due.{due_after, drawn, exclusion as exclusion_of, action_on as action_on_of, among as among_of, due_for as due_for_of};
 ghost use Rattle.count.specs.Advance.{refusal};
 ghost use Rattle.count.specs.Books.{contest_of};
 
 use crate::book::AdvanceError;
 use crate::stages::{Action, Due, Kind, Stage};
-use crate::standing::{continuing, elected, vacancies, with_surplus};
+use crate::elected::{continuing, elected, vacancies, with_surplus};
 use crate::terms::Terms;
 use crate::ties::{highest, lowest};
 use paper::{Columns, Prefs};

@@ -13,27 +13,30 @@
 //! ```
 #![tactic(auto)]
 
-mod act;
-mod book;
-mod contest;
-mod due;
-mod moving;
-mod parcel;
-mod parcel_book;
-mod record;
-mod run;
-mod sorting;
-mod stages;
-mod standing;
-mod tally;
+// what a count is held on, and its stages
 mod terms;
+mod contest;
+mod stages;
+// what the Order says of stages: who is elected, who is tied, what is due
+mod elected;
 mod ties;
+mod due;
+// a count that is under way, and one to its end
+mod book;
+mod run;
+// a book by parcels: its papers, their moves, and what is recorded of them
+mod parcel;
+mod sorting;
+mod moving;
+mod tally;
+mod record;
+mod act;
+mod parcel_book;
+#[cfg(test)]
+mod tests;
 
 pub use book::{AdvanceError, CountBook};
 pub use contest::is_contest;
 pub use parcel_book::ParcelBook;
 pub use run::{CountEnd, run_count};
 pub use stages::{Action, Due, Kind, Stage};
-
-#[cfg(test)]
-mod tests;

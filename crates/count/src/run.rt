@@ -1,10 +1,10 @@
 //! A count from where it stands to its end.
 
 ghost use Rattle.std.specs.Prelude.{◌≡◌, OnOk, OnErr, IfOk, IfSome, IfNone, None, Some};
-ghost use Rattle.count.specs.Contest.{IsContest};
-ghost use Rattle.count.specs.Due.{due_after, lot_for};
-ghost use Rattle.count.specs.Right.{IsRight, IsBeginning, IsWholeCount, OneBeginsOther};
-ghost use Rattle.count.specs.Laws.{FillsSeats};
+ghost use Rattle.count.specs.Law.Contest.{IsContest};
+ghost use Rattle.count.specs.Law.Due.{due_after, lot_for};
+ghost use Rattle.count.specs.Law.Right.{IsRight, IsBeginning, IsWholeCount, OneBeginsOther};
+ghost use Rattle.count.specs.Law.Laws.{FillsSeats};
 ghost use Rattle.count.specs.Advance.{AdvancesBy, Advances, refusal, end_after};
 
 use crate::book::{AdvanceError, CountBook};

@@ -1,9 +1,9 @@
 //! The stages of a count, and what comes next in it.
 
-use paper::Columns;
+use paper::{Columns, MAX_CANDIDATES};
 use votes::Votes;
 
-/// What is done at a stage; candidates go by their numbers, 1 to 30.
+/// What is done at a stage; candidates go by their numbers, 1 to `MAX_CANDIDATES`.
 #[derive(Clone, Copy, Debug, PartialEq, Eq)]
 pub enum Action {
     /// Each paper goes to its first preference, as one vote.
@@ -22,7 +22,7 @@ pub enum Action {
 pub struct Stage {
     pub action: Action,
     /// The votes of candidate c at place c - 1, and 0 for numbers that are no candidates.
-    pub votes: [Votes; 30],
+    pub votes: [Votes; MAX_CANDIDATES],
     /// Who is newly elected at this stage.
     pub elected: Columns,
     /// The values of the papers without a next preference, of all stages up to this one.

@@ -1,9 +1,9 @@
 use Rattle.std.proofs.Common.{◌≡◌, ◌+◌, length, ap, sym, ◌∙◌, subst, Some}
 use Rattle.count.specs.Advance.{AdvancesBy, end_after}
-use Rattle.count.specs.Contest.{IsContest, Contest, History}
-use Rattle.count.specs.Due.{lot_for}
-use Rattle.count.specs.Right.{IsWholeCount}
-use Rattle.count.specs.Laws.{FillsSeats}
+use Rattle.count.specs.Law.Contest.{IsContest, Contest, History}
+use Rattle.count.specs.Law.Due.{lot_for}
+use Rattle.count.specs.Law.Right.{IsWholeCount}
+use Rattle.count.specs.Law.Laws.{FillsSeats}
 use Rattle.count.specs.declared.stages.Stage.{Stage}
 use Rattle.count.specs.declared.run.CountEnd.{CountEnd}
 use Rattle.count.proofs.ActionLemmas.{steps-smaller}

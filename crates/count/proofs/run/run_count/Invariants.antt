@@ -1,5 +1,5 @@
 use Rattle.std.proofs.Common.{◌≡◌, ◌+◌, ◌-◌, ◌*◌, length}
-use Rattle.count.specs.Right.{IsRight, IsBeginning}
+use Rattle.count.specs.Law.Right.{IsRight, IsBeginning}
 use Rattle.count.proofs.run.run_count.Given as goal
 
 abbrev pub invariant-stages : goal.invariant-stages

@@ -1,6 +1,6 @@
 use Rattle.std.proofs.Common.{◌≡◌, ◌∙◌, ℕ, ◌<◌, List, length, get_or, ap, arith}
 use Rattle.std.proofs.lemmas.List.Sums.{sum_by_more}
-use Rattle.count.specs.Places.{first_of}
+use Rattle.count.specs.Law.Places.{first_of}
 use Rattle.count.proofs.FirstLemmas.{rankings-more}
 use Rattle.count.proofs.sorting.first_holdings.Goals as goal
 

@@ -1,6 +1,6 @@
 use Rattle.std.proofs.Common.{◌≡◌, ℕ, List, take, vec_len}
 use Rattle.std.specs.List.{sum_by}
-use Rattle.count.specs.Places.{first_of}
+use Rattle.count.specs.Law.Places.{first_of}
 use Rattle.count.specs.Holdings.{total, AreNumbered}
 use Rattle.count.specs.Books.{AreRankings}
 use Rattle.count.proofs.sorting.first_holdings.Given as goal
