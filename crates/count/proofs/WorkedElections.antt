@@ -243,3 +243,119 @@ passed_over_right_5 = (passed_over_right_4, record { was_due = refl; tells = rec
 
 passed_over_count : IsCount passed_over passed_over_lots passed_over_5
 passed_over_count = (passed_over_right_5, refl)
+
+-- One seat: of three who are tied the first stage at which one had fewest, going back, excludes him; then the next.
+abbrev three_tied : Contest
+three_tied = contest_for (1 ∷ 2 ∷ 3 ∷ 4 ∷ 5 ∷ 6 ∷ []) 1
+    (times 9 (1 ∷ []) ++ times 2 (2 ∷ []) ++ times 3 (3 ∷ []) ++ times 4 (4 ∷ []) ++ times 1 (5 ∷ 2 ∷ []) ++ times 1 (6 ∷ 2 ∷ []) ++ times 1 (6 ∷ 3 ∷ []))
+
+abbrev three_tied_lots : List (ℕ × ℕ)
+three_tied_lots = []
+
+abbrev three_tied_1 : History
+three_tied_1 = stage First (900000 ∷ 200000 ∷ 300000 ∷ 400000 ∷ 100000 ∷ 200000 ∷ []) [] 0 0 ∷ []
+
+three_tied_right_1 : IsRight three_tied three_tied_lots three_tied_1
+three_tied_right_1 = (tt, record { was_due = refl; tells = record { votes_told = refl; elected_told = refl; non_transferable_told = refl; lost_told = refl } })
+
+abbrev three_tied_2 : History
+three_tied_2 = stage (Exclude 5) (900000 ∷ 300000 ∷ 300000 ∷ 400000 ∷ 0 ∷ 200000 ∷ []) [] 0 0 ∷ three_tied_1
+
+three_tied_right_2 : IsRight three_tied three_tied_lots three_tied_2
+three_tied_right_2 = (three_tied_right_1, record { was_due = refl; tells = record { votes_told = refl; elected_told = refl; non_transferable_told = refl; lost_told = refl } })
+
+abbrev three_tied_3 : History
+three_tied_3 = stage (Exclude 6) (900000 ∷ 400000 ∷ 400000 ∷ 400000 ∷ 0 ∷ 0 ∷ []) [] 0 0 ∷ three_tied_2
+
+three_tied_right_3 : IsRight three_tied three_tied_lots three_tied_3
+three_tied_right_3 = (three_tied_right_2, record { was_due = refl; tells = record { votes_told = refl; elected_told = refl; non_transferable_told = refl; lost_told = refl } })
+
+abbrev three_tied_4 : History
+three_tied_4 = stage (Exclude 2) (900000 ∷ 0 ∷ 400000 ∷ 400000 ∷ 0 ∷ 0 ∷ []) [] 400000 0 ∷ three_tied_3
+
+three_tied_right_4 : IsRight three_tied three_tied_lots three_tied_4
+three_tied_right_4 = (three_tied_right_3, record { was_due = refl; tells = record { votes_told = refl; elected_told = refl; non_transferable_told = refl; lost_told = refl } })
+
+abbrev three_tied_5 : History
+three_tied_5 = stage (Exclude 3) (900000 ∷ 0 ∷ 0 ∷ 400000 ∷ 0 ∷ 0 ∷ []) [] 800000 0 ∷ three_tied_4
+
+three_tied_right_5 : IsRight three_tied three_tied_lots three_tied_5
+three_tied_right_5 = (three_tied_right_4, record { was_due = refl; tells = record { votes_told = refl; elected_told = refl; non_transferable_told = refl; lost_told = refl } })
+
+abbrev three_tied_6 : History
+three_tied_6 = stage (ExcludeLast 4) (900000 ∷ 0 ∷ 0 ∷ 400000 ∷ 0 ∷ 0 ∷ []) (1 ∷ []) 800000 0 ∷ three_tied_5
+
+three_tied_right_6 : IsRight three_tied three_tied_lots three_tied_6
+three_tied_right_6 = (three_tied_right_5, record { was_due = refl; tells = record { votes_told = refl; elected_told = refl; non_transferable_told = refl; lost_told = refl } })
+
+three_tied_count : IsCount three_tied three_tied_lots three_tied_6
+three_tied_count = (three_tied_right_6, refl)
+
+-- One seat: two who were equal at all stages, of whom a lot excludes one.
+abbrev lot_for_exclusion : Contest
+lot_for_exclusion = contest_for (1 ∷ 2 ∷ 3 ∷ []) 1
+    (times 4 (1 ∷ []) ++ times 2 (2 ∷ []) ++ times 2 (3 ∷ []))
+
+abbrev lot_for_exclusion_lots : List (ℕ × ℕ)
+lot_for_exclusion_lots = (2, 3) ∷ []
+
+abbrev lot_for_exclusion_1 : History
+lot_for_exclusion_1 = stage First (400000 ∷ 200000 ∷ 200000 ∷ []) [] 0 0 ∷ []
+
+lot_for_exclusion_right_1 : IsRight lot_for_exclusion lot_for_exclusion_lots lot_for_exclusion_1
+lot_for_exclusion_right_1 = (tt, record { was_due = refl; tells = record { votes_told = refl; elected_told = refl; non_transferable_told = refl; lost_told = refl } })
+
+abbrev lot_for_exclusion_2 : History
+lot_for_exclusion_2 = stage (Exclude 3) (400000 ∷ 200000 ∷ 0 ∷ []) [] 200000 0 ∷ lot_for_exclusion_1
+
+lot_for_exclusion_right_2 : IsRight lot_for_exclusion lot_for_exclusion_lots lot_for_exclusion_2
+lot_for_exclusion_right_2 = (lot_for_exclusion_right_1, record { was_due = refl; tells = record { votes_told = refl; elected_told = refl; non_transferable_told = refl; lost_told = refl } })
+
+abbrev lot_for_exclusion_3 : History
+lot_for_exclusion_3 = stage (ExcludeLast 2) (400000 ∷ 200000 ∷ 0 ∷ []) (1 ∷ []) 200000 0 ∷ lot_for_exclusion_2
+
+lot_for_exclusion_right_3 : IsRight lot_for_exclusion lot_for_exclusion_lots lot_for_exclusion_3
+lot_for_exclusion_right_3 = (lot_for_exclusion_right_2, record { was_due = refl; tells = record { votes_told = refl; elected_told = refl; non_transferable_told = refl; lost_told = refl } })
+
+lot_for_exclusion_count : IsCount lot_for_exclusion lot_for_exclusion_lots lot_for_exclusion_3
+lot_for_exclusion_count = (lot_for_exclusion_right_3, refl)
+
+-- Two seats: two have exactly the quota, and are elected without a surplus.
+abbrev exactly_quota : Contest
+exactly_quota = contest_for (1 ∷ 2 ∷ 3 ∷ []) 2
+    (times 4 (1 ∷ 3 ∷ []) ++ times 4 (2 ∷ 3 ∷ []) ++ times 1 (3 ∷ []))
+
+abbrev exactly_quota_lots : List (ℕ × ℕ)
+exactly_quota_lots = []
+
+abbrev exactly_quota_1 : History
+exactly_quota_1 = stage First (400000 ∷ 400000 ∷ 100000 ∷ []) (1 ∷ 2 ∷ []) 0 0 ∷ []
+
+exactly_quota_right_1 : IsRight exactly_quota exactly_quota_lots exactly_quota_1
+exactly_quota_right_1 = (tt, record { was_due = refl; tells = record { votes_told = refl; elected_told = refl; non_transferable_told = refl; lost_told = refl } })
+
+exactly_quota_count : IsCount exactly_quota exactly_quota_lots exactly_quota_1
+exactly_quota_count = (exactly_quota_right_1, refl)
+
+-- One seat and no papers: a lot decides between two without votes.
+abbrev no_papers : Contest
+no_papers = contest_for (1 ∷ 2 ∷ []) 1
+    []
+
+abbrev no_papers_lots : List (ℕ × ℕ)
+no_papers_lots = (2, 1) ∷ []
+
+abbrev no_papers_1 : History
+no_papers_1 = stage First (0 ∷ 0 ∷ []) [] 0 0 ∷ []
+
+no_papers_right_1 : IsRight no_papers no_papers_lots no_papers_1
+no_papers_right_1 = (tt, record { was_due = refl; tells = record { votes_told = refl; elected_told = refl; non_transferable_told = refl; lost_told = refl } })
+
+abbrev no_papers_2 : History
+no_papers_2 = stage (ExcludeLast 1) (0 ∷ 0 ∷ []) (2 ∷ []) 0 0 ∷ no_papers_1
+
+no_papers_right_2 : IsRight no_papers no_papers_lots no_papers_2
+no_papers_right_2 = (no_papers_right_1, record { was_due = refl; tells = record { votes_told = refl; elected_told = refl; non_transferable_told = refl; lost_told = refl } })
+
+no_papers_count : IsCount no_papers no_papers_lots no_papers_2
+no_papers_count = (no_papers_right_2, refl)
