@@ -1,3 +1,4 @@
+-- The laws of a count hold of each book, and a book that advances stays one.
 use Rattle.std.proofs.Common.{◌≡◌, ℕ, ◌<◌, List, [], ◌∷◌, length, reverse, Option, arith, subst, sym, Some}
 use Rattle.std.proofs.lemmas.List.{length-reverse}
 use Rattle.paper.proofs.ColumnSets.{length_columns}
@@ -11,12 +12,12 @@ use Rattle.count.specs.declared.stages.Action.{Action}
 use Rattle.count.specs.declared.stages.Stage.{Stage}
 use Rattle.count.specs.declared.stages.Due.TheVariants.{Finished}
 use Rattle.count.specs.declared.parcel.Holding.{Holding}
-use Rattle.count.proofs.ActionLemmas.{stages-bound}
-use Rattle.count.proofs.ConservedLemmas.{all-conserved}
-use Rattle.count.proofs.LengthLemmas.{stages-few}
-use Rattle.count.proofs.FinishLemmas.{finished-elected, lots-several}
-use Rattle.count.proofs.VotelessLemmas.{others-voteless}
-use Rattle.count.proofs.OwnLotLemmas.{drawn-own}
+use Rattle.count.proofs.Law.ActionLemmas.{stages-bound}
+use Rattle.count.proofs.Law.ConservedLemmas.{all-conserved}
+use Rattle.count.proofs.Law.LengthLemmas.{stages-few}
+use Rattle.count.proofs.Law.FinishLemmas.{finished-elected, lots-several}
+use Rattle.count.proofs.Law.VotelessLemmas.{others-voteless}
+use Rattle.count.proofs.Law.OwnLotLemmas.{drawn-own}
 
 by_itself : History → Stage → Option ℕ
 by_itself before s = candidate_of s.action

@@ -1,3 +1,4 @@
+-- Sets of numbers, and lists that are walked from either end.
 use Rattle.std.proofs.Common.{◌≡◌, ℕ, ◌+◌, ◌<◌, ◌≤◌, ◌||◌, Bool, true, false, cond, nat_eq, List, [], ◌∷◌, ◌++◌, length, take, get_or, reverse, refl, sym, ap, ◌∙◌, arith, subst, slice_index}
 use Rattle.std.proofs.lemmas.List.{reverse-append}
 use Rattle.std.specs.List.{list_any, filter}
@@ -10,7 +11,7 @@ use Rattle.std.proofs.lemmas.List.{get_or-take, length-take, take_all}
 use Rattle.std.proofs.lemmas.List.Elements.{filter_more}
 use Rattle.count.specs.Law.Contest.{In}
 use Rattle.count.specs.Holdings.{OnlyColumns}
-use Rattle.count.proofs.ActionLemmas.{in-filter, column-in}
+use Rattle.count.proofs.Law.ActionLemmas.{in-filter, column-in}
 
 -- a test finds the same in either direction
 pub any-reverse : {X : Type 0} (p : X → Bool) (xs : List X) → list_any p (reverse xs) ≡ list_any p xs

@@ -1,3 +1,4 @@
+-- The test of a contest, paper by paper.
 use Rattle.std.proofs.Common.{◌≡◌, ℕ, suc, zero, ◌+◌, ◌<◌, ◌≤◌, List, [], ◌∷◌, length, take, get_or, refl, arith, subst}
 use Rattle.std.specs.List.{AllByRecursion}
 use Rattle.paper.specs.Columns.{IsColumnSet}

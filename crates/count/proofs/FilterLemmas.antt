@@ -1,3 +1,4 @@
+-- Tests that agree.
 use Rattle.std.proofs.Common.{◌≡◌, ℕ, ◌||◌, Bool, cond, nat_eq, List, [], ◌∷◌, refl, ap, ◌∙◌}
 use Rattle.std.specs.List.{list_any, filter}
 use Rattle.std.proofs.lemmas.Bool.{eq-eqb}

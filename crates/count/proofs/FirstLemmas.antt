@@ -1,3 +1,4 @@
+-- The first stage, paper by paper.
 use Rattle.std.proofs.Common.{◌≡◌, ℕ, suc, zero, ◌+◌, ◌<◌, ◌≤◌, List, [], ◌∷◌, length, take, get_or, arith, subst}
 use Rattle.paper.specs.Ranking.{IsRanking}
 use Rattle.count.specs.Law.Places.{first_of}

@@ -1,3 +1,4 @@
+-- What an action that is due may rely on.
 use Rattle.std.proofs.Common.{◌≡◌, ℕ, ◌<◌, ◌≤◌, ◌⊎◌, inl, inr, Bool, true, false, cond, nat_eq, List, [], ◌∷◌, sym, ap, ◌∙◌, arith, subst}
 use Rattle.std.specs.List.{list_any}
 use Rattle.paper.specs.Columns.{IsColumn}
@@ -8,10 +9,10 @@ use Rattle.count.specs.Books.{AreRankings, HoldPapers, IsBook}
 use Rattle.count.specs.declared.parcel.Holding.{Holding}
 use Rattle.count.specs.declared.stages.Action.{Action}
 use Rattle.count.specs.declared.stages.Action.TheVariants.{First, Surplus, Exclude, ExcludeLast}
-use Rattle.count.proofs.ActionLemmas.{column-in}
-use Rattle.count.proofs.StepLemmas.{IsSurplus, IsExclusion, step-is, step-first, surplus-held}
-use Rattle.count.proofs.QuotaLemmas.{values-conserved}
-use Rattle.count.proofs.CandidateSums.{one-within}
+use Rattle.count.proofs.Law.ActionLemmas.{column-in}
+use Rattle.count.proofs.Law.StepLemmas.{IsSurplus, IsExclusion, step-is, step-first, surplus-held}
+use Rattle.count.proofs.Law.QuotaLemmas.{values-conserved}
+use Rattle.count.proofs.Law.CandidateSums.{one-within}
 
 -- the papers lie in holdings, and are rankings
 pub record IsUnderWay (contest : Contest) (stages : History) (holdings : List Holding) : Type 0 where

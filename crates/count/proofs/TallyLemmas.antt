@@ -1,3 +1,4 @@
+-- What a book records is what the law adds up over all papers.
 use Rattle.std.proofs.Common.{◌≡◌, ℕ, suc, zero, ◌++◌, ◌+◌, ◌*◌, ◌/◌, ◌≤◌, ◌||◌, ◌⊎◌, inl, inr, Bool, true, false, cond, eqb, List, [], ◌∷◌, length, map, Option, refl, sym, ap, ◌∙◌, arith, subst}
 use Rattle.std.specs.List.{sum_by, range_with_len}
 use Rattle.std.proofs.lemmas.Bool.{eqb-true}
@@ -18,13 +19,13 @@ use Rattle.count.specs.declared.stages.Stage.{Stage}
 use Rattle.count.specs.declared.stages.Action.{Action}
 use Rattle.count.specs.declared.stages.Action.TheVariants.{First, Surplus, Exclude, ExcludeLast}
 use Rattle.count.proofs.SumLemmas.{sum_by-same, sum_by-add, sum_by-none}
-use Rattle.count.proofs.ActionLemmas.{column-in}
-use Rattle.count.proofs.StepLemmas.{IsSurplus, IsExclusion, step-is, step-first, told-votes, votes-held}
-use Rattle.count.proofs.ValueLemmas.{held, all_values}
+use Rattle.count.proofs.Law.ActionLemmas.{column-in}
+use Rattle.count.proofs.Law.StepLemmas.{IsSurplus, IsExclusion, step-is, step-first, told-votes, votes-held}
+use Rattle.count.proofs.Law.ValueLemmas.{held, all_values}
 use Rattle.count.proofs.MoveLemmas.{surplus-lawful}
-use Rattle.count.proofs.QuotaLemmas.{values-conserved, values-conserved-next}
+use Rattle.count.proofs.Law.QuotaLemmas.{values-conserved, values-conserved-next}
 use Rattle.count.proofs.ChoiceLemmas.{eqb_swap, or_false}
-use Rattle.count.proofs.CandidateSums.{one-within}
+use Rattle.count.proofs.Law.CandidateSums.{one-within}
 
 -- whoever holds a paper, an action that passes on the papers of h leaves h none of those that were there
 kept_value : (action : Action) (k h v : ℕ) (b t : Bool) → passes_on action h ≡ b → eqb k h ≡ t → let zero_ : ℕ = 0 in cond (passes_on action k) zero_ (cond t v 0) ≡ cond b zero_ (cond t v 0)

@@ -1,3 +1,4 @@
+-- What holdings are worth, one more at a time.
 use Rattle.std.proofs.Common.{◌≡◌, ℕ, ◌+◌, ◌*◌, ◌<◌, ◌≤◌, cond, eqb, List, length, take, get_or, sym, ap, ◌∙◌, arith, Bor}
 use Rattle.std.specs.List.{sum_by}
 use Rattle.std.proofs.lemmas.List.Sums.{sum_by_more_le, sum_by_more_le_part, sum_by-le-sum_by}

@@ -1,3 +1,4 @@
+-- How a book advances: the stage that comes next, and why there is none.
 use Rattle.std.specs.Prelude.{◌≡◌, ℕ, ◌+◌, if◌then◌else◌, List, ◌∷◌, length, Option, Some, None, nat_eq}
 use Rattle.std.specs.List.{list_any}
 use Rattle.count.specs.Law.Contest.{Contest, History}

@@ -1,3 +1,4 @@
+-- What a book is, and how its papers stand to the places that the law gives them.
 use Rattle.std.specs.Prelude.{◌≡◌, ℕ, ◌+◌, ◌==◌, not, List, [], ◌∷◌, map, ⊤}
 use Rattle.std.specs.List.{filter, sum_by}
 use Rattle.paper.specs.Ranking.{IsRanking}

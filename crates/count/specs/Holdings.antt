@@ -1,3 +1,4 @@
+-- Papers in parcels, what they are worth, and what becomes of them when they are passed on.
 use Rattle.std.specs.Prelude.{◌≡◌, ℕ, ◌+◌, ◌-◌, ◌<◌, ◌≤◌, ◌||◌, ◌==◌, Bool, true, false, if◌then◌else◌, List, [], ◌∷◌, drop, ⊤}
 use Rattle.std.specs.List.{sum_by}
 use Rattle.votes.specs.Units.{max_units, cut}
@@ -82,11 +83,12 @@ votes_with quota stages action moved c =
     then quota
     else worth_to c moved + (if passes_on action c then 0 else newest_votes stages c)
 
--- the sums of the newest stage, none before the first
+-- the non-transferable at the newest stage, none before the first
 abbrev pub newest_non_transferable : History → ℕ
 newest_non_transferable [] = 0
 newest_non_transferable (s ∷ before) = s.non_transferable
 
+-- what is lost at the newest stage, nothing before the first
 abbrev pub newest_lost : History → ℕ
 newest_lost [] = 0
 newest_lost (s ∷ before) = s.lost

@@ -14,24 +14,24 @@
 #![tactic(auto)]
 
 // what a count is held on, and its stages
-mod terms;
 mod contest;
 mod stages;
+mod terms;
 // what the Order says of stages: who is elected, who is tied, what is due
+mod due;
 mod elected;
 mod ties;
-mod due;
 // a count that is under way, and one to its end
 mod book;
 mod run;
 // a book by parcels: its papers, their moves, and what is recorded of them
-mod parcel;
-mod sorting;
-mod moving;
-mod tally;
-mod record;
 mod act;
+mod moving;
+mod parcel;
 mod parcel_book;
+mod record;
+mod sorting;
+mod tally;
 #[cfg(test)]
 mod tests;
 

@@ -7,10 +7,10 @@ ghost use Rattle.count.specs.Advance.{IsDue};
 ghost use Rattle.count.specs.Holdings.{total, passes_on as passes_on_of, kept_by, IsTransferRule};
 ghost use Rattle.count.specs.Books.{contest_of, AreRankings, IsMovedBy, IsBook};
 
+use crate::elected::{newest_votes, standing};
 use crate::parcel::{Holding, TransferRule};
 use crate::sorting::{first_holdings, pass_on};
 use crate::stages::{Action, Stage};
-use crate::elected::{newest_votes, standing};
 use crate::terms::Terms;
 use paper::Prefs;
 use std::alloc::{AllocError, Global};

@@ -15,11 +15,11 @@ use std::alloc::AllocError;
 /// Why a count ended.
 #[derive(Clone, Copy, Debug, PartialEq, Eq)]
 pub enum CountEnd {
-    /// No vacancy is left.
+    /// No vacancy is left ("Filling of last vacancies").
     Finished,
-    /// A lot is needed for this stage among these, and none is recorded.
+    /// A lot is needed for this stage, counted from 1, among these, and none is recorded.
     LotNeeded { stage: u8, among: Columns },
-    /// A lot is needed for this stage, and the recorded one names none of the tied.
+    /// A lot is needed for this stage, counted from 1, and the recorded one names none of the tied.
     LotNotAmong { stage: u8 },
 }
 
@@ -45,7 +45,7 @@ fn advanced<B: CountBook>(book: &mut B, lot: Option<u8>) -> Result<Option<CountE
 }
 
 /// Adds the stage that is due, or tells why there is none.
-#[tactic(auto, using(crate::proofs::DueLemmas::due_lot))]
+#[tactic(auto, using(crate::proofs::Law::DueLemmas::due_lot))]
 fn step<B: CountBook>(book: &mut B, lots: &[(u8, u8)]) -> Result<Option<CountEnd>, AllocError>
     ensures same { B.contest book.new ≡ B.contest book.old }
     ensures fair { IsContest (B.contest book.old) }
@@ -78,7 +78,7 @@ fn step<B: CountBook>(book: &mut B, lots: &[(u8, u8)]) -> Result<Option<CountEnd
 /// beginning of it, and whatever list is a count equals it. Of two right lists one is a beginning of
 /// the other. After want of memory the book has the stages made so far: they are right, and those
 /// from before are a beginning of them.
-#[tactic(auto, using(crate::proofs::RightLemmas::beginnings))]
+#[tactic(auto, using(crate::proofs::Law::RightLemmas::beginnings))]
 pub fn run_count<B: CountBook>(book: &mut B, lots: &[(u8, u8)]) -> Result<CountEnd, AllocError>
     requires { IsRight (B.contest book.old) lots.now (B.history book.old) }
     ensures same { B.contest book.new ≡ B.contest book.old }

@@ -8,11 +8,11 @@ ghost use Rattle.count.specs.Law.Elected.{is_transferred as is_transferred_of, t
 ghost use Rattle.count.specs.Holdings.{total_of, total, worth as worth_of, worth_to as worth_to_of, votes_with as votes_with_of, lost_with as lost_with_of, newest_non_transferable, newest_lost as newest_lost_of, AreSmall};
 ghost use Rattle.count.specs.Books.{Records};
 
+use crate::elected::{is_transferred_with, newest_votes};
 use crate::moving::passes_on;
 use crate::parcel::{Holding, Parcel};
 use crate::record::add_stage;
 use crate::stages::{Action, Stage};
-use crate::elected::{is_transferred_with, newest_votes};
 use crate::terms::Terms;
 use paper::{Columns, MAX_CANDIDATES};
 use votes::Votes;
@@ -74,7 +74,12 @@ fn votes_with(quota: Votes, stages: &[Stage], action: &Action, moved: &[Holding]
 }
 
 /// The votes of all numbers once an action has moved papers.
-fn all_votes(quota: Votes, stages: &[Stage], action: &Action, moved: &[Holding]) -> [Votes; MAX_CANDIDATES]
+fn all_votes(
+    quota: Votes,
+    stages: &[Stage],
+    action: &Action,
+    moved: &[Holding],
+) -> [Votes; MAX_CANDIDATES]
     requires { AreSmall (reverse stages.now) moved.now }
     ensures { result ≡ map (votes_with_of quota (reverse stages.now) action.now moved.now) numbers }
 {

@@ -5,8 +5,8 @@ ghost use Rattle.std.specs.List.{list_any};
 ghost use Rattle.paper.specs.Columns.{max_candidates};
 ghost use Rattle.count.specs.Law.Due.{is_above as is_above_of, highest as highest_of, lowest as lowest_of};
 
-use crate::stages::Stage;
 use crate::elected::{append, votes_after};
+use crate::stages::Stage;
 use paper::Columns;
 
 /// Whether a candidate had more votes than another at the most recent stage at which they differed.

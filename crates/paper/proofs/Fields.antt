@@ -1,3 +1,4 @@
+-- The fields of a text, from the left.
 use Rattle.std.proofs.Common.{set, replicate, ◌≡◌, ℕ, suc, ◌+◌, ◌-◌, ◌*◌, ◌<◌, ◌≤◌, ◌==◌, nat_le, nat_lt, Bool, true, false, ◌&&◌, List, [], ◌∷◌, ◌++◌, length, take, drop, get_or, Ok, Err, refl, sym, ap, ◌∙◌, arith, drop-cons, length-drop, Result}
 use Rattle.std.specs.List.{list_all, fold, position_or_len, count_by, before_first, after_first}
 use Rattle.std.proofs.lemmas.Bool.{lt-ltb, ltb-true, ltb-false, leb-true, ne_eqb, cond-true, cond-false, or_from, not_from_true, and_parts}

@@ -1,3 +1,4 @@
+-- Rankings: how long they are, and that they stand in their arrays.
 use Rattle.std.proofs.Common.{◌≡◌, ℕ, ◌<◌, ◌≤◌, ◌||◌, Bool, true, false, eqb, ◌==◌, List, [], ◌∷◌, length, ◌-◌, refl, sym, arith}
 use Rattle.std.specs.List.{list_any, IsDistinct, AllByRecursion}
 use Rattle.std.proofs.lemmas.Bool.{eqb-true, eqb-false}

@@ -1,3 +1,4 @@
+-- Candidates' numbers, and sets of them.
 use Rattle.std.specs.Prelude.{ℕ, ◌≤◌, nat_lt, List, ◌∷◌, ◌++◌, EachIndex, slice_index}
 use Rattle.std.specs.List.{filter}
 use Rattle.std.specs.List.Sorted.{IsStrictlyIncreasing}

@@ -1,3 +1,4 @@
+-- Lists of numbers in arrays.
 use Rattle.std.specs.Prelude.{ℕ, ◌-◌, ◌==◌, List, ◌++◌, length, replicate}
 use Rattle.std.specs.List.{before_first}
 use Rattle.paper.specs.Columns.{max_candidates}

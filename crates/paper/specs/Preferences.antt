@@ -1,3 +1,4 @@
+-- The preferences of a ballot paper, and why it is rejected.
 use Rattle.std.specs.Prelude.{◌≡◌, ℕ, suc, zero, ◌+◌, ◌≤◌, List, [], ◌∷◌, length, take, Option, Some, None, ⊤}
 use Rattle.paper.specs.Columns.{max_candidates}
 use Rattle.paper.specs.Marking.{Marking, marked_with}
@@ -29,12 +30,13 @@ preferences_from (suc more) n marking = if_alone (marked_with n marking) (prefer
 abbrev pub preferences : Marking → List ℕ
 preferences marking = preferences_from max_candidates 1 marking
 
--- why a paper is rejected by its marks, by those beside whom the number 1 stands
+-- why a paper is rejected, by those beside whom the number 1 stands
 abbrev pub rejection_by : List ℕ → Option Rejection
 rejection_by [] = Some NoFirstPreference
 rejection_by (c ∷ []) = None
 rejection_by (c ∷ d ∷ cs) = Some SeveralFirstPreferences
 
+-- why a paper is rejected by its marks, if it is
 abbrev pub rejection_of : Marking → Option Rejection
 rejection_of marking = rejection_by (marked_with 1 marking)
 

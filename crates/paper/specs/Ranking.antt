@@ -1,3 +1,4 @@
+-- Lists of candidates, each once.
 use Rattle.std.specs.Prelude.{◌≡◌, ℕ, ◌≤◌, List, [], ◌∷◌, false, ◌==◌, ⊤}
 use Rattle.std.specs.List.{list_any}
 use Rattle.paper.specs.Columns.{max_candidates}

@@ -1,3 +1,4 @@
+-- The text of votes, digit by digit.
 use Rattle.std.proofs.Common.{◌*◌, ◌<◌, ◌^◌, drop, refl, ◌≡◌, ℕ, ◌+◌, ◌/◌, ◌%◌, List, [], ◌∷◌, ◌++◌, ap, ◌∙◌, arith, decimal}
 use Rattle.std.proofs.lemmas.Fmt.{decimal_digit, decimal_is_IsNumeral}
 use Rattle.std.proofs.lemmas.Bool.{cond-true, cond-false, lt-ltb, le-ltb}

@@ -1,3 +1,4 @@
+-- Votes in units, the limits of a count, the quota and the transfer value.
 use Rattle.std.specs.Prelude.{◌≡◌, ℕ, ◌+◌, ◌*◌, ◌/◌, ◌<◌, ◌≤◌, List, sum, sum_by}
 
 -- one vote, in units

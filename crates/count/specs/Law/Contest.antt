@@ -1,3 +1,4 @@
+-- What a count is held on, and the list of its stages.
 use Rattle.std.specs.Prelude.{◌≡◌, ℕ, ◌-◌, ◌<◌, ◌≤◌, List, [], ◌∷◌, length, slice_index}
 use Rattle.std.specs.List.{AllByRecursion, list_any, range_with_len}
 use Rattle.std.specs.Prelude.{nat_eq, true}
@@ -44,10 +45,11 @@ History = List Stage
 abbrev pub numbers : List ℕ
 numbers = range_with_len 1 max_candidates
 
--- a candidate's recorded votes at a stage, and at the newest stage
+-- a candidate's recorded votes at a stage
 abbrev pub votes_at : Stage → ℕ → ℕ
 votes_at s c = slice_index s.votes (c - 1)
 
+-- a candidate's recorded votes at the newest stage, none before the first
 abbrev pub newest_votes : History → ℕ → ℕ
 newest_votes [] c = 0
 newest_votes (s ∷ before) c = votes_at s c

@@ -1,3 +1,4 @@
+-- What is due after some stages: surpluses, exclusions, ties and lots.
 use Rattle.std.specs.Prelude.{ℕ, ◌+◌, ◌-◌, Bool, not, ◌==◌, nat_lt, if◌then◌else◌, List, [], ◌∷◌, map, length, Option, Some, None, nat_eq}
 use Rattle.std.specs.List.{filter, find, list_any}
 use Rattle.std.specs.Option.{option_map}
@@ -21,10 +22,11 @@ trace stages c = map (λ s. votes_at s c) stages
 abbrev pub is_above : History → ℕ → ℕ → Bool
 is_above stages c d = is_lt (slice_cmp nat_cmp (trace stages d) (trace stages c))
 
--- those of a group whom none of it is above, and those who are above none of it
+-- Transfer of ballot papers: those of a group whom none of it is above
 abbrev pub highest : History → List ℕ → List ℕ
 highest stages group = filter (λ c. not (list_any (λ d. is_above stages d c) group)) group
 
+-- Exclusion of candidates: those of a group who are above none of it
 abbrev pub lowest : History → List ℕ → List ℕ
 lowest stages group = filter (λ c. not (list_any (λ d. is_above stages c d) group)) group
 

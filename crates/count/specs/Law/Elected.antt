@@ -1,3 +1,4 @@
+-- Who has reached the quota, is elected, is excluded or continues.
 use Rattle.std.specs.Prelude.{ℕ, ◌+◌, ◌-◌, Bool, false, not, ◌&&◌, ◌||◌, ◌==◌, nat_le, nat_eq, List, length}
 use Rattle.std.specs.List.{filter, list_any}
 use Rattle.count.specs.Law.Contest.{Contest, History, votes_at}
@@ -18,10 +19,11 @@ excludes (Surplus d) c = false
 excludes (Exclude d) c = d == c
 excludes (ExcludeLast d) c = d == c
 
--- whether the surplus of c has been transferred, and whether c has been excluded, at some stage
+-- whether the surplus of c has been transferred at some stage
 abbrev pub is_transferred : History → ℕ → Bool
 is_transferred stages c = list_any (λ s. transfers s.action c) stages
 
+-- whether c has been excluded at some stage
 abbrev pub is_excluded : History → ℕ → Bool
 is_excluded stages c = list_any (λ s. excludes s.action c) stages
 
@@ -53,6 +55,7 @@ elected_after contest stages = filter (is_elected contest stages) contest.candid
 abbrev pub continuing_after : Contest → History → List ℕ
 continuing_after contest stages = filter (λ c. not (is_elected contest stages c) && not (is_excluded stages c)) contest.candidates
 
+-- whether c is a continuing candidate after some stages
 abbrev pub is_continuing : Contest → History → ℕ → Bool
 is_continuing contest stages c = list_any (nat_eq c) (continuing_after contest stages)
 

@@ -1,3 +1,4 @@
+-- Votes, the non-transferable and the lost, added up over all papers.
 use Rattle.std.specs.Prelude.{ℕ, ◌+◌, ◌-◌, ◌==◌, if◌then◌else◌, [], ◌∷◌}
 use Rattle.std.specs.List.{sum_by}
 use Rattle.count.specs.Law.Contest.{Contest, History}

@@ -1,3 +1,4 @@
+-- Where each paper lies after some stages, and at which value.
 use Rattle.std.specs.Prelude.{ℕ, ◌-◌, ◌==◌, if◌then◌else◌, List, [], ◌∷◌, drop}
 use Rattle.votes.specs.Units.{one_vote, cut}
 use Rattle.paper.specs.Standing.{from_first}

@@ -1,3 +1,4 @@
+-- Which lists of stages are right, and which of them is the count.
 use Rattle.std.specs.Prelude.{◌≡◌, ℕ, ◌+◌, ◌-◌, ◌≤◌, ◌⊎◌, not, List, [], ◌∷◌, map, drop, length, Option, Some, None, ⊤}
 use Rattle.std.specs.List.{filter}
 use Rattle.std.specs.List.Sorted.{IsPermutation}

@@ -1,3 +1,4 @@
+-- Of the proof of `act`: what is shown by hand.
 use Rattle.std.proofs.Common.{◌∙◌, ◌+◌, List, reverse, ap, sym, subst}
 use Rattle.count.specs.Law.Contest.{Contest, History}
 use Rattle.count.specs.Advance.{Adds}

@@ -1,3 +1,4 @@
+-- Of the proof of `elected`: what holds at each round of its loop.
 use Rattle.std.proofs.Common.{◌≡◌, ◌&&◌, ◌||◌, not, [], take, reverse}
 use Rattle.std.specs.List.{filter}
 use Rattle.count.specs.Books.{contest_of}

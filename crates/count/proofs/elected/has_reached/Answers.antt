@@ -1,3 +1,4 @@
+-- Of the proof of `has_reached`: what is shown by hand.
 use Rattle.std.proofs.Common.{◌≡◌, ◌∙◌, sym, ap, true, nat_le, rules}
 use Rattle.count.specs.Law.Contest.{votes_at}
 use Rattle.count.proofs.ColumnLemmas.{found-reverse, none-reverse}

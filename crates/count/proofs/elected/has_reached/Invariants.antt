@@ -1,3 +1,4 @@
+-- Of the proof of `has_reached`: what holds at each round of its loop.
 use Rattle.std.proofs.Common.{◌≡◌, false, nat_le, take}
 use Rattle.std.specs.List.{list_any}
 use Rattle.count.specs.Law.Contest.{votes_at}

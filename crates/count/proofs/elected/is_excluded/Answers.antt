@@ -1,3 +1,4 @@
+-- Of the proof of `is_excluded`: what is shown by hand.
 use Rattle.std.proofs.Common.{◌≡◌, ◌∙◌, sym, ap, true, rules}
 use Rattle.count.specs.Law.Elected.{excludes}
 use Rattle.count.proofs.ColumnLemmas.{found-reverse, none-reverse}

@@ -1,3 +1,4 @@
+-- Of the proof of `is_excluded`: what holds at each round of its loop.
 use Rattle.std.proofs.Common.{◌≡◌, false, take}
 use Rattle.std.specs.List.{list_any}
 use Rattle.count.specs.Law.Elected.{excludes}

@@ -1,3 +1,4 @@
+-- Of the proof of `is_transferred`: what is shown by hand.
 use Rattle.std.proofs.Common.{◌≡◌, ◌∙◌, sym, ap, true, rules}
 use Rattle.count.specs.Law.Elected.{transfers}
 use Rattle.count.proofs.ColumnLemmas.{found-reverse, none-reverse}

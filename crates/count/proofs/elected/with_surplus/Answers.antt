@@ -1,3 +1,4 @@
+-- Of the proof of `with_surplus`: what is shown by hand.
 use Rattle.std.proofs.Common.{nat_lt, rules}
 use Rattle.count.specs.Law.Contest.{votes_at}
 use Rattle.count.proofs.ColumnLemmas.{columns-more}

@@ -1,3 +1,4 @@
+-- Of the proof of `with_surplus`: what holds at each round of its loop.
 use Rattle.std.proofs.Common.{◌≡◌, nat_lt, take}
 use Rattle.std.specs.List.{filter}
 use Rattle.count.specs.Law.Contest.{votes_at}

@@ -1,3 +1,4 @@
+-- Of the proof of `without`: what is shown by hand.
 use Rattle.std.proofs.Common.{not, nat_eq, rules}
 use Rattle.std.specs.List.{list_any}
 use Rattle.count.proofs.ColumnLemmas.{columns-more}

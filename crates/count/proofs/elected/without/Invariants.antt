@@ -1,3 +1,4 @@
+-- Of the proof of `without`: what holds at each round of its loop.
 use Rattle.std.proofs.Common.{◌≡◌, not, nat_eq, take}
 use Rattle.std.specs.List.{list_any, filter}
 use Rattle.count.proofs.elected.without.Given as goal

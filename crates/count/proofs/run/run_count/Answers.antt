@@ -1,3 +1,4 @@
+-- Of the proof of `run_count`: what is shown by hand.
 use Rattle.std.proofs.Common.{◌≡◌, ◌+◌, length, ap, sym, ◌∙◌, subst, Some}
 use Rattle.count.specs.Advance.{AdvancesBy, end_after}
 use Rattle.count.specs.Law.Contest.{IsContest, Contest, History}
@@ -6,9 +7,9 @@ use Rattle.count.specs.Law.Right.{IsWholeCount}
 use Rattle.count.specs.Law.Laws.{FillsSeats}
 use Rattle.count.specs.declared.stages.Stage.{Stage}
 use Rattle.count.specs.declared.run.CountEnd.{CountEnd}
-use Rattle.count.proofs.ActionLemmas.{steps-smaller}
-use Rattle.count.proofs.RightLemmas.{whole_count, one_begins}
-use Rattle.count.proofs.FinishLemmas.{finished-filled}
+use Rattle.count.proofs.Law.ActionLemmas.{steps-smaller}
+use Rattle.count.proofs.Law.RightLemmas.{whole_count, one_begins}
+use Rattle.count.proofs.Law.FinishLemmas.{finished-filled}
 use Rattle.count.proofs.run.run_count.Goals as goal
 
 pub stages-smaller : goal.stages-smaller

@@ -1,3 +1,4 @@
+-- Of the proof of `give`: what is shown by hand.
 use Rattle.std.proofs.Common.{rules, ◌≡◌, ◌∙◌, ℕ, ◌+◌, ◌<◌, length, ap, refl, arith}
 use Rattle.count.specs.Law.Places.{first_of}
 use Rattle.count.specs.Holdings.{total}

@@ -1,3 +1,4 @@
+-- Of the proof of `pass_on`: what is shown by hand.
 use Rattle.std.proofs.Common.{◌<◌, length, ap, arith}
 use Rattle.paper.specs.Standing.{is_continuing}
 use Rattle.count.specs.Holdings.{total_of, at_passed}

@@ -1,3 +1,4 @@
+-- Of the proof of `pass_on`: what holds at each round of its loop.
 use Rattle.std.proofs.Common.{◌≡◌, ℕ, List, take, vec_len}
 use Rattle.paper.specs.Standing.{is_continuing}
 use Rattle.count.specs.Holdings.{total, total_passed, AreNumbered}

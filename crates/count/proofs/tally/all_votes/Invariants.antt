@@ -1,3 +1,4 @@
+-- Of the proof of `all_votes`: what holds at each round of its loop.
 use Rattle.std.proofs.Common.{◌≡◌, map, take, length, reverse}
 use Rattle.std.specs.List.{range_with_len}
 use Rattle.count.specs.Holdings.{votes_with}

@@ -1,3 +1,4 @@
+-- Of the proof of `has_below`: what holds at each round of its loop.
 use Rattle.std.proofs.Common.{◌≡◌, false, take, reverse}
 use Rattle.std.specs.List.{list_any}
 use Rattle.count.specs.Law.Due.{is_above}

@@ -1,3 +1,4 @@
+-- Of the proof of `highest`: what holds at each round of its loop.
 use Rattle.std.proofs.Common.{◌≡◌, not, take, reverse}
 use Rattle.std.specs.List.{list_any, filter}
 use Rattle.count.specs.Law.Due.{is_above}

@@ -1,3 +1,4 @@
+-- Of the proof of `read_fields`: what holds at each round of its loop.
 use Rattle.std.proofs.Common.{◌≡◌, ◌-◌, ◌<◌, length, take, drop, replicate}
 use Rattle.paper.specs.MarksText.{fields, marks_in}
 use Rattle.paper.proofs.Fields.{after_marks}

@@ -1,3 +1,4 @@
+-- Of the proof of `padded_numbers`: what is shown by hand.
 use Rattle.std.proofs.Common.{◌++◌, length, ap}
 use Rattle.std.proofs.lemmas.List.{drop-replicate}
 use Rattle.paper.proofs.padded.padded_numbers.Goals as goal

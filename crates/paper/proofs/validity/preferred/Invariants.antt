@@ -1,3 +1,4 @@
+-- Of the proof of `preferred`: what holds at each round of its loop.
 use Rattle.std.proofs.Common.{◌≡◌, ◌+◌, ◌-◌, ◌++◌, length, take, drop, replicate}
 use Rattle.paper.specs.Preferences.{preferences, preferences_from}
 use Rattle.paper.proofs.validity.preferred.Given as goal

@@ -1,3 +1,4 @@
+-- Of the proof of `quota`: what is shown by hand.
 use Rattle.std.proofs.Common.{rules, ◌≡◌, ◌+◌, ◌*◌, ◌/◌, subst}
 use Rattle.votes.specs.Units.{IsQuota, quota_of}
 use Rattle.votes.proofs.Quotas.{quota_of-IsQuota}

@@ -1,3 +1,4 @@
+-- Of the proof of `new`: what is shown by hand.
 use Rattle.std.proofs.Common.{◌≡◌, refl}
 use Rattle.paper.specs.Standing.{status_of, status_among}
 use Rattle.paper.proofs.Standings.{status_of-absent, is_continuing-among}

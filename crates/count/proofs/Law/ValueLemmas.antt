@@ -1,3 +1,4 @@
+-- What each action does to the values of all papers.
 use Rattle.std.proofs.Common.{◌≡◌, ℕ, ◌+◌, ◌-◌, ◌*◌, ◌<◌, ◌≤◌, Bool, true, false, cond, eqb, List, [], ◌∷◌, length, refl, sym, ap, ◌∙◌, ◌/◌, arith, subst}
 use Rattle.std.specs.List.{sum_by}
 use Rattle.votes.specs.Units.{cut}
@@ -10,7 +11,7 @@ use Rattle.count.specs.declared.stages.Action.TheVariants.{First, Surplus, Exclu
 use Rattle.count.proofs.SumLemmas.{sum_by-same, sum_by-add, sum_by-constant, at_other}
 use Rattle.std.proofs.lemmas.Bool.{eqb-true, eqb-false}
 use Rattle.std.proofs.lemmas.List.Sums.{sum_by-le-sum_by}
-use Rattle.count.proofs.CutLemmas.{cuts_le}
+use Rattle.count.proofs.Law.CutLemmas.{cuts_le}
 use Rattle.std.proofs.Math.Nat.{mul-zero, zero-div}
 
 -- the values of all papers, whoever holds them
@@ -66,7 +67,7 @@ taken-cuts contest s before c is = sum_by-same _ _ contest.papers (λ p. one p)
         let claim : Action → Type 0 = λ a. cond (eqb at.holder c) (moved contest before a p at).value 0 ≡ cut (surplus_of contest before c) (value_with c at) (newest_votes before c) in
         subst claim (sym is) (choice (eqb at.holder c) _ _ _ at)
 
--- A surplus conserves: the values of all, the quota that stays and what is lost_after make up what was there.
+-- A surplus conserves: the values of all, the quota that stays and what is lost make up what was there.
 pub surplus-conserves : (contest : Contest) (s : Stage) (before : History) (c : ℕ) → s.action ≡ Surplus c →
     0 < newest_votes before c → contest.quota ≤ newest_votes before c → held contest before c ≡ newest_votes before c →
     all_values contest (s ∷ before) + contest.quota + lost_after contest (s ∷ before) ≡ all_values contest before + lost_after contest before

@@ -1,3 +1,4 @@
+-- A count has at most one stage more than candidates.
 use Rattle.std.proofs.Common.{◌≡◌, ℕ, ◌+◌, ◌-◌, ◌≤◌, ◌==◌, ◌||◌, ◌⊎◌, inl, inr, Bool, true, false, not, cond, eqb, nat_eq, nat_le, List, [], ◌∷◌, length, Option, refl, sym, ap, ◌∙◌, arith}
 use Rattle.std.specs.List.{list_any, filter, sum_by}
 use Rattle.std.proofs.lemmas.Bool.{eqb-true, eqb-false, eq-eqb}
@@ -12,12 +13,12 @@ use Rattle.count.specs.Books.{AreRankings}
 use Rattle.count.specs.declared.stages.Stage.{Stage}
 use Rattle.count.specs.declared.stages.Action.{Action}
 use Rattle.count.specs.declared.stages.Action.TheVariants.{First, Surplus, Exclude, ExcludeLast}
-use Rattle.count.proofs.ActionLemmas.{column-in, filter-more, acted, length-acted}
+use Rattle.count.proofs.Law.ActionLemmas.{column-in, filter-more, acted, length-acted}
 use Rattle.count.proofs.FilterLemmas.{filter-cong}
-use Rattle.count.proofs.StepLemmas.{IsSurplus, IsExclusion, step-is, step-first, step-vacant, told-votes, reached-elected, surplus-held}
-use Rattle.count.proofs.QuotaLemmas.{few-reach}
-use Rattle.count.proofs.FinishLemmas.{in_race, race-parts, race-enough, vacant-unfilled, elected_filled, elected_unfilled, continuing_unfilled}
-use Rattle.count.proofs.PassedLemmas.{has_passed, passed-held, above-reached}
+use Rattle.count.proofs.Law.StepLemmas.{IsSurplus, IsExclusion, step-is, step-first, step-vacant, told-votes, reached-elected, surplus-held}
+use Rattle.count.proofs.Law.QuotaLemmas.{few-reach}
+use Rattle.count.proofs.Law.FinishLemmas.{in_race, race-parts, race-enough, vacant-unfilled, elected_filled, elected_unfilled, continuing_unfilled}
+use Rattle.count.proofs.Law.PassedLemmas.{has_passed, passed-held, above-reached}
 use Rattle.count.proofs.ChoiceLemmas.{either_or, or_later}
 
 head_is_in : (a b : Bool) → (a ≡ true → b ≡ true) → (a || b) ≡ b
@@ -69,7 +70,7 @@ last_race contest s s' before d fair is_candidate not_elected not_excluded tells
     let fewer = filter-more p q d contest.candidates (λ c. still_choice (has_reached contest stages c) (excludes s.action c) (is_excluded stages c)) fails passes is_candidate in
     omega (arith, ap length same, fewer)
 
--- the last exclusion is one where the others are as many as the vacancies_after
+-- the last exclusion is one where the others are as many as the vacancies
 last_choice : (b : Bool) (c d : ℕ) → cond b (ExcludeLast c) (Exclude c) ≡ ExcludeLast d → (b ≡ true) × (c ≡ d)
 last_choice true c d h = (refl, cc)
 last_choice false c d h = cc

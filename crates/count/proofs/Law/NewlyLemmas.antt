@@ -1,9 +1,10 @@
+-- Who is newly elected.
 use Rattle.std.proofs.Common.{◌≡◌, ℕ, Bool, true, false, not, nat_eq, List, refl, sym, ap, ◌∙◌}
 use Rattle.std.specs.List.{list_any, filter}
 use Rattle.count.specs.Law.Contest.{Contest, History, In}
 use Rattle.count.specs.Law.Elected.{elected_after, is_elected}
-use Rattle.count.proofs.ActionLemmas.{in-filter}
-use Rattle.count.proofs.TieLemmas.{filter-in}
+use Rattle.count.proofs.Law.ActionLemmas.{in-filter}
+use Rattle.count.proofs.Law.TieLemmas.{filter-in}
 use Rattle.count.proofs.FilterLemmas.{filter-cong}
 
 member_choice : (c : ℕ) (p : ℕ → Bool) (xs : List ℕ) (b t : Bool) → p c ≡ b → list_any (nat_eq c) (filter p xs) ≡ t → In c xs → t ≡ b
@@ -15,7 +16,7 @@ member_choice c p xs false false e f h = refl
 pub member-filter : (c : ℕ) (p : ℕ → Bool) (xs : List ℕ) → In c xs → list_any (nat_eq c) (filter p xs) ≡ p c
 member-filter c p xs h = member_choice c p xs _ _ refl refl h
 
--- the elected_after who are not in the set of those elected_after before are the newly elected_after
+-- those elected who are not among those elected before are the newly elected
 pub newly-elected : (contest : Contest) (before after : History) →
     filter (λ c. not (list_any (nat_eq c) (elected_after contest before))) (elected_after contest after) ≡ filter (λ c. not (is_elected contest before c)) (elected_after contest after)
 newly-elected contest before after =

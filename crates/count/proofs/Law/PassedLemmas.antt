@@ -1,3 +1,4 @@
+-- Whoever has passed his papers on holds none.
 use Rattle.std.proofs.Common.{◌≡◌, ℕ, ◌<◌, ◌≤◌, ◌==◌, ◌||◌, ◌&&◌, ◌⊎◌, inl, inr, Bool, true, false, not, cond, eqb, nat_le, List, [], ◌∷◌, drop, Option, refl, sym, ap, ◌∙◌, arith}
 use Rattle.std.specs.List.{list_any}
 use Rattle.std.proofs.lemmas.Bool.{eqb-true, eqb-false, eq-eqb, le-leb}
@@ -13,10 +14,10 @@ use Rattle.count.specs.Books.{AreRankings}
 use Rattle.count.specs.declared.stages.Stage.{Stage}
 use Rattle.count.specs.declared.stages.Action.{Action}
 use Rattle.count.specs.declared.stages.Action.TheVariants.{Exclude, ExcludeLast}
-use Rattle.count.proofs.ActionLemmas.{in-filter}
+use Rattle.count.proofs.Law.ActionLemmas.{in-filter}
 use Rattle.count.proofs.SumLemmas.{sum_by-none, at_other, sum-rankings}
-use Rattle.count.proofs.ValueLemmas.{held}
-use Rattle.count.proofs.StepLemmas.{IsSurplus, IsExclusion, step-is, step-first, reached-elected}
+use Rattle.count.proofs.Law.ValueLemmas.{held}
+use Rattle.count.proofs.Law.StepLemmas.{IsSurplus, IsExclusion, step-is, step-first, reached-elected}
 use Rattle.count.proofs.ChoiceLemmas.{or_later}
 
 -- whether some stage passed on the papers of a candidate

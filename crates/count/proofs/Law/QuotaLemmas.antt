@@ -1,3 +1,4 @@
+-- No more candidates than seats reach the quota, and who has reached it keeps it.
 use Rattle.std.proofs.Common.{◌≡◌, ℕ, ◌+◌, ◌*◌, ◌/◌, ◌<◌, ◌≤◌, ◌||◌, ◌⊎◌, inl, inr, Bool, true, false, cond, eqb, nat_le, List, [], ◌∷◌, length, Option, refl, sym, ap, ◌∙◌, arith}
 use Rattle.std.specs.List.{filter, sum_by}
 use Rattle.std.proofs.lemmas.Bool.{leb-true, eqb-true, cases_order}
@@ -12,11 +13,11 @@ use Rattle.count.specs.Advance.{IsDue}
 use Rattle.count.specs.declared.stages.Stage.{Stage}
 use Rattle.count.specs.declared.stages.Action.{Action}
 use Rattle.count.specs.declared.stages.Action.TheVariants.{First, Surplus, Exclude, ExcludeLast}
-use Rattle.count.proofs.ActionLemmas.{column-in}
+use Rattle.count.proofs.Law.ActionLemmas.{column-in}
 use Rattle.count.proofs.SumLemmas.{sum_by-same, sum_by-add, sum_by-none}
-use Rattle.count.proofs.ValueLemmas.{all_values, held, takes, held-kept, surplus-conserves, exclude-values, first-values}
-use Rattle.count.proofs.CandidateSums.{columns-distinct, sum-one, held-within, sum-le, sum-filter}
-use Rattle.count.proofs.StepLemmas.{IsSurplus, IsExclusion, step-is, step-first, told-votes, reached-elected, votes-transferred, votes-held, surplus-fresh, surplus-held}
+use Rattle.count.proofs.Law.ValueLemmas.{all_values, held, takes, held-kept, surplus-conserves, exclude-values, first-values}
+use Rattle.count.proofs.Law.CandidateSums.{columns-distinct, sum-one, held-within, sum-le, sum-filter}
+use Rattle.count.proofs.Law.StepLemmas.{IsSurplus, IsExclusion, step-is, step-first, told-votes, reached-elected, votes-transferred, votes-held, surplus-fresh, surplus-held}
 use Rattle.count.proofs.ChoiceLemmas.{or_false}
 
 takes_exclusion : (b : Bool) (d c : ℕ) → eqb d c ≡ false → takes (cond b (ExcludeLast d) (Exclude d)) c ≡ false
@@ -56,7 +57,7 @@ kept_choice : (contest : Contest) (s : Stage) (before : History) (c : ℕ) (b : 
 kept_choice contest s before c true e later h = leb-true contest.quota (votes_at s c) e
 kept_choice contest s before c false e later h = later h
 
--- The votes_after of one who has reached the quota never fall below it.
+-- The votes of one who has reached the quota never fall below it.
 pub reached-kept : (contest : Contest) (handed : History → Stage → Option ℕ) (stages : History) → IsContest contest → IsRightBy contest handed stages →
     (c : ℕ) → In c contest.candidates → has_reached contest stages c ≡ true → contest.quota ≤ newest_votes stages c
 reached-kept contest handed [] fair right c is_candidate reached = cc
@@ -110,7 +111,7 @@ step_values contest s s' before fair tells (inl on) =
     omega (arith, conserved, more)
 step_values contest s s' before fair tells (inr on) = excluded_same contest s (s' ∷ before) on.c _ on.is
 
--- The values of all papers, the quotas that stay and what is lost_after make up a vote for each paper.
+-- The values of all papers, the quotas that stay and what is lost make up a vote for each paper.
 pub values-conserved : (contest : Contest) (handed : History → Stage → Option ℕ) (s : Stage) (before : History) → IsContest contest → IsRightBy contest handed (s ∷ before) →
     all_values contest (s ∷ before) + quotas_left contest (s ∷ before) + lost_after contest (s ∷ before) ≡ 100000 * length contest.papers
 values-conserved contest handed s [] fair right = first_values contest s (step-first contest (handed [] s) s.action right.1.was_due)
@@ -128,7 +129,7 @@ votes_parts : (contest : Contest) (stages : History) (c : ℕ) (b : Bool) → co
 votes_parts contest stages c true = omega arith
 votes_parts contest stages c false = omega arith
 
--- the votes_after of all candidates are within a vote for each paper
+-- the votes of all candidates are within a vote for each paper
 pub votes-within : (contest : Contest) (handed : History → Stage → Option ℕ) (s : Stage) (before : History) → IsContest contest → IsRightBy contest handed (s ∷ before) →
     sum_by (votes_after contest (s ∷ before)) contest.candidates ≤ 100000 * length contest.papers
 votes-within contest handed s before fair right =

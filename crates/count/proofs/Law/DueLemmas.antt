@@ -1,3 +1,4 @@
+-- What is due, by cases.
 use Rattle.std.proofs.Common.{◌≡◌, ℕ, ◌+◌, ◌≢◌, Bool, true, false, cond, nat_lt, List, [], ◌∷◌, length, slice_index, refl, sym, ap, subst, arith, Option}
 use Rattle.std.specs.List.{filter}
 use Rattle.std.proofs.lemmas.Bool.{eq-eqb, ne_eqb}
@@ -71,7 +72,7 @@ due-some contest stages (c ∷ rest) h = refl
 
 pub ruleset due_sizes = (due-none, due-some)
 
--- what is due_after after a newest stage, by whether a vacancy is left
+-- what is due after a newest stage, by whether a vacancy is left
 pub due-ended : (contest : Contest) (stages before : History) (s : Stage) → stages ≡ s ∷ before → vacancies_after contest stages ≡ 0 → Finished ≡ due_after contest stages
 due-ended contest stages before s is none =
     subst (λ x. vacancies_after contest x ≡ 0 → Finished ≡ due_after contest x) (sym is)

@@ -1,3 +1,4 @@
+-- Of two right lists of stages one is a beginning of the other, and a count is the only one.
 use Rattle.std.proofs.Common.{◌≡◌, ℕ, ◌+◌, ◌-◌, Bool, true, false, not, cond, ◌≤◌, inl, inr, drop, eqb, nat_eq, List, [], ◌∷◌, length, map, Option, Some, None, refl, sym, ap, ◌∙◌, arith, subst, suc, zero, length-drop}
 use Rattle.std.specs.List.{sum_by, filter, list_any}
 use Rattle.std.specs.List.Sorted.{IsPermutation}

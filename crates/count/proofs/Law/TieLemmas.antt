@@ -1,3 +1,4 @@
+-- In a group that is not empty somebody is highest, and somebody lowest.
 use Rattle.std.proofs.Common.{◌≡◌, ℕ, ◌||◌, Bool, true, false, not, cond, eqb, nat_eq, List, [], ◌∷◌, refl, ap, ◌∙◌, Ordering}
 use Rattle.std.specs.List.{list_any, filter}
 use Rattle.std.specs.Ordering.{is_lt}

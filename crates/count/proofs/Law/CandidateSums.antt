@@ -1,3 +1,4 @@
+-- Sums over candidates who differ.
 use Rattle.std.proofs.Common.{◌≡◌, ℕ, ◌+◌, ◌*◌, ◌≤◌, ◌||◌, Bool, true, false, cond, eqb, nat_eq, List, [], ◌∷◌, length, refl, sym, ap, ◌∙◌, arith, subst}
 use Rattle.std.specs.List.{sum_by, list_any, filter, IsDistinct, AllByRecursion}
 use Rattle.std.proofs.lemmas.List.Sums.{sum_by-cons, sum_by-le-sum_by}
@@ -9,7 +10,7 @@ use Rattle.count.specs.Law.Contest.{Contest, History}
 use Rattle.count.specs.Law.Places.{place}
 use Rattle.count.specs.Law.Figures.{value_with}
 use Rattle.count.proofs.SumLemmas.{sum_by-same, sum_by-add, sum_by-none}
-use Rattle.count.proofs.ValueLemmas.{all_values, held}
+use Rattle.count.proofs.Law.ValueLemmas.{all_values, held}
 use Rattle.count.proofs.ChoiceLemmas.{within_value}
 
 -- the members of a set of columns differ

@@ -1,11 +1,10 @@
+-- Small elections counted by hand, evaluated against the definitions: a wrong figure, action or tie is refused.
 use Rattle.std.proofs.Common.{◌-◌, ℕ, List, [], ◌∷◌, ◌++◌, replicate, refl, length}
 use Rattle.count.specs.Law.Contest.{Contest, History, contest_for}
 use Rattle.count.specs.Law.Right.{IsRight, IsCount}
 use Rattle.count.specs.declared.stages.Stage.{Stage}
 use Rattle.count.specs.declared.stages.Action.{Action}
 use Rattle.count.specs.declared.stages.Action.TheVariants.{First, Surplus, Exclude, ExcludeLast}
-
--- Small elections counted by hand, evaluated against the definitions: a wrong figure, action or tie is refused.
 
 -- so many papers alike
 abbrev times : ℕ → List ℕ → List (List ℕ)

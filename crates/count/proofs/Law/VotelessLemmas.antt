@@ -12,9 +12,9 @@ use Rattle.count.specs.declared.stages.Stage.{Stage}
 use Rattle.count.specs.declared.stages.Action.{Action}
 use Rattle.count.specs.declared.stages.Action.TheVariants.{Exclude, ExcludeLast}
 use Rattle.count.proofs.SumLemmas.{at_other, sum_by-none}
-use Rattle.count.proofs.ValueLemmas.{held}
-use Rattle.count.proofs.ConservedLemmas.{IsHolder, holder-known, sum-of}
-use Rattle.count.proofs.StepLemmas.{IsSurplus, IsExclusion, step-is, step-first, told-votes, votes-held}
+use Rattle.count.proofs.Law.ValueLemmas.{held}
+use Rattle.count.proofs.Law.ConservedLemmas.{IsHolder, holder-known, sum-of}
+use Rattle.count.proofs.Law.StepLemmas.{IsSurplus, IsExclusion, step-is, step-first, told-votes, votes-held}
 
 -- a paper is worth nothing to a number that can't be its holder
 worth_other : (candidates : List ℕ) (c : ℕ) (at : Place) → 1 ≤ c → list_any (nat_eq c) candidates ≡ false → IsHolder candidates at.holder → value_with c at ≡ 0

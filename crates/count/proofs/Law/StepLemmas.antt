@@ -1,3 +1,4 @@
+-- What each stage comes after, and what it tells.
 use Rattle.std.proofs.Common.{◌≡◌, ℕ, ◌-◌, ◌<◌, ◌==◌, ◌||◌, ◌&&◌, ◌⊎◌, inl, inr, Bool, true, false, not, cond, nat_lt, List, [], ◌∷◌, Option, Some, refl, sym, ap, ◌∙◌, arith, slice_index}
 use Rattle.std.proofs.lemmas.Bool.{ltb-true}
 use Rattle.count.specs.Law.Contest.{Contest, History, newest_votes, In}
@@ -9,12 +10,12 @@ use Rattle.count.specs.declared.stages.Stage.{Stage}
 use Rattle.count.specs.declared.stages.Action.{Action}
 use Rattle.count.specs.declared.stages.Action.TheVariants.{First, Surplus}
 use Rattle.count.specs.declared.stages.Due.TheVariants.{Finished}
-use Rattle.count.proofs.ActionLemmas.{in-filter, drawn-due, at_number}
-use Rattle.count.proofs.ValueLemmas.{held}
+use Rattle.count.proofs.Law.ActionLemmas.{in-filter, drawn-due, at_number}
+use Rattle.count.proofs.Law.ValueLemmas.{held}
 use Rattle.paper.specs.Columns.{IsColumn}
 use Rattle.count.proofs.ChoiceLemmas.{and_true, not_true}
 
--- an action on one of the elected_after, who has more than the quota
+-- an action on one of the elected, who has more than the quota
 pub record IsSurplus (contest : Contest) (stages : History) (action : Action) : Type 0 where
   pub c : ℕ
   pub is_candidate : In c contest.candidates
@@ -30,7 +31,7 @@ pub record IsExclusion (contest : Contest) (stages : History) (action : Action) 
   pub not_elected : is_elected contest stages c ≡ false
   pub not_excluded : is_excluded stages c ≡ false
 
--- what comes after a stage is the surplus of one of the elected_after or the exclusion of one who continues
+-- what comes after a stage is the surplus of one of the elected or the exclusion of one who continues
 pub step-is : (contest : Contest) (s : Stage) (before : History) (lot : Option ℕ) (action : Action) →
     drawn contest (s ∷ before) lot (due_after contest (s ∷ before)) ≡ Some action → IsSurplus contest (s ∷ before) action ⊎ IsExclusion contest (s ∷ before) action
 step-is contest s before lot action h =
@@ -64,11 +65,11 @@ step-first contest lot action h = cc
 pub told-votes : (contest : Contest) (s : Stage) (before : History) (c : ℕ) → Tells contest before s → IsColumn c → newest_votes (s ∷ before) c ≡ votes_after contest (s ∷ before) c
 told-votes contest s before c tells column = ap (λ vs. slice_index vs (c - 1)) tells.votes_told ∙ at_number (votes_after contest (s ∷ before)) c column
 
--- who has reached the quota is elected_after
+-- who has reached the quota is elected
 pub reached-elected : (contest : Contest) (stages : History) (c : ℕ) → has_reached contest stages c ≡ true → is_elected contest stages c ≡ true
 reached-elected contest stages c h = ap (λ b. b || (undecided_fill contest stages && not (is_excluded stages c))) h
 
--- the votes_after of one whose surplus has gone, and of another
+-- the votes of one whose surplus has gone, and of another
 pub votes-transferred : (contest : Contest) (stages : History) (c : ℕ) → is_transferred stages c ≡ true → votes_after contest stages c ≡ contest.quota
 votes-transferred contest stages c h = ap (λ b. cond b contest.quota (held contest stages c)) h
 

@@ -1,3 +1,4 @@
+-- After each stage figures, non-transferable and lost make up a vote for each paper.
 use Rattle.std.proofs.Common.{◌≡◌, ℕ, ◌+◌, ◌*◌, ◌<◌, ◌≤◌, ◌&&◌, ◌⊎◌, inl, inr, Bool, true, false, not, cond, eqb, nat_eq, List, [], ◌∷◌, length, Option, refl, ap, ◌∙◌, arith}
 use Rattle.std.specs.List.{list_any, sum_by, AllByRecursion}
 use Rattle.std.proofs.lemmas.Bool.{cases_order}
@@ -13,13 +14,13 @@ use Rattle.count.specs.Books.{AreRankings}
 use Rattle.count.specs.declared.stages.Stage.{Stage}
 use Rattle.count.specs.declared.stages.Action.{Action}
 use Rattle.count.specs.declared.stages.Action.TheVariants.{First, Surplus, Exclude, ExcludeLast}
-use Rattle.count.proofs.ActionLemmas.{in-filter, column-in}
+use Rattle.count.proofs.Law.ActionLemmas.{in-filter, column-in}
 use Rattle.count.proofs.SumLemmas.{sum_by-add, at_other, at_equal}
-use Rattle.count.proofs.ValueLemmas.{all_values, held}
-use Rattle.count.proofs.CandidateSums.{columns-distinct, sum-one, sum-swap, sum-le}
-use Rattle.count.proofs.StepLemmas.{told-votes}
-use Rattle.count.proofs.QuotaLemmas.{values-conserved}
-use Rattle.count.proofs.PassedLemmas.{has_passed, first-passes, passed-held}
+use Rattle.count.proofs.Law.ValueLemmas.{all_values, held}
+use Rattle.count.proofs.Law.CandidateSums.{columns-distinct, sum-one, sum-swap, sum-le}
+use Rattle.count.proofs.Law.StepLemmas.{told-votes}
+use Rattle.count.proofs.Law.QuotaLemmas.{values-conserved}
+use Rattle.count.proofs.Law.PassedLemmas.{has_passed, first-passes, passed-held}
 use Rattle.count.proofs.ChoiceLemmas.{either_or}
 
 -- a holder is one of the candidates, or no one
@@ -101,7 +102,7 @@ votes_split : (contest : Contest) (stages : History) (c : ℕ) (b : Bool) → (b
 votes_split contest stages c true h = omega (arith, h refl)
 votes_split contest stages c false h = omega arith
 
--- The votes_after of the candidates, what no one holds and what is lost_after make up a vote for each paper.
+-- The votes of the candidates, what no one holds and what is lost make up a vote for each paper.
 pub votes-conserved : (contest : Contest) (handed : History → Stage → Option ℕ) (s : Stage) (before : History) → IsContest contest → IsRightBy contest handed (s ∷ before) → AreRankings contest.papers →
     sum_by (votes_after contest (s ∷ before)) contest.candidates + non_transferable_after contest (s ∷ before) + lost_after contest (s ∷ before) ≡ 100000 * length contest.papers
 votes-conserved contest handed s before fair right rankings =
@@ -115,7 +116,7 @@ votes-conserved contest handed s before fair right rankings =
     let split = sum_by-add (λ c. cond (is_transferred stages c) contest.quota 0) (held contest stages) contest.candidates in
     omega (arith, below, above, split, held-all contest stages fair, values-conserved contest handed s before fair right)
 
--- After each stage the figures of the candidates, the non-transferable and the lost_after make up a vote for each paper.
+-- After each stage the figures of the candidates, the non-transferable and the lost make up a vote for each paper.
 pub figures-conserved : (contest : Contest) (handed : History → Stage → Option ℕ) (s : Stage) (before : History) → IsContest contest → IsRightBy contest handed (s ∷ before) → AreRankings contest.papers →
     sum_by (votes_at s) contest.candidates + s.non_transferable + s.lost ≡ 100000 * length contest.papers
 figures-conserved contest handed s before fair right rankings =

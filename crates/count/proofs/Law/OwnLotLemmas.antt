@@ -1,3 +1,4 @@
+-- Each action is drawn by the lot that it names itself.
 use Rattle.std.proofs.Common.{◌≡◌, ℕ, Bool, true, false, cond, nat_eq, List, Option, Some, None, refl, sym, ap, ◌∙◌}
 use Rattle.std.specs.List.{list_any}
 use Rattle.count.specs.Law.Contest.{Contest, History}

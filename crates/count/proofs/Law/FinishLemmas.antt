@@ -1,3 +1,4 @@
+-- A finished count has filled all seats, and until then somebody continues.
 use Rattle.std.proofs.Common.{◌≡◌, ℕ, ◌+◌, ◌<◌, ◌≤◌, ◌==◌, ◌||◌, ◌&&◌, ◌⊎◌, inl, inr, Bool, true, false, not, cond, eqb, nat_eq, nat_le, List, [], ◌∷◌, length, Option, Some, None, refl, sym, ap, ◌∙◌, arith, subst}
 use Rattle.std.specs.List.{list_any, filter}
 use Rattle.std.proofs.lemmas.Bool.{eqb-true, eqb-false}
@@ -15,12 +16,12 @@ use Rattle.count.specs.declared.stages.Kind.{Kind}
 use Rattle.count.specs.declared.stages.Kind.TheVariants.{Surplus as of_surplus, Exclusion as of_exclusion}
 use Rattle.count.specs.declared.stages.Due.{Due}
 use Rattle.count.specs.declared.stages.Due.TheVariants.{Act, Lot, Finished}
-use Rattle.count.proofs.ActionLemmas.{filter-le}
+use Rattle.count.proofs.Law.ActionLemmas.{filter-le}
 use Rattle.count.proofs.SumLemmas.{sum_by-add}
-use Rattle.count.proofs.CandidateSums.{columns-distinct, sum-one, sum-filter}
-use Rattle.count.proofs.StepLemmas.{IsSurplus, IsExclusion, step-is, step-first, step-vacant}
-use Rattle.count.proofs.QuotaLemmas.{few-reach}
-use Rattle.count.proofs.TieLemmas.{highest-some, lowest-some}
+use Rattle.count.proofs.Law.CandidateSums.{columns-distinct, sum-one, sum-filter}
+use Rattle.count.proofs.Law.StepLemmas.{IsSurplus, IsExclusion, step-is, step-first, step-vacant}
+use Rattle.count.proofs.Law.QuotaLemmas.{few-reach}
+use Rattle.count.proofs.Law.TieLemmas.{highest-some, lowest-some}
 
 split_choice : (r e : Bool) (x n w u : ℕ) (l a b : List ℕ) → length l ≡ length a + length b →
     length (cond (r || not e) (x ∷ l) l) ≡ length (cond r (x ∷ a) a) + length (cond (not r && not e) (x ∷ b) b)
@@ -41,7 +42,7 @@ filter-same : (p q : ℕ → Bool) (xs : List ℕ) → ((c : ℕ) → p c ≡ q 
 filter-same p q [] h = refl
 filter-same p q (x ∷ xs) h = ap (λ b. cond b (x ∷ filter p xs) (filter p xs)) (h x) ∙ ap (λ l. cond (q x) (x ∷ l) l) (filter-same p q xs h)
 
--- how many are elected_after, by whether the undecided fill the seats
+-- how many are elected, by whether the undecided fill the seats
 pub elected_filled : (contest : Contest) (stages : History) → undecided_fill contest stages ≡ true → length (elected_after contest stages) ≡ contest.seats
 elected_filled contest stages full =
     ap (λ f. length (filter (λ c. has_reached contest stages c || (f && not (is_excluded stages c))) contest.candidates)) full
