@@ -24,14 +24,16 @@ mod ties;
 // a count that is under way, and one to its end
 mod book;
 mod run;
-// a book by parcels: its papers, their moves, and what is recorded of them
-mod act;
+// papers in parcels, and how they are passed on
 mod moving;
 mod parcel;
-mod parcel_book;
-mod record;
 mod sorting;
+// what a stage records of them
+mod record;
 mod tally;
+// the book that keeps them
+mod act;
+mod parcel_book;
 #[cfg(test)]
 mod tests;
 

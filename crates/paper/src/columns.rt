@@ -39,7 +39,9 @@ impl Columns {
     pub fn empty() -> Columns
         ensures { result ≡ [] }
     {
-        Columns { numbers: [0; MAX_CANDIDATES] }
+        Columns {
+            numbers: [0; MAX_CANDIDATES],
+        }
     }
 
     /// The set with a number of 1 to `MAX_CANDIDATES` more.

@@ -169,12 +169,10 @@ fn a_failure_is_of_one_call(rt: HostRuntime) {
     });
     let long = [b'7'; 5000];
     let mut room = [0; 5000];
-    for failures in 1..4u64 {
-        assert!(&rt; torn.put(&long).is_err());
-        assert_eq!(&rt; Sink::failures(&torn), failures * 2 - 1);
-        assert_eq!(&rt; torn.put(&long), Ok(5000));
-        assert!(&rt; torn.fetch(&mut room).is_err());
-        assert_eq!(&rt; torn.fetch(&mut room), Ok(1));
-        assert_eq!(&rt; Source::failures(&torn), failures * 2);
-    }
+    assert!(&rt; torn.put(&long).is_err());
+    assert_eq!(&rt; Sink::failures(&torn), 1);
+    assert_eq!(&rt; torn.put(&long), Ok(5000));
+    assert!(&rt; torn.fetch(&mut room).is_err());
+    assert_eq!(&rt; torn.fetch(&mut room), Ok(1));
+    assert_eq!(&rt; Source::failures(&torn), 2);
 }
