@@ -27,7 +27,8 @@ pub enum AdvanceError {
     Memory,
 }
 
-/// A count of a contest: the stages that are done, and what comes next.
+/// A count of a contest, stage by stage as the Order has it: the stages that are done, and what comes
+/// next.
 pub trait CountBook {
     /// Candidates, seats, quota and papers.
     ghost contest: { Self → Contest };
@@ -46,7 +47,8 @@ pub trait CountBook {
         ensures short { IsShort (contest self.now) (history self.now) };
 
     /// What comes next: an action, a lot among two candidates or more who are tied, or nothing,
-    /// exactly where no vacancy is left; then as many candidates are elected as there are seats.
+    /// exactly where no vacancy is left; then as many candidates are elected as there are seats
+    /// ("Transfer of ballot papers"; "Exclusion of candidates"; "Filling of last vacancies").
     fn due(&self) -> Due
         ensures is { result ≡ due_after (contest self.now) (history self.now) }
         ensures fair { IsContest (contest self.now) }

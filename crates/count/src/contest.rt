@@ -35,7 +35,8 @@ fn are_for_candidates(candidates: &Columns, papers: &[Prefs]) -> bool
 }
 
 /// Whether a count may be held: seats 1 to `MAX_SEATS`, more candidates than seats, at most
-/// `MAX_PAPERS` papers, and preferences for candidates only.
+/// `MAX_PAPERS` papers, and preferences for candidates only. The limits are the office's own; within
+/// them the "Quota" and all votes are exact.
 #[tactic(auto, using(crate::proofs::ContestLemmas::contests))]
 pub fn is_contest(candidates: &Columns, seats: u8, papers: &[Prefs]) -> bool
     ensures { IsTrue result ↔ IsContest (contest_for candidates.now seats papers.now) }

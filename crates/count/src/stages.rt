@@ -26,9 +26,11 @@ pub struct Stage {
     pub votes: [Votes; MAX_CANDIDATES],
     /// Who is newly elected at this stage ("Quota"; "Filling of last vacancies").
     pub elected: Columns,
-    /// The values of the papers without a next preference, of all stages up to this one.
+    /// The values of the papers without a next preference, of all stages up to this one ("Transfer of
+    /// ballot papers"), at most one vote for each paper.
     pub non_transferable: Votes,
-    /// What surpluses lost by fractions, at all stages up to this one ("Transfer values").
+    /// What surpluses lost by fractions, at all stages up to this one ("Transfer values"), at most one
+    /// vote for each paper.
     pub lost: Votes,
 }
 
