@@ -6,7 +6,7 @@ use Rattle.std.proofs.lemmas.Bool.{eq-eqb}
 use Rattle.std.proofs.lemmas.List.Sorted.{list_any-IsPermutation, IsPermutation-reverse}
 use Rattle.std.proofs.lemmas.List.Folds.{list_any_at}
 use Rattle.std.proofs.lemmas.List.Kept.{IsStrictlyIncreasing-filter}
-use Rattle.paper.specs.Columns.{IsColumnSet, IsColumn}
+use Rattle.paper.specs.Columns.{max_candidates, IsColumnSet, IsColumn}
 use Rattle.std.proofs.lemmas.List.{get_or-take, length-take, take_all}
 use Rattle.std.proofs.lemmas.List.Elements.{filter_more}
 use Rattle.count.specs.Law.Contest.{In}
@@ -69,7 +69,7 @@ last_in (x ∷ xs) c = or_later (nat_eq c x) (list_any (nat_eq c) (xs ++ c ∷ [
 pub last-some : (chosen : List ℕ) (c : ℕ) → IsColumnSet (chosen ++ c ∷ []) → 1 ≤ c
 last-some chosen c set = (column-in c (chosen ++ c ∷ []) set (last_in chosen c)).0
 
-pub last-few : (chosen : List ℕ) (c : ℕ) → IsColumnSet (chosen ++ c ∷ []) → c ≤ 30
+pub last-few : (chosen : List ℕ) (c : ℕ) → IsColumnSet (chosen ++ c ∷ []) → c ≤ max_candidates
 last-few chosen c set = (column-in c (chosen ++ c ∷ []) set (last_in chosen c)).1
 
 pub ruleset last_column = (last-some, last-few)

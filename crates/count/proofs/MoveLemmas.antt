@@ -2,6 +2,7 @@
 use Rattle.std.proofs.Common.{◌≡◌, ℕ, ◌<◌, ◌≤◌, ◌⊎◌, inl, inr, Bool, true, false, cond, nat_eq, List, [], ◌∷◌, sym, ap, ◌∙◌, arith, subst}
 use Rattle.std.specs.List.{list_any}
 use Rattle.paper.specs.Columns.{IsColumn}
+use Rattle.votes.specs.Units.{max_units}
 use Rattle.count.specs.Law.Contest.{Contest, History, IsContest, In, newest_votes}
 use Rattle.count.specs.Law.Right.{IsRightByItself, candidate_of}
 use Rattle.count.specs.Advance.{IsDue}
@@ -24,7 +25,7 @@ pub record IsLawful (contest : Contest) (stages : History) (c : ℕ) : Type 0 wh
   pub column : IsColumn c
   pub above : contest.quota < newest_votes stages c
   pub some : 0 < contest.quota
-  pub few : newest_votes stages c ≤ 499950000000
+  pub few : newest_votes stages c ≤ max_units
 
 number : Action → ℕ
 number First = 0

@@ -3,6 +3,7 @@ use Rattle.std.proofs.Common.{◌≡◌, ℕ, suc, zero, ◌+◌, ◌<◌, ◌�
 use Rattle.std.specs.List.{sum_by}
 use Rattle.std.proofs.lemmas.List.Sums.{sum_by_push, sum_by_more, sum_by-set}
 use Rattle.paper.specs.Standing.{from_first}
+use Rattle.paper.specs.Columns.{max_candidates}
 use Rattle.count.specs.Law.Places.{first_of}
 use Rattle.count.specs.Holdings.{total, total_of, total_passed, at_passed, new_value, OnlyColumns, AreNumbered}
 use Rattle.count.specs.declared.parcel.TransferRule.{TransferRule}
@@ -120,12 +121,12 @@ total_passed-same f c p q rule holdings h =
     sum_by-same _ _ holdings (λ (s : Holding). total_of-same _ _ s.parcels.items (λ rest v.
     ap (λ (left : List ℕ). cond (eqb s.holder c) (f (first_of left) left (new_value rule v)) 0) (from_first-same p q (drop 1 rest) h)))
 
-first_choice : (continues : ℕ → Bool) (x : ℕ) (xs : List ℕ) (b : Bool) → continues x ≡ b → OnlyColumns continues → first_of (from_first continues xs) ≤ 30 → first_of (cond b (x ∷ xs) (from_first continues xs)) ≤ 30
+first_choice : (continues : ℕ → Bool) (x : ℕ) (xs : List ℕ) (b : Bool) → continues x ≡ b → OnlyColumns continues → first_of (from_first continues xs) ≤ max_candidates → first_of (cond b (x ∷ xs) (from_first continues xs)) ≤ max_candidates
 first_choice continues x xs true e only h = (only x e).1
 first_choice continues x xs false e only h = h
 
 -- a paper goes to a number of a candidate, or to 0
-pub first-known : (continues : ℕ → Bool) (rest : List ℕ) → OnlyColumns continues → first_of (from_first continues rest) ≤ 30
+pub first-known : (continues : ℕ → Bool) (rest : List ℕ) → OnlyColumns continues → first_of (from_first continues rest) ≤ max_candidates
 first-known continues [] only = omega arith
 first-known continues (x ∷ xs) only = first_choice continues x xs (continues x) refl only (first-known continues xs only)
 

@@ -4,6 +4,7 @@ use Rattle.std.specs.List.{sum_by, filter}
 use Rattle.std.proofs.lemmas.List.Sums.{sum_by-cons, sum_by-append}
 use Rattle.std.proofs.lemmas.Bool.{eqb-true}
 use Rattle.paper.specs.Ranking.{IsRanking}
+use Rattle.votes.specs.Units.{one_vote}
 use Rattle.count.specs.Law.Contest.{Contest, History, newest_votes}
 use Rattle.count.specs.Law.Elected.{is_continuing}
 use Rattle.paper.specs.Standing.{from_first}
@@ -83,11 +84,11 @@ moved-surplus contest before c holdings new rankings hold passed f s is =
 
 -- at the first stage each paper goes whole to its first preference, and nothing was there before;
 pub moved-first : (contest : Contest) (before : History) (holdings new : List Holding) → AreRankings contest.papers → holdings ≡ [] →
-    ((f : ℕ → List ℕ → ℕ → ℕ) → total f new ≡ sum_by (λ p. f (first_of p) p 100000) contest.papers) → IsMovedBy contest before First holdings new
+    ((f : ℕ → List ℕ → ℕ → ℕ) → total f new ≡ sum_by (λ p. f (first_of p) p one_vote) contest.papers) → IsMovedBy contest before First holdings new
 moved-first contest before holdings new rankings none dealt f s is =
     let nothing : total (kept_by f First) holdings ≡ 0 = ap (total (kept_by f First)) none in
-    let first = sum-rankings contest.papers rankings (λ p. at_place f p (place contest (s ∷ before) p)) (λ p. f (first_of p) p 100000)
-    (λ p r. ap (λ a. at_place f p (moved contest before a p (place contest before p))) is ∙ ap (λ l. f (first_of p) l 100000) (rest_again p p r (suffix-self p))) in
+    let first = sum-rankings contest.papers rankings (λ p. at_place f p (place contest (s ∷ before) p)) (λ p. f (first_of p) p one_vote)
+    (λ p r. ap (λ a. at_place f p (moved contest before a p (place contest before p))) is ∙ ap (λ l. f (first_of p) l one_vote) (rest_again p p r (suffix-self p))) in
     omega (arith, first, dealt f, nothing)
 
 -- and an exclusion that fills the last vacancies moves nothing.

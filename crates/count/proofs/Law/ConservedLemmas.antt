@@ -3,6 +3,7 @@ use Rattle.std.proofs.Common.{◌≡◌, ℕ, ◌+◌, ◌*◌, ◌<◌, ◌≤�
 use Rattle.std.specs.List.{list_any, sum_by, AllByRecursion}
 use Rattle.std.proofs.lemmas.Bool.{cases_order}
 use Rattle.std.proofs.lemmas.List.Sums.{sum_by-cons}
+use Rattle.votes.specs.Units.{one_vote}
 use Rattle.count.specs.Law.Contest.{Contest, History, IsContest, AreForCandidates, votes_at, In}
 use Rattle.count.specs.Law.Laws.{IsConserved}
 use Rattle.count.specs.Holdings.{passes_on}
@@ -104,7 +105,7 @@ votes_split contest stages c false h = omega arith
 
 -- The votes of the candidates, what no one holds and what is lost make up a vote for each paper.
 pub votes-conserved : (contest : Contest) (handed : History → Stage → Option ℕ) (s : Stage) (before : History) → IsContest contest → IsRightBy contest handed (s ∷ before) → AreRankings contest.papers →
-    sum_by (votes_after contest (s ∷ before)) contest.candidates + non_transferable_after contest (s ∷ before) + lost_after contest (s ∷ before) ≡ 100000 * length contest.papers
+    sum_by (votes_after contest (s ∷ before)) contest.candidates + non_transferable_after contest (s ∷ before) + lost_after contest (s ∷ before) ≡ one_vote * length contest.papers
 votes-conserved contest handed s before fair right rankings =
     let stages = s ∷ before in
     let parts : ℕ → ℕ = λ c. cond (is_transferred stages c) contest.quota 0 + held contest stages c in
@@ -118,7 +119,7 @@ votes-conserved contest handed s before fair right rankings =
 
 -- After each stage the figures of the candidates, the non-transferable and the lost make up a vote for each paper.
 pub figures-conserved : (contest : Contest) (handed : History → Stage → Option ℕ) (s : Stage) (before : History) → IsContest contest → IsRightBy contest handed (s ∷ before) → AreRankings contest.papers →
-    sum_by (votes_at s) contest.candidates + s.non_transferable + s.lost ≡ 100000 * length contest.papers
+    sum_by (votes_at s) contest.candidates + s.non_transferable + s.lost ≡ one_vote * length contest.papers
 figures-conserved contest handed s before fair right rankings =
     let told : (c : ℕ) → In c contest.candidates → votes_at s c ≡ votes_after contest (s ∷ before) c =
     λ c k. told-votes contest s before c right.1.tells (column-in c contest.candidates fair.candidate_set k) in

@@ -4,6 +4,7 @@ use Rattle.std.specs.List.{filter, sum_by}
 use Rattle.std.proofs.lemmas.Bool.{leb-true, eqb-true, cases_order}
 use Rattle.std.proofs.lemmas.List.Sums.{sum_by-le-sum_by}
 use Rattle.std.proofs.Math.Nat.{lt-div-mul-add, mul-le-mul_right}
+use Rattle.votes.specs.Units.{one_vote}
 use Rattle.count.specs.Law.Contest.{Contest, History, IsContest, newest_votes, votes_at, In}
 use Rattle.count.specs.Law.Right.{IsRightBy, Tells}
 use Rattle.count.specs.Law.Figures.{votes_after, lost_after, lost_by}
@@ -96,7 +97,7 @@ excluded_same contest s before d false is =
     let none : lost_by contest s before s.action ≡ 0 = ap (lost_by contest s before) is in
     omega (arith, exclude-values contest s before d is, none, quotas_same contest s before (λ c. ap (λ a. transfers a c) is))
 
-first_values : (contest : Contest) (s : Stage) → s.action ≡ First → all_values contest (s ∷ []) + quotas_left contest (s ∷ []) + lost_after contest (s ∷ []) ≡ 100000 * length contest.papers
+first_values : (contest : Contest) (s : Stage) → s.action ≡ First → all_values contest (s ∷ []) + quotas_left contest (s ∷ []) + lost_after contest (s ∷ []) ≡ one_vote * length contest.papers
 first_values contest s is =
     let none : lost_by contest s [] s.action ≡ 0 = ap (lost_by contest s []) is in
     let left : quotas_left contest (s ∷ []) ≡ 0 = sum_by-none _ contest.candidates (λ c. ap (λ a. cond (transfers a c || false) contest.quota 0) is) in
@@ -113,14 +114,14 @@ step_values contest s s' before fair tells (inr on) = excluded_same contest s (s
 
 -- The values of all papers, the quotas that stay and what is lost make up a vote for each paper.
 pub values-conserved : (contest : Contest) (handed : History → Stage → Option ℕ) (s : Stage) (before : History) → IsContest contest → IsRightBy contest handed (s ∷ before) →
-    all_values contest (s ∷ before) + quotas_left contest (s ∷ before) + lost_after contest (s ∷ before) ≡ 100000 * length contest.papers
+    all_values contest (s ∷ before) + quotas_left contest (s ∷ before) + lost_after contest (s ∷ before) ≡ one_vote * length contest.papers
 values-conserved contest handed s [] fair right = first_values contest s (step-first contest (handed [] s) s.action right.1.was_due)
 values-conserved contest handed s (s' ∷ before) fair right =
     omega (arith, values-conserved contest handed s' before fair right.0, step_values contest s s' before fair right.0.1.tells (step-is contest s' before (handed (s' ∷ before) s) s.action right.1.was_due))
 
 -- the same where the newest stage has its action alone
 pub values-conserved-next : (contest : Contest) (handed : History → Stage → Option ℕ) (s : Stage) (before : History) → IsContest contest → IsRightBy contest handed before → IsDue contest before s.action →
-    all_values contest (s ∷ before) + quotas_left contest (s ∷ before) + lost_after contest (s ∷ before) ≡ 100000 * length contest.papers
+    all_values contest (s ∷ before) + quotas_left contest (s ∷ before) + lost_after contest (s ∷ before) ≡ one_vote * length contest.papers
 values-conserved-next contest handed s [] fair right due = first_values contest s (step-first contest due.lot s.action due.is)
 values-conserved-next contest handed s (s' ∷ before) fair right due =
     omega (arith, values-conserved contest handed s' before fair right, step_values contest s s' before fair right.1.tells (step-is contest s' before due.lot s.action due.is))
@@ -131,7 +132,7 @@ votes_parts contest stages c false = omega arith
 
 -- the votes of all candidates are within a vote for each paper
 pub votes-within : (contest : Contest) (handed : History → Stage → Option ℕ) (s : Stage) (before : History) → IsContest contest → IsRightBy contest handed (s ∷ before) →
-    sum_by (votes_after contest (s ∷ before)) contest.candidates ≤ 100000 * length contest.papers
+    sum_by (votes_after contest (s ∷ before)) contest.candidates ≤ one_vote * length contest.papers
 votes-within contest handed s before fair right =
     let stages = s ∷ before in
     let parts = sum_by-le-sum_by (votes_after contest stages) (λ c. cond (is_transferred stages c) contest.quota 0 + held contest stages c) contest.candidates (λ c. votes_parts contest stages c _) in
@@ -143,20 +144,20 @@ reached_choice : (b : Bool) (q v : ℕ) → (b ≡ true → q ≤ v) → cond b 
 reached_choice true q v h = h refl
 reached_choice false q v h = omega arith
 
-same_product : (d k : ℕ) → k * (100000 * (d + 1)) ≡ 100000 * (d * k + k)
+same_product : (d k : ℕ) → k * (one_vote * (d + 1)) ≡ one_vote * (d * k + k)
 same_product d k = grind arith
 
-few_order : (w n seats q : ℕ) → (w ≡ seats) ⊎ ((w < seats) ⊎ (seats < w)) → w * q ≤ 100000 * n → q ≡ 100000 * (n / (seats + 1) + 1) → w ≤ seats
+few_order : (w n seats q : ℕ) → (w ≡ seats) ⊎ ((w < seats) ⊎ (seats < w)) → w * q ≤ one_vote * n → q ≡ one_vote * (n / (seats + 1) + 1) → w ≤ seats
 few_order w n seats q (inl h) all is = omega (arith, h)
 few_order w n seats q (inr (inl h)) all is = omega (arith, h)
 few_order w n seats q (inr (inr h)) all is =
     let some : seats + 1 ≤ w = omega (arith, h) in
     let more : (seats + 1) * q ≤ w * q = mul-le-mul_right q some in
     let enough : n < n / (seats + 1) * (seats + 1) + (seats + 1) = lt-div-mul-add (omega arith) in
-    let whole : (seats + 1) * q ≡ 100000 * (n / (seats + 1) * (seats + 1) + (seats + 1)) = ap (λ k. (seats + 1) * k) is ∙ same_product (n / (seats + 1)) (seats + 1) in
+    let whole : (seats + 1) * q ≡ one_vote * (n / (seats + 1) * (seats + 1) + (seats + 1)) = ap (λ k. (seats + 1) * k) is ∙ same_product (n / (seats + 1)) (seats + 1) in
     absurd (omega (arith, more, enough, whole, all))
 
-few_enough : (w n seats q : ℕ) → w * q ≤ 100000 * n → q ≡ 100000 * (n / (seats + 1) + 1) → w ≤ seats
+few_enough : (w n seats q : ℕ) → w * q ≤ one_vote * n → q ≡ one_vote * (n / (seats + 1) + 1) → w ≤ seats
 few_enough w n seats q all is = few_order w n seats q (cases_order w seats) all is
 
 -- Not more candidates than seats reach the quota.

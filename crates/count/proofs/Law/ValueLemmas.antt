@@ -1,7 +1,7 @@
 -- What each action does to the values of all papers.
 use Rattle.std.proofs.Common.{◌≡◌, ℕ, ◌+◌, ◌-◌, ◌*◌, ◌<◌, ◌≤◌, Bool, true, false, cond, eqb, List, [], ◌∷◌, length, refl, sym, ap, ◌∙◌, ◌/◌, arith, subst}
 use Rattle.std.specs.List.{sum_by}
-use Rattle.votes.specs.Units.{cut}
+use Rattle.votes.specs.Units.{one_vote, cut}
 use Rattle.count.specs.Law.Contest.{Contest, History, newest_votes}
 use Rattle.count.specs.Law.Places.{Place, place, moved, surplus_of}
 use Rattle.count.specs.Law.Figures.{value_with, value_passed_on, lost_after, lost_by}
@@ -88,8 +88,8 @@ exclude-values contest s before c is = sum_by-same _ _ contest.papers (λ p.
     same false h at = refl
 
 -- the first stage makes one vote of each paper
-pub first-values : (contest : Contest) (s : Stage) → s.action ≡ First → all_values contest (s ∷ []) ≡ 100000 * length contest.papers
-first-values contest s is = sum_by-same _ (λ p. 100000) contest.papers (λ p. ap (λ a. (moved contest [] a p (place contest [] p)).value) is) ∙ sum_by-constant 100000 contest.papers
+pub first-values : (contest : Contest) (s : Stage) → s.action ≡ First → all_values contest (s ∷ []) ≡ one_vote * length contest.papers
+first-values contest s is = sum_by-same _ (λ p. one_vote) contest.papers (λ p. ap (λ a. (moved contest [] a p (place contest [] p)).value) is) ∙ sum_by-constant one_vote contest.papers
 
 -- whom an action takes papers from
 abbrev pub takes : Action → ℕ → Bool
