@@ -1,3 +1,4 @@
+-- Why `write_elected_lines` keeps its promise.
 use Rattle.std.proofs.Common.{string_bytes}
 use Rattle.std.proofs.lemmas.List.{take_all}
 use Rattle.sheet.specs.Sheet.{elected_line}

@@ -1,3 +1,4 @@
+-- Why `write_line` keeps its promise.
 use Rattle.std.proofs.Common.{codes}
 use Rattle.std.proofs.lemmas.List.{take_all}
 use Rattle.sheet.specs.Pieces.{piece_text}

@@ -1,3 +1,4 @@
+-- Why `write_number_column` keeps its promise.
 use Rattle.sheet.proofs.Writing.{Writes-then}
 use Rattle.sheet.proofs.line.write_number_column.Goals as goal
 

@@ -1,3 +1,4 @@
+-- Why `write_piece` keeps its promise.
 use Rattle.sheet.proofs.Texts.{right_in_none}
 use Rattle.sheet.proofs.line.write_piece.Goals as goal
 

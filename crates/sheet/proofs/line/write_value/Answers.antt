@@ -1,3 +1,4 @@
+-- Why `write_value` keeps its promise.
 use Rattle.std.proofs.Common.{refl}
 use Rattle.sheet.proofs.Writing.{Writes-put, Writes-then}
 use Rattle.sheet.proofs.line.write_value.Goals as goal

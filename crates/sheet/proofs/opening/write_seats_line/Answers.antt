@@ -1,3 +1,4 @@
+-- Why `write_seats_line` keeps its promise.
 use Rattle.sheet.proofs.opening.write_seats_line.Goals as goal
 
 pub returns : goal.returns

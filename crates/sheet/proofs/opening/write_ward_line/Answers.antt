@@ -1,3 +1,4 @@
+-- Why `write_ward_line` keeps its promise.
 use Rattle.sheet.proofs.opening.write_ward_line.Goals as goal
 
 pub returns : goal.returns

@@ -1,3 +1,4 @@
+-- Why `write_stages` keeps its promise.
 use Rattle.std.proofs.lemmas.List.{take_all}
 use Rattle.sheet.proofs.StageTexts.{Writes-stage, Writes-stage_cut}
 use Rattle.sheet.proofs.Writing.{Writes-none}

@@ -1,3 +1,4 @@
+-- What holds each time round the loop of `write_stages`.
 use Rattle.std.proofs.Common.{[], take, Ok}
 use Rattle.votes.specs.declared.streams.Broken.{Broken}
 use Rattle.sheet.specs.Sheet.{stages_text}

@@ -1,3 +1,4 @@
+-- Why `write_candidate_lines` keeps its promise.
 use Rattle.std.proofs.Common.{string_bytes, sym, subst}
 use Rattle.std.proofs.lemmas.List.{take_all}
 use Rattle.paper.specs.Columns.{IsColumn}

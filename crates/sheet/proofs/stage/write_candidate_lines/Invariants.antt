@@ -1,3 +1,4 @@
+-- What holds each time round the loop of `write_candidate_lines`.
 use Rattle.std.proofs.Common.{take, Ok, string_bytes}
 use Rattle.std.specs.List.{flat_map}
 use Rattle.votes.specs.declared.streams.Broken.{Broken}

@@ -1,3 +1,4 @@
+-- Why `write_heading` keeps its promise.
 use Rattle.sheet.proofs.stage.write_heading.Goals as goal
 
 pub returns-in-Exclude : goal.returns-in-Exclude
