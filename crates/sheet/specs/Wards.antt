@@ -14,7 +14,7 @@ Ascend low (c ∷ cs) = (low < c) × (c ≤ MOST_CANDIDATES) × Ascend c cs
 abbrev pub HasFewPapers : Option Poll → Type 0
 HasFewPapers poll = IfSome poll (λ poll. poll.valid ≤ MOST_PAPERS)
 
--- a ward that can be printed: at least one seat and no more than a ward can have, candidates in ascending number 1 to 30, and not too many papers
+-- a ward that can be printed: at least one seat and no more than a ward can have, candidates in ascending number 1 to the greatest, and not too many papers
 pub record CanBePrinted (ward : Ward) : Type 0 where
   pub some_seats : 1 ≤ ward.seats
   pub few_seats : ward.seats ≤ MOST_SEATS
