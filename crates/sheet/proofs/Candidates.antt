@@ -4,7 +4,7 @@ use Rattle.std.proofs.lemmas.List.{get_or-map, length-map}
 use Rattle.paper.specs.Columns.{IsColumnSet, IsColumn}
 use Rattle.paper.proofs.ColumnSets.{Ascends, columns_from_ascends, ascends_from_columns}
 use Rattle.sheet.specs.Wards.{Ascend, HasFewPapers, CanBePrinted}
-use Rattle.sheet.specs.declared.ward.TheConstants.{MOST_SEATS}
+use Rattle.votes.specs.Units.{max_seats}
 use Rattle.sheet.specs.declared.ward.Ward.{Ward}
 
 -- the number of each candidate is 1 to 30
@@ -21,7 +21,7 @@ ascend_of low [] up = tt
 ascend_of low (c ∷ cs) up = (up.0, up.1, ascend_of c cs up.2)
 
 -- a ward by its parts
-pub CanBePrinted-made : (ward : Ward) → 1 ≤ ward.seats → ward.seats ≤ MOST_SEATS → HasFewPapers ward.poll → Ascend 0 (map (λ candidate. candidate.0) ward.candidates.now) → CanBePrinted ward
+pub CanBePrinted-made : (ward : Ward) → 1 ≤ ward.seats → ward.seats ≤ max_seats → HasFewPapers ward.poll → Ascend 0 (map (λ candidate. candidate.0) ward.candidates.now) → CanBePrinted ward
 CanBePrinted-made ward some few papers up = record {
   some_seats = some;
   few_seats = few;

@@ -1,8 +1,8 @@
 -- The lines of a stage.
 use Rattle.std.specs.Prelude.{ℕ, Bool, if◌then◌else◌, nat_eq, List, [], ◌∷◌, ◌++◌, codes, decimal}
 use Rattle.std.specs.List.{list_any}
-use Rattle.count.specs.Contest.{votes_at}
-use Rattle.count.specs.Elected.{excludes}
+use Rattle.count.specs.Law.Contest.{votes_at}
+use Rattle.count.specs.Law.Elected.{excludes}
 use Rattle.count.specs.declared.stages.Stage.{Stage}
 use Rattle.count.specs.declared.stages.Action.{Action}
 use Rattle.count.specs.declared.stages.Action.TheVariants.{First, Surplus, Exclude, ExcludeLast}

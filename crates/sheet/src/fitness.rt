@@ -3,7 +3,9 @@
 ghost use Rattle.std.specs.Prelude.{◌↔◌, map, IsTrue};
 ghost use Rattle.sheet.specs.Wards.{Ascend, CanBePrinted, HasFewPapers};
 
-use crate::ward::{MOST_CANDIDATES, MOST_PAPERS, MOST_SEATS, Poll, Ward};
+use crate::ward::{Poll, Ward};
+use paper::MAX_CANDIDATES;
+use votes::{MAX_PAPERS, MAX_SEATS};
 
 /// Whether the numbers of some candidates ascend from above a number on, to the greatest.
 fn ascend_above(low: u8, candidates: &[(u8, String)]) -> bool
@@ -12,7 +14,7 @@ fn ascend_above(low: u8, candidates: &[(u8, String)]) -> bool
     match candidates.split_first() {
         None => true,
         Some((candidate, others)) => {
-            if candidate.0 <= low || candidate.0 > MOST_CANDIDATES {
+            if candidate.0 <= low || usize::from(candidate.0) > MAX_CANDIDATES {
                 return false;
             }
             ascend_above(candidate.0, others)
@@ -26,16 +28,16 @@ fn has_few_papers(poll: Option<Poll>) -> bool
 {
     match poll {
         None => true,
-        Some(poll) => poll.valid <= MOST_PAPERS,
+        Some(poll) => poll.valid <= MAX_PAPERS,
     }
 }
 
-/// Whether a ward can be printed: 1 to [`MOST_SEATS`] seats, candidates in ascending number 1 to
-/// [`MOST_CANDIDATES`], and at most [`MOST_PAPERS`] valid papers.
+/// Whether a ward can be printed: 1 to [`MAX_SEATS`] seats, candidates in ascending number 1 to
+/// [`MAX_CANDIDATES`], and at most [`MAX_PAPERS`] valid papers.
 pub fn can_be_printed(ward: &Ward) -> bool
     ensures { IsTrue result ↔ CanBePrinted ward.now }
 {
-    if ward.seats < 1 || ward.seats > MOST_SEATS {
+    if ward.seats < 1 || ward.seats > MAX_SEATS {
         return false;
     }
     if !has_few_papers(ward.poll) {

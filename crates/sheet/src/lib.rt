@@ -25,7 +25,7 @@ pub use declaration::write_declaration;
 pub use fitness::can_be_printed;
 pub use page::sheet_text;
 pub use sheets::write_sheet;
-pub use ward::{MOST_CANDIDATES, MOST_PAPERS, MOST_SEATS, Poll, Ward};
+pub use ward::{Poll, Ward};
 
 #[cfg(test)]
 mod tests;

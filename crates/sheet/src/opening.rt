@@ -1,7 +1,7 @@
 //! The lines above the stages.
 
 ghost use Rattle.std.specs.Prelude.{◌-◌, ◌^◌, ◌<◌, ◌≤◌};
-ghost use Rattle.sheet.specs.declared.ward.TheConstants.{MOST_PAPERS, MOST_SEATS};
+ghost use Rattle.votes.specs.Units.{max_papers, max_seats};
 ghost use Rattle.sheet.specs.Sheet.{ward_line, uncontested_line, seats_line, rejected_line};
 ghost use Rattle.sheet.specs.Writing.{Writes};
 
@@ -39,8 +39,8 @@ pub fn write_uncontested_line<W: Sink>(sink: &mut W, seats: u8) -> Result<(), Br
 /// Writes the seats, the valid papers and the quota of a contested ward.
 pub fn write_seats_line<W: Sink>(sink: &mut W, seats: u8, valid: u32) -> Result<(), Broken>
     requires some_seats { 1 ≤ seats }
-    requires few_seats { seats ≤ MOST_SEATS }
-    requires few { valid ≤ MOST_PAPERS }
+    requires few_seats { seats ≤ max_seats }
+    requires few { valid ≤ max_papers }
     requires failures { W.failed sink.old < 2 ^ 64 - 1 }
     ensures { Writes W.taken W.failed sink.old sink.new (seats_line seats valid) result }
 {

@@ -2,7 +2,7 @@
 
 ghost use Rattle.std.specs.Prelude.{◌≡◌, ◌-◌, ◌^◌, ◌<◌, map, string_bytes};
 ghost use Rattle.paper.specs.Columns.{IsColumnSet, IsColumn};
-ghost use Rattle.count.specs.Elected.{excludes as excludes_of};
+ghost use Rattle.count.specs.Law.Elected.{excludes as excludes_of};
 ghost use Rattle.sheet.specs.Stages.{is_elected_at as is_elected_of, is_excluded_at as is_excluded_of, letter as letter_of, heading, candidate_line, sum_line, sum_lines};
 ghost use Rattle.sheet.specs.Sheet.{candidate_lines, stage_text};
 ghost use Rattle.sheet.specs.Writing.{Writes};

@@ -1,12 +1,12 @@
 //! Sheets and declarations, byte for byte.
 
-use crate::{MOST_PAPERS, Poll, Ward, can_be_printed, sheet_text, write_declaration, write_sheet};
+use crate::{Poll, Ward, can_be_printed, sheet_text, write_declaration, write_sheet};
 use count::{Action, Stage};
 use paper::Columns;
 use std::alloc::{AllocError, Global};
 use std::process::Abort;
 use std::test::Fail;
-use votes::{Counted, Sink, Votes};
+use votes::{Counted, MAX_PAPERS, Sink, Votes};
 
 const HARBOUR: &str = "Ward 7 Harbour
 Seats 2, valid 9, quota 4.00000
@@ -122,7 +122,7 @@ fn sheets_and_declarations(rt: HostRuntime) -> Result<(), Fail> {
     let declaration = "Ward 7 Harbour\nElected\n 1 Ann\n 3 Cy\n";
     prints_declaration(&rt, &ward, nobody.with(3).with(1), declaration)?;
     ward.poll = Some(Poll {
-        valid: MOST_PAPERS,
+        valid: MAX_PAPERS,
         rejected: [1, 20, 300, 4000, 50000],
     });
     prints_sheet(&rt, &ward, &[], SEALED)?;
