@@ -71,6 +71,7 @@ impl FileFormat for CandidateFile {
     }
 }
 
+/// A candidate of a name, whose ward and number two texts write.
 fn candidate_row(
     alloc: Global,
     ward: &str,
