@@ -4,7 +4,7 @@ use Rattle.keyfile.specs.Records.{Record}
 use Rattle.keyfile.specs.Numbers.{number_in}
 use Rattle.keyfile.specs.Files.{Format}
 use Rattle.keyfile.specs.declared.candidates.CandidateRow.{CandidateRow}
-use Rattle.keyfile.specs.declared.candidates.TheConstants.{MOST_CANDIDATES}
+use Rattle.keyfile.specs.declared.candidates.TheConstants.{MOST_CANDIDATE_ROWS}
 use Rattle.keyfile.specs.declared.fault.Flaw.{Flaw}
 use Rattle.keyfile.specs.declared.fault.Flaw.TheVariants.{RecordLength, Number}
 
@@ -34,4 +34,4 @@ candidate_in other = Err RecordLength
 
 -- the file of candidates: 30 of each of 99 wards at most
 abbrev pub candidates : Format CandidateEntry
-candidates = record { is_header = is_candidate_header; most = MOST_CANDIDATES; read = λ k fields. candidate_in fields }
+candidates = record { is_header = is_candidate_header; most = MOST_CANDIDATE_ROWS; read = λ k fields. candidate_in fields }
