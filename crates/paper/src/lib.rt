@@ -14,15 +14,19 @@
 //! ```
 #![tactic(auto)]
 
+// candidates' numbers, in sets and in arrays
 mod columns;
+mod padded;
+// what a clerk keyed, and its text
 mod marked;
 mod marks;
-mod padded;
+// the preferences of a paper, or why it is rejected
 mod prefs;
+mod validity;
+// where candidates stand, and the next available preference
 mod standing;
 #[cfg(test)]
 mod tests;
-mod validity;
 
 pub use columns::{Columns, MAX_CANDIDATES};
 pub use marked::{Keyed, Marked};

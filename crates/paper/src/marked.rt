@@ -13,7 +13,7 @@ use std::fmt::Write;
 use std::marker::Model;
 
 /// The marks on a ballot paper, seen as each candidate's number beside the number in the field for
-/// him, 0 where that is empty, in ascending order of the candidates.
+/// him, 1 to 99, or 0 where that is empty, in ascending order of the candidates.
 #[derive(Clone, Copy, Debug, PartialEq, Eq)]
 pub struct Marked {
     columns: Columns,

@@ -54,9 +54,6 @@ drawn-among contest stages None kind (c ∷ d ∷ tied) action h = cc
 drawn-among contest stages (Some x) kind (c ∷ d ∷ tied) action h = drawn_lot contest stages kind (c ∷ d ∷ tied) x _ action refl h
 
 -- the action is a surplus of one who has it, or an exclusion of one who continues
-IsOfGroup : Contest → History → Action → Type 0
-IsOfGroup contest stages action = IsOn contest stages of_surplus (with_surplus contest stages) action ⊎ IsOn contest stages of_exclusion (continuing_after contest stages) action
-
 drawn-due_for : (contest : Contest) (stages : History) (lot : Option ℕ) (group : List ℕ) (action : Action) →
     drawn contest stages lot (due_for contest stages group) ≡ Some action →
     IsOn contest stages of_surplus group action ⊎ IsOn contest stages of_exclusion (continuing_after contest stages) action

@@ -80,12 +80,6 @@ same_votes : (contest : Contest) (papers : List (List ℕ)) (stages : History) (
     votes_after (reordered contest papers) stages c ≡ votes_after contest stages c
 same_votes contest papers stages c order = ap (λ n. cond (is_transferred stages c) contest.quota n) (same_sum contest papers stages (λ p at. value_with c at) order)
 
-same_due : (contest : Contest) (papers : List (List ℕ)) (stages : History) → due_after (reordered contest papers) stages ≡ due_after contest stages
-same_due contest papers stages = refl
-
-same_drawn : (contest : Contest) (papers : List (List ℕ)) (stages : History) (lot : Option ℕ) (d : Due) → drawn (reordered contest papers) stages lot d ≡ drawn contest stages lot d
-same_drawn contest papers stages lot d = refl
-
 map-cong : (f g : ℕ → ℕ) (xs : List ℕ) → ((x : ℕ) → f x ≡ g x) → map f xs ≡ map g xs
 map-cong f g [] h = refl
 map-cong f g (x ∷ xs) h = ap (λ y. y ∷ map f xs) (h x) ∙ ap (λ l. g x ∷ l) (map-cong f g xs h)

@@ -22,10 +22,6 @@ all_values contest stages = sum_by (λ paper. (place contest stages paper).value
 abbrev pub held : Contest → History → ℕ → ℕ
 held contest stages c = sum_by (λ paper. value_with c (place contest stages paper)) contest.papers
 
-one_paper : (b : Bool) (v w : ℕ) → cond b w v + cond b v 0 ≡ v + cond b w 0
-one_paper true v w = omega arith
-one_paper false v w = omega arith
-
 value_choice : (b : Bool) (x y : Place) → (cond b x y).value ≡ cond b x.value y.value
 value_choice true x y = refl
 value_choice false x y = refl
