@@ -35,7 +35,7 @@ use Rattle.tables.proofs.KeyedLemmas.{keyed_put_all}
 -- ---- lists
 
 -- a row with a free rowid is put among the others
-put_fresh : (new : Row) (rows : List Row) → is_taken rows new ≡ false → IsPermutation (new ∷ rows) (put_row new rows)
+pub put_fresh : (new : Row) (rows : List Row) → is_taken rows new ≡ false → IsPermutation (new ∷ rows) (put_row new rows)
 put_fresh new [] free = IsPermutation-refl _
 put_fresh new (r ∷ rows) free = go (value_cmp (rowid r) (rowid new)) (or_parts _ _ free).0 (put_fresh new rows (or_parts _ _ free).1)
   where
@@ -50,7 +50,7 @@ either : (b : Bool) (x : Value) → cond b x x ≡ x
 either true x = refl
 either false x = refl
 
-cast_int : (n : ℤ) → cast Integer (Int n) ≡ Int n
+pub cast_int : (n : ℤ) → cast Integer (Int n) ≡ Int n
 unfolding unary
 cast_int n = either _ (Int n)
 
@@ -66,7 +66,7 @@ went (inr on) = on
 pub same_value : {B E : Type 0} {a b : B} → ◌≡◌ {A = Result B E} (Ok a) (Ok b) → a ≡ b
 same_value e = cc
 
-cast_all_of : (columns : List Column) (vs : Row) → are_of columns vs ≡ true → cast_all columns vs ≡ vs
+pub cast_all_of : (columns : List Column) (vs : Row) → are_of columns vs ≡ true → cast_all columns vs ≡ vs
 cast_all_of [] [] h = refl
 cast_all_of [] (v ∷ vs) h = absurd (true≢false (sym h))
 cast_all_of (c ∷ cs) [] h = absurd (true≢false (sym h))
@@ -80,13 +80,17 @@ cast_all_of (c ∷ cs) (v ∷ vs) h = ap (λ x. x ∷ cast_all cs vs) (one c.kin
 
 -- ---- the statement
 
--- one table has one row more, and no other table is changed
-pub record Adds (schema : Schema) (tree : ℕ) (tuple : Row) (old new : Database) : Type 0 where
+-- one table's rows may be others now, and no other table is changed
+pub record Changes (schema : Schema) (tree : ℕ) (old new : Database) : Type 0 where
   pub is : new.schema ≡ schema
   pub sound : IsDatabase new
+  pub others : AllByRecursion (λ t. t.tree ≢ tree → new.trees t.tree ≡ old.trees t.tree) schema.tables
+
+-- one table has one row more
+pub record Adds (schema : Schema) (tree : ℕ) (tuple : Row) (old new : Database) : Type 0 where
+  pub changes : Changes schema tree old new
   pub row : IsPermutation (tuple ∷ map (drop 1) (old.trees tree)) (map (drop 1) (new.trees tree))
   pub keyed : Keyed (old.trees tree) → Keyed (new.trees tree)
-  pub others : AllByRecursion (λ t. t.tree ≢ tree → new.trees t.tree ≡ old.trees t.tree) schema.tables
 
 module _ (key : List ℕ) (name : List ℕ) (tree : ℕ) (columns : List Column) (checks : List Term) where
   abbrev table : Definition
@@ -121,9 +125,11 @@ module _ (key : List ℕ) (name : List ℕ) (tree : ℕ) (columns : List Column)
           let after : new.now.trees tree ≡ put_row row (db tree) = ap (λ (d : Database). d.trees tree) now ∙ ap (λ (t : Trees). t tree) trees ∙ step.rows ∙ ap (put_all (db tree)) news in
           let same : new.now.trees ≡ written.0 = ap (λ (d : Database). d.trees) now ∙ trees in
           record {
-            is = ap (λ (d : Database). d.schema) now;
-            sound = w.sound;
+            changes = record {
+              is = ap (λ (d : Database). d.schema) now;
+              sound = w.sound;
+              others = subst (λ (t : Trees). AllByRecursion (λ u. u.tree ≢ tree → t u.tree ≡ db u.tree) schema.tables) (sym same) step.tables;
+            };
             row = subst (λ l. IsPermutation (tuple ∷ map (drop 1) (db tree)) (map (drop 1) l)) (sym after) (IsPermutation-map (drop 1) _ _ (put_fresh row (db tree) free));
             keyed = λ keyed. subst Keyed (sym (ap (λ (d : Database). d.trees tree) now ∙ ap (λ (t : Trees). t tree) trees ∙ step.rows)) (keyed_put_all edit.news (db tree) keyed step.keyed step.fresh);
-            others = subst (λ (t : Trees). AllByRecursion (λ u. u.tree ≢ tree → t u.tree ≡ db u.tree) schema.tables) (sym same) step.tables;
           }

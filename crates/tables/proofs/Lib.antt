@@ -1,9 +1,12 @@
 pub mod ListLemmas
 pub mod PlaceLemmas
 pub mod KeyedLemmas
-pub mod InsertLemmas
-pub mod Inserts
 pub mod TableLemmas
+pub mod InsertLemmas
+pub mod RemoveLemmas
+pub mod ReplaceLemmas
+pub mod Inserts
+pub mod Edits
 pub mod ContentsLemmas
 pub mod QueryLemmas
 pub mod SelectLemmas
@@ -15,4 +18,7 @@ pub mod MakeLemmas
 pub mod SameLemmas
 pub mod StopLemmas
 pub mod OrderLemmas
-pub mod EntryLemmas
+pub mod ChangeLemmas
+pub mod FaultLemmas
+pub mod HoldLemmas
+pub mod FindLemmas

@@ -2,7 +2,7 @@ use Rattle.std.proofs.Common.{◌≡◌, ℕ, ◌+◌, ◌<◌, get_or, [], true
 use Rattle.sqlite.specs.Order.{value_cmp}
 use Rattle.sqlite.specs.View.{is_int}
 use Rattle.sqlite.specs.Tree.{rowid}
-use Rattle.tables.proofs.rowids.each_rises.Given as goal
+use Rattle.tables.proofs.rowids.check_each.Given as goal
 
 abbrev pub invariant-loop-i : goal.invariant-loop-i
 invariant-loop-i l = record {

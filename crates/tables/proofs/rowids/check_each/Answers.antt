@@ -1,18 +1,18 @@
 use Rattle.std.proofs.Common.{◌-◌, ◌<◌, length, inr, refl, arith, rules, FitsSigned, w64}
 use Rattle.std.proofs.lemmas.Int.{ints}
-use Rattle.tables.proofs.RowidLemmas.{rowid_there, ints_more, rise_more, sticks}
-use Rattle.tables.proofs.rowids.each_rises.Goals as goal
-use Rattle.tables.proofs.rowids.each_rises.Goals.{then-i-gt0+in_ok-before+else-not-is_below, else-i-gt0}
+use Rattle.tables.proofs.RowidLemmas.{rowid_there, ints_more, rise_more, fall_there}
+use Rattle.tables.proofs.rowids.check_each.Goals as goal
+use Rattle.tables.proofs.rowids.check_each.Goals.{then-i-gt0+in_ok-before+else-not-is_below, else-i-gt0}
 
-pub returns-then-not-is_below-clause-stick : goal.returns-then-not-is_below-clause-stick
-returns-then-not-is_below-clause-stick c =
+pub returns-then-not-is_below-clause-fall : goal.returns-then-not-is_below-clause-fall
+returns-then-not-is_below-clause-fall c =
     let low : c.loop-i.i < length c.args.rows.now = c.loop-i-test.true in
     let here = rowid_there c.args.rows.now c.loop-i.i c.index-rows-i.result c.in_ok-id.id low c.index-rows-i.is c.in_ok-id.ensures.id in
     let there = rowid_there c.args.rows.now (c.loop-i.i - 1) c.index-rows-i-then-i-gt0.result c.in_ok-before.before (omega (arith, low)) c.index-rows-i-then-i-gt0.is c.in_ok-before.ensures.id in
     let id : FitsSigned w64 c.in_ok-id.id = search rules in
     let before : FitsSigned w64 c.in_ok-before.before = search rules in
     let above = c.is_below.ensures.not_below c.if-not-is_below.true in
-    inr (refl, sticks c.args.rows.now c.loop-i.i c.in_ok-before.before c.in_ok-id.id c.if-i-gt0.true low there here (omega (arith, ints, above, id, before)))
+    inr (refl, fall_there c.args.rows.now c.loop-i.i c.in_ok-before.before c.in_ok-id.id c.if-i-gt0.true low there here (omega (arith, ints, above, id, before)))
 
 pub loop-i-preserved : goal.loop-i-preserved
 loop-i-preserved c =
