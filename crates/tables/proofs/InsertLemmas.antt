@@ -35,7 +35,7 @@ use Rattle.tables.proofs.KeyedLemmas.{keyed_put_all}
 -- ---- lists
 
 -- a row with a free rowid is put among the others
-put_fresh : (new : Row) (rows : List Row) → is_taken rows new ≡ false → IsPermutation (new ∷ rows) (put_row new rows)
+pub put_fresh : (new : Row) (rows : List Row) → is_taken rows new ≡ false → IsPermutation (new ∷ rows) (put_row new rows)
 put_fresh new [] free = IsPermutation-refl _
 put_fresh new (r ∷ rows) free = go (value_cmp (rowid r) (rowid new)) (or_parts _ _ free).0 (put_fresh new rows (or_parts _ _ free).1)
   where
@@ -50,7 +50,7 @@ either : (b : Bool) (x : Value) → cond b x x ≡ x
 either true x = refl
 either false x = refl
 
-cast_int : (n : ℤ) → cast Integer (Int n) ≡ Int n
+pub cast_int : (n : ℤ) → cast Integer (Int n) ≡ Int n
 unfolding unary
 cast_int n = either _ (Int n)
 
@@ -66,7 +66,7 @@ went (inr on) = on
 pub same_value : {B E : Type 0} {a b : B} → ◌≡◌ {A = Result B E} (Ok a) (Ok b) → a ≡ b
 same_value e = cc
 
-cast_all_of : (columns : List Column) (vs : Row) → are_of columns vs ≡ true → cast_all columns vs ≡ vs
+pub cast_all_of : (columns : List Column) (vs : Row) → are_of columns vs ≡ true → cast_all columns vs ≡ vs
 cast_all_of [] [] h = refl
 cast_all_of [] (v ∷ vs) h = absurd (true≢false (sym h))
 cast_all_of (c ∷ cs) [] h = absurd (true≢false (sym h))

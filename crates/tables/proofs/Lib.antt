@@ -16,3 +16,9 @@ pub mod SameLemmas
 pub mod StopLemmas
 pub mod OrderLemmas
 pub mod EntryLemmas
+pub mod PickLemmas
+pub mod Changes
+pub mod RemoveLemmas
+pub mod KeyLemmas
+pub mod ReplaceLemmas
+pub mod ChangeLemmas

@@ -37,7 +37,7 @@ begins_to Verdict s h = record { rest = map definition (drop 6 all_tables) ++ h.
 begins_to Lot s h = record { rest = map definition (drop 7 all_tables) ++ h.rest; others = map key_index (drop 7 all_tables) ++ h.others; views = h.views; is = h.is }
 begins_to Receipt s h = record { rest = map definition (drop 8 all_tables) ++ h.rest; others = map key_index (drop 8 all_tables) ++ h.others; views = h.views; is = h.is }
 
-key_within : (t : Table) → (shape t).key ≤ length (shape t).columns
+pub key_within : (t : Table) → (shape t).key ≤ length (shape t).columns
 key_within Office = omega arith
 key_within Ward = omega arith
 key_within Candidate = omega arith

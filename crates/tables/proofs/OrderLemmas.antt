@@ -9,8 +9,8 @@ use Rattle.std.proofs.lemmas.Int.{ints}
 use Rattle.std.specs.Str.{bytes_eq}
 use Rattle.std.proofs.lemmas.Map.Text.{is_eq-slice_cmp}
 use Rattle.std.proofs.lemmas.Map.Keys.{sorted_from_all_adjacent}
-use Rattle.sqlite_value.proofs.OrderLemmas.{value_cmp-Int, value_cmp-Text, then-Equal}
-use Rattle.sqlite.specs.declared.types.Value.TheVariants.{Int, Text}
+use Rattle.sqlite_value.proofs.OrderLemmas.{value_cmp-Int, value_cmp-Text, value_cmp-Blob, then-Equal}
+use Rattle.sqlite.specs.declared.types.Value.TheVariants.{Int, Text, Blob}
 use Rattle.sqlite.specs.Collation.TheVariants.{Binary}
 use Rattle.sqlite.specs.Ops.{binary, is_true, from_truth}
 use Rattle.sqlite_schema.specs.Rules.{equal}
@@ -32,6 +32,10 @@ equal-Int m n = told (is_eq (value_cmp (Int m) (Int n))) ∙ ap is_eq (value_cmp
 pub equal-Text : (s t : List ℕ) → equal Binary (Text s) (Text t) ≡ is_eq (slice_cmp nat_cmp s t)
 unfolding binary
 equal-Text s t = told (is_eq (value_cmp (Text s) (Text t))) ∙ ap is_eq (value_cmp-Text s t)
+
+pub equal-Blob : (s t : List ℕ) → equal Binary (Blob s) (Blob t) ≡ is_eq (slice_cmp nat_cmp s t)
+unfolding binary
+equal-Blob s t = told (is_eq (value_cmp (Blob s) (Blob t))) ∙ ap is_eq (value_cmp-Blob s t)
 
 pub equal-number : (m n : ℕ) → equal Binary (Int (pos m)) (Int (pos n)) ≡ (m == n)
 equal-number m n = equal-Int (pos m) (pos n) ∙ grind (arith, ints, nat_tests)

@@ -3,6 +3,7 @@ pub mod Texts
 pub mod Schema
 pub mod Rows
 pub mod Contents
+pub mod Changes
 pub mod Making
 pub mod Reading
 pub mod Presence

@@ -1,7 +1,9 @@
 -- The texts of the statements.
-use Rattle.std.specs.Prelude.{ℕ, List, codes}
+use Rattle.std.specs.Prelude.{ℕ, ◌+◌, List, [], ◌∷◌, ◌++◌, take, drop, codes}
+use Rattle.sqlite_schema.specs.declared.schema.Column.{Column}
 use Rattle.tables.specs.declared.table.Table.{Table}
 use Rattle.tables.specs.declared.table.Table.TheVariants.{Office, Ward, Candidate, Batch, Keying, Verdict, Lot, Receipt}
+use Rattle.tables.specs.Schema.{shape}
 
 -- makes the table
 abbrev pub create_text : Table → List ℕ
@@ -24,6 +26,29 @@ insert_text Keying = codes "INSERT INTO keying (batch, round, clerk, paper, mark
 insert_text Verdict = codes "INSERT INTO verdict (batch, paper, code, marks) VALUES (?1, ?2, ?3, ?4)"
 insert_text Lot = codes "INSERT INTO lot (ward, stage, candidate) VALUES (?1, ?2, ?3)"
 insert_text Receipt = codes "INSERT INTO receipt (actor, id, subject, reply) VALUES (?1, ?2, ?3, ?4)"
+
+-- words in turn, with this between them
+abbrev pub joined : List ℕ → List (List ℕ) → List ℕ
+joined between [] = []
+joined between (word ∷ []) = word
+joined between (word ∷ words) = word ++ between ++ joined between words
+
+-- each column is the parameter of its number, from this one on
+abbrev pub equations : ℕ → List Column → List (List ℕ)
+equations n [] = []
+equations n (c ∷ cs) = (c.name ++ codes " = ?" ++ (48 + n) ∷ []) ∷ equations (n + 1) cs
+
+-- the columns of the key are the first parameters
+abbrev pub key_condition : Table → List ℕ
+key_condition t = joined (codes " AND ") (take (shape t).key (equations 1 (shape t).columns))
+
+-- puts the parameters, the values of all columns in turn, into the row with their key
+abbrev pub replace_text : Table → List ℕ
+replace_text t = codes "UPDATE " ++ (shape t).name ++ codes " SET " ++ joined (codes ", ") (drop (shape t).key (equations 1 (shape t).columns)) ++ codes " WHERE " ++ key_condition t
+
+-- removes the row with a key, whose values are the parameters
+abbrev pub remove_text : Table → List ℕ
+remove_text t = codes "DELETE FROM " ++ (shape t).name ++ codes " WHERE " ++ key_condition t
 
 -- all columns of all rows, in the order of the key
 abbrev pub rows_text : Table → List ℕ

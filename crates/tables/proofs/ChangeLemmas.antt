@@ -1,0 +1,85 @@
+-- What an UPDATE, a DELETE and many INSERTs make of the contents.
+use Rattle.std.proofs.Common.{◌≡◌, ◌≢◌, ℕ, suc, ◌<◌, List, [], ◌∷◌, ◌++◌, map, filter, take, get_or, Bool, true, false, not, cond, Ok, Err, Result, OnOk, IsTrue, refl, sym, ap, subst, ◌∙◌, inl, inr}
+use Rattle.std.specs.List.{list_all}
+use Rattle.std.specs.List.Sorted.{IsPermutation}
+use Rattle.std.proofs.lemmas.List.Sorted.{IsPermutation-refl, IsPermutation-trans, IsPermutation-map, IsPermutation-sym, IsPermutation-middle, IsPermutation-append_right}
+use Rattle.sqlite_trees.proofs.ListLemmas.{IsPermutation-filter}
+use Rattle.sqlite_rules.proofs.ListLemmas.{test_has, test_from, has_filtered}
+use Rattle.sqlite.specs.declared.error.Error.{Error}
+use Rattle.sqlite.specs.Order.{Row}
+use Rattle.sqlite.specs.State.{State, ExecutesInside}
+use Rattle.tables.specs.declared.table.Table.{Table}
+use Rattle.tables.specs.Texts.{replace_text, remove_text}
+use Rattle.tables.specs.Schema.{schema_from, place_of, tree_of}
+use Rattle.tables.specs.Rows.{tuples, is_row_of, has_key}
+use Rattle.tables.specs.Contents.{Contents, SameContents, changed, added, IsOffice, Sees}
+use Rattle.tables.specs.Changes.{replaced, removed, all_added}
+use Rattle.tables.proofs.Changes.{changes_row}
+use Rattle.tables.proofs.ContentsLemmas.{holds_changed, others_of}
+use Rattle.tables.proofs.Inserts.{inserts_row}
+use Rattle.tables.proofs.ListLemmas.{has_mapped, permuted_all}
+use Rattle.tables.proofs.RemoveLemmas.{removes}
+use Rattle.tables.proofs.ReplaceLemmas.{replaces}
+use Rattle.tables.proofs.SameLemmas.{same_changed}
+use Rattle.tables.proofs.TableLemmas.{which_table, listed}
+
+-- ---- an UPDATE
+
+-- it puts the row into the place of the one with its key
+pub row_replaced : (t : Table) (row : Row) → is_row_of t row ≡ true → (old new : State) (r : Result ℕ Error) → (IsTrue old.in_transaction → ExecutesInside 0 (replace_text t) row old new r)
+    → (c : Contents) → Sees c old → OnOk r (Sees (replaced t row c) new)
+unfolding replaced IsOffice
+row_replaced t row kinds old new (Err e) runs c sees = tt
+row_replaced t row kinds old new (Ok count) runs c sees =
+    let s = sees.office.begins in
+    let ran = runs sees.inside in
+    let it = changes_row s.rest s.others s.views t in
+    let there = sees.office.holds t in
+    let put : Row → Row = λ r. cond (has_key t row r) row r in
+    let change = replaces (schema_from 8 s.rest s.others s.views) t ((inserts_row s.rest s.others s.views t).alone s.free) (listed s.rest s.others s.views t) (replace_text t) it.replaces it.replaces_plainly it.low
+      row kinds old new count s.is there.keyed (permuted_all (is_row_of t) (c t) (tuples t old.now.trees) there.same there.typed) ran.0 in
+    let one : (r : Row) → is_row_of t r ≡ true → is_row_of t (put r) ≡ true = λ r good. elim (has_key t row r) as (λ b. is_row_of t (cond b row r) ≡ true) [ true ↦ kinds | false ↦ good ] in
+    record {
+      inside = ran.1.mode;
+      office = record {
+        begins = record { rest = s.rest; others = s.others; views = s.views; free = s.free; is = change.is };
+        sound = change.sound;
+        holds = holds_changed t (map put) old.now.trees new.now.trees
+            (λ rows was. record {
+              same = IsPermutation-trans _ _ _ (IsPermutation-map put rows (tuples t old.now.trees) was.same) change.rows;
+              keyed = change.keyed;
+              typed = test_from (is_row_of t) (map put rows) (λ x k. let y = has_mapped put rows x k in subst (λ z. is_row_of t z ≡ true) (sym y.2) (one y.0 (test_has _ rows y.0 was.typed y.1)));
+            })
+            (others_of s.rest s.others s.views t old.now.trees new.now.trees change.others) c sees.office.holds;
+      };
+    }
+
+-- ---- a DELETE
+
+-- it takes the row with the key away
+pub row_removed : (t : Table) (key : Row) (old new : State) (r : Result ℕ Error) → (IsTrue old.in_transaction → ExecutesInside 0 (remove_text t) key old new r)
+    → (c : Contents) → Sees c old → OnOk r (Sees (removed t key c) new)
+unfolding removed IsOffice
+row_removed t key old new (Err e) runs c sees = tt
+row_removed t key old new (Ok count) runs c sees =
+    let s = sees.office.begins in
+    let ran = runs sees.inside in
+    let it = changes_row s.rest s.others s.views t in
+    let there = sees.office.holds t in
+    let stays : Row → Bool = λ r. not (has_key t key r) in
+    let change = removes (schema_from 8 s.rest s.others s.views) t ((inserts_row s.rest s.others s.views t).alone s.free) (listed s.rest s.others s.views t) (remove_text t) it.removes it.removes_plainly it.low
+      key old new count s.is there.keyed ran.0 in
+    record {
+      inside = ran.1.mode;
+      office = record {
+        begins = record { rest = s.rest; others = s.others; views = s.views; free = s.free; is = change.is };
+        sound = change.sound;
+        holds = holds_changed t (filter stays) old.now.trees new.now.trees
+            (λ rows was. record {
+              same = subst (IsPermutation _) (sym change.rows) (IsPermutation-filter stays rows (tuples t old.now.trees) was.same);
+              keyed = change.keyed;
+              typed = test_from (is_row_of t) (filter stays rows) (λ x k. test_has _ rows x was.typed (has_filtered stays rows x k).0);
+            })
+            (others_of s.rest s.others s.views t old.now.trees new.now.trees change.others) c sees.office.holds;
+      };
+    }
