@@ -19,6 +19,8 @@ pub mod insertion;
 pub mod making;
 pub mod presence;
 pub mod reading;
+pub mod removal;
+pub mod replacement;
 pub mod rowids;
 pub mod table;
 
