@@ -1,5 +1,6 @@
 -- What an UPDATE, a DELETE and many INSERTs make of the contents.
-use Rattle.std.proofs.Common.{◌≡◌, ◌≢◌, ℕ, suc, ◌<◌, List, [], ◌∷◌, ◌++◌, map, filter, take, get_or, Bool, true, false, not, cond, Ok, Err, Result, OnOk, IsTrue, refl, sym, ap, subst, ◌∙◌, inl, inr}
+use Rattle.std.proofs.Common.{◌≡◌, ◌≢◌, ℕ, suc, ◌+◌, ◌<◌, length, List, [], ◌∷◌, ◌++◌, map, filter, take, get_or, Bool, true, false, not, cond, Ok, Err, Result, OnOk, IsTrue, refl, sym, ap, subst, ◌∙◌, inl, inr, append_assoc, arith}
+use Rattle.std.proofs.Math.Seq.{take-suc}
 use Rattle.std.specs.List.{list_all}
 use Rattle.std.specs.List.Sorted.{IsPermutation}
 use Rattle.std.proofs.lemmas.List.Sorted.{IsPermutation-refl, IsPermutation-trans, IsPermutation-map, IsPermutation-sym, IsPermutation-middle, IsPermutation-append_right}
@@ -20,7 +21,7 @@ use Rattle.tables.proofs.Inserts.{inserts_row}
 use Rattle.tables.proofs.ListLemmas.{has_mapped, permuted_all}
 use Rattle.tables.proofs.RemoveLemmas.{removes}
 use Rattle.tables.proofs.ReplaceLemmas.{replaces}
-use Rattle.tables.proofs.SameLemmas.{same_changed}
+use Rattle.tables.proofs.SameLemmas.{same_changed, same_itself, sees_same}
 use Rattle.tables.proofs.TableLemmas.{which_table, listed}
 
 -- ---- an UPDATE
@@ -83,3 +84,29 @@ row_removed t key old new (Ok count) runs c sees =
             (others_of s.rest s.others s.views t old.now.trees new.now.trees change.others) c sees.office.holds;
       };
     }
+
+-- ---- many INSERTs
+
+-- no row more, and one row more after some
+none_more : (t : Table) (c : Contents) → SameContents c (all_added t [] c)
+unfolding all_added
+none_more t c u = elim (which_table t u) [ inl same ↦ rw same.0 (IsPermutation-refl (c u)) | inr other ↦ rw other.0 (IsPermutation-refl (c u)) ]
+
+one_more : (t : Table) (rows : List Row) (row : Row) (c : Contents) → SameContents (added t row (all_added t rows c)) (all_added t (rows ++ row ∷ []) c)
+unfolding added all_added
+one_more t rows row c u = elim (which_table t u) [
+  | inl same ↦ rw (same.0, append_assoc rows (row ∷ []) (c u)) (IsPermutation-sym _ _ (IsPermutation-middle rows row (c u)))
+  | inr other ↦ rw other.0 (IsPermutation-refl (c u))
+]
+
+pub none_added : (t : Table) (c : Contents) (s : State) → Sees c s → Sees (all_added t [] c) s
+none_added t c s sees = sees_same c (all_added t [] c) s (none_more t c) sees
+
+-- the rows up to one, and that one
+pub next_added : (t : Table) (rows : List Row) (k : ℕ) (row : Row) → k < length rows → get_or rows k [] ≡ row → (c : Contents) (s : State) → Sees (added t row (all_added t (take k rows) c)) s → Sees (all_added t (take (k + 1) rows) c) s
+next_added t rows k row low is c s sees =
+    let more : take (k + 1) rows ≡ take k rows ++ row ∷ [] = ap (λ n. take n rows) (plus k) ∙ take-suc rows k [] low ∙ ap (λ r. take k rows ++ r ∷ []) is in
+    subst (λ l. Sees (all_added t l c) s) (sym more) (sees_same (added t row (all_added t (take k rows) c)) (all_added t (take k rows ++ row ∷ []) c) s (one_more t (take k rows) row c) sees)
+  where
+    plus : (n : ℕ) → n + 1 ≡ suc n
+    plus n = omega arith
