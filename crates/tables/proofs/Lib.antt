@@ -16,6 +16,7 @@ pub mod SameLemmas
 pub mod StopLemmas
 pub mod OrderLemmas
 pub mod EntryLemmas
+pub mod WentLemmas
 pub mod PickLemmas
 pub mod Changes
 pub mod RemoveLemmas

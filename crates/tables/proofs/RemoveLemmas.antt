@@ -17,15 +17,16 @@ use Rattle.sqlite.specs.Rowids.TheVariants.{Given}
 use Rattle.sqlite.specs.Tree.{Trees, rowid}
 use Rattle.sqlite.specs.Effect.{Database, IsDatabase}
 use Rattle.sqlite.specs.Does.{Tally, Does, AtPlace, OnRows}
-use Rattle.sqlite.specs.Rows.{Written, Task}
+use Rattle.sqlite.specs.Rows.{Task}
 use Rattle.sqlite.specs.State.{State, mode_of, Executes}
 use Rattle.sqlite.proofs.Callers.{IsPlain, command_of, statement_of, runs_as, one_step}
+use Rattle.sqlite_schema.specs.declared.program.Program.{Program}
 use Rattle.sqlite_schema.specs.declared.schema.Keys.TheVariants.{Enforced}
 use Rattle.tables.specs.declared.table.Table.{Table}
 use Rattle.tables.specs.Schema.{Definition, definition, place_of, tree_of, shape}
 use Rattle.tables.specs.Rows.{tuples, has_key, Keyed}
-use Rattle.tables.proofs.InsertLemmas.{went, same_value}
 use Rattle.tables.proofs.ListLemmas.{mapped_itself}
+use Rattle.tables.proofs.WentLemmas.{wrote, deleted}
 use Rattle.tables.proofs.PickLemmas.{picked_left, keyed_filtered}
 use Rattle.tables.proofs.SelectLemmas.{query, selects, tests_from, tests_agree}
 
@@ -45,30 +46,28 @@ module _ (schema : Schema) (t : Table) (alone : (olds news : List Row) → works
     removes old new count has keyed h =
         let db = old.now.trees in
         let rows = db (tree_of t) in
-        let command = Delete (place_of t) (record { lets = []; body = query (tree_of t) (tests_from 0 (shape t).key) (col 1 0 ∷ []) [] }) in
+        let program : Program = record { lets = []; body = query (tree_of t) (tests_from 0 (shape t).key) (col 1 0 ∷ []) [] } in
+        let command = Delete (place_of t) program in
         let w = runs_as sql params old new schema has command is plain count h in
         let text = statement_of sql (understood schema sql) in
         let task = λ (d : Definition). let it : Task = record { limit = old.step_limit; keys = Enforced; schema = schema; table = d; params = params } in it in
         let done0 = subst (λ s. Does old.step_limit (mode_of old) params (record old.now { schema = s }) text None command (Ok (w.tally, new.now))) has w.changed in
         let done1 = subst (λ o. AtPlace (λ d. OnRows (task d) (mode_of old) None command db) o (Ok (w.tally, new.now))) place done0 in
-        let done = went done1 in
-        let now = ap (λ (p : Tally × Database). p.1) (same_value (went (went done.2).2).2) in
-        let given = went done.1 in
-        let written = went given.2 in
-        let trees : done.0.trees ≡ written.0 = ap (λ (it : Written). it.trees) (same_value written.2) in
+        let wrote = wrote (task (definition t)) (mode_of old) command db w.tally new.now done1 in
+        let given = deleted (task (definition t)) program db wrote.0 wrote.1 in
+        let now : new.now.trees ≡ wrote.0.trees = ap (λ (d : Database). d.trees) wrote.2 in
         let edit = edit_of db (definition t) (ids_of given.0) Given 0 [] in
-        let step = one_step schema _ db written.0 edit (alone (taken_by db edit) edit.news) written.1 in
+        let step = one_step schema _ db wrote.0.trees edit (alone (taken_by db edit) edit.news) given.2 in
         let passes : Row → Bool = λ r. has_key t params (drop 1 r) in
         let shown : Row → Row = λ r. rowid r ∷ [] in
         let pick = selects (λ r. r) (tree_of t) (tests_from 0 (shape t).key) (col 1 0 ∷ []) [] params passes (λ r. []) shown (tests_agree 0 (shape t).key params) (λ r. refl) (λ r. refl) (overlay db []) given.0 (given.1.answer Null) in
         let from : IsPermutation (filter passes rows) pick.ordered = subst (λ l. IsPermutation (filter passes l) pick.ordered) (mapped_itself (overlay db [] (tree_of t)) ∙ low db) pick.same in
         let left : new.now.trees (tree_of t) ≡ filter (λ r. not (passes r)) rows =
-            ap (λ (d : Database). d.trees (tree_of t)) now ∙ ap (λ (x : Trees). x (tree_of t)) trees ∙ step.rows ∙ picked_left passes shown (λ r. refl) rows keyed pick.ordered given.0 from pick.shown in
-        let same : new.now.trees ≡ written.0 = ap (λ (d : Database). d.trees) now ∙ trees in
+            ap (λ (x : Trees). x (tree_of t)) now ∙ step.rows ∙ picked_left passes shown (λ r. refl) rows keyed pick.ordered given.0 from pick.shown in
         record {
-          is = ap (λ (d : Database). d.schema) now;
+          is = ap (λ (d : Database). d.schema) wrote.2;
           sound = w.sound;
           rows = ap (map (drop 1)) left ∙ sym (filter-map (λ r. not (has_key t params r)) (drop 1) rows);
           keyed = subst Keyed (sym left) (keyed_filtered (λ r. not (passes r)) rows keyed);
-          others = subst (λ (x : Trees). AllByRecursion (λ d. d.tree ≢ tree_of t → x d.tree ≡ db d.tree) schema.tables) (sym same) step.tables;
+          others = subst (λ (x : Trees). AllByRecursion (λ d. d.tree ≢ tree_of t → x d.tree ≡ db d.tree) schema.tables) (sym now) step.tables;
         }

@@ -24,18 +24,20 @@ use Rattle.sqlite.specs.Rowids.TheVariants.{Given}
 use Rattle.sqlite.specs.Tree.{Trees, rowid, put_row}
 use Rattle.sqlite.specs.Effect.{Database, IsDatabase}
 use Rattle.sqlite.specs.Does.{Tally, Does, AtPlace, OnRows}
-use Rattle.sqlite.specs.Rows.{Written, Task}
+use Rattle.sqlite.specs.Rows.{Task}
 use Rattle.sqlite.specs.State.{State, mode_of, Executes}
 use Rattle.sqlite.proofs.Callers.{IsPlain, command_of, statement_of, runs_as, one_step}
+use Rattle.sqlite_schema.specs.declared.program.Program.{Program}
 use Rattle.sqlite_schema.specs.declared.schema.Keys.TheVariants.{Enforced}
 use Rattle.tables.specs.declared.table.Table.{Table}
 use Rattle.tables.specs.Schema.{Definition, definition, place_of, places_from, tree_of, shape}
 use Rattle.tables.specs.Rows.{tuples, at, has_key, is_row_of, Keyed}
 use Rattle.tables.proofs.Changes.{others_count, renewed}
-use Rattle.tables.proofs.InsertLemmas.{went, same_value, put_fresh, cast_int, cast_all_of}
+use Rattle.tables.proofs.InsertLemmas.{put_fresh, cast_int, cast_all_of}
 use Rattle.tables.proofs.KeyLemmas.{renewed_row}
 use Rattle.tables.proofs.KeyedLemmas.{keyed_put_all}
 use Rattle.tables.proofs.ListLemmas.{mapped_has, mapped_same, mapped_twice, mapped_itself, permuted_has}
+use Rattle.tables.proofs.WentLemmas.{wrote, updated}
 use Rattle.tables.proofs.PickLemmas.{picked, picked_left, keyed_filtered}
 use Rattle.tables.proofs.SelectLemmas.{query, selects, tests_from, tests_agree, columns_from, shows_columns}
 
@@ -88,19 +90,18 @@ module _ (schema : Schema) (t : Table) (alone : (olds news : List Row) → works
     replaces old new count has keyed typed h =
         let db = old.now.trees in
         let rows = db (tree_of t) in
-        let command = Update (place_of t) (record { lets = []; body = query (tree_of t) (tests_from 0 (shape t).key) (renewed t) [] }) in
+        let program : Program = record { lets = []; body = query (tree_of t) (tests_from 0 (shape t).key) (renewed t) [] } in
+        let command = Update (place_of t) program in
         let w = runs_as sql params old new schema has command is plain count h in
         let text = statement_of sql (understood schema sql) in
         let task = λ (d : Definition). let it : Task = record { limit = old.step_limit; keys = Enforced; schema = schema; table = d; params = params } in it in
         let done0 = subst (λ s. Does old.step_limit (mode_of old) params (record old.now { schema = s }) text None command (Ok (w.tally, new.now))) has w.changed in
         let done1 = subst (λ o. AtPlace (λ d. OnRows (task d) (mode_of old) None command db) o (Ok (w.tally, new.now))) place done0 in
-        let done = went done1 in
-        let now = ap (λ (p : Tally × Database). p.1) (same_value (went (went done.2).2).2) in
-        let given = went done.1 in
-        let written = went given.2 in
-        let trees : done.0.trees ≡ written.0 = ap (λ (x : Written). x.trees) (same_value written.2) in
+        let wrote = wrote (task (definition t)) (mode_of old) command db w.tally new.now done1 in
+        let given = updated (task (definition t)) program db wrote.0 wrote.1 in
+        let now : new.now.trees ≡ wrote.0.trees = ap (λ (d : Database). d.trees) wrote.2 in
         let edit = edit_of db (definition t) (ids_of given.0) Given 1 given.0 in
-        let step = one_step schema _ db written.0 edit (alone (taken_by db edit) edit.news) written.1 in
+        let step = one_step schema _ db wrote.0.trees edit (alone (taken_by db edit) edit.news) given.2 in
         let passes : Row → Bool = λ r. has_key t params (drop 1 r) in
         let next : Row → Row = λ x. at (places_from 0 (shape t).key) x ++ at (places_from (shape t).key (others_count t)) params in
         let shown : Row → Row = λ r. rowid r ∷ rowid r ∷ next (drop 1 r) in
@@ -117,8 +118,7 @@ module _ (schema : Schema) (t : Table) (alone : (olds news : List Row) → works
         let news : edit.news ≡ map heir pick.ordered =
             numbered_given _ _ ∙ ap (map (λ s. cast_row (definition t) (drop 1 s))) pick.shown ∙ mapped_twice shown (λ s. cast_row (definition t) (drop 1 s)) pick.ordered ∙ mapped_same _ heir pick.ordered casts in
         let after : new.now.trees (tree_of t) ≡ put_all kept edit.news =
-            ap (λ (d : Database). d.trees (tree_of t)) now ∙ ap (λ (x : Trees). x (tree_of t)) trees ∙ step.rows ∙ ap (λ l. put_all l edit.news) left in
-        let same : new.now.trees ≡ written.0 = ap (λ (d : Database). d.trees) now ∙ trees in
+            ap (λ (x : Trees). x (tree_of t)) now ∙ step.rows ∙ ap (λ l. put_all l edit.news) left in
         let fresh : are_fresh kept edit.news ≡ true = subst (λ l. are_fresh l edit.news ≡ true) left step.fresh in
         let whole : IsPermutation (edit.news ++ kept) (new.now.trees (tree_of t)) = subst (IsPermutation _) (sym after) (put_all_fresh edit.news kept fresh) in
         let parts : map (drop 1) (edit.news ++ kept) ≡ map (λ _. params) pick.ordered ++ filter (λ x. not (has_key t params x)) (tuples t db) =
@@ -129,10 +129,10 @@ module _ (schema : Schema) (t : Table) (alone : (olds news : List Row) → works
             subst (λ l. IsPermutation l (map (λ _. params) pick.ordered)) (sym (mapped_twice (drop 1) (λ _. params) (filter passes rows)) ∙ ap (map (λ _. params)) (sym (filter-map (has_key t params) (drop 1) rows)))
             (IsPermutation-map (λ _. params) (filter passes rows) pick.ordered from) in
         record {
-          is = ap (λ (d : Database). d.schema) now;
+          is = ap (λ (d : Database). d.schema) wrote.2;
           sound = w.sound;
           rows = IsPermutation-trans _ _ _ (IsPermutation-sym _ _ (parted (has_key t params) (λ _. params) (tuples t db)))
             (IsPermutation-trans _ _ _ (IsPermutation-append_left (filter (λ x. not (has_key t params x)) (tuples t db)) _ _ chosen) (subst (λ l. IsPermutation l (tuples t new.now.trees)) parts (IsPermutation-map (drop 1) _ _ whole)));
           keyed = subst Keyed (sym after) (keyed_put_all edit.news kept (keyed_filtered (λ r. not (passes r)) rows keyed) step.keyed fresh);
-          others = subst (λ (x : Trees). AllByRecursion (λ d. d.tree ≢ tree_of t → x d.tree ≡ db d.tree) schema.tables) (sym same) step.tables;
+          others = subst (λ (x : Trees). AllByRecursion (λ d. d.tree ≢ tree_of t → x d.tree ≡ db d.tree) schema.tables) (sym now) step.tables;
         }
