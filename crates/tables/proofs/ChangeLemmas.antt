@@ -10,12 +10,11 @@ use Rattle.sqlite.specs.declared.error.Error.{Error}
 use Rattle.sqlite.specs.Order.{Row}
 use Rattle.sqlite.specs.State.{State, ExecutesInside}
 use Rattle.tables.specs.declared.table.Table.{Table}
-use Rattle.tables.specs.Texts.{replace_text, remove_text}
-use Rattle.tables.specs.Schema.{schema_from, place_of, tree_of}
+use Rattle.tables.specs.Texts.{update_text, delete_text}
+use Rattle.tables.specs.Schema.{schema_from, changes_rows}
 use Rattle.tables.specs.Rows.{tuples, is_row_of, has_key}
-use Rattle.tables.specs.Contents.{Contents, SameContents, changed, added, IsOffice, Sees}
-use Rattle.tables.specs.Changes.{replaced, removed, all_added}
-use Rattle.tables.proofs.Changes.{changes_row}
+use Rattle.tables.specs.Contents.{Contents, SameContents, changed, added, added_all, replaced, removed, IsOffice, Sees}
+use Rattle.tables.proofs.Edits.{edits_row}
 use Rattle.tables.proofs.ContentsLemmas.{holds_changed, others_of}
 use Rattle.tables.proofs.Inserts.{inserts_row}
 use Rattle.tables.proofs.ListLemmas.{has_mapped, permuted_all}
@@ -27,18 +26,18 @@ use Rattle.tables.proofs.TableLemmas.{which_table, listed}
 -- ---- an UPDATE
 
 -- it puts the row into the place of the one with its key
-pub row_replaced : (t : Table) (row : Row) → is_row_of t row ≡ true → (old new : State) (r : Result ℕ Error) → (IsTrue old.in_transaction → ExecutesInside 0 (replace_text t) row old new r)
+pub row_replaced : (t : Table) → changes_rows t ≡ true → (row : Row) → is_row_of t row ≡ true → (old new : State) (r : Result ℕ Error) → (IsTrue old.in_transaction → ExecutesInside 0 (update_text t) row old new r)
     → (c : Contents) → Sees c old → OnOk r (Sees (replaced t row c) new)
 unfolding replaced IsOffice
-row_replaced t row kinds old new (Err e) runs c sees = tt
-row_replaced t row kinds old new (Ok count) runs c sees =
+row_replaced t changes row kinds old new (Err e) runs c sees = tt
+row_replaced t changes row kinds old new (Ok count) runs c sees =
     let s = sees.office.begins in
     let ran = runs sees.inside in
-    let it = changes_row s.rest s.others s.views t in
+    let it = edits_row s.rest s.others s.views t changes in
     let there = sees.office.holds t in
     let put : Row → Row = λ r. cond (has_key t row r) row r in
-    let change = replaces (schema_from 8 s.rest s.others s.views) t ((inserts_row s.rest s.others s.views t).alone s.free) (listed s.rest s.others s.views t) (replace_text t) it.replaces it.replaces_plainly it.low
-      row kinds old new count s.is there.keyed (permuted_all (is_row_of t) (c t) (tuples t old.now.trees) there.same there.typed) ran.0 in
+    let change = replaces (schema_from 8 s.rest s.others s.views) t ((inserts_row s.rest s.others s.views t).alone s.free) (listed s.rest s.others s.views t) (update_text t) it.updates it.plain_update it.low
+    row kinds old new count s.is there.keyed (permuted_all (is_row_of t) (c t) (tuples t old.now.trees) there.same there.typed) ran.0 in
     let one : (r : Row) → is_row_of t r ≡ true → is_row_of t (put r) ≡ true = λ r good. elim (has_key t row r) as (λ b. is_row_of t (cond b row r) ≡ true) [ true ↦ kinds | false ↦ good ] in
     record {
       inside = ran.1.mode;
@@ -58,18 +57,18 @@ row_replaced t row kinds old new (Ok count) runs c sees =
 -- ---- a DELETE
 
 -- it takes the row with the key away
-pub row_removed : (t : Table) (key : Row) (old new : State) (r : Result ℕ Error) → (IsTrue old.in_transaction → ExecutesInside 0 (remove_text t) key old new r)
+pub row_removed : (t : Table) → changes_rows t ≡ true → (key : Row) (old new : State) (r : Result ℕ Error) → (IsTrue old.in_transaction → ExecutesInside 0 (delete_text t) key old new r)
     → (c : Contents) → Sees c old → OnOk r (Sees (removed t key c) new)
 unfolding removed IsOffice
-row_removed t key old new (Err e) runs c sees = tt
-row_removed t key old new (Ok count) runs c sees =
+row_removed t changes key old new (Err e) runs c sees = tt
+row_removed t changes key old new (Ok count) runs c sees =
     let s = sees.office.begins in
     let ran = runs sees.inside in
-    let it = changes_row s.rest s.others s.views t in
+    let it = edits_row s.rest s.others s.views t changes in
     let there = sees.office.holds t in
     let stays : Row → Bool = λ r. not (has_key t key r) in
-    let change = removes (schema_from 8 s.rest s.others s.views) t ((inserts_row s.rest s.others s.views t).alone s.free) (listed s.rest s.others s.views t) (remove_text t) it.removes it.removes_plainly it.low
-      key old new count s.is there.keyed ran.0 in
+    let change = removes (schema_from 8 s.rest s.others s.views) t ((inserts_row s.rest s.others s.views t).alone s.free) (listed s.rest s.others s.views t) (delete_text t) it.deletes it.plain_delete it.low
+    key old new count s.is there.keyed ran.0 in
     record {
       inside = ran.1.mode;
       office = record {
@@ -88,25 +87,25 @@ row_removed t key old new (Ok count) runs c sees =
 -- ---- many INSERTs
 
 -- no row more, and one row more after some
-none_more : (t : Table) (c : Contents) → SameContents c (all_added t [] c)
-unfolding all_added
+none_more : (t : Table) (c : Contents) → SameContents c (added_all t [] c)
+unfolding added_all
 none_more t c u = elim (which_table t u) [ inl same ↦ rw same.0 (IsPermutation-refl (c u)) | inr other ↦ rw other.0 (IsPermutation-refl (c u)) ]
 
-one_more : (t : Table) (rows : List Row) (row : Row) (c : Contents) → SameContents (added t row (all_added t rows c)) (all_added t (rows ++ row ∷ []) c)
-unfolding added all_added
+one_more : (t : Table) (rows : List Row) (row : Row) (c : Contents) → SameContents (added t row (added_all t rows c)) (added_all t (rows ++ row ∷ []) c)
+unfolding added added_all
 one_more t rows row c u = elim (which_table t u) [
   | inl same ↦ rw (same.0, append_assoc rows (row ∷ []) (c u)) (IsPermutation-sym _ _ (IsPermutation-middle rows row (c u)))
   | inr other ↦ rw other.0 (IsPermutation-refl (c u))
 ]
 
-pub none_added : (t : Table) (c : Contents) (s : State) → Sees c s → Sees (all_added t [] c) s
-none_added t c s sees = sees_same c (all_added t [] c) s (none_more t c) sees
+pub none_added : (t : Table) (c : Contents) (s : State) → Sees c s → Sees (added_all t [] c) s
+none_added t c s sees = sees_same c (added_all t [] c) s (none_more t c) sees
 
 -- the rows up to one, and that one
-pub next_added : (t : Table) (rows : List Row) (k : ℕ) (row : Row) → k < length rows → get_or rows k [] ≡ row → (c : Contents) (s : State) → Sees (added t row (all_added t (take k rows) c)) s → Sees (all_added t (take (k + 1) rows) c) s
+pub next_added : (t : Table) (rows : List Row) (k : ℕ) (row : Row) → k < length rows → get_or rows k [] ≡ row → (c : Contents) (s : State) → Sees (added t row (added_all t (take k rows) c)) s → Sees (added_all t (take (k + 1) rows) c) s
 next_added t rows k row low is c s sees =
     let more : take (k + 1) rows ≡ take k rows ++ row ∷ [] = ap (λ n. take n rows) (plus k) ∙ take-suc rows k [] low ∙ ap (λ r. take k rows ++ r ∷ []) is in
-    subst (λ l. Sees (all_added t l c) s) (sym more) (sees_same (added t row (all_added t (take k rows) c)) (all_added t (take k rows ++ row ∷ []) c) s (one_more t (take k rows) row c) sees)
+    subst (λ l. Sees (added_all t l c) s) (sym more) (sees_same (added t row (added_all t (take k rows) c)) (added_all t (take k rows ++ row ∷ []) c) s (one_more t (take k rows) row c) sees)
   where
     plus : (n : ℕ) → n + 1 ≡ suc n
     plus n = omega arith

@@ -18,7 +18,7 @@ use Rattle.sqlite_schema.specs.declared.schema.Column.{Column}
 use Rattle.tables.specs.declared.table.Table.{Table}
 use Rattle.tables.specs.Schema.{shape, places_from}
 use Rattle.tables.specs.Rows.{at, is_of, are_of, is_row_of, agree_at, has_key}
-use Rattle.tables.proofs.Changes.{others_count}
+use Rattle.tables.proofs.Edits.{beyond_key}
 use Rattle.tables.proofs.ListingLemmas.{key_within}
 use Rattle.tables.proofs.OrderLemmas.{equal-Int, equal-words, equal-Blob}
 use Rattle.tables.proofs.PickLemmas.{tied}
@@ -54,27 +54,29 @@ places_split p zero n = ap (λ m. places_from m n) (right p) ∙ ap (places_from
   where
     right : (m : ℕ) → m + 0 ≡ m
     right m = omega arith
+
     left : (m : ℕ) → m ≡ 0 + m
     left m = omega arith
 places_split p (suc k) n = ap (λ m. p ∷ places_from (suc p) k ++ places_from m n) (over p k) ∙ ap (λ l. p ∷ l) (places_split (suc p) k n) ∙ ap (places_from p) (on k n)
   where
     over : (m l : ℕ) → m + suc l ≡ suc m + l
     over m l = omega arith
+
     on : (m l : ℕ) → suc (m + l) ≡ suc m + l
     on m l = omega arith
 
-others_within : (t : Table) → (shape t).key + others_count t ≡ length (shape t).columns
-others_within t = let low = key_within t in omega (arith, low)
+beyond_within : (t : Table) → (shape t).key + beyond_key t ≡ length (shape t).columns
+beyond_within t = let low = key_within t in omega (arith, low)
 
 -- the key of one row, and the other values of another row with that key, are the other row
-pub renewed_row : (t : Table) (was row : Row) → is_row_of t was ≡ true → is_row_of t row ≡ true → has_key t row was ≡ true
-    → at (places_from 0 (shape t).key) was ++ at (places_from (shape t).key (others_count t)) row ≡ row
-renewed_row t was row first second agree =
+pub updated_row : (t : Table) (was row : Row) → is_row_of t was ≡ true → is_row_of t row ≡ true → has_key t row was ≡ true
+    → at (places_from 0 (shape t).key) was ++ at (places_from (shape t).key (beyond_key t)) row ≡ row
+updated_row t was row first second agree =
     let k = (shape t).key in
-    let n = others_count t in
+    let n = beyond_key t in
     let cs = (shape t).columns in
     ap (λ l. l ++ at (places_from k n) row) (pads k was ∙ same_front cs k was row first second (key_within t) agree ∙ sym (pads k row))
-    ∙ sym (map-append (column row) (places_from 0 k) (places_from k n)) ∙ ap (λ l. at l row) (ap (λ p. places_from 0 k ++ places_from p n) (plus k) ∙ places_split 0 k n ∙ ap (places_from 0) (others_within t)) ∙ typed_at cs row second
+    ∙ sym (map-append (column row) (places_from 0 k) (places_from k n)) ∙ ap (λ l. at l row) (ap (λ p. places_from 0 k ++ places_from p n) (plus k) ∙ places_split 0 k n ∙ ap (places_from 0) (beyond_within t)) ∙ typed_at cs row second
   where
     plus : (m : ℕ) → m ≡ 0 + m
     plus m = omega arith

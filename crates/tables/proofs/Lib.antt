@@ -18,7 +18,7 @@ pub mod OrderLemmas
 pub mod EntryLemmas
 pub mod WentLemmas
 pub mod PickLemmas
-pub mod Changes
+pub mod Edits
 pub mod RemoveLemmas
 pub mod KeyLemmas
 pub mod ReplaceLemmas

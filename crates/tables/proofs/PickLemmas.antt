@@ -33,9 +33,9 @@ filtered_has p (z ∷ xs) x (inr later) is = go (p z) (filtered_has p xs x later
     go true h = inr h
     go false h = h
 
-pub filter_same : {X : Type 0} (p q : X → Bool) (xs : List X) → ((x : X) → Has xs x → p x ≡ q x) → filter p xs ≡ filter q xs
-filter_same p q [] each = refl
-filter_same p q (x ∷ xs) each = ap (λ b. cond b (x ∷ filter p xs) (filter p xs)) (each x (inl refl)) ∙ ap (λ l. cond (q x) (x ∷ l) l) (filter_same p q xs (λ y h. each y (inr h)))
+pub filtered_same : {X : Type 0} (p q : X → Bool) (xs : List X) → ((x : X) → Has xs x → p x ≡ q x) → filter p xs ≡ filter q xs
+filtered_same p q [] each = refl
+filtered_same p q (x ∷ xs) each = ap (λ b. cond b (x ∷ filter p xs) (filter p xs)) (each x (inl refl)) ∙ ap (λ l. cond (q x) (x ∷ l) l) (filtered_same p q xs (λ y h. each y (inr h)))
 
 filter_twice : {X : Type 0} (p q : X → Bool) (xs : List X) → filter p (filter q xs) ≡ filter (λ x. q x && p x) xs
 filter_twice p q [] = refl
@@ -58,7 +58,7 @@ without_named : (ids : List ℤ) (rows : List Row) → without_all rows ids ≡ 
 without_named [] rows = sym (all_pass rows)
 without_named (id ∷ ids) rows =
     without_named ids (without_rowid id rows) ∙ filter_twice (λ r. not (named ids r)) (λ r. not (has_rowid id r)) rows
-    ∙ filter_same _ _ rows (λ r _. not_or (has_rowid id r) (named ids r))
+    ∙ filtered_same _ _ rows (λ r _. not_or (has_rowid id r) (named ids r))
 
 pub tied : (a b : ℤ) → is_eq (int_cmp a b) ≡ true → a ≡ b
 tied a b h = grind (arith, ints, nat_tests)
@@ -102,7 +102,7 @@ module _ (p : Row → Bool) (show : Row → Row) (same_rowid : (r : Row) → row
 
     -- without those that are shown, the rows that do not pass are left
     pub picked_left : without_all rows (ids_of found) ≡ filter (λ r. not (p r)) rows
-    picked_left = without_named (ids_of found) rows ∙ filter_same _ _ rows (λ r here. ap not (picks r here))
+    picked_left = without_named (ids_of found) rows ∙ filtered_same _ _ rows (λ r here. ap not (picks r here))
 
 -- some of the rows have rowids of their own too
 pub keyed_filtered : (p : Row → Bool) (rows : List Row) → Keyed rows → Keyed (filter p rows)

@@ -26,7 +26,7 @@ use Rattle.tables.specs.declared.table.Table.{Table}
 use Rattle.tables.specs.Schema.{Definition, definition, place_of, tree_of, shape}
 use Rattle.tables.specs.Rows.{tuples, has_key, Keyed}
 use Rattle.tables.proofs.ListLemmas.{mapped_itself}
-use Rattle.tables.proofs.WentLemmas.{wrote, deleted}
+use Rattle.tables.proofs.WentLemmas.{write_went, delete_went}
 use Rattle.tables.proofs.PickLemmas.{picked_left, keyed_filtered}
 use Rattle.tables.proofs.SelectLemmas.{query, selects, tests_from, tests_agree}
 
@@ -53,8 +53,8 @@ module _ (schema : Schema) (t : Table) (alone : (olds news : List Row) → works
         let task = λ (d : Definition). let it : Task = record { limit = old.step_limit; keys = Enforced; schema = schema; table = d; params = params } in it in
         let done0 = subst (λ s. Does old.step_limit (mode_of old) params (record old.now { schema = s }) text None command (Ok (w.tally, new.now))) has w.changed in
         let done1 = subst (λ o. AtPlace (λ d. OnRows (task d) (mode_of old) None command db) o (Ok (w.tally, new.now))) place done0 in
-        let wrote = wrote (task (definition t)) (mode_of old) command db w.tally new.now done1 in
-        let given = deleted (task (definition t)) program db wrote.0 wrote.1 in
+        let wrote = write_went (task (definition t)) (mode_of old) command db w.tally new.now done1 in
+        let given = delete_went (task (definition t)) program db wrote.0 wrote.1 in
         let now : new.now.trees ≡ wrote.0.trees = ap (λ (d : Database). d.trees) wrote.2 in
         let edit = edit_of db (definition t) (ids_of given.0) Given 0 [] in
         let step = one_step schema _ db wrote.0.trees edit (alone (taken_by db edit) edit.news) given.2 in
@@ -63,7 +63,7 @@ module _ (schema : Schema) (t : Table) (alone : (olds news : List Row) → works
         let pick = selects (λ r. r) (tree_of t) (tests_from 0 (shape t).key) (col 1 0 ∷ []) [] params passes (λ r. []) shown (tests_agree 0 (shape t).key params) (λ r. refl) (λ r. refl) (overlay db []) given.0 (given.1.answer Null) in
         let from : IsPermutation (filter passes rows) pick.ordered = subst (λ l. IsPermutation (filter passes l) pick.ordered) (mapped_itself (overlay db [] (tree_of t)) ∙ low db) pick.same in
         let left : new.now.trees (tree_of t) ≡ filter (λ r. not (passes r)) rows =
-            ap (λ (x : Trees). x (tree_of t)) now ∙ step.rows ∙ picked_left passes shown (λ r. refl) rows keyed pick.ordered given.0 from pick.shown in
+        ap (λ (x : Trees). x (tree_of t)) now ∙ step.rows ∙ picked_left passes shown (λ r. refl) rows keyed pick.ordered given.0 from pick.shown in
         record {
           is = ap (λ (d : Database). d.schema) wrote.2;
           sound = w.sound;

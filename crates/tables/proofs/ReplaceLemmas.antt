@@ -32,12 +32,12 @@ use Rattle.sqlite_schema.specs.declared.schema.Keys.TheVariants.{Enforced}
 use Rattle.tables.specs.declared.table.Table.{Table}
 use Rattle.tables.specs.Schema.{Definition, definition, place_of, places_from, tree_of, shape}
 use Rattle.tables.specs.Rows.{tuples, at, has_key, is_row_of, Keyed}
-use Rattle.tables.proofs.Changes.{others_count, renewed}
+use Rattle.tables.proofs.Edits.{beyond_key, updated}
 use Rattle.tables.proofs.InsertLemmas.{put_fresh, cast_int, cast_all_of}
-use Rattle.tables.proofs.KeyLemmas.{renewed_row}
+use Rattle.tables.proofs.KeyLemmas.{updated_row}
 use Rattle.tables.proofs.KeyedLemmas.{keyed_put_all}
 use Rattle.tables.proofs.ListLemmas.{mapped_has, mapped_same, mapped_twice, mapped_itself, permuted_has}
-use Rattle.tables.proofs.WentLemmas.{wrote, updated}
+use Rattle.tables.proofs.WentLemmas.{write_went, update_went}
 use Rattle.tables.proofs.PickLemmas.{picked, picked_left, keyed_filtered}
 use Rattle.tables.proofs.SelectLemmas.{query, selects, tests_from, tests_agree, columns_from, shows_columns}
 
@@ -64,12 +64,12 @@ parted p f (x ∷ xs) = go (p x) (parted p f xs)
     go true later = IsPermutation-cons (f x) _ _ later
     go false later = IsPermutation-trans _ _ _ (IsPermutation-middle (map f (filter p xs)) x _) (IsPermutation-cons x _ _ later)
 
-shows_renewed : (t : Table) (params r : Row) → eval_all (renewed t) (params ∷ r ∷ []) ≡ rowid r ∷ rowid r ∷ at (places_from 0 (shape t).key) (drop 1 r) ++ at (places_from (shape t).key (others_count t)) params
-shows_renewed t params r =
+shows_updated : (t : Table) (params r : Row) → eval_all (updated t) (params ∷ r ∷ []) ≡ rowid r ∷ rowid r ∷ at (places_from 0 (shape t).key) (drop 1 r) ++ at (places_from (shape t).key (beyond_key t)) params
+shows_updated t params r =
     ap (λ l. rowid r ∷ rowid r ∷ l)
-    (map-append _ (columns_from 0 (shape t).key) (map (col 0) (places_from (shape t).key (others_count t)))
-    ∙ ap (λ l. l ++ eval_all (map (col 0) (places_from (shape t).key (others_count t))) (params ∷ r ∷ [])) (shows_columns 0 (shape t).key params r)
-    ∙ ap (λ l. at (places_from 0 (shape t).key) (drop 1 r) ++ l) (mapped_twice (col 0) _ (places_from (shape t).key (others_count t))))
+    (map-append _ (columns_from 0 (shape t).key) (map (col 0) (places_from (shape t).key (beyond_key t)))
+    ∙ ap (λ l. l ++ eval_all (map (col 0) (places_from (shape t).key (beyond_key t))) (params ∷ r ∷ [])) (shows_columns 0 (shape t).key params r)
+    ∙ ap (λ l. at (places_from 0 (shape t).key) (drop 1 r) ++ l) (mapped_twice (col 0) _ (places_from (shape t).key (beyond_key t))))
 
 -- ---- the statement
 
@@ -82,7 +82,7 @@ pub record Replaces (schema : Schema) (t : Table) (row : Row) (old new : Databas
   pub others : AllByRecursion (λ d. d.tree ≢ tree_of t → new.trees d.tree ≡ old.trees d.tree) schema.tables
 
 module _ (schema : Schema) (t : Table) (alone : (olds news : List Row) → works schema Enforced 0 (tree_of t) olds news ≡ []) (place : slice_get schema.tables (place_of t) ≡ Some (definition t))
-    (sql : List ℕ) (is : command_of (understood schema sql) ≡ Update (place_of t) (record { lets = []; body = query (tree_of t) (tests_from 0 (shape t).key) (renewed t) [] }))
+    (sql : List ℕ) (is : command_of (understood schema sql) ≡ Update (place_of t) (record { lets = []; body = query (tree_of t) (tests_from 0 (shape t).key) (updated t) [] }))
     (plain : IsPlain (understood schema sql)) (low : (db : Trees) → overlay db [] (tree_of t) ≡ db (tree_of t)) (params : Row) (kinds : is_row_of t params ≡ true)
   where
     pub replaces : (old new : State) (count : ℕ) → old.now.schema ≡ schema → Keyed (old.now.trees (tree_of t)) → list_all (is_row_of t) (tuples t old.now.trees) ≡ true → Executes sql params old new (Ok count)
@@ -90,49 +90,49 @@ module _ (schema : Schema) (t : Table) (alone : (olds news : List Row) → works
     replaces old new count has keyed typed h =
         let db = old.now.trees in
         let rows = db (tree_of t) in
-        let program : Program = record { lets = []; body = query (tree_of t) (tests_from 0 (shape t).key) (renewed t) [] } in
+        let program : Program = record { lets = []; body = query (tree_of t) (tests_from 0 (shape t).key) (updated t) [] } in
         let command = Update (place_of t) program in
         let w = runs_as sql params old new schema has command is plain count h in
         let text = statement_of sql (understood schema sql) in
         let task = λ (d : Definition). let it : Task = record { limit = old.step_limit; keys = Enforced; schema = schema; table = d; params = params } in it in
         let done0 = subst (λ s. Does old.step_limit (mode_of old) params (record old.now { schema = s }) text None command (Ok (w.tally, new.now))) has w.changed in
         let done1 = subst (λ o. AtPlace (λ d. OnRows (task d) (mode_of old) None command db) o (Ok (w.tally, new.now))) place done0 in
-        let wrote = wrote (task (definition t)) (mode_of old) command db w.tally new.now done1 in
-        let given = updated (task (definition t)) program db wrote.0 wrote.1 in
+        let wrote = write_went (task (definition t)) (mode_of old) command db w.tally new.now done1 in
+        let given = update_went (task (definition t)) program db wrote.0 wrote.1 in
         let now : new.now.trees ≡ wrote.0.trees = ap (λ (d : Database). d.trees) wrote.2 in
         let edit = edit_of db (definition t) (ids_of given.0) Given 1 given.0 in
         let step = one_step schema _ db wrote.0.trees edit (alone (taken_by db edit) edit.news) given.2 in
         let passes : Row → Bool = λ r. has_key t params (drop 1 r) in
-        let next : Row → Row = λ x. at (places_from 0 (shape t).key) x ++ at (places_from (shape t).key (others_count t)) params in
+        let next : Row → Row = λ x. at (places_from 0 (shape t).key) x ++ at (places_from (shape t).key (beyond_key t)) params in
         let shown : Row → Row = λ r. rowid r ∷ rowid r ∷ next (drop 1 r) in
         let heir : Row → Row = λ r. rowid r ∷ params in
-        let pick = selects (λ r. r) (tree_of t) (tests_from 0 (shape t).key) (renewed t) [] params passes (λ r. []) shown (tests_agree 0 (shape t).key params) (λ r. refl) (shows_renewed t params) (overlay db []) given.0 (given.1.answer Null) in
+        let pick = selects (λ r. r) (tree_of t) (tests_from 0 (shape t).key) (updated t) [] params passes (λ r. []) shown (tests_agree 0 (shape t).key params) (λ r. refl) (shows_updated t params) (overlay db []) given.0 (given.1.answer Null) in
         let from : IsPermutation (filter passes rows) pick.ordered = subst (λ l. IsPermutation (filter passes l) pick.ordered) (mapped_itself (overlay db [] (tree_of t)) ∙ low db) pick.same in
         let kept = filter (λ r. not (passes r)) rows in
         let left : without_all rows (ids_of given.0) ≡ kept = picked_left passes shown (λ r. refl) rows keyed pick.ordered given.0 from pick.shown in
         let casts : (r : Row) → Has pick.ordered r → cast_row (definition t) (drop 1 (shown r)) ≡ heir r =
-            λ r there.
-              let was = picked passes shown (λ x. refl) rows keyed pick.ordered given.0 from pick.shown r there in
-              let tuple = test_has (is_row_of t) (tuples t db) (drop 1 r) typed (mapped_has (drop 1) rows r was.0) in
-              rw (renewed_row t (drop 1 r) params tuple kinds was.1, int_is (rowid r) (keyed.ints r was.0), cast_int (id_in (rowid r)), cast_all_of (shape t).columns params kinds) refl in
+        λ r there.
+        let was = picked passes shown (λ x. refl) rows keyed pick.ordered given.0 from pick.shown r there in
+        let tuple = test_has (is_row_of t) (tuples t db) (drop 1 r) typed (mapped_has (drop 1) rows r was.0) in
+        rw (updated_row t (drop 1 r) params tuple kinds was.1, int_is (rowid r) (keyed.ints r was.0), cast_int (id_in (rowid r)), cast_all_of (shape t).columns params kinds) refl in
         let news : edit.news ≡ map heir pick.ordered =
-            numbered_given _ _ ∙ ap (map (λ s. cast_row (definition t) (drop 1 s))) pick.shown ∙ mapped_twice shown (λ s. cast_row (definition t) (drop 1 s)) pick.ordered ∙ mapped_same _ heir pick.ordered casts in
+        numbered_given _ _ ∙ ap (map (λ s. cast_row (definition t) (drop 1 s))) pick.shown ∙ mapped_twice shown (λ s. cast_row (definition t) (drop 1 s)) pick.ordered ∙ mapped_same _ heir pick.ordered casts in
         let after : new.now.trees (tree_of t) ≡ put_all kept edit.news =
-            ap (λ (x : Trees). x (tree_of t)) now ∙ step.rows ∙ ap (λ l. put_all l edit.news) left in
+        ap (λ (x : Trees). x (tree_of t)) now ∙ step.rows ∙ ap (λ l. put_all l edit.news) left in
         let fresh : are_fresh kept edit.news ≡ true = subst (λ l. are_fresh l edit.news ≡ true) left step.fresh in
         let whole : IsPermutation (edit.news ++ kept) (new.now.trees (tree_of t)) = subst (IsPermutation _) (sym after) (put_all_fresh edit.news kept fresh) in
         let parts : map (drop 1) (edit.news ++ kept) ≡ map (λ _. params) pick.ordered ++ filter (λ x. not (has_key t params x)) (tuples t db) =
-            ap (λ l. map (drop 1) (l ++ kept)) news ∙ map-append (drop 1) (map heir pick.ordered) kept
-            ∙ ap (λ l. l ++ map (drop 1) kept) (mapped_twice heir (drop 1) pick.ordered)
-            ∙ ap (λ l. map (λ _. params) pick.ordered ++ l) (sym (filter-map (λ x. not (has_key t params x)) (drop 1) rows)) in
+        ap (λ l. map (drop 1) (l ++ kept)) news ∙ map-append (drop 1) (map heir pick.ordered) kept
+        ∙ ap (λ l. l ++ map (drop 1) kept) (mapped_twice heir (drop 1) pick.ordered)
+        ∙ ap (λ l. map (λ _. params) pick.ordered ++ l) (sym (filter-map (λ x. not (has_key t params x)) (drop 1) rows)) in
         let chosen : IsPermutation (map (λ _. params) (filter (has_key t params) (tuples t db))) (map (λ _. params) pick.ordered) =
-            subst (λ l. IsPermutation l (map (λ _. params) pick.ordered)) (sym (mapped_twice (drop 1) (λ _. params) (filter passes rows)) ∙ ap (map (λ _. params)) (sym (filter-map (has_key t params) (drop 1) rows)))
-            (IsPermutation-map (λ _. params) (filter passes rows) pick.ordered from) in
+        subst (λ l. IsPermutation l (map (λ _. params) pick.ordered)) (sym (mapped_twice (drop 1) (λ _. params) (filter passes rows)) ∙ ap (map (λ _. params)) (sym (filter-map (has_key t params) (drop 1) rows)))
+        (IsPermutation-map (λ _. params) (filter passes rows) pick.ordered from) in
         record {
           is = ap (λ (d : Database). d.schema) wrote.2;
           sound = w.sound;
           rows = IsPermutation-trans _ _ _ (IsPermutation-sym _ _ (parted (has_key t params) (λ _. params) (tuples t db)))
-            (IsPermutation-trans _ _ _ (IsPermutation-append_left (filter (λ x. not (has_key t params x)) (tuples t db)) _ _ chosen) (subst (λ l. IsPermutation l (tuples t new.now.trees)) parts (IsPermutation-map (drop 1) _ _ whole)));
+              (IsPermutation-trans _ _ _ (IsPermutation-append_left (filter (λ x. not (has_key t params x)) (tuples t db)) _ _ chosen) (subst (λ l. IsPermutation l (tuples t new.now.trees)) parts (IsPermutation-map (drop 1) _ _ whole)));
           keyed = subst Keyed (sym after) (keyed_put_all edit.news kept (keyed_filtered (λ r. not (passes r)) rows keyed) step.keyed fresh);
           others = subst (λ (x : Trees). AllByRecursion (λ d. d.tree ≢ tree_of t → x d.tree ≡ db d.tree) schema.tables) (sym now) step.tables;
         }

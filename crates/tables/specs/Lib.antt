@@ -1,9 +1,8 @@
-pub mod Faults
 pub mod Texts
 pub mod Schema
 pub mod Rows
 pub mod Contents
-pub mod Changes
+pub mod Faults
 pub mod Making
 pub mod Reading
 pub mod Presence

@@ -1,5 +1,5 @@
 -- The schema of an office, as `sqlite` reads it in the texts.
-use Rattle.std.specs.Prelude.{◌≡◌, ◌++◌, ◌+◌, ◌*◌, ℕ, zero, suc, List, [], ◌∷◌, codes, map, take, true, false, None, pos}
+use Rattle.std.specs.Prelude.{◌≡◌, ◌++◌, ◌+◌, ◌*◌, ℕ, zero, suc, Bool, List, [], ◌∷◌, codes, map, take, true, false, None, pos}
 use Rattle.std.specs.List.{AllByRecursion}
 use Rattle.sqlite.specs.declared.types.Value.TheVariants.{Null, Int}
 use Rattle.sqlite.specs.Collation.TheVariants.{Binary}
@@ -87,6 +87,13 @@ shape Receipt = record {
   columns = number_column (codes "actor") ∷ text_column (codes "id") ∷ text_column (codes "subject") ∷ text_column (codes "reply") ∷ [];
   checks = within 1 0 999 ∷ [];
 }
+
+-- the tables whose rows are replaced or removed; the others only grow
+abbrev pub changes_rows : Table → Bool
+changes_rows Ward = true
+changes_rows Candidate = true
+changes_rows Batch = true
+changes_rows _ = false
 
 -- where the table stands in the order of making
 abbrev pub place_of : Table → ℕ

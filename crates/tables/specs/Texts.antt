@@ -43,12 +43,12 @@ abbrev pub key_condition : Table → List ℕ
 key_condition t = joined (codes " AND ") (take (shape t).key (equations 1 (shape t).columns))
 
 -- puts the parameters, the values of all columns in turn, into the row with their key
-abbrev pub replace_text : Table → List ℕ
-replace_text t = codes "UPDATE " ++ (shape t).name ++ codes " SET " ++ joined (codes ", ") (drop (shape t).key (equations 1 (shape t).columns)) ++ codes " WHERE " ++ key_condition t
+abbrev pub update_text : Table → List ℕ
+update_text t = codes "UPDATE " ++ (shape t).name ++ codes " SET " ++ joined (codes ", ") (drop (shape t).key (equations 1 (shape t).columns)) ++ codes " WHERE " ++ key_condition t
 
 -- removes the row with a key, whose values are the parameters
-abbrev pub remove_text : Table → List ℕ
-remove_text t = codes "DELETE FROM " ++ (shape t).name ++ codes " WHERE " ++ key_condition t
+abbrev pub delete_text : Table → List ℕ
+delete_text t = codes "DELETE FROM " ++ (shape t).name ++ codes " WHERE " ++ key_condition t
 
 -- all columns of all rows, in the order of the key
 abbrev pub rows_text : Table → List ℕ

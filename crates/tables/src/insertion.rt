@@ -7,9 +7,8 @@ ghost use Rattle.sqlite.specs.State.{HasCleanDisk, KeepsCommit, Survives};
 ghost use Rattle.sqlite.specs.Held.{state};
 ghost use Rattle.tables.specs.Texts.{insert_text};
 ghost use Rattle.tables.specs.Rows.{is_row_of};
-ghost use Rattle.tables.specs.Contents.{Contents, Sees, added};
-ghost use Rattle.tables.specs.Changes.{all_added, TellsRow};
-ghost use Rattle.tables.specs.Faults.{TellsStatement};
+ghost use Rattle.tables.specs.Contents.{Contents, Sees, added, added_all};
+ghost use Rattle.tables.specs.Faults.{TellsStatement, TellsRow};
 
 use crate::fault::{Fault, fault_of};
 use crate::table::{Table, insert_text};
@@ -48,7 +47,7 @@ pub fn insert_all<'a, S: Alter, R: AsSlice<ValueRef<'a>>>(
     requires kinds { list_all (is_row_of table) (map (λ row. bound (R.items row)) rows.now) ≡ true }
     ensures same_reference { tx.new.conn.ghost_name ≡ tx.old.conn.ghost_name }
     ensures adds { HasCleanDisk (state S.Store tx.new.conn.now) → (c : Contents) → Sees c (state S.Store tx.old.conn.now)
-        → OnOk result (Sees (all_added table (map (λ row. bound (R.items row)) rows.now) c) (state S.Store tx.new.conn.now)) }
+        → OnOk result (Sees (added_all table (map (λ row. bound (R.items row)) rows.now) c) (state S.Store tx.new.conn.now)) }
     ensures keeps { HasCleanDisk (state S.Store tx.new.conn.now) → KeepsCommit (state S.Store tx.old.conn.now) (state S.Store tx.new.conn.now) }
     ensures survives { Survives (state S.Store tx.old.conn.now) (state S.Store tx.new.conn.now) (λ _. ⊥) }
     ensures cause { IfErr result (TellsRow S.Store table (map (λ row. bound (R.items row)) rows.now) tx.old.conn.now tx.new.conn.now) }

@@ -1,7 +1,8 @@
 //! The tables of an office, and the texts of their statements.
 
-ghost use Rattle.std.specs.Prelude.{◌≡◌};
-ghost use Rattle.tables.specs.Texts.{create_text, insert_text, replace_text, remove_text, rows_text, row_text, rowids_text};
+ghost use Rattle.std.specs.Prelude.{◌≡◌, true};
+ghost use Rattle.tables.specs.Schema.{changes_rows};
+ghost use Rattle.tables.specs.Texts.{create_text, insert_text, update_text, delete_text, rows_text, row_text, rowids_text};
 
 /// The tables, in the order of making.
 #[derive(Clone, Copy, Debug, PartialEq, Eq)]
@@ -73,41 +74,31 @@ pub fn insert_text(table: Table) -> &'static str
     }
 }
 
-/// The text that puts the values of all columns, its parameters, into the row with their key.
-pub fn replace_text(table: Table) -> &'static str
-    ensures { result.now ≡ replace_text table }
+/// The text that replaces the row with a key, with the values of all columns as its parameters.
+pub fn update_text(table: Table) -> &'static str
+    requires { changes_rows table ≡ true }
+    ensures { result.now ≡ update_text table }
 {
     match table {
-        Table::Office => "UPDATE office SET version = ?2 WHERE one = ?1",
         Table::Ward =>
             "UPDATE ward SET seats = ?2, phase = ?3, done = ?4, name = ?5 WHERE ward = ?1",
         Table::Candidate => "UPDATE candidate SET name = ?3 WHERE ward = ?1 AND candidate = ?2",
         Table::Batch =>
             "UPDATE batch SET ward = ?2, size = ?3, clerk_a = ?4, clerk_b = ?5, round = ?6 WHERE batch = ?1",
-        Table::Keying =>
-            "UPDATE keying SET marks = ?5 WHERE batch = ?1 AND round = ?2 AND clerk = ?3 AND paper = ?4",
-        Table::Verdict =>
-            "UPDATE verdict SET code = ?3, marks = ?4 WHERE batch = ?1 AND paper = ?2",
-        Table::Lot => "UPDATE lot SET candidate = ?3 WHERE ward = ?1 AND stage = ?2",
-        Table::Receipt =>
-            "UPDATE receipt SET subject = ?3, reply = ?4 WHERE actor = ?1 AND id = ?2",
+        _ => unreachable!(),
     }
 }
 
 /// The text that removes the row with a key, whose values are the parameters.
-pub fn remove_text(table: Table) -> &'static str
-    ensures { result.now ≡ remove_text table }
+pub fn delete_text(table: Table) -> &'static str
+    requires { changes_rows table ≡ true }
+    ensures { result.now ≡ delete_text table }
 {
     match table {
-        Table::Office => "DELETE FROM office WHERE one = ?1",
         Table::Ward => "DELETE FROM ward WHERE ward = ?1",
         Table::Candidate => "DELETE FROM candidate WHERE ward = ?1 AND candidate = ?2",
         Table::Batch => "DELETE FROM batch WHERE batch = ?1",
-        Table::Keying =>
-            "DELETE FROM keying WHERE batch = ?1 AND round = ?2 AND clerk = ?3 AND paper = ?4",
-        Table::Verdict => "DELETE FROM verdict WHERE batch = ?1 AND paper = ?2",
-        Table::Lot => "DELETE FROM lot WHERE ward = ?1 AND stage = ?2",
-        Table::Receipt => "DELETE FROM receipt WHERE actor = ?1 AND id = ?2",
+        _ => unreachable!(),
     }
 }
 

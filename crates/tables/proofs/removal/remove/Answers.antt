@@ -7,8 +7,8 @@ use Rattle.tables.proofs.removal.remove.Goals as goal
 
 pub returns-in-Ok-clause-removes : goal.returns-in-Ok-clause-removes
 returns-in-Ok-clause-removes g c clean =
-    row_removed c.args.table (bound c.args.key.now) (state g.S.Store c.args.tx.now.conn.now) (state g.S.Store c.execute.new.self.conn.now) (Ok c.in-Ok.field-0)
-    (rw c.remove_text.ensures at (c.in-Ok.ensures.runs clean))
+    row_removed c.args.table c.requires.changes (bound c.args.key.now) (state g.S.Store c.args.tx.now.conn.now) (state g.S.Store c.execute.new.self.conn.now) (Ok c.in-Ok.field-0)
+    (rw c.delete_text.ensures at (c.in-Ok.ensures.runs clean))
 
 pub returns-in-Err-clause-keeps : goal.returns-in-Err-clause-keeps
 returns-in-Err-clause-keeps g c clean =

@@ -7,8 +7,8 @@ use Rattle.tables.proofs.replacement.replace.Goals as goal
 
 pub returns-in-Ok-clause-replaces : goal.returns-in-Ok-clause-replaces
 returns-in-Ok-clause-replaces g c clean =
-    row_replaced c.args.table (bound c.args.values.now) c.requires.kinds (state g.S.Store c.args.tx.now.conn.now) (state g.S.Store c.execute.new.self.conn.now) (Ok c.in-Ok.field-0)
-    (rw c.replace_text.ensures at (c.in-Ok.ensures.runs clean))
+    row_replaced c.args.table c.requires.changes (bound c.args.values.now) c.requires.kinds (state g.S.Store c.args.tx.now.conn.now) (state g.S.Store c.execute.new.self.conn.now) (Ok c.in-Ok.field-0)
+    (rw c.update_text.ensures at (c.in-Ok.ensures.runs clean))
 
 pub returns-in-Err-clause-keeps : goal.returns-in-Err-clause-keeps
 returns-in-Err-clause-keeps g c clean =
