@@ -4,7 +4,7 @@ use Rattle.std.proofs.Math.Seq.{take-suc}
 use Rattle.std.specs.List.{list_all}
 use Rattle.std.specs.List.Sorted.{IsPermutation}
 use Rattle.std.proofs.lemmas.List.Sorted.{IsPermutation-refl, IsPermutation-trans, IsPermutation-map, IsPermutation-sym, IsPermutation-middle, IsPermutation-append_right}
-use Rattle.sqlite_trees.proofs.ListLemmas.{IsPermutation-filter}
+use Rattle.sqlite_trees.proofs.ListLemmas.{IsPermutation-filter, filter-map}
 use Rattle.sqlite_rules.proofs.ListLemmas.{test_has, test_from, has_filtered}
 use Rattle.sqlite.specs.declared.error.Error.{Error}
 use Rattle.sqlite.specs.Order.{Row}
@@ -18,6 +18,7 @@ use Rattle.tables.proofs.Edits.{edits_row}
 use Rattle.tables.proofs.ContentsLemmas.{holds_changed, others_of}
 use Rattle.tables.proofs.Inserts.{inserts_row}
 use Rattle.tables.proofs.ListLemmas.{has_mapped, permuted_all}
+use Rattle.tables.proofs.PickLemmas.{filtered_same}
 use Rattle.tables.proofs.RemoveLemmas.{removes}
 use Rattle.tables.proofs.ReplaceLemmas.{replaces}
 use Rattle.tables.proofs.SameLemmas.{same_changed, same_itself, sees_same}
@@ -109,3 +110,21 @@ next_added t rows k row low is c s sees =
   where
     plus : (n : ℕ) → n + 1 ≡ suc n
     plus n = omega arith
+
+-- ---- rows of entries
+
+-- The row of one entry in the place of the row with its key is the entry in the place of the one with its key.
+pub replaced_rows : {X : Type 0} (t : Table) (row : X → Row) (same : X → Bool) (y : X) → ((x : X) → has_key t (row y) (row x) ≡ same x) → (xs : List X)
+    → map (λ r. cond (has_key t (row y) r) (row y) r) (map row xs) ≡ map row (map (λ x. cond (same x) y x) xs)
+replaced_rows t row same y alike [] = refl
+replaced_rows t row same y alike (x ∷ xs) = ap (λ b. cond b (row y) (row x) ∷ map (λ r. cond (has_key t (row y) r) (row y) r) (map row xs)) (alike x) ∙ one (same x) (replaced_rows t row same y alike xs)
+  where
+    one : (b : Bool) → map (λ r. cond (has_key t (row y) r) (row y) r) (map row xs) ≡ map row (map (λ z. cond (same z) y z) xs)
+        → cond b (row y) (row x) ∷ map (λ r. cond (has_key t (row y) r) (row y) r) (map row xs) ≡ row (cond b y x) ∷ map row (map (λ z. cond (same z) y z) xs)
+    one true later = ap (λ l. row y ∷ l) later
+    one false later = ap (λ l. row x ∷ l) later
+
+-- The rows without a key are those of the entries without it.
+pub removed_rows : {X : Type 0} (t : Table) (key : Row) (row : X → Row) (same : X → Bool) → ((x : X) → has_key t key (row x) ≡ same x) → (xs : List X)
+    → filter (λ r. not (has_key t key r)) (map row xs) ≡ map row (filter (λ x. not (same x)) xs)
+removed_rows t key row same alike xs = filter-map (λ r. not (has_key t key r)) row xs ∙ ap (map row) (filtered_same _ _ xs (λ x h. ap not (alike x)))
