@@ -15,9 +15,9 @@ use Rattle.sqlite.specs.Listing.{understood}
 use Rattle.sqlite.specs.Program.{overlay}
 use Rattle.sqlite.specs.Rowids.TheVariants.{Given}
 use Rattle.sqlite.specs.Tree.{Trees, rowid}
-use Rattle.sqlite.specs.Effect.{Database, IsDatabase}
+use Rattle.sqlite.specs.Effect.{Database, IsDatabase, Answers}
 use Rattle.sqlite.specs.Does.{Tally, Does, AtPlace, OnRows}
-use Rattle.sqlite.specs.Rows.{Task}
+use Rattle.sqlite.specs.Rows.{Task, Edited}
 use Rattle.sqlite.specs.State.{State, mode_of, Executes}
 use Rattle.sqlite.proofs.Callers.{IsPlain, command_of, statement_of, runs_as, one_step}
 use Rattle.sqlite_schema.specs.declared.program.Program.{Program}
@@ -42,11 +42,35 @@ module _ (schema : Schema) (t : Table) (alone : (olds news : List Row) → works
     (sql : List ℕ) (is : command_of (understood schema sql) ≡ Delete (place_of t) (record { lets = []; body = query (tree_of t) (tests_from 0 (shape t).key) (col 1 0 ∷ []) [] }))
     (plain : IsPlain (understood schema sql)) (low : (db : Trees) → overlay db [] (tree_of t) ≡ db (tree_of t)) (params : Row)
   where
+    abbrev program : Program
+    program = record { lets = []; body = query (tree_of t) (tests_from 0 (shape t).key) (col 1 0 ∷ []) [] }
+
+    -- without the rows that the query picked, those that do not have the key are left
+    finish : (old new : Database) → IsDatabase new → Keyed (old.trees (tree_of t)) → (trees : Trees) → new ≡ record { schema = schema; trees = trees } → (found : List Row)
+        → Answers (record { schema = schema; trees = old.trees }) program params found → Edited schema Enforced old.trees (edit_of old.trees (definition t) (ids_of found) Given 0 []) (Ok trees) → Removes schema t params old new
+    finish old new sound keyed trees now found answer edited =
+        let db = old.trees in
+        let rows = db (tree_of t) in
+        let edit = edit_of db (definition t) (ids_of found) Given 0 [] in
+        let step = one_step schema _ db trees edit (alone (taken_by db edit) edit.news) edited in
+        let passes : Row → Bool = λ r. has_key t params (drop 1 r) in
+        let shown : Row → Row = λ r. rowid r ∷ [] in
+        let pick = selects (λ r. r) (tree_of t) (tests_from 0 (shape t).key) (col 1 0 ∷ []) [] params passes (λ r. []) shown (tests_agree 0 (shape t).key params) (λ r. refl) (λ r. refl) (overlay db []) found (answer.answer Null) in
+        let from : IsPermutation (filter passes rows) pick.ordered = subst (λ l. IsPermutation (filter passes l) pick.ordered) (mapped_itself (overlay db [] (tree_of t)) ∙ low db) pick.same in
+        let same : new.trees ≡ trees = ap (λ (d : Database). d.trees) now in
+        let left : new.trees (tree_of t) ≡ filter (λ r. not (passes r)) rows =
+            ap (λ (x : Trees). x (tree_of t)) same ∙ step.rows ∙ picked_left passes shown (λ r. refl) rows keyed pick.ordered found from pick.shown in
+        record {
+          is = ap (λ (d : Database). d.schema) now;
+          sound = sound;
+          rows = ap (map (drop 1)) left ∙ sym (filter-map (λ r. not (has_key t params r)) (drop 1) rows);
+          keyed = subst Keyed (sym left) (keyed_filtered (λ r. not (passes r)) rows keyed);
+          others = subst (λ (x : Trees). AllByRecursion (λ d. d.tree ≢ tree_of t → x d.tree ≡ db d.tree) schema.tables) (sym same) step.tables;
+        }
+
     pub removes : (old new : State) (count : ℕ) → old.now.schema ≡ schema → Keyed (old.now.trees (tree_of t)) → Executes sql params old new (Ok count) → Removes schema t params old.now new.now
     removes old new count has keyed h =
         let db = old.now.trees in
-        let rows = db (tree_of t) in
-        let program : Program = record { lets = []; body = query (tree_of t) (tests_from 0 (shape t).key) (col 1 0 ∷ []) [] } in
         let command = Delete (place_of t) program in
         let w = runs_as sql params old new schema has command is plain count h in
         let text = statement_of sql (understood schema sql) in
@@ -55,19 +79,4 @@ module _ (schema : Schema) (t : Table) (alone : (olds news : List Row) → works
         let done1 = subst (λ o. AtPlace (λ d. OnRows (task d) (mode_of old) None command db) o (Ok (w.tally, new.now))) place done0 in
         let wrote = write_went (task (definition t)) (mode_of old) command db w.tally new.now done1 in
         let given = delete_went (task (definition t)) program db wrote.0 wrote.1 in
-        let now : new.now.trees ≡ wrote.0.trees = ap (λ (d : Database). d.trees) wrote.2 in
-        let edit = edit_of db (definition t) (ids_of given.0) Given 0 [] in
-        let step = one_step schema _ db wrote.0.trees edit (alone (taken_by db edit) edit.news) given.2 in
-        let passes : Row → Bool = λ r. has_key t params (drop 1 r) in
-        let shown : Row → Row = λ r. rowid r ∷ [] in
-        let pick = selects (λ r. r) (tree_of t) (tests_from 0 (shape t).key) (col 1 0 ∷ []) [] params passes (λ r. []) shown (tests_agree 0 (shape t).key params) (λ r. refl) (λ r. refl) (overlay db []) given.0 (given.1.answer Null) in
-        let from : IsPermutation (filter passes rows) pick.ordered = subst (λ l. IsPermutation (filter passes l) pick.ordered) (mapped_itself (overlay db [] (tree_of t)) ∙ low db) pick.same in
-        let left : new.now.trees (tree_of t) ≡ filter (λ r. not (passes r)) rows =
-        ap (λ (x : Trees). x (tree_of t)) now ∙ step.rows ∙ picked_left passes shown (λ r. refl) rows keyed pick.ordered given.0 from pick.shown in
-        record {
-          is = ap (λ (d : Database). d.schema) wrote.2;
-          sound = w.sound;
-          rows = ap (map (drop 1)) left ∙ sym (filter-map (λ r. not (has_key t params r)) (drop 1) rows);
-          keyed = subst Keyed (sym left) (keyed_filtered (λ r. not (passes r)) rows keyed);
-          others = subst (λ (x : Trees). AllByRecursion (λ d. d.tree ≢ tree_of t → x d.tree ≡ db d.tree) schema.tables) (sym now) step.tables;
-        }
+        finish old.now new.now w.sound keyed wrote.0.trees wrote.2 given.0 given.1 given.2

@@ -22,9 +22,9 @@ use Rattle.sqlite.specs.Listing.{understood}
 use Rattle.sqlite.specs.Program.{overlay}
 use Rattle.sqlite.specs.Rowids.TheVariants.{Given}
 use Rattle.sqlite.specs.Tree.{Trees, rowid, put_row}
-use Rattle.sqlite.specs.Effect.{Database, IsDatabase}
+use Rattle.sqlite.specs.Effect.{Database, IsDatabase, Answers}
 use Rattle.sqlite.specs.Does.{Tally, Does, AtPlace, OnRows}
-use Rattle.sqlite.specs.Rows.{Task}
+use Rattle.sqlite.specs.Rows.{Task, Edited}
 use Rattle.sqlite.specs.State.{State, mode_of, Executes}
 use Rattle.sqlite.proofs.Callers.{IsPlain, command_of, statement_of, runs_as, one_step}
 use Rattle.sqlite_schema.specs.declared.program.Program.{Program}
@@ -85,42 +85,36 @@ module _ (schema : Schema) (t : Table) (alone : (olds news : List Row) → works
     (sql : List ℕ) (is : command_of (understood schema sql) ≡ Update (place_of t) (record { lets = []; body = query (tree_of t) (tests_from 0 (shape t).key) (updated t) [] }))
     (plain : IsPlain (understood schema sql)) (low : (db : Trees) → overlay db [] (tree_of t) ≡ db (tree_of t)) (params : Row) (kinds : is_row_of t params ≡ true)
   where
-    pub replaces : (old new : State) (count : ℕ) → old.now.schema ≡ schema → Keyed (old.now.trees (tree_of t)) → list_all (is_row_of t) (tuples t old.now.trees) ≡ true → Executes sql params old new (Ok count)
-        → Replaces schema t params old.now new.now
-    replaces old new count has keyed typed h =
-        let db = old.now.trees in
+    abbrev program : Program
+    program = record { lets = []; body = query (tree_of t) (tests_from 0 (shape t).key) (updated t) [] }
+
+    -- the rows that the query picked go, and each comes back under its rowid with the parameters
+    finish : (old new : Database) → IsDatabase new → Keyed (old.trees (tree_of t)) → list_all (is_row_of t) (tuples t old.trees) ≡ true → (trees : Trees) → new ≡ record { schema = schema; trees = trees } → (found : List Row)
+        → Answers (record { schema = schema; trees = old.trees }) program params found → Edited schema Enforced old.trees (edit_of old.trees (definition t) (ids_of found) Given 1 found) (Ok trees) → Replaces schema t params old new
+    finish old new sound keyed typed trees now found answer edited =
+        let db = old.trees in
         let rows = db (tree_of t) in
-        let program : Program = record { lets = []; body = query (tree_of t) (tests_from 0 (shape t).key) (updated t) [] } in
-        let command = Update (place_of t) program in
-        let w = runs_as sql params old new schema has command is plain count h in
-        let text = statement_of sql (understood schema sql) in
-        let task = λ (d : Definition). let it : Task = record { limit = old.step_limit; keys = Enforced; schema = schema; table = d; params = params } in it in
-        let done0 = subst (λ s. Does old.step_limit (mode_of old) params (record old.now { schema = s }) text None command (Ok (w.tally, new.now))) has w.changed in
-        let done1 = subst (λ o. AtPlace (λ d. OnRows (task d) (mode_of old) None command db) o (Ok (w.tally, new.now))) place done0 in
-        let wrote = write_went (task (definition t)) (mode_of old) command db w.tally new.now done1 in
-        let given = update_went (task (definition t)) program db wrote.0 wrote.1 in
-        let now : new.now.trees ≡ wrote.0.trees = ap (λ (d : Database). d.trees) wrote.2 in
-        let edit = edit_of db (definition t) (ids_of given.0) Given 1 given.0 in
-        let step = one_step schema _ db wrote.0.trees edit (alone (taken_by db edit) edit.news) given.2 in
+        let edit = edit_of db (definition t) (ids_of found) Given 1 found in
+        let step = one_step schema _ db trees edit (alone (taken_by db edit) edit.news) edited in
         let passes : Row → Bool = λ r. has_key t params (drop 1 r) in
         let next : Row → Row = λ x. at (places_from 0 (shape t).key) x ++ at (places_from (shape t).key (beyond_key t)) params in
         let shown : Row → Row = λ r. rowid r ∷ rowid r ∷ next (drop 1 r) in
         let heir : Row → Row = λ r. rowid r ∷ params in
-        let pick = selects (λ r. r) (tree_of t) (tests_from 0 (shape t).key) (updated t) [] params passes (λ r. []) shown (tests_agree 0 (shape t).key params) (λ r. refl) (shows_updated t params) (overlay db []) given.0 (given.1.answer Null) in
+        let pick = selects (λ r. r) (tree_of t) (tests_from 0 (shape t).key) (updated t) [] params passes (λ r. []) shown (tests_agree 0 (shape t).key params) (λ r. refl) (shows_updated t params) (overlay db []) found (answer.answer Null) in
         let from : IsPermutation (filter passes rows) pick.ordered = subst (λ l. IsPermutation (filter passes l) pick.ordered) (mapped_itself (overlay db [] (tree_of t)) ∙ low db) pick.same in
         let kept = filter (λ r. not (passes r)) rows in
-        let left : without_all rows (ids_of given.0) ≡ kept = picked_left passes shown (λ r. refl) rows keyed pick.ordered given.0 from pick.shown in
+        let left : without_all rows (ids_of found) ≡ kept = picked_left passes shown (λ r. refl) rows keyed pick.ordered found from pick.shown in
         let casts : (r : Row) → Has pick.ordered r → cast_row (definition t) (drop 1 (shown r)) ≡ heir r =
         λ r there.
-        let was = picked passes shown (λ x. refl) rows keyed pick.ordered given.0 from pick.shown r there in
+        let was = picked passes shown (λ x. refl) rows keyed pick.ordered found from pick.shown r there in
         let tuple = test_has (is_row_of t) (tuples t db) (drop 1 r) typed (mapped_has (drop 1) rows r was.0) in
         rw (updated_row t (drop 1 r) params tuple kinds was.1, int_is (rowid r) (keyed.ints r was.0), cast_int (id_in (rowid r)), cast_all_of (shape t).columns params kinds) refl in
         let news : edit.news ≡ map heir pick.ordered =
         numbered_given _ _ ∙ ap (map (λ s. cast_row (definition t) (drop 1 s))) pick.shown ∙ mapped_twice shown (λ s. cast_row (definition t) (drop 1 s)) pick.ordered ∙ mapped_same _ heir pick.ordered casts in
-        let after : new.now.trees (tree_of t) ≡ put_all kept edit.news =
-        ap (λ (x : Trees). x (tree_of t)) now ∙ step.rows ∙ ap (λ l. put_all l edit.news) left in
+        let same : new.trees ≡ trees = ap (λ (d : Database). d.trees) now in
+        let after : new.trees (tree_of t) ≡ put_all kept edit.news = ap (λ (x : Trees). x (tree_of t)) same ∙ step.rows ∙ ap (λ l. put_all l edit.news) left in
         let fresh : are_fresh kept edit.news ≡ true = subst (λ l. are_fresh l edit.news ≡ true) left step.fresh in
-        let whole : IsPermutation (edit.news ++ kept) (new.now.trees (tree_of t)) = subst (IsPermutation _) (sym after) (put_all_fresh edit.news kept fresh) in
+        let whole : IsPermutation (edit.news ++ kept) (new.trees (tree_of t)) = subst (IsPermutation _) (sym after) (put_all_fresh edit.news kept fresh) in
         let parts : map (drop 1) (edit.news ++ kept) ≡ map (λ _. params) pick.ordered ++ filter (λ x. not (has_key t params x)) (tuples t db) =
         ap (λ l. map (drop 1) (l ++ kept)) news ∙ map-append (drop 1) (map heir pick.ordered) kept
         ∙ ap (λ l. l ++ map (drop 1) kept) (mapped_twice heir (drop 1) pick.ordered)
@@ -129,10 +123,24 @@ module _ (schema : Schema) (t : Table) (alone : (olds news : List Row) → works
         subst (λ l. IsPermutation l (map (λ _. params) pick.ordered)) (sym (mapped_twice (drop 1) (λ _. params) (filter passes rows)) ∙ ap (map (λ _. params)) (sym (filter-map (has_key t params) (drop 1) rows)))
         (IsPermutation-map (λ _. params) (filter passes rows) pick.ordered from) in
         record {
-          is = ap (λ (d : Database). d.schema) wrote.2;
-          sound = w.sound;
+          is = ap (λ (d : Database). d.schema) now;
+          sound = sound;
           rows = IsPermutation-trans _ _ _ (IsPermutation-sym _ _ (parted (has_key t params) (λ _. params) (tuples t db)))
-              (IsPermutation-trans _ _ _ (IsPermutation-append_left (filter (λ x. not (has_key t params x)) (tuples t db)) _ _ chosen) (subst (λ l. IsPermutation l (tuples t new.now.trees)) parts (IsPermutation-map (drop 1) _ _ whole)));
+              (IsPermutation-trans _ _ _ (IsPermutation-append_left (filter (λ x. not (has_key t params x)) (tuples t db)) _ _ chosen) (subst (λ l. IsPermutation l (tuples t new.trees)) parts (IsPermutation-map (drop 1) _ _ whole)));
           keyed = subst Keyed (sym after) (keyed_put_all edit.news kept (keyed_filtered (λ r. not (passes r)) rows keyed) step.keyed fresh);
-          others = subst (λ (x : Trees). AllByRecursion (λ d. d.tree ≢ tree_of t → x d.tree ≡ db d.tree) schema.tables) (sym now) step.tables;
+          others = subst (λ (x : Trees). AllByRecursion (λ d. d.tree ≢ tree_of t → x d.tree ≡ db d.tree) schema.tables) (sym same) step.tables;
         }
+
+    pub replaces : (old new : State) (count : ℕ) → old.now.schema ≡ schema → Keyed (old.now.trees (tree_of t)) → list_all (is_row_of t) (tuples t old.now.trees) ≡ true → Executes sql params old new (Ok count)
+        → Replaces schema t params old.now new.now
+    replaces old new count has keyed typed h =
+        let db = old.now.trees in
+        let command = Update (place_of t) program in
+        let w = runs_as sql params old new schema has command is plain count h in
+        let text = statement_of sql (understood schema sql) in
+        let task = λ (d : Definition). let it : Task = record { limit = old.step_limit; keys = Enforced; schema = schema; table = d; params = params } in it in
+        let done0 = subst (λ s. Does old.step_limit (mode_of old) params (record old.now { schema = s }) text None command (Ok (w.tally, new.now))) has w.changed in
+        let done1 = subst (λ o. AtPlace (λ d. OnRows (task d) (mode_of old) None command db) o (Ok (w.tally, new.now))) place done0 in
+        let wrote = write_went (task (definition t)) (mode_of old) command db w.tally new.now done1 in
+        let given = update_went (task (definition t)) program db wrote.0 wrote.1 in
+        finish old.now new.now w.sound keyed typed wrote.0.trees wrote.2 given.0 given.1 given.2
