@@ -1,9 +1,8 @@
 -- What an UPDATE, a DELETE and many INSERTs make of the contents.
-use Rattle.std.proofs.Common.{◌≡◌, ◌≢◌, ℕ, suc, ◌+◌, ◌<◌, length, List, [], ◌∷◌, ◌++◌, map, filter, take, get_or, Bool, true, false, not, cond, Ok, Err, Result, OnOk, IsTrue, refl, sym, ap, subst, ◌∙◌, inl, inr, append_assoc, arith}
+use Rattle.std.proofs.Common.{◌≡◌, ℕ, suc, ◌+◌, ◌<◌, length, List, [], ◌∷◌, ◌++◌, map, filter, take, get_or, Bool, true, false, not, cond, Ok, Err, Result, OnOk, IsTrue, refl, sym, ap, subst, ◌∙◌, inl, inr, append_assoc, arith}
 use Rattle.std.proofs.Math.Seq.{take-suc}
-use Rattle.std.specs.List.{list_all}
 use Rattle.std.specs.List.Sorted.{IsPermutation}
-use Rattle.std.proofs.lemmas.List.Sorted.{IsPermutation-refl, IsPermutation-trans, IsPermutation-map, IsPermutation-sym, IsPermutation-middle, IsPermutation-append_right}
+use Rattle.std.proofs.lemmas.List.Sorted.{IsPermutation-refl, IsPermutation-trans, IsPermutation-map, IsPermutation-sym, IsPermutation-middle}
 use Rattle.sqlite_trees.proofs.ListLemmas.{IsPermutation-filter, filter-map}
 use Rattle.sqlite_rules.proofs.ListLemmas.{test_has, test_from, has_filtered}
 use Rattle.sqlite.specs.declared.error.Error.{Error}
@@ -13,7 +12,7 @@ use Rattle.tables.specs.declared.table.Table.{Table}
 use Rattle.tables.specs.Texts.{update_text, delete_text}
 use Rattle.tables.specs.Schema.{schema_from, changes_rows}
 use Rattle.tables.specs.Rows.{tuples, is_row_of, has_key}
-use Rattle.tables.specs.Contents.{Contents, SameContents, changed, added, added_all, replaced, removed, IsOffice, Sees}
+use Rattle.tables.specs.Contents.{Contents, SameContents, added, added_all, replaced, removed, IsOffice, Sees}
 use Rattle.tables.proofs.Edits.{edits_row}
 use Rattle.tables.proofs.ContentsLemmas.{holds_changed, others_of}
 use Rattle.tables.proofs.Inserts.{inserts_row}
@@ -21,7 +20,7 @@ use Rattle.tables.proofs.ListLemmas.{has_mapped, permuted_all}
 use Rattle.tables.proofs.PickLemmas.{filtered_same}
 use Rattle.tables.proofs.RemoveLemmas.{removes}
 use Rattle.tables.proofs.ReplaceLemmas.{replaces}
-use Rattle.tables.proofs.SameLemmas.{same_changed, same_itself, sees_same}
+use Rattle.tables.proofs.SameLemmas.{sees_same}
 use Rattle.tables.proofs.TableLemmas.{which_table, listed}
 
 -- ---- an UPDATE

@@ -10,13 +10,13 @@ use Rattle.sqlite.specs.Order.{Row}
 use Rattle.sqlite.specs.Term.{col}
 use Rattle.sqlite.specs.Schema.{Schema}
 use Rattle.sqlite.specs.Command.TheVariants.{Delete}
-use Rattle.sqlite.specs.Edit.{edit_of, taken_by, without_all}
+use Rattle.sqlite.specs.Edit.{edit_of, taken_by}
 use Rattle.sqlite.specs.Listing.{understood}
 use Rattle.sqlite.specs.Program.{overlay}
 use Rattle.sqlite.specs.Rowids.TheVariants.{Given}
 use Rattle.sqlite.specs.Tree.{Trees, rowid}
 use Rattle.sqlite.specs.Effect.{Database, IsDatabase, Answers}
-use Rattle.sqlite.specs.Does.{Tally, Does, AtPlace, OnRows}
+use Rattle.sqlite.specs.Does.{Does, AtPlace, OnRows}
 use Rattle.sqlite.specs.Rows.{Task, Edited}
 use Rattle.sqlite.specs.State.{State, mode_of, Executes}
 use Rattle.sqlite.proofs.Callers.{IsPlain, command_of, statement_of, runs_as, one_step}
@@ -59,7 +59,7 @@ module _ (schema : Schema) (t : Table) (alone : (olds news : List Row) → works
         let from : IsPermutation (filter passes rows) pick.ordered = subst (λ l. IsPermutation (filter passes l) pick.ordered) (mapped_itself (overlay db [] (tree_of t)) ∙ low db) pick.same in
         let same : new.trees ≡ trees = ap (λ (d : Database). d.trees) now in
         let left : new.trees (tree_of t) ≡ filter (λ r. not (passes r)) rows =
-            ap (λ (x : Trees). x (tree_of t)) same ∙ step.rows ∙ picked_left passes shown (λ r. refl) rows keyed pick.ordered found from pick.shown in
+        ap (λ (x : Trees). x (tree_of t)) same ∙ step.rows ∙ picked_left passes shown (λ r. refl) rows keyed pick.ordered found from pick.shown in
         record {
           is = ap (λ (d : Database). d.schema) now;
           sound = sound;

@@ -12,7 +12,7 @@ use Rattle.sqlite_trees.proofs.ListLemmas.{filter-map}
 use Rattle.sqlite_rules.proofs.ListLemmas.{test_has}
 use Rattle.sqlite_rules.proofs.TableLemmas.{int_is}
 use Rattle.sqlite.specs.declared.types.Value.TheVariants.{Null}
-use Rattle.sqlite.specs.Order.{Row, column}
+use Rattle.sqlite.specs.Order.{Row}
 use Rattle.sqlite.specs.Term.{col, eval_all}
 use Rattle.sqlite.specs.Schema.{Schema}
 use Rattle.sqlite.specs.Command.TheVariants.{Update}
@@ -23,7 +23,7 @@ use Rattle.sqlite.specs.Program.{overlay}
 use Rattle.sqlite.specs.Rowids.TheVariants.{Given}
 use Rattle.sqlite.specs.Tree.{Trees, rowid, put_row}
 use Rattle.sqlite.specs.Effect.{Database, IsDatabase, Answers}
-use Rattle.sqlite.specs.Does.{Tally, Does, AtPlace, OnRows}
+use Rattle.sqlite.specs.Does.{Does, AtPlace, OnRows}
 use Rattle.sqlite.specs.Rows.{Task, Edited}
 use Rattle.sqlite.specs.State.{State, mode_of, Executes}
 use Rattle.sqlite.proofs.Callers.{IsPlain, command_of, statement_of, runs_as, one_step}
@@ -36,7 +36,7 @@ use Rattle.tables.proofs.Edits.{beyond_key, updated}
 use Rattle.tables.proofs.InsertLemmas.{put_fresh, cast_int, cast_all_of}
 use Rattle.tables.proofs.KeyLemmas.{updated_row}
 use Rattle.tables.proofs.KeyedLemmas.{keyed_put_all}
-use Rattle.tables.proofs.ListLemmas.{mapped_has, mapped_same, mapped_twice, mapped_itself, permuted_has}
+use Rattle.tables.proofs.ListLemmas.{mapped_has, mapped_same, mapped_twice, mapped_itself}
 use Rattle.tables.proofs.WentLemmas.{write_went, update_went}
 use Rattle.tables.proofs.PickLemmas.{picked, picked_left, keyed_filtered}
 use Rattle.tables.proofs.SelectLemmas.{query, selects, tests_from, tests_agree, columns_from, shows_columns}
