@@ -88,8 +88,8 @@ unfolding added
 row_added t params kinds old new r runs c sees =
     table_changed t (λ rows. params ∷ rows) (insert_text t) params old new
     (λ rest others views free count has ran rows was.
-        let it = inserts_row rest others views t in
-        let change = inserts (places_from 1 (shape t).key) (shape t).name (tree_of t) (columns_of t) (checks_from 1 (shape t).fields) (schema_from 8 rest others views) (it.alone free) (place_of t) it.place (insert_text t) (inserted t) (width_of t) it.is it.plain
-            params params (it.shows params ∙ ap (λ r. (Null ∷ r) ∷ []) (rw append-nil (typed_at (columns_of t) params kinds))) kinds old new count has ran in
-        (change.changes, record { same = IsPermutation-trans _ _ _ (IsPermutation-cons params _ _ was.same) change.row; keyed = λ changes. change.keyed (was.keyed changes); typed = and_from _ _ kinds was.typed }))
+    let it = inserts_row rest others views t in
+    let change = inserts (places_from 1 (shape t).key) (shape t).name (tree_of t) (columns_of t) (checks_from 1 (shape t).fields) (schema_from 8 rest others views) (it.alone free) (place_of t) it.place (insert_text t) (inserted t) (width_of t) it.is it.plain
+    params params (it.shows params ∙ ap (λ r. (Null ∷ r) ∷ []) (rw append-nil (typed_at (columns_of t) params kinds))) kinds old new count has ran in
+    (change.changes, record { same = IsPermutation-trans _ _ _ (IsPermutation-cons params _ _ was.same) change.row; keyed = λ changes. change.keyed (was.keyed changes); typed = and_from _ _ kinds was.typed }))
     r runs c sees

@@ -1,5 +1,5 @@
 -- What a table holds, and what a query shows of it.
-use Rattle.std.proofs.Common.{◌≡◌, ◌⊎◌, inl, inr, ℕ, zero, suc, ◌+◌, ◌<◌, ◌≤◌, List, [], ◌∷◌, map, filter, drop, length, get_or, Option, Bool, true, false, not, Ok, Err, Result, IfOk, refl, sym, ap, subst, ◌∙◌, arith, Ordering, Less, Equal}
+use Rattle.std.proofs.Common.{◌≡◌, ◌⊎◌, inl, inr, ℕ, zero, suc, ◌+◌, ◌≤◌, List, [], ◌∷◌, map, filter, drop, length, get_or, Option, Bool, true, not, refl, sym, ap, subst, ◌∙◌, arith, Ordering, Less}
 use Rattle.std.specs.List.{AllByRecursion, list_all}
 use Rattle.std.specs.Ordering.{is_eq, eq_by_cmp, ordering_reverse}
 use Rattle.std.specs.Cmp.{IsTotalOrder}
@@ -26,8 +26,8 @@ use Rattle.tables.specs.declared.table.Table.TheVariants.{Office, Ward, Candidat
 use Rattle.tables.specs.Schema.{definition, columns_of, tree_of, BeginsTo}
 use Rattle.tables.specs.Rows.{tuples, at, column_places, is_row_of, is_of, are_of, begins_with, row_cmp}
 use Rattle.tables.specs.Contents.{HoldsTable}
-use Rattle.tables.specs.Reading.{Lists, ListsKeyed, ListsEntries, HoldsNone, HasOther, FailsToRise}
-use Rattle.tables.proofs.ListLemmas.{mapped_has, has_mapped, permuted_has, permuted_all, mapped_same, mapped_itself, all_pass, has_at}
+use Rattle.tables.specs.Reading.{Lists, ListsKeyed, HoldsNone, HasOther, FailsToRise}
+use Rattle.tables.proofs.ListLemmas.{mapped_has, has_mapped, permuted_has, mapped_same, mapped_itself, all_pass, has_at}
 use Rattle.tables.proofs.PlaceLemmas.{padded, pads, at_twice, typed_at}
 use Rattle.tables.proofs.OrderLemmas.{row_total, one_key}
 
@@ -165,4 +165,3 @@ rising_same {X} {cmp} total (x ∷ xs) (y ∷ ys) up above there back =
       | inr later ↦ later
     ] in
     ap (λ z. z ∷ xs) head ∙ ap (λ l. y ∷ l) (rising_same total xs ys (sorted_tail cmp x xs up) (sorted_tail cmp y ys above) first second)
-

@@ -52,15 +52,6 @@ pub filtered_same : {X : Type 0} (p q : X → Bool) (xs : List X) → ((x : X) �
 filtered_same p q [] each = refl
 filtered_same p q (x ∷ xs) each = ap (λ b. cond b (x ∷ filter p xs) (filter p xs)) (each x (inl refl)) ∙ ap (λ l. cond (q x) (x ∷ l) l) (filtered_same p q xs (λ y h. each y (inr h)))
 
--- a test of the images is one of the elements
-pub mapped_filtered : {A X : Type 0} (f : A → X) (p : X → Bool) (xs : List A) → map f (filter (λ x. p (f x)) xs) ≡ filter p (map f xs)
-mapped_filtered f p [] = refl
-mapped_filtered f p (x ∷ xs) = go (p (f x)) (mapped_filtered f p xs)
-  where
-    go : (b : Bool) → map f (filter (λ y. p (f y)) xs) ≡ filter p (map f xs) → map f (cond b (x ∷ filter (λ y. p (f y)) xs) (filter (λ y. p (f y)) xs)) ≡ cond b (f x ∷ filter p (map f xs)) (filter p (map f xs))
-    go true later = ap (λ l. f x ∷ l) later
-    go false later = later
-
 pub all_mapped : {A X : Type 0} (p : X → Bool) (f : A → X) → ((a : A) → p (f a) ≡ true) → (xs : List A) → list_all p (map f xs) ≡ true
 all_mapped p f each [] = refl
 all_mapped p f each (x ∷ xs) = and_from _ _ (each x) (all_mapped p f each xs)

@@ -27,7 +27,7 @@ use Rattle.tables.specs.Contents.{HoldsTable, IsOffice, Sees}
 use Rattle.tables.specs.Making.{no_contents, SeesMade}
 use Rattle.tables.proofs.ListLemmas.{mapped_has}
 use Rattle.tables.proofs.TableLemmas.{same_place, place_below}
-use Rattle.tables.proofs.InsertLemmas.{went, same_value}
+use Rattle.tables.proofs.WentLemmas.{went, same_value}
 
 -- the schema with the tables before this one, and nothing else
 abbrev before : Table → Schema

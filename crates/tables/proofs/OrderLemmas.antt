@@ -1,5 +1,5 @@
 -- Keys as SQL compares and orders them.
-use Rattle.std.proofs.Common.{◌≡◌, ◌≢◌, ℕ, ◌+◌, ◌-◌, ◌<◌, ◌≤◌, ◌==◌, ℤ, pos, List, [], ◌∷◌, map, length, get_or, true, false, refl, sym, ap, ◌∙◌, arith, Ordering, Less, Equal, Greater, int_cmp, nat_cmp, Bool, Some}
+use Rattle.std.proofs.Common.{◌≡◌, ◌≢◌, ℕ, ◌+◌, ◌-◌, ◌<◌, ◌≤◌, ◌==◌, ℤ, pos, List, [], ◌∷◌, length, get_or, true, false, refl, sym, ap, ◌∙◌, arith, Ordering, Less, Equal, Greater, int_cmp, nat_cmp, Bool, Some}
 use Rattle.std.specs.Ordering.{is_lt, is_eq, ordering_then, ordering_reverse}
 use Rattle.std.specs.Cmp.{IsTotalOrder}
 use Rattle.std.specs.Cmp.Lexicographic.{slice_cmp}
@@ -10,16 +10,12 @@ use Rattle.std.specs.Str.{bytes_eq}
 use Rattle.std.proofs.lemmas.Map.Text.{is_eq-slice_cmp}
 use Rattle.std.proofs.lemmas.Map.Keys.{sorted_from_all_adjacent}
 use Rattle.sqlite_value.proofs.OrderLemmas.{value_cmp-Int, value_cmp-Text, value_cmp-Blob, then-Equal}
-use Rattle.std.proofs.lemmas.Slice.Eq.{bytes_eq-Decides}
-use Rattle.sqlite.specs.declared.types.Value.{Value}
-use Rattle.sqlite.specs.declared.types.Value.TheVariants.{Null, Int, Real, Text, Blob}
-use Rattle.sqlite.specs.Kind.{Kind}
-use Rattle.sqlite.specs.Kind.TheVariants.{Integer, Text as Words, Blob as Bytes}
+use Rattle.sqlite.specs.declared.types.Value.TheVariants.{Int, Text, Blob}
 use Rattle.sqlite.specs.Collation.TheVariants.{Binary}
 use Rattle.sqlite.specs.Ops.{binary, is_true, from_truth}
 use Rattle.sqlite_schema.specs.Rules.{equal}
 use Rattle.sqlite.specs.Order.{Row, value_cmp}
-use Rattle.tables.specs.Rows.{is_of, keys_cmp, row_cmp, ascending_keys}
+use Rattle.tables.specs.Rows.{keys_cmp, row_cmp, ascending_keys}
 use Rattle.tables.specs.declared.table.Table.{Table}
 use Rattle.tables.specs.Schema.{shape}
 use Rattle.tables.specs.Reading.{FailsToRise}
@@ -41,7 +37,7 @@ pub equal-Text : (s t : List ℕ) → equal Binary (Text s) (Text t) ≡ is_eq (
 unfolding binary
 equal-Text s t = told (is_eq (value_cmp (Text s) (Text t))) ∙ ap is_eq (value_cmp-Text s t)
 
-equal-Blob : (s t : List ℕ) → equal Binary (Blob s) (Blob t) ≡ is_eq (slice_cmp nat_cmp s t)
+pub equal-Blob : (s t : List ℕ) → equal Binary (Blob s) (Blob t) ≡ is_eq (slice_cmp nat_cmp s t)
 unfolding binary
 equal-Blob s t = told (is_eq (value_cmp (Blob s) (Blob t))) ∙ ap is_eq (value_cmp-Blob s t)
 
@@ -50,19 +46,6 @@ equal-number m n = equal-Int (pos m) (pos n) ∙ grind (arith, ints, nat_tests)
 
 pub equal-words : (s t : List ℕ) → equal Binary (Text s) (Text t) ≡ bytes_eq s t
 equal-words s t = equal-Text s t ∙ is_eq-slice_cmp s t
-
-tied_ints : (a b : ℤ) → is_eq (int_cmp a b) ≡ true → a ≡ b
-tied_ints a b h = grind (arith, ints, nat_tests)
-
-tied_texts : (s t : List ℕ) → is_eq (slice_cmp nat_cmp s t) ≡ true → s ≡ t
-tied_texts s t h = (bytes_eq-Decides s t).0 (sym (is_eq-slice_cmp s t) ∙ h)
-
--- values of one kind that SQL calls equal are one value
-pub tied_values : (k : Kind) (v w : Value) → is_of k v ≡ true → is_of k w ≡ true → equal Binary v w ≡ true → v ≡ w
-tied_values Integer (Int m) (Int n) a b same = ap Int (tied_ints m n (sym (equal-Int m n) ∙ same))
-tied_values Words (Text s) (Text t) a b same = ap Text (tied_texts s t (sym (equal-Text s t) ∙ same))
-tied_values Bytes (Blob s) (Blob t) a b same = ap Blob (tied_texts s t (sym (equal-Blob s t) ∙ same))
-tied_values _ _ _ a b same = absurd cc
 
 -- ---- the order of keys
 

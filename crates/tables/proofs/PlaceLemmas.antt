@@ -1,5 +1,5 @@
 -- The values of a row, by their places.
-use Rattle.std.proofs.Common.{◌≡◌, ℕ, zero, suc, ◌<◌, ◌≤◌, ◌+◌, ◌++◌, List, [], ◌∷◌, length, true, refl, sym, ap, ◌∙◌, arith, true≢false}
+use Rattle.std.proofs.Common.{◌≡◌, ℕ, zero, suc, ◌<◌, ◌≤◌, List, [], ◌∷◌, length, true, refl, sym, ap, ◌∙◌, arith, true≢false}
 use Rattle.std.proofs.lemmas.Bool.{and_parts}
 use Rattle.sqlite.specs.declared.types.Value.{Value}
 use Rattle.sqlite.specs.declared.types.Value.TheVariants.{Null}
@@ -15,7 +15,7 @@ padded (suc n) [] = Null ∷ padded n []
 padded (suc n) (v ∷ vs) = v ∷ padded n vs
 
 -- The places are shifted by the values in front.
-pub shifted : (k n : ℕ) (v : Value) (r : Row) → at (places_from (suc k) n) (v ∷ r) ≡ at (places_from k n) r
+shifted : (k n : ℕ) (v : Value) (r : Row) → at (places_from (suc k) n) (v ∷ r) ≡ at (places_from k n) r
 shifted k zero v r = refl
 shifted k (suc n) v r = ap (λ l. column r k ∷ l) (shifted (suc k) n v r)
 
@@ -58,17 +58,6 @@ padded_column (suc n) (suc k) (v ∷ vs) low = padded_column n k vs (omega (arit
 
 pub column_shown : (n k : ℕ) (r : Row) → k < n → column (at (places_from 0 n) r) k ≡ column r k
 column_shown n k r low = ap (λ (x : Row). column x k) (pads n r) ∙ padded_column n k r low
-
--- the first places, and those after them
-pub places_joined : (j k n : ℕ) (r : Row) → at (places_from j k) r ++ at (places_from (j + k) n) r ≡ at (places_from j (k + n)) r
-places_joined j zero n r =
-    let here : j + zero ≡ j = omega arith in
-    let whole : zero + n ≡ n = omega arith in
-    rw (here, whole) refl
-places_joined j (suc k) n r =
-    let front : j + suc k ≡ suc j + k = omega arith in
-    let whole : suc k + n ≡ suc (k + n) = omega arith in
-    rw (front, whole) (ap (λ l. column r j ∷ l) (places_joined (suc j) k n r))
 
 -- a row of the right kinds is what its places show
 pub typed_at : (cs : List Column) (r : Row) → are_of cs r ≡ true → at (places_from 0 (length cs)) r ≡ r

@@ -14,13 +14,13 @@ use Rattle.tables.specs.declared.fault.Fault.{Fault}
 use Rattle.tables.specs.declared.fault.Fault.TheVariants.{Memory, Store, Damaged, Closed, WrongDatabase, NewerSchema}
 
 -- the number that a fault is told by
-abbrev pub number_of : Fault → ℕ
-number_of Memory = 101
-number_of Store = 102
-number_of Damaged = 103
-number_of Closed = 104
-number_of WrongDatabase = 105
-number_of NewerSchema = 106
+abbrev pub fault_number : Fault → ℕ
+fault_number Memory = 101
+fault_number Store = 102
+fault_number Damaged = 103
+fault_number Closed = 104
+fault_number WrongDatabase = 105
+fault_number NewerSchema = 106
 
 -- want of memory, or another refusal of the store
 abbrev pub fault_of : Error → Fault

@@ -1,9 +1,9 @@
 pub mod Schema
 pub mod Texts
-pub mod Faults
 pub mod Cells
 pub mod Rows
 pub mod Contents
+pub mod Faults
 pub mod Making
 pub mod Presence
 pub mod Reading

@@ -1,21 +1,37 @@
 //! The tables of an office in a store of `sqlite`, and the statements over any of them.
+//!
+//! `Table` names the tables. A statement is a function of one call, proved once for any table: `insertion`
+//! adds rows, `replacement` and `removal` change the one with a key, `reading` reads all rows, those whose
+//! key begins alike, or those with another value, `making` makes the tables, `presence` looks for them by
+//! name. Their clauses say what the tables hold afterwards and what a stop may leave of them.
+//!
+//! An `Entry` is a value that stands in a row of a table. `listing`, `finding` and `writing` are those
+//! statements over entries; one more table asks for one more `impl`. `Fault` says why a call gave up.
+//!
+//! ```text
+//! add_entry(alloc, &mut tx, &ward)?;
+//! let ward: Option<Ward> = find_entry(&mut conn, &[number(7)])?;
+//! let batches: Vec<Batch> = entries_referring(alloc, &mut conn, Reference::WardOfBatch, number(7))?;
+//! ```
 #![tactic(auto)]
 
-pub mod table;
-pub mod texts;
 pub mod fault;
+pub mod table;
+// Statements over rows.
 pub mod cells;
 pub mod insertion;
-pub mod replacement;
-pub mod removal;
-pub mod reading;
-pub mod rowids;
-pub mod presence;
 pub mod making;
 pub mod order;
+pub mod presence;
+pub mod reading;
+pub mod removal;
+pub mod replacement;
+pub mod rowids;
+pub mod texts;
+// Statements over entries.
 pub mod entry;
-pub mod listing;
 pub mod finding;
+pub mod listing;
 pub mod writing;
 
 pub use entry::Entry;

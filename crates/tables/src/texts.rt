@@ -95,8 +95,7 @@ pub fn select_text(table: Table, columns: usize) -> &'static str
             "SELECT ward, stage, candidate FROM lot WHERE ward = ?1 ORDER BY ward, stage",
         (Table::Lot, 2) =>
             "SELECT ward, stage, candidate FROM lot WHERE ward = ?1 AND stage = ?2 ORDER BY ward, stage",
-        (Table::Receipt, 0) =>
-            "SELECT actor, id, subject, reply FROM receipt ORDER BY actor, id",
+        (Table::Receipt, 0) => "SELECT actor, id, subject, reply FROM receipt ORDER BY actor, id",
         (Table::Receipt, 1) =>
             "SELECT actor, id, subject, reply FROM receipt WHERE actor = ?1 ORDER BY actor, id",
         (Table::Receipt, 2) =>

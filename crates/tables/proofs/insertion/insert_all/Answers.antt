@@ -1,7 +1,5 @@
-use Rattle.std.proofs.Common.{ℕ, List, [], true, map, length, get_or, sym, ap, subst, refl, ◌≡◌, ◌∙◌, ◌<◌, arith, rules}
+use Rattle.std.proofs.Common.{[], true, map, length, get_or, sym, ap, subst, ◌≡◌, ◌∙◌, ◌<◌, arith, rules}
 use Rattle.std.proofs.lemmas.Result.{err_from_is_err_and}
-use Rattle.sqlite.specs.Order.{Row}
-use Rattle.sqlite.specs.State.{HasCleanDisk}
 use Rattle.sqlite.specs.Held.{state}
 use Rattle.sqlite.specs.Values.{bound}
 use Rattle.sqlite_rules.proofs.ListLemmas.{test_has}

@@ -1,4 +1,4 @@
-use Rattle.std.proofs.Common.{◌≡◌, inl, inr, true, false, sym, ◌∙◌, true≢false}
+use Rattle.std.proofs.Common.{inl, inr, sym, ◌∙◌, true≢false}
 use Rattle.std.proofs.lemmas.Result.{err_from_is_err_and}
 use Rattle.tables.proofs.ReadLemmas.{only_reads_then}
 use Rattle.tables.proofs.FaultLemmas.{query_cause, if_listed_keyed, if_query_cause}

@@ -1,4 +1,4 @@
-use Rattle.std.proofs.Common.{◌≡◌, ◌-◌, false, not, ◌==◌, sym, ap, ◌∙◌, true≢false, arith}
+use Rattle.std.proofs.Common.{◌≡◌, false, not, ◌==◌, sym, ap, ◌∙◌, true≢false, arith}
 use Rattle.std.specs.Ordering.{ordering_index}
 use Rattle.tables.proofs.OrderLemmas.{rise_all, fails_there}
 use Rattle.tables.proofs.order.keys_rise.Goals as goal

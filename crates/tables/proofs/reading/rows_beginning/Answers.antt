@@ -1,4 +1,4 @@
-use Rattle.std.proofs.Common.{[], drop, length, ap, sym, ◌∙◌}
+use Rattle.std.proofs.Common.{drop, length, ap, sym, ◌∙◌}
 use Rattle.sqlite.specs.Held.{state}
 use Rattle.sqlite.specs.Values.{bound}
 use Rattle.tables.specs.Texts.{select_text}
