@@ -1,6 +1,6 @@
 #!/usr/bin/env bash
-# Plays the first orders of an office over a new database, and compares what each prints, and its
-# status, with first-ward.expected beside this file.
+# Plays the first orders of an office over a new database, and compares what each writes to standard
+# output and to standard error, and its status, with first-ward.expected beside this file.
 set -euo pipefail
 
 here=$(dirname "$(readlink -f "${BASH_SOURCE[0]}")")
@@ -14,7 +14,9 @@ trap 'rm -rf "$folder"' EXIT
 play() {
     local status=0
     echo "\$ count-office $*"
-    (cd "$folder" && "$office" "$@" 2>&1) || status=$?
+    (cd "$folder" && "$office" "$@" >output 2>errors) || status=$?
+    sed 's/^/output: /' "$folder/output"
+    sed 's/^/error: /' "$folder/errors"
     echo "status $status"
 }
 

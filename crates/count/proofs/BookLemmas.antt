@@ -1,63 +1,55 @@
+-- The laws of a count hold of each book, and a book that advances stays one.
 use Rattle.std.proofs.Common.{◌≡◌, ℕ, ◌<◌, List, [], ◌∷◌, length, reverse, Option, arith, subst, sym, Some}
 use Rattle.std.proofs.lemmas.List.{length-reverse}
 use Rattle.paper.proofs.ColumnSets.{length_columns}
-use Rattle.count.specs.Contest.{Contest, History}
-use Rattle.count.specs.Due.{drawn, due_after}
-use Rattle.count.specs.Right.{IsNext, IsRightByItself, candidate_of}
-use Rattle.count.specs.Plain.{AreSeen, IsPlainBook}
+use Rattle.count.specs.Law.Contest.{Contest, History}
+use Rattle.count.specs.Law.Due.{drawn, due_after}
+use Rattle.count.specs.Law.Right.{IsNext, IsRightByItself, candidate_of}
 use Rattle.count.specs.Advance.{Adds, Advances, IsDue}
-use Rattle.count.specs.Laws.{IsConserved, IsShort, FillsSeats}
-use Rattle.count.specs.Books.{AreHeld, AreRankings, IsBook}
+use Rattle.count.specs.Law.Laws.{IsConserved, IsShort, FillsSeats, OnlyCandidatesHaveVotes, IsAmongSeveral}
+use Rattle.count.specs.Books.{AreHeld, IsBook}
 use Rattle.count.specs.declared.stages.Action.{Action}
 use Rattle.count.specs.declared.stages.Stage.{Stage}
 use Rattle.count.specs.declared.stages.Due.TheVariants.{Finished}
 use Rattle.count.specs.declared.parcel.Holding.{Holding}
-use Rattle.count.proofs.ActionLemmas.{stages-bound}
-use Rattle.count.proofs.ConservedLemmas.{all-conserved}
-use Rattle.count.proofs.LengthLemmas.{stages-few}
-use Rattle.count.proofs.FinishLemmas.{finished-elected}
-use Rattle.count.proofs.OwnLotLemmas.{drawn-own}
+use Rattle.count.proofs.Law.ActionLemmas.{stages-bound}
+use Rattle.count.proofs.Law.ConservedLemmas.{all-conserved}
+use Rattle.count.proofs.Law.LengthLemmas.{stages-few}
+use Rattle.count.proofs.Law.FinishLemmas.{finished-elected, lots-several}
+use Rattle.count.proofs.Law.VotelessLemmas.{others-voteless}
+use Rattle.count.proofs.Law.OwnLotLemmas.{drawn-own}
 
 by_itself : History → Stage → Option ℕ
 by_itself before s = candidate_of s.action
 
--- a plain book's stages can be numbered in a byte
-pub plain-few : (contest : Contest) (stages : List Stage) → IsPlainBook contest (reverse stages) → length stages < 255
+-- the stages of a book can be numbered in a byte
+pub book-few : (contest : Contest) (stages : List Stage) (holdings : List Holding) → IsBook contest (reverse stages) holdings → length stages < 255
 unfolding by_itself
-plain-few contest stages book =
+book-few contest stages holdings book =
     omega (arith, stages-bound contest by_itself (reverse stages) book.fair book.right, length-reverse stages, length_columns contest.candidates book.fair.candidate_set)
 
--- the laws of a count hold of it
-pub plain-conserved : (contest : Contest) (history : History) → IsPlainBook contest history → IsConserved contest history
-unfolding by_itself
-plain-conserved contest [] book = tt
-plain-conserved contest (s ∷ before) book = all-conserved contest by_itself (s ∷ before) book.fair book.right book.seen
-
-pub plain-short : (contest : Contest) (history : History) → IsPlainBook contest history → IsShort contest history
-unfolding by_itself
-plain-short contest [] book = omega arith
-plain-short contest (s ∷ before) book = stages-few contest by_itself (s ∷ before) book.fair book.seen book.right
-
-pub plain-filled : (contest : Contest) (history : History) → IsPlainBook contest history → due_after contest history ≡ Finished → FillsSeats contest history
-unfolding by_itself
-plain-filled contest history book h = finished-elected contest by_itself history book.fair book.right h
-
--- a book by parcels is a plain one, but for its holdings
-plain_of : (contest : Contest) (history : History) (holdings : List Holding) → IsBook contest history holdings → IsPlainBook contest history
-plain_of contest [] holdings book = record { fair = book.fair; right = book.right; seen = tt }
-plain_of contest (s ∷ before) holdings book = record { fair = book.fair; right = book.right; seen = book.held.1 }
-
-pub book-few : (contest : Contest) (stages : List Stage) (holdings : List Holding) → IsBook contest (reverse stages) holdings → length stages < 255
-book-few contest stages holdings book = plain-few contest stages (plain_of contest (reverse stages) holdings book)
-
+-- the laws of a count hold of a book
 pub book-conserved : (contest : Contest) (history : History) (holdings : List Holding) → IsBook contest history holdings → IsConserved contest history
-book-conserved contest history holdings book = plain-conserved contest history (plain_of contest history holdings book)
+unfolding by_itself
+book-conserved contest [] holdings book = tt
+book-conserved contest (s ∷ before) holdings book = all-conserved contest by_itself (s ∷ before) book.fair book.right book.held.1
 
 pub book-short : (contest : Contest) (history : History) (holdings : List Holding) → IsBook contest history holdings → IsShort contest history
-book-short contest history holdings book = plain-short contest history (plain_of contest history holdings book)
+unfolding by_itself
+book-short contest [] holdings book = omega arith
+book-short contest (s ∷ before) holdings book = stages-few contest by_itself (s ∷ before) book.fair book.held.1 book.right
+
+pub book-others : (contest : Contest) (history : History) (holdings : List Holding) → IsBook contest history holdings → OnlyCandidatesHaveVotes contest history
+unfolding by_itself
+book-others contest history holdings book = others-voteless contest by_itself history book.fair book.right
+
+pub book-several : (contest : Contest) (history : History) (holdings : List Holding) → IsBook contest history holdings → IsAmongSeveral (due_after contest history)
+unfolding by_itself
+book-several contest history holdings book = lots-several contest by_itself history book.fair book.right
 
 pub book-filled : (contest : Contest) (history : History) (holdings : List Holding) → IsBook contest history holdings → due_after contest history ≡ Finished → FillsSeats contest history
-book-filled contest history holdings book h = plain-filled contest history (plain_of contest history holdings book) h
+unfolding by_itself
+book-filled contest history holdings book h = finished-elected contest by_itself history book.fair book.right h
 
 -- a stage of the action that a lot drew comes next, for that lot and for the one that it names itself
 adds-next : (contest : Contest) (before : History) (lot : Option ℕ) (action : Action) (after : History) → drawn contest before lot (due_after contest before) ≡ Some action → (adds : Adds contest before action after) → IsNext contest before lot adds.stage
@@ -81,18 +73,9 @@ pub adds-book : (contest : Contest) (before : History) (lot : Option ℕ) (actio
 adds-book contest before lot action after old new book was adds held =
     record { fair = book.fair; right = adds-right contest before lot action after book.right was adds; held = held }
 
-pub adds-plain : (contest : Contest) (before : History) (lot : Option ℕ) (action : Action) (after : History) → IsPlainBook contest before → drawn contest before lot (due_after contest before) ≡ Some action →
-    Adds contest before action after → AreRankings contest.papers → IsPlainBook contest after
-adds-plain contest before lot action after book was adds rankings =
-    record { fair = book.fair; right = adds-right contest before lot action after book.right was adds; seen = subst (λ (h : History). AreSeen contest h) (sym adds.one_more) rankings }
-
 pub drawn-due : (contest : Contest) (stages : History) (lot : Option ℕ) (action : Action) → drawn contest stages lot (due_after contest stages) ≡ Some action → IsDue contest stages action
 drawn-due contest stages lot action h = record { lot = lot; is = h }
 
-pub ruleset plain_laws = (plain-conserved, plain-short)
+pub ruleset book_laws = (book-conserved, book-others, book-short)
 
-pub ruleset plain_facts = (plain-few, plain-filled, adds-advances, drawn-due)
-
-pub ruleset book_laws = (book-conserved, book-short)
-
-pub ruleset book_facts = (book-few, book-filled, adds-advances, drawn-due)
+pub ruleset book_facts = (book-few, book-several, book-filled, adds-advances, drawn-due)

@@ -1,3 +1,4 @@
+-- Sets of numbers, and lists that are walked from either end.
 use Rattle.std.proofs.Common.{◌≡◌, ℕ, ◌+◌, ◌<◌, ◌≤◌, ◌||◌, Bool, true, false, cond, nat_eq, List, [], ◌∷◌, ◌++◌, length, take, get_or, reverse, refl, sym, ap, ◌∙◌, arith, subst, slice_index}
 use Rattle.std.proofs.lemmas.List.{reverse-append}
 use Rattle.std.specs.List.{list_any, filter}
@@ -5,12 +6,12 @@ use Rattle.std.proofs.lemmas.Bool.{eq-eqb}
 use Rattle.std.proofs.lemmas.List.Sorted.{list_any-IsPermutation, IsPermutation-reverse}
 use Rattle.std.proofs.lemmas.List.Folds.{list_any_at}
 use Rattle.std.proofs.lemmas.List.Kept.{IsStrictlyIncreasing-filter}
-use Rattle.paper.specs.Columns.{IsColumnSet, IsColumn}
+use Rattle.paper.specs.Columns.{max_candidates, IsColumnSet, IsColumn}
 use Rattle.std.proofs.lemmas.List.{get_or-take, length-take, take_all}
 use Rattle.std.proofs.lemmas.List.Elements.{filter_more}
-use Rattle.count.specs.Contest.{In}
+use Rattle.count.specs.Law.Contest.{In}
 use Rattle.count.specs.Holdings.{OnlyColumns}
-use Rattle.count.proofs.ActionLemmas.{in-filter, column-in}
+use Rattle.count.proofs.Law.ActionLemmas.{in-filter, column-in}
 
 -- a test finds the same in either direction
 pub any-reverse : {X : Type 0} (p : X → Bool) (xs : List X) → list_any p (reverse xs) ≡ list_any p xs
@@ -68,7 +69,7 @@ last_in (x ∷ xs) c = or_later (nat_eq c x) (list_any (nat_eq c) (xs ++ c ∷ [
 pub last-some : (chosen : List ℕ) (c : ℕ) → IsColumnSet (chosen ++ c ∷ []) → 1 ≤ c
 last-some chosen c set = (column-in c (chosen ++ c ∷ []) set (last_in chosen c)).0
 
-pub last-few : (chosen : List ℕ) (c : ℕ) → IsColumnSet (chosen ++ c ∷ []) → c ≤ 30
+pub last-few : (chosen : List ℕ) (c : ℕ) → IsColumnSet (chosen ++ c ∷ []) → c ≤ max_candidates
 last-few chosen c set = (column-in c (chosen ++ c ∷ []) set (last_in chosen c)).1
 
 pub ruleset last_column = (last-some, last-few)

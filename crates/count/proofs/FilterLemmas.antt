@@ -1,7 +1,8 @@
+-- Tests that agree.
 use Rattle.std.proofs.Common.{◌≡◌, ℕ, ◌||◌, Bool, cond, nat_eq, List, [], ◌∷◌, refl, ap, ◌∙◌}
 use Rattle.std.specs.List.{list_any, filter}
 use Rattle.std.proofs.lemmas.Bool.{eq-eqb}
-use Rattle.count.specs.Contest.{In}
+use Rattle.count.specs.Law.Contest.{In}
 use Rattle.count.proofs.ChoiceLemmas.{or_later}
 
 -- tests that agree on the members choose the same

@@ -1,10 +1,12 @@
+-- The first stage, paper by paper.
 use Rattle.std.proofs.Common.{◌≡◌, ℕ, suc, zero, ◌+◌, ◌<◌, ◌≤◌, List, [], ◌∷◌, length, take, get_or, arith, subst}
 use Rattle.paper.specs.Ranking.{IsRanking}
-use Rattle.count.specs.Places.{first_of}
+use Rattle.paper.specs.Columns.{max_candidates}
+use Rattle.count.specs.Law.Places.{first_of}
 use Rattle.count.specs.Books.{AreRankings}
 
 -- the first of a ranking is a number of a candidate, or 0
-pub first-known : (paper : List ℕ) → IsRanking paper → first_of paper ≤ 30
+pub first-known : (paper : List ℕ) → IsRanking paper → first_of paper ≤ max_candidates
 first-known [] h = omega arith
 first-known (x ∷ xs) h = h.1
 

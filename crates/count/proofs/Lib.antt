@@ -1,32 +1,17 @@
-mod WorkedElections
-pub mod ActionLemmas
+-- Lemmas on the law of the count, on books, and on lists and numbers.
+pub mod Law
 pub mod ArrayLemmas
 pub mod BookLemmas
 pub mod ChoiceLemmas
 pub mod ColumnLemmas
-pub mod ConservedLemmas
 pub mod ContestLemmas
-pub mod CutLemmas
-pub mod DueLemmas
 pub mod FilterLemmas
-pub mod FinishLemmas
 pub mod FirstLemmas
-pub mod HeldLemmas
-pub mod HolderLemmas
-pub mod HoldingLemmas
-pub mod LengthLemmas
+pub mod TransferLemmas
+pub mod ParcelTotals
 pub mod MoveLemmas
-pub mod NewlyLemmas
-pub mod OwnLotLemmas
-pub mod PassedLemmas
-pub mod PlainLemmas
-pub mod QuotaLemmas
 pub mod RecordLemmas
 pub mod RestLemmas
-pub mod RightLemmas
-pub mod StepLemmas
 pub mod SumLemmas
 pub mod TallyLemmas
-pub mod TieLemmas
-pub mod ValueLemmas
 pub mod WorthLemmas

@@ -1,20 +1,19 @@
+-- What an action that is due may rely on.
 use Rattle.std.proofs.Common.{◌≡◌, ℕ, ◌<◌, ◌≤◌, ◌⊎◌, inl, inr, Bool, true, false, cond, nat_eq, List, [], ◌∷◌, sym, ap, ◌∙◌, arith, subst}
 use Rattle.std.specs.List.{list_any}
-use Rattle.std.proofs.lemmas.List.Sums.{sum_by-le-sum_by}
 use Rattle.paper.specs.Columns.{IsColumn}
-use Rattle.count.specs.Contest.{Contest, History, IsContest, In, newest_votes}
-use Rattle.count.specs.Places.{place}
-use Rattle.count.specs.Figures.{value_with}
-use Rattle.count.specs.Right.{IsRightByItself, candidate_of}
+use Rattle.votes.specs.Units.{max_units}
+use Rattle.count.specs.Law.Contest.{Contest, History, IsContest, In, newest_votes}
+use Rattle.count.specs.Law.Right.{IsRightByItself, candidate_of}
 use Rattle.count.specs.Advance.{IsDue}
 use Rattle.count.specs.Books.{AreRankings, HoldPapers, IsBook}
 use Rattle.count.specs.declared.parcel.Holding.{Holding}
 use Rattle.count.specs.declared.stages.Action.{Action}
 use Rattle.count.specs.declared.stages.Action.TheVariants.{First, Surplus, Exclude, ExcludeLast}
-use Rattle.count.proofs.ActionLemmas.{column-in}
-use Rattle.count.proofs.StepLemmas.{IsSurplus, IsExclusion, step-is, step-first, surplus-held}
-use Rattle.count.proofs.QuotaLemmas.{values-conserved}
-use Rattle.count.proofs.ChoiceLemmas.{within_value}
+use Rattle.count.proofs.Law.ActionLemmas.{column-in}
+use Rattle.count.proofs.Law.StepLemmas.{IsSurplus, IsExclusion, step-is, step-first, surplus-held}
+use Rattle.count.proofs.Law.QuotaLemmas.{values-conserved}
+use Rattle.count.proofs.Law.CandidateSums.{one-within}
 
 -- the papers lie in holdings, and are rankings
 pub record IsUnderWay (contest : Contest) (stages : History) (holdings : List Holding) : Type 0 where
@@ -26,7 +25,7 @@ pub record IsLawful (contest : Contest) (stages : History) (c : ℕ) : Type 0 wh
   pub column : IsColumn c
   pub above : contest.quota < newest_votes stages c
   pub some : 0 < contest.quota
-  pub few : newest_votes stages c ≤ 499950000000
+  pub few : newest_votes stages c ≤ max_units
 
 number : Action → ℕ
 number First = 0
@@ -55,7 +54,7 @@ surplus-lawful contest (s ∷ before) c fair right due =
     let on = surplus_of_one contest (s ∷ before) c (step-is contest s before due.lot (Surplus c) due.is) in
     let column = column-in c contest.candidates fair.candidate_set on.0 in
     let own = surplus-held contest s before c right.1.tells column on.1 in
-    let within = sum_by-le-sum_by (λ p. value_with c (place contest (s ∷ before) p)) (λ p. (place contest (s ∷ before) p).value) contest.papers (λ p. within_value _ _) in
+    let within = one-within contest (s ∷ before) c in
     let all = values-conserved contest (λ h t. candidate_of t.action) s before fair right in
     record { column = column; above = on.1; some = quota_some contest fair; few = omega (arith, own, within, all, fair.few_papers) }
 

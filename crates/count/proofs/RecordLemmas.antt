@@ -1,8 +1,9 @@
+-- A stage that is recorded.
 use Rattle.std.proofs.Common.{◌≡◌, ℕ, ◌+◌, not, nat_eq, List, [], ◌∷◌, ◌++◌, length, set, map, reverse, ap, ◌∙◌}
 use Rattle.std.specs.List.{list_any, filter}
 use Rattle.std.proofs.Math.Seq.{set-append_seam}
-use Rattle.count.specs.Contest.{Contest, History, numbers}
-use Rattle.count.specs.Elected.{elected_after, is_elected}
+use Rattle.count.specs.Law.Contest.{Contest, History, numbers}
+use Rattle.count.specs.Law.Elected.{elected_after, is_elected}
 use Rattle.count.specs.Holdings.{votes_with, worth_to, newest_non_transferable, lost_with}
 use Rattle.count.specs.Books.{contest_of, with_newly, IsAdded, Records}
 use Rattle.count.specs.declared.terms.Terms.{Terms}
@@ -10,7 +11,7 @@ use Rattle.count.specs.declared.parcel.Holding.{Holding}
 use Rattle.count.specs.declared.stages.Action.{Action}
 use Rattle.count.specs.declared.stages.Stage.{Stage}
 use Rattle.count.proofs.ColumnLemmas.{reverse-newest}
-use Rattle.count.proofs.NewlyLemmas.{newly-elected}
+use Rattle.count.proofs.Law.NewlyLemmas.{newly-elected}
 
 last_set : (old pushed : List Stage) (bare full : Stage) → pushed ≡ old ++ bare ∷ [] → reverse (set pushed (length old) full) ≡ full ∷ reverse old
 last_set old pushed bare full is =

@@ -1,9 +1,10 @@
+-- A paper's preferences from its holder's on.
 use Rattle.std.proofs.Common.{◌≡◌, ℕ, ◌≤◌, ◌==◌, Bool, true, false, cond, eqb, List, [], ◌∷◌, ◌++◌, drop, refl, sym, ap, ◌∙◌, ◌||◌, append_assoc, arith, subst}
 use Rattle.std.specs.List.{list_any}
 use Rattle.std.proofs.lemmas.Bool.{eq-eqb}
 use Rattle.paper.specs.Ranking.{IsRanking}
 use Rattle.paper.specs.Standing.{from_first}
-use Rattle.count.specs.Places.{first_of}
+use Rattle.count.specs.Law.Places.{first_of}
 use Rattle.count.specs.Holdings.{passed_to}
 use Rattle.count.proofs.SumLemmas.{at_equal, at_other}
 

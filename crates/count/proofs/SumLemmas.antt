@@ -1,3 +1,4 @@
+-- Sums that are equal, or are nothing.
 use Rattle.std.proofs.Common.{◌≡◌, ℕ, ◌+◌, ◌*◌, Bool, true, false, cond, eqb, List, [], ◌∷◌, length, refl, ap, arith}
 use Rattle.std.specs.List.{sum_by}
 use Rattle.paper.specs.Ranking.{IsRanking}

@@ -1,15 +1,16 @@
+-- What a book records is what the law adds up over all papers.
 use Rattle.std.proofs.Common.{◌≡◌, ℕ, suc, zero, ◌++◌, ◌+◌, ◌*◌, ◌/◌, ◌≤◌, ◌||◌, ◌⊎◌, inl, inr, Bool, true, false, cond, eqb, List, [], ◌∷◌, length, map, Option, refl, sym, ap, ◌∙◌, arith, subst}
 use Rattle.std.specs.List.{sum_by, range_with_len}
 use Rattle.std.proofs.lemmas.Bool.{eqb-true}
-use Rattle.std.proofs.lemmas.List.Sums.{sum_by-le-sum_by}
 use Rattle.std.proofs.lemmas.List.FromFn.{map-range_with_len_more}
 use Rattle.std.proofs.Math.Nat.{div-le_of_le-mul}
-use Rattle.paper.specs.Columns.{IsColumn}
-use Rattle.count.specs.Contest.{Contest, History, IsContest, newest_votes, numbers}
-use Rattle.count.specs.Elected.{transfers, is_transferred}
-use Rattle.count.specs.Places.{Place, place, moved}
-use Rattle.count.specs.Figures.{value_with, votes_after, non_transferable_after, value_passed_on, lost_after, lost_by}
-use Rattle.count.specs.Right.{IsRightBy, candidate_of}
+use Rattle.paper.specs.Columns.{max_candidates, IsColumn}
+use Rattle.votes.specs.Units.{one_vote, max_units, max_papers}
+use Rattle.count.specs.Law.Contest.{Contest, History, IsContest, newest_votes, numbers}
+use Rattle.count.specs.Law.Elected.{transfers, is_transferred}
+use Rattle.count.specs.Law.Places.{Place, place, moved}
+use Rattle.count.specs.Law.Figures.{value_with, votes_after, non_transferable_after, value_passed_on, lost_after, lost_by}
+use Rattle.count.specs.Law.Right.{IsRightBy, candidate_of}
 use Rattle.count.specs.Advance.{IsDue, Adds}
 use Rattle.count.specs.Holdings.{total, passes_on, kept_by, worth, worth_to, votes_with, lost_with, newest_non_transferable, newest_lost, AreSmall}
 use Rattle.count.specs.Books.{contest_of, HoldPapers, IsMovedBy, AreHeld, AreRankings, IsBook, Records}
@@ -19,12 +20,13 @@ use Rattle.count.specs.declared.stages.Stage.{Stage}
 use Rattle.count.specs.declared.stages.Action.{Action}
 use Rattle.count.specs.declared.stages.Action.TheVariants.{First, Surplus, Exclude, ExcludeLast}
 use Rattle.count.proofs.SumLemmas.{sum_by-same, sum_by-add, sum_by-none}
-use Rattle.count.proofs.ActionLemmas.{column-in}
-use Rattle.count.proofs.StepLemmas.{IsSurplus, IsExclusion, step-is, step-first, told-votes, votes-held}
-use Rattle.count.proofs.ValueLemmas.{held, all_values}
+use Rattle.count.proofs.Law.ActionLemmas.{column-in}
+use Rattle.count.proofs.Law.StepLemmas.{IsSurplus, IsExclusion, step-is, step-first, told-votes, votes-held}
+use Rattle.count.proofs.Law.ValueLemmas.{held, all_values}
 use Rattle.count.proofs.MoveLemmas.{surplus-lawful}
-use Rattle.count.proofs.QuotaLemmas.{values-conserved, values-conserved-next}
-use Rattle.count.proofs.ChoiceLemmas.{eqb_swap, or_false, within_value}
+use Rattle.count.proofs.Law.QuotaLemmas.{values-conserved, values-conserved-next}
+use Rattle.count.proofs.ChoiceLemmas.{eqb_swap, or_false}
+use Rattle.count.proofs.Law.CandidateSums.{one-within}
 
 -- whoever holds a paper, an action that passes on the papers of h leaves h none of those that were there
 kept_value : (action : Action) (k h v : ℕ) (b t : Bool) → passes_on action h ≡ b → eqb k h ≡ t → let zero_ : ℕ = 0 in cond (passes_on action k) zero_ (cond t v 0) ≡ cond b zero_ (cond t v 0)
@@ -150,7 +152,7 @@ lost_at_action contest handed (s' ∷ before) s holdings new (Surplus c) is righ
 lost_at_action contest handed before s holdings new (Exclude c) is right due under is_moved = omega (arith, newest_lost-is contest handed before right)
 lost_at_action contest handed before s holdings new (ExcludeLast c) is right due under is_moved = omega (arith, newest_lost-is contest handed before right)
 
-map-range : (f g : ℕ → ℕ) (n : ℕ) → n ≤ 30 → ((c : ℕ) → IsColumn c → f c ≡ g c) → map f (range_with_len 1 n) ≡ map g (range_with_len 1 n)
+map-range : (f g : ℕ → ℕ) (n : ℕ) → n ≤ max_candidates → ((c : ℕ) → IsColumn c → f c ≡ g c) → map f (range_with_len 1 n) ≡ map g (range_with_len 1 n)
 map-range f g zero few h = refl
 map-range f g (suc n) few h =
     let e : suc n ≡ n + 1 = omega arith in
@@ -190,7 +192,7 @@ records-adds terms papers before after action holdings new book due is_moved rec
       };
     }
 
-quota_small : (n seats : ℕ) → 1 ≤ seats → n ≤ 4999500 → 100000 * (n / (seats + 1) + 1) ≤ 499950000000
+quota_small : (n seats : ℕ) → 1 ≤ seats → n ≤ max_papers → one_vote * (n / (seats + 1) + 1) ≤ max_units
 quota_small n seats some few =
     let part : n / (seats + 1) ≤ 2499750 = div-le_of_le-mul (seats + 1) (omega (arith, some, few)) in
     omega (arith, part)
@@ -200,17 +202,17 @@ votes_small_choice true q v n h k = h
 votes_small_choice false q v n h k = k
 
 -- no figure of a right history is above what all papers give
-pub newest_small : (contest : Contest) (handed : History → Stage → Option ℕ) (before : History) (new : List Holding) → IsContest contest → IsRightBy contest handed before → worth new ≤ 499950000000 → AreSmall before new
+pub newest_small : (contest : Contest) (handed : History → Stage → Option ℕ) (before : History) (new : List Holding) → IsContest contest → IsRightBy contest handed before → worth new ≤ max_units → AreSmall before new
 newest_small contest handed [] new fair right small = record { votes_small = λ c some few. omega arith; non_transferable_small = omega arith; lost_small = omega arith; moved_small = small }
 newest_small contest handed (s ∷ before) new fair right small =
     let stages : History = s ∷ before in
     let all = values-conserved contest handed s before fair right in
-    let holder : (h : ℕ) → held contest stages h ≤ all_values contest stages = λ h. sum_by-le-sum_by (λ p. value_with h (place contest stages p)) (λ p. (place contest stages p).value) contest.papers (λ p. within_value _ _) in
-    let quota_few : contest.quota ≤ 499950000000 = omega (arith, fair.quota_is, quota_small (length contest.papers) contest.seats fair.some_seats fair.few_papers) in
+    let holder : (h : ℕ) → held contest stages h ≤ all_values contest stages = λ h. one-within contest stages h in
+    let quota_few : contest.quota ≤ max_units = omega (arith, fair.quota_is, quota_small (length contest.papers) contest.seats fair.some_seats fair.few_papers) in
     record {
       votes_small = λ c some few.
           let told = told-votes contest s before c right.1.tells (some, few) in
-          let one = votes_small_choice (is_transferred stages c) contest.quota (held contest stages c) 499950000000 quota_few (omega (arith, holder c, all, fair.few_papers)) in
+          let one = votes_small_choice (is_transferred stages c) contest.quota (held contest stages c) max_units quota_few (omega (arith, holder c, all, fair.few_papers)) in
           omega (arith, told, one);
       non_transferable_small = omega (arith, right.1.tells.non_transferable_told, holder 0, all, fair.few_papers);
       lost_small = omega (arith, right.1.tells.lost_told, all, fair.few_papers);

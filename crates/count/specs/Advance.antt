@@ -1,8 +1,9 @@
+-- How a book advances: the stage that comes next, and why there is none.
 use Rattle.std.specs.Prelude.{◌≡◌, ℕ, ◌+◌, if◌then◌else◌, List, ◌∷◌, length, Option, Some, None, nat_eq}
 use Rattle.std.specs.List.{list_any}
-use Rattle.count.specs.Contest.{Contest, History}
-use Rattle.count.specs.Due.{lot_for, drawn, due_after}
-use Rattle.count.specs.Right.{IsNext, Tells}
+use Rattle.count.specs.Law.Contest.{Contest, History}
+use Rattle.count.specs.Law.Due.{lot_for, drawn, due_after}
+use Rattle.count.specs.Law.Right.{IsNext, Tells}
 use Rattle.count.specs.declared.stages.Action.{Action}
 use Rattle.count.specs.declared.stages.Stage.{Stage}
 use Rattle.count.specs.declared.stages.Due.{Due}

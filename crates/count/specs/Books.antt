@@ -1,11 +1,12 @@
+-- What a book is, and how its papers stand to the places that the law gives them.
 use Rattle.std.specs.Prelude.{◌≡◌, ℕ, ◌+◌, ◌==◌, not, List, [], ◌∷◌, map, ⊤}
 use Rattle.std.specs.List.{filter, sum_by}
 use Rattle.paper.specs.Ranking.{IsRanking}
-use Rattle.count.specs.Contest.{Contest, History, IsContest, numbers}
+use Rattle.count.specs.Law.Contest.{Contest, History, IsContest, numbers}
 use Rattle.paper.specs.Standing.{from_first}
-use Rattle.count.specs.Places.{Place, place}
-use Rattle.count.specs.Right.{IsRightByItself}
-use Rattle.count.specs.Elected.{is_elected, elected_after}
+use Rattle.count.specs.Law.Places.{Place, place}
+use Rattle.count.specs.Law.Right.{IsRightByItself}
+use Rattle.count.specs.Law.Elected.{is_elected, elected_after}
 use Rattle.count.specs.Holdings.{total, kept_by, votes_with, worth_to, newest_non_transferable, lost_with}
 use Rattle.count.specs.declared.parcel.Holding.{Holding}
 use Rattle.count.specs.declared.terms.Terms.{Terms}
@@ -55,7 +56,7 @@ pub record Records (terms : Terms) (old : History) (action : Action) (moved : Li
   pub non_transferable_is : stage.non_transferable ≡ newest_non_transferable old + worth_to 0 moved
   pub lost_is : stage.lost ≡ lost_with terms.quota old action moved
 
--- each paper lists numbers 1 to 30, each once
+-- each paper lists numbers of candidates, each once
 abbrev pub AreRankings : List (List ℕ) → Type 0
 AreRankings [] = ⊤
 AreRankings (paper ∷ papers) = IsRanking paper × AreRankings papers

@@ -1,11 +1,12 @@
+-- Papers in parcels, what they are worth, and what becomes of them when they are passed on.
 use Rattle.std.specs.Prelude.{◌≡◌, ℕ, ◌+◌, ◌-◌, ◌<◌, ◌≤◌, ◌||◌, ◌==◌, Bool, true, false, if◌then◌else◌, List, [], ◌∷◌, drop, ⊤}
 use Rattle.std.specs.List.{sum_by}
-use Rattle.votes.specs.Units.{cut}
-use Rattle.count.specs.Contest.{History, newest_votes}
-use Rattle.count.specs.Elected.{transfers, is_transferred}
-use Rattle.paper.specs.Columns.{IsColumn}
+use Rattle.votes.specs.Units.{max_units, cut}
+use Rattle.count.specs.Law.Contest.{History, newest_votes}
+use Rattle.count.specs.Law.Elected.{transfers, is_transferred}
+use Rattle.paper.specs.Columns.{max_candidates, IsColumn}
 use Rattle.paper.specs.Standing.{from_first}
-use Rattle.count.specs.Places.{first_of}
+use Rattle.count.specs.Law.Places.{first_of}
 use Rattle.count.specs.declared.parcel.Parcel.{Parcel}
 use Rattle.count.specs.declared.parcel.Holding.{Holding}
 use Rattle.count.specs.declared.parcel.TransferRule.{TransferRule}
@@ -20,6 +21,10 @@ total_of f parcels = sum_by (λ parcel. sum_by (λ rest. f rest.now parcel.value
 -- what a function of holder, preferences and value comes to on the papers of some holdings
 abbrev pub total : (ℕ → List ℕ → ℕ → ℕ) → List Holding → ℕ
 total f holdings = sum_by (λ holding. total_of (f holding.holder) holding.parcels.items) holdings
+
+-- the holders of papers: each number that a candidate may have, and 0 for no one
+abbrev pub holder_count : ℕ
+holder_count = max_candidates + 1
 
 -- the holdings are those of n, n + 1, and so on
 abbrev pub AreNumbered : ℕ → List Holding → Type 0
@@ -37,7 +42,7 @@ OnlyColumns continues = (c : ℕ) → continues c ≡ true → IsColumn c
 -- a surplus is part of the votes credited, which are no more than all papers give
 abbrev pub IsTransferRule : TransferRule → Type 0
 IsTransferRule AsReceived = Unit {0}
-IsTransferRule (Share surplus credited) = (0 < surplus) × (surplus < credited) × (credited ≤ 499950000000)
+IsTransferRule (Share surplus credited) = (0 < surplus) × (surplus < credited) × (credited ≤ max_units)
 
 -- Transfer values: what a rule makes of the value at which a paper was received
 abbrev pub new_value : TransferRule → ℕ → ℕ
@@ -78,11 +83,12 @@ votes_with quota stages action moved c =
     then quota
     else worth_to c moved + (if passes_on action c then 0 else newest_votes stages c)
 
--- the sums of the newest stage, none before the first
+-- the non-transferable at the newest stage, none before the first
 abbrev pub newest_non_transferable : History → ℕ
 newest_non_transferable [] = 0
 newest_non_transferable (s ∷ before) = s.non_transferable
 
+-- what is lost at the newest stage, nothing before the first
 abbrev pub newest_lost : History → ℕ
 newest_lost [] = 0
 newest_lost (s ∷ before) = s.lost
@@ -96,7 +102,7 @@ lost_with quota stages (ExcludeLast c) moved = newest_lost stages
 
 -- no figure is above what all papers give
 pub record AreSmall (stages : History) (moved : List Holding) : Type 0 where
-  pub votes_small : (c : ℕ) → 1 ≤ c → c ≤ 30 → newest_votes stages c ≤ 499950000000
-  pub non_transferable_small : newest_non_transferable stages ≤ 499950000000
-  pub lost_small : newest_lost stages ≤ 499950000000
-  pub moved_small : worth moved ≤ 499950000000
+  pub votes_small : (c : ℕ) → 1 ≤ c → c ≤ max_candidates → newest_votes stages c ≤ max_units
+  pub non_transferable_small : newest_non_transferable stages ≤ max_units
+  pub lost_small : newest_lost stages ≤ max_units
+  pub moved_small : worth moved ≤ max_units

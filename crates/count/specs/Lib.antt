@@ -1,11 +1,5 @@
-pub mod Contest
-pub mod Elected
-pub mod Places
-pub mod Figures
-pub mod Due
-pub mod Right
-pub mod Laws
+-- The law of the count, then how a book advances, and how it keeps its papers.
+pub mod Law
 pub mod Advance
 pub mod Holdings
 pub mod Books
-pub mod Plain

@@ -1,10 +1,10 @@
 //! A count that is under way, however its papers are kept.
 
 ghost use Rattle.std.specs.Prelude.{◌≡◌, ℕ, reverse, OnOk, OnErr, IfSome, IfNone, IsOkUnless};
-ghost use Rattle.count.specs.Contest.{Contest, History, IsContest};
-ghost use Rattle.count.specs.Due.{due_after};
-ghost use Rattle.count.specs.Right.{IsRightByItself};
-ghost use Rattle.count.specs.Laws.{IsConserved, IsShort, FillsSeats};
+ghost use Rattle.count.specs.Law.Contest.{Contest, History, IsContest};
+ghost use Rattle.count.specs.Law.Due.{due_after};
+ghost use Rattle.count.specs.Law.Right.{IsRightByItself};
+ghost use Rattle.count.specs.Law.Laws.{IsConserved, IsShort, FillsSeats, OnlyCandidatesHaveVotes, IsAmongSeveral};
 ghost use Rattle.count.specs.Advance.{refusal, Advances};
 
 use crate::stages::{Due, Stage};
@@ -27,7 +27,8 @@ pub enum AdvanceError {
     Memory,
 }
 
-/// A count of a contest: the stages that are done, and what comes next.
+/// A count of a contest, stage by stage as the Order has it: the stages that are done, and what comes
+/// next.
 pub trait CountBook {
     /// Candidates, seats, quota and papers.
     ghost contest: { Self → Contest };
@@ -36,18 +37,22 @@ pub trait CountBook {
     ghost history: { Self → History };
 
     /// The stages so far, in their order. They are right for the contest and the lots that their
-    /// own actions name; the votes of each stage add up, and the stages are few.
+    /// own actions name; the votes of each stage add up, numbers that are no candidates have none, and
+    /// the stages are at most one more than the candidates.
     fn stages(&self) -> &[Stage]
         ensures is { reverse result.now ≡ history self.now }
         ensures right { IsRightByItself (contest self.now) (history self.now) }
         ensures conserved { IsConserved (contest self.now) (history self.now) }
+        ensures others { OnlyCandidatesHaveVotes (contest self.now) (history self.now) }
         ensures short { IsShort (contest self.now) (history self.now) };
 
-    /// What comes next: an action, a lot among the tied, or nothing, exactly where the count is
-    /// finished and all seats are filled.
+    /// What comes next: an action, a lot among two candidates or more who are tied, or nothing,
+    /// exactly where no vacancy is left; then as many candidates are elected as there are seats
+    /// ("Transfer of ballot papers"; "Exclusion of candidates"; "Filling of last vacancies").
     fn due(&self) -> Due
         ensures is { result ≡ due_after (contest self.now) (history self.now) }
         ensures fair { IsContest (contest self.now) }
+        ensures several { IsAmongSeveral result }
         ensures filled { result ≡ Due.Finished → FillsSeats (contest self.now) (history self.now) };
 
     /// Adds the one stage that is due, with the lot where one is needed; else the lot is ignored.

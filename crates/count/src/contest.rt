@@ -2,9 +2,10 @@
 
 ghost use Rattle.std.specs.Prelude.{◌≡◌, ◌↔◌, IsTrue};
 ghost use Rattle.std.specs.List.{AllByRecursion};
-ghost use Rattle.count.specs.Contest.{contest_for, In, AreForCandidates, IsContest};
+ghost use Rattle.count.specs.Law.Contest.{contest_for, In, AreForCandidates, IsContest};
 
 use paper::{Columns, Prefs};
+use votes::{MAX_PAPERS, MAX_SEATS};
 
 /// Whether all preferences of a paper are for candidates.
 fn is_for_candidates(candidates: &Columns, preferences: &[u8]) -> bool
@@ -33,16 +34,17 @@ fn are_for_candidates(candidates: &Columns, papers: &[Prefs]) -> bool
     true
 }
 
-/// Whether a count may be held: seats 1 to 15, more candidates than seats, at most 4,999,500 papers,
-/// and preferences for candidates only.
+/// Whether a count may be held: seats 1 to `MAX_SEATS`, more candidates than seats, at most
+/// `MAX_PAPERS` papers, and preferences for candidates only. The limits are the office's own; within
+/// them the "Quota" and all votes are exact.
 #[tactic(auto, using(crate::proofs::ContestLemmas::contests))]
 pub fn is_contest(candidates: &Columns, seats: u8, papers: &[Prefs]) -> bool
     ensures { IsTrue result ↔ IsContest (contest_for candidates.now seats papers.now) }
 {
-    if seats < 1 || seats > 15 {
+    if seats < 1 || seats > MAX_SEATS {
         return false;
     }
-    if candidates.len() <= usize::from(seats) || papers.len() > 4999500 {
+    if candidates.len() <= usize::from(seats) || papers.len() > MAX_PAPERS as usize {
         return false;
     }
     let _set = candidates.as_slice();

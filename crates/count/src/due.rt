@@ -1,13 +1,13 @@
 //! What is due after some stages.
 
 ghost use Rattle.std.specs.Prelude.{◌≡◌, ℕ, ◌<◌, [], length, reverse, IfOk, IfErr, Some};
-ghost use Rattle.count.specs.Due.{due_after, drawn, exclusion as exclusion_of, action_on as action_on_of, among as among_of, due_for as due_for_of};
+ghost use Rattle.count.specs.Law.Due.{due_after, drawn, exclusion as exclusion_of, action_on as action_on_of, among as among_of, due_for as due_for_of};
 ghost use Rattle.count.specs.Advance.{refusal};
 ghost use Rattle.count.specs.Books.{contest_of};
 
 use crate::book::AdvanceError;
+use crate::elected::{continuing, elected, vacancies, with_surplus};
 use crate::stages::{Action, Due, Kind, Stage};
-use crate::standing::{continuing, elected, vacancies, with_surplus};
 use crate::terms::Terms;
 use crate::ties::{highest, lowest};
 use paper::{Columns, Prefs};
@@ -32,15 +32,12 @@ fn action_on(terms: &Terms, stages: &[Stage], kind: Kind, c: u8) -> Action
     }
 }
 
-/// The action on the one candidate of a group, or the lot among several.
-#[tactic(auto, using(crate::proofs::DueLemmas::among_sizes))]
+/// The action on the one candidate of a group, else a lot among those in it.
+#[tactic(auto, using(crate::proofs::Law::DueLemmas::among_sizes))]
 fn among(terms: &Terms, stages: &[Stage], kind: Kind, group: &Columns) -> Due
     requires few { length stages.now < 255 }
     ensures { result ≡ among_of (contest_of terms.now []) (reverse stages.now) kind group.now }
 {
-    if group.len() == 0 {
-        return Due::Finished;
-    }
     if group.len() == 1 {
         return Due::Act(action_on(terms, stages, kind, group.as_slice()[0]));
     }
@@ -52,7 +49,7 @@ fn among(terms: &Terms, stages: &[Stage], kind: Kind, group: &Columns) -> Due
 }
 
 /// What is due while a vacancy is left, where these have a surplus.
-#[tactic(auto, using(crate::proofs::DueLemmas::due_sizes))]
+#[tactic(auto, using(crate::proofs::Law::DueLemmas::due_sizes))]
 fn due_for(terms: &Terms, stages: &[Stage], group: &Columns) -> Due
     requires few { length stages.now < 255 }
     ensures { result ≡ due_for_of (contest_of terms.now []) (reverse stages.now) group.now }

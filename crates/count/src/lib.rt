@@ -13,29 +13,32 @@
 //! ```
 #![tactic(auto)]
 
-mod act;
-mod book;
+// what a count is held on, and its stages
 mod contest;
+mod stages;
+mod terms;
+// what the Order says of stages: who is elected, who is tied, what is due
 mod due;
+mod elected;
+mod ties;
+// a count that is under way, and one to its end
+mod book;
+mod run;
+// papers in parcels, and how they are passed on
 mod moving;
 mod parcel;
-mod parcel_book;
-mod plain_book;
-mod record;
-mod run;
 mod sorting;
-mod stages;
-mod standing;
+// what a stage records of them
+mod record;
 mod tally;
-mod terms;
-mod ties;
+// the book that keeps them
+mod act;
+mod parcel_book;
+#[cfg(test)]
+mod tests;
 
 pub use book::{AdvanceError, CountBook};
 pub use contest::is_contest;
 pub use parcel_book::ParcelBook;
-pub use plain_book::PlainBook;
 pub use run::{CountEnd, run_count};
 pub use stages::{Action, Due, Kind, Stage};
-
-#[cfg(test)]
-mod tests;

@@ -2,24 +2,25 @@
 
 ghost use Rattle.std.specs.Prelude.{◌≡◌, ℕ, ◌+◌, ◌-◌, ◌<◌, ◌≤◌, List, not, reverse, vec_len, vec_capacity, IfOk, OnOk};
 ghost use Rattle.std.specs.List.{filter};
+ghost use Rattle.votes.specs.Units.{max_units};
 ghost use Rattle.count.specs.Advance.{IsDue};
 ghost use Rattle.count.specs.Holdings.{total, passes_on as passes_on_of, kept_by, IsTransferRule};
 ghost use Rattle.count.specs.Books.{contest_of, AreRankings, IsMovedBy, IsBook};
 
+use crate::elected::{newest_votes, standing};
 use crate::parcel::{Holding, TransferRule};
 use crate::sorting::{first_holdings, pass_on};
 use crate::stages::{Action, Stage};
-use crate::standing::{newest_votes, standing};
 use crate::terms::Terms;
 use paper::Prefs;
 use std::alloc::{AllocError, Global};
 use votes::Votes;
 
-/// How a surplus cuts values: by the part that it is of the votes credited.
-pub fn share(quota: Votes, credited: Votes) -> TransferRule
+/// What a surplus does to values: it cuts them by the part that it is of the votes credited.
+fn surplus_rule(quota: Votes, credited: Votes) -> TransferRule
     requires some { 0 < quota }
     requires above { quota < credited }
-    requires few { credited ≤ 499950000000 }
+    requires few { credited ≤ max_units }
     ensures is { result ≡ TransferRule.Share (credited - quota) credited }
     ensures rule { IsTransferRule result }
 {
@@ -47,7 +48,7 @@ pub fn moved_by<'a>(
             Ok(moved)
         }
         Action::Surplus(c) => {
-            let rule = share(terms.quota, newest_votes(stages, *c));
+            let rule = surplus_rule(terms.quota, newest_votes(stages, *c));
             let moved = pass_on(alloc, holdings, *c, &standing(terms, stages), &rule)?;
             Ok(moved)
         }

@@ -1,6 +1,7 @@
 //! Papers in parcels, by holder.
 
 ghost use Rattle.std.specs.Prelude.{◌≤◌};
+ghost use Rattle.votes.specs.Units.{one_vote};
 
 use votes::Votes;
 
@@ -9,7 +10,7 @@ use votes::Votes;
 pub struct Parcel<'a> {
     pub value: Votes,
     pub papers: Vec<&'a [u8]>,
-    ghost small: { value ≤ 100000 },
+    ghost small: { value ≤ one_vote },
 }
 
 /// The parcels that one stage brought to a candidate, or with 0 to no one.

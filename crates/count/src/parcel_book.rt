@@ -1,7 +1,7 @@
 //! A count by parcels.
 
 ghost use Rattle.std.specs.Prelude.{◌≡◌, [], IfOk};
-ghost use Rattle.count.specs.Contest.{contest_for, IsContest};
+ghost use Rattle.count.specs.Law.Contest.{contest_for, IsContest};
 
 use crate::act::act;
 use crate::book::{AdvanceError, CountBook};
@@ -14,7 +14,8 @@ use std::alloc::{AllocError, Global};
 use std::marker::Model;
 use votes::quota;
 
-/// A count whose papers lie in parcels: each holds lent preferences, from the place of their holder
+/// A count whose papers lie in parcels, as "Transfer of ballot papers" and "Exclusion of candidates"
+/// have them sorted: each holds lent preferences, from the place of their holder
 /// on, at the value at which they were received.
 #[derive(Drop)]
 pub struct ParcelBook<'a> {
@@ -39,8 +40,8 @@ impl<'a> Model for ParcelBook<'a> {
 impl<'a> ParcelBook<'a> {
     /// A count with no stage yet.
     ///
-    /// There are to be more candidates than seats, 1 to 15 seats, preferences for candidates only,
-    /// and at most 4,999,500 papers: `is_contest` is the test.
+    /// There are to be more candidates than seats, 1 to `MAX_SEATS` seats, preferences for candidates
+    /// only, and at most `MAX_PAPERS` papers: `is_contest` is the test.
     pub fn new(
         alloc: Global,
         candidates: Columns,

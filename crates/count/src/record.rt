@@ -3,8 +3,8 @@
 ghost use Rattle.std.specs.Prelude.{◌<◌, reverse, vec_len, vec_capacity};
 ghost use Rattle.count.specs.Books.{IsAdded};
 
+use crate::elected::{elected, without};
 use crate::stages::Stage;
-use crate::standing::{elected, without};
 use crate::terms::Terms;
 
 /// Puts a stage behind those before it, where there is room, and fills in who is newly elected.

@@ -1,10 +1,10 @@
 //! A count from where it stands to its end.
 
 ghost use Rattle.std.specs.Prelude.{◌≡◌, OnOk, OnErr, IfOk, IfSome, IfNone, None, Some};
-ghost use Rattle.count.specs.Contest.{IsContest};
-ghost use Rattle.count.specs.Due.{due_after, lot_for};
-ghost use Rattle.count.specs.Right.{IsRight, BeginsEachRight, OneBeginsOther};
-ghost use Rattle.count.specs.Laws.{FillsSeats};
+ghost use Rattle.count.specs.Law.Contest.{IsContest};
+ghost use Rattle.count.specs.Law.Due.{due_after, lot_for};
+ghost use Rattle.count.specs.Law.Right.{IsRight, IsBeginning, IsWholeCount, OneBeginsOther};
+ghost use Rattle.count.specs.Law.Laws.{FillsSeats};
 ghost use Rattle.count.specs.Advance.{AdvancesBy, Advances, refusal, end_after};
 
 use crate::book::{AdvanceError, CountBook};
@@ -15,11 +15,11 @@ use std::alloc::AllocError;
 /// Why a count ended.
 #[derive(Clone, Copy, Debug, PartialEq, Eq)]
 pub enum CountEnd {
-    /// No vacancy is left.
+    /// No vacancy is left ("Filling of last vacancies").
     Finished,
-    /// A lot is needed for this stage among these, and none is recorded.
+    /// A lot is needed for this stage, counted from 1, among these, and none is recorded.
     LotNeeded { stage: u8, among: Columns },
-    /// A lot is needed for this stage, and the recorded one names none of the tied.
+    /// A lot is needed for this stage, counted from 1, and the recorded one names none of the tied.
     LotNotAmong { stage: u8 },
 }
 
@@ -45,7 +45,7 @@ fn advanced<B: CountBook>(book: &mut B, lot: Option<u8>) -> Result<Option<CountE
 }
 
 /// Adds the stage that is due, or tells why there is none.
-#[tactic(auto, using(crate::proofs::DueLemmas::due_lot))]
+#[tactic(auto, using(crate::proofs::Law::DueLemmas::due_lot))]
 fn step<B: CountBook>(book: &mut B, lots: &[(u8, u8)]) -> Result<Option<CountEnd>, AllocError>
     ensures same { B.contest book.new ≡ B.contest book.old }
     ensures fair { IsContest (B.contest book.old) }
@@ -73,16 +73,19 @@ fn step<B: CountBook>(book: &mut B, lots: &[(u8, u8)]) -> Result<Option<CountEnd
 /// Adds stages until the count is finished, or a lot is needed that isn't recorded.
 ///
 /// A lot is a pair of a stage, counted from 1, and the candidate that it names; where two are for
-/// one stage, the first counts. The stages so far have to be right for these lots. Whatever list
-/// of stages is right for the same lots and papers, in any order, is a beginning of those that the
-/// book has then; so of two right lists one is a beginning of the other. After want of memory the book has the stages made so far.
-#[tactic(auto, using(crate::proofs::RightLemmas::whole_count))]
+/// one stage, the first counts. The stages so far have to be right for these lots. The book then has
+/// the whole count: whatever list of stages is right for the same lots and papers, in any order, is a
+/// beginning of it, and whatever list is a count equals it. Of two right lists one is a beginning of
+/// the other. After want of memory the book has the stages made so far: they are right, and those
+/// from before are a beginning of them.
+#[tactic(auto, using(crate::proofs::Law::RightLemmas::beginnings))]
 pub fn run_count<B: CountBook>(book: &mut B, lots: &[(u8, u8)]) -> Result<CountEnd, AllocError>
     requires { IsRight (B.contest book.old) lots.now (B.history book.old) }
     ensures same { B.contest book.new ≡ B.contest book.old }
     ensures right { IsRight (B.contest book.old) lots.now (B.history book.new) }
     ensures end { IfOk result (λ end. end_after (B.contest book.old) lots.now (B.history book.new) ≡ Some end) }
-    ensures whole { OnOk result (BeginsEachRight (B.contest book.old) lots.now (B.history book.new)) }
+    ensures grown { IsBeginning (B.history book.old) (B.history book.new) }
+    ensures whole { OnOk result (IsWholeCount (B.contest book.old) lots.now (B.history book.new)) }
     ensures unique { OneBeginsOther (B.contest book.old) lots.now }
     ensures filled { IfOk result (λ end. end ≡ CountEnd.Finished → FillsSeats (B.contest book.old) (B.history book.new)) }
 {

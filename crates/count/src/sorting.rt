@@ -2,18 +2,23 @@
 
 ghost use Rattle.std.specs.Prelude.{◌≡◌, ℕ, ◌+◌, ◌<◌, ◌≤◌, List, vec_len, OnOk, IfOk};
 ghost use Rattle.std.specs.List.{sum_by};
+ghost use Rattle.paper.specs.Columns.{max_candidates};
+ghost use Rattle.votes.specs.Units.{one_vote};
 ghost use Rattle.paper.specs.Standing.{is_continuing};
-ghost use Rattle.count.specs.Places.{first_of};
-ghost use Rattle.count.specs.Holdings.{total_of, total, AreNumbered, passed_to, OnlyColumns, IsTransferRule, new_value, at_passed, total_passed};
+ghost use Rattle.count.specs.Law.Places.{first_of};
+ghost use Rattle.count.specs.Holdings.{holder_count, total_of, total, AreNumbered, passed_to, OnlyColumns, IsTransferRule, new_value, at_passed, total_passed};
 ghost use Rattle.count.specs.Books.{AreRankings};
 
 use crate::parcel::{Holding, Parcel, TransferRule};
-use paper::{Prefs, Standing, available_from};
+use paper::{MAX_CANDIDATES, Prefs, Standing, available_from};
 use std::alloc::{AllocError, Global};
-use votes::{Votes, transfer_value};
+use votes::{ONE_VOTE, Votes, transfer_value};
+
+/// The holders of papers: each number that a candidate may have, and 0 for no one.
+const HOLDERS: usize = MAX_CANDIDATES + 1;
 
 /// The first of some preferences, or 0.
-pub fn first_preference(rest: &[u8]) -> u8
+fn first_preference(rest: &[u8]) -> u8
     ensures { result ≡ first_of rest.now }
 {
     match rest.first() {
@@ -24,12 +29,12 @@ pub fn first_preference(rest: &[u8]) -> u8
 
 /// Empty holdings of no one and of each number.
 fn empty_holdings<'a>(alloc: Global) -> Result<Vec<Holding<'a>>, AllocError>
-    ensures len { IfOk result (λ holdings. vec_len holdings ≡ 31) }
+    ensures len { IfOk result (λ holdings. vec_len holdings ≡ holder_count) }
     ensures numbered { IfOk result (λ holdings. AreNumbered 0 holdings.items) }
     ensures empty { IfOk result (λ holdings. (f : ℕ → List ℕ → ℕ → ℕ) → total f holdings.items ≡ 0) }
 {
-    let mut holdings = Vec::with_capacity(alloc, 31)?;
-    for holder in 0..31u8 {
+    let mut holdings = Vec::with_capacity(alloc, HOLDERS)?;
+    for holder in 0..HOLDERS as u8 {
         holdings.push(Holding {
             holder,
             parcels: Vec::new(alloc),
@@ -45,7 +50,7 @@ fn start_parcel<'a>(
     value: Votes,
     rest: &'a [u8],
 ) -> Result<(), AllocError>
-    requires { value ≤ 100000 }
+    requires { value ≤ one_vote }
     ensures { OnOk result ((f : List ℕ → ℕ → ℕ) → total_of f parcels.new.items ≡ total_of f parcels.old.items + f rest.now value) }
 {
     let mut papers = Vec::new(alloc);
@@ -61,7 +66,7 @@ fn add_paper<'a>(
     value: Votes,
     rest: &'a [u8],
 ) -> Result<(), AllocError>
-    requires { value ≤ 100000 }
+    requires { value ≤ one_vote }
     ensures { OnOk result ((f : List ℕ → ℕ → ℕ) → total_of f parcels.new.items ≡ total_of f parcels.old.items + f rest.now value) }
 {
     let count = parcels.len();
@@ -83,11 +88,11 @@ fn give<'a>(
     value: Votes,
     rest: &'a [u8],
 ) -> Result<(), AllocError>
-    requires len { vec_len holdings.old ≡ 31 }
+    requires len { vec_len holdings.old ≡ holder_count }
     requires numbered { AreNumbered 0 holdings.old.items }
-    requires known { first_of rest.now ≤ 30 }
-    requires small { value ≤ 100000 }
-    ensures len { OnOk result (vec_len holdings.new ≡ 31) }
+    requires known { first_of rest.now ≤ max_candidates }
+    requires small { value ≤ one_vote }
+    ensures len { OnOk result (vec_len holdings.new ≡ holder_count) }
     ensures numbered { OnOk result (AreNumbered 0 holdings.new.items) }
     ensures given { OnOk result ((f : ℕ → List ℕ → ℕ → ℕ) → total f holdings.new.items ≡ total f holdings.old.items + f (first_of rest.now) rest.now value) }
 {
@@ -97,7 +102,7 @@ fn give<'a>(
 }
 
 /// Passes papers on to their next available preferences, at a value.
-#[tactic(auto, using(crate::proofs::HoldingLemmas::known_holders))]
+#[tactic(auto, using(crate::proofs::ParcelTotals::known_holders))]
 fn pass_papers<'a>(
     alloc: Global,
     holdings: &mut Vec<Holding<'a>>,
@@ -106,10 +111,10 @@ fn pass_papers<'a>(
     standing: &Standing,
 ) -> Result<(), AllocError>
     requires known { OnlyColumns (is_continuing standing.now) }
-    requires len { vec_len holdings.old ≡ 31 }
+    requires len { vec_len holdings.old ≡ holder_count }
     requires numbered { AreNumbered 0 holdings.old.items }
-    requires small { value ≤ 100000 }
-    ensures len { OnOk result (vec_len holdings.new ≡ 31) }
+    requires small { value ≤ one_vote }
+    ensures len { OnOk result (vec_len holdings.new ≡ holder_count) }
     ensures numbered { OnOk result (AreNumbered 0 holdings.new.items) }
     ensures passed { OnOk result ((f : ℕ → List ℕ → ℕ → ℕ) → total f holdings.new.items ≡ total f holdings.old.items + sum_by (λ rest. f (first_of (passed_to (is_continuing standing.now) rest.now)) (passed_to (is_continuing standing.now) rest.now) value) papers.now) }
 {
@@ -120,11 +125,11 @@ fn pass_papers<'a>(
 }
 
 /// The value that a paper takes on when it is passed on.
-pub fn value_by(rule: &TransferRule, value: Votes) -> Votes
+fn value_by(rule: &TransferRule, value: Votes) -> Votes
     requires rule { IsTransferRule rule.now }
-    requires small { value ≤ 100000 }
+    requires small { value ≤ one_vote }
     ensures is { result ≡ new_value rule.now value }
-    ensures small { result ≤ 100000 }
+    ensures small { result ≤ one_vote }
 {
     match rule {
         TransferRule::AsReceived => value,
@@ -141,10 +146,10 @@ fn pass_parcels<'a>(
     rule: &TransferRule,
 ) -> Result<(), AllocError>
     requires known { OnlyColumns (is_continuing standing.now) }
-    requires len { vec_len holdings.old ≡ 31 }
+    requires len { vec_len holdings.old ≡ holder_count }
     requires numbered { AreNumbered 0 holdings.old.items }
     requires rule { IsTransferRule rule.now }
-    ensures len { OnOk result (vec_len holdings.new ≡ 31) }
+    ensures len { OnOk result (vec_len holdings.new ≡ holder_count) }
     ensures numbered { OnOk result (AreNumbered 0 holdings.new.items) }
     ensures passed { OnOk result ((f : ℕ → List ℕ → ℕ → ℕ) → total f holdings.new.items ≡ total f holdings.old.items + total_of (at_passed f (is_continuing standing.now) rule.now) parcels.now) }
 {
@@ -182,7 +187,7 @@ pub fn first_holdings<'a>(
     alloc: Global,
     papers: &'a [Prefs],
 ) -> Result<Vec<Holding<'a>>, AllocError>
-    ensures dealt { IfOk result (λ holdings. (f : ℕ → List ℕ → ℕ → ℕ) → total f holdings.items ≡ sum_by (λ paper. f (first_of paper) paper 100000) papers.now) }
+    ensures dealt { IfOk result (λ holdings. (f : ℕ → List ℕ → ℕ → ℕ) → total f holdings.items ≡ sum_by (λ paper. f (first_of paper) paper one_vote) papers.now) }
     ensures rankings { IfOk result (λ _. AreRankings papers.now) }
 {
     let mut holdings = empty_holdings(alloc)?;
@@ -190,7 +195,7 @@ pub fn first_holdings<'a>(
         give(
             alloc,
             &mut holdings,
-            Votes::from_units(100000),
+            Votes::from_units(ONE_VOTE),
             prefs.as_slice(),
         )?;
     }

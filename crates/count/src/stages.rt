@@ -1,12 +1,12 @@
 //! The stages of a count, and what comes next in it.
 
-use paper::Columns;
+use paper::{Columns, MAX_CANDIDATES};
 use votes::Votes;
 
-/// What is done at a stage; candidates go by their numbers, 1 to 30.
+/// What is done at a stage; candidates go by their numbers, 1 to `MAX_CANDIDATES`.
 #[derive(Clone, Copy, Debug, PartialEq, Eq)]
 pub enum Action {
-    /// Each paper goes to its first preference, as one vote.
+    /// Each paper goes to its first preference, as one vote ("Transfer of ballot papers").
     First,
     /// The surplus of a candidate is transferred ("Transfer of ballot papers").
     Surplus(u8),
@@ -21,22 +21,25 @@ pub enum Action {
 #[derive(Clone, Copy, Debug, PartialEq, Eq)]
 pub struct Stage {
     pub action: Action,
-    /// The votes of candidate c at place c - 1, and 0 for numbers that are no candidates.
-    pub votes: [Votes; 30],
-    /// Who is newly elected at this stage.
+    /// The votes of candidate c at place c - 1 ("Transfer of ballot papers"), at most one for each
+    /// paper, and 0 for numbers that are no candidates.
+    pub votes: [Votes; MAX_CANDIDATES],
+    /// Who is newly elected at this stage ("Quota"; "Filling of last vacancies").
     pub elected: Columns,
-    /// The values of the papers without a next preference, of all stages up to this one.
+    /// The values of the papers without a next preference, of all stages up to this one ("Transfer of
+    /// ballot papers"), at most one vote for each paper.
     pub non_transferable: Votes,
-    /// What surpluses lost by fractions, at all stages up to this one.
+    /// What surpluses lost by fractions, at all stages up to this one ("Transfer values"), at most one
+    /// vote for each paper.
     pub lost: Votes,
 }
 
 /// What candidates are tied for.
 #[derive(Clone, Copy, Debug, PartialEq, Eq)]
 pub enum Kind {
-    /// Equal highest surpluses.
+    /// Equal highest surpluses ("Transfer of ballot papers").
     Surplus,
-    /// Equal fewest votes.
+    /// Equal fewest votes ("Exclusion of candidates").
     Exclusion,
 }
 
@@ -45,13 +48,13 @@ pub enum Kind {
 pub enum Due {
     /// An action is due.
     Act(Action),
-    /// A lot has to be drawn for this stage, counted from 1, among candidates whose votes were
-    /// equal at all stages.
+    /// A lot has to be drawn for this stage, counted from 1, among two candidates or more whose
+    /// votes were equal at all stages ("Transfer of ballot papers"; "Exclusion of candidates").
     Lot {
         stage: u8,
         kind: Kind,
         among: Columns,
     },
-    /// No vacancy is left.
+    /// No vacancy is left ("Filling of last vacancies").
     Finished,
 }

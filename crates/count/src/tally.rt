@@ -1,23 +1,25 @@
 //! What a stage records.
 
 ghost use Rattle.std.specs.Prelude.{◌≡◌, ℕ, ◌+◌, ◌-◌, ◌<◌, ◌≤◌, ◌||◌, [], ◌∷◌, List, map, reverse, vec_len, vec_capacity};
-ghost use Rattle.count.specs.Contest.{numbers};
-ghost use Rattle.count.specs.Elected.{is_transferred as is_transferred_of, transfers as transfers_of};
+ghost use Rattle.paper.specs.Columns.{max_candidates};
+ghost use Rattle.votes.specs.Units.{max_units};
+ghost use Rattle.count.specs.Law.Contest.{numbers};
+ghost use Rattle.count.specs.Law.Elected.{is_transferred as is_transferred_of, transfers as transfers_of};
 ghost use Rattle.count.specs.Holdings.{total_of, total, worth as worth_of, worth_to as worth_to_of, votes_with as votes_with_of, lost_with as lost_with_of, newest_non_transferable, newest_lost as newest_lost_of, AreSmall};
 ghost use Rattle.count.specs.Books.{Records};
 
+use crate::elected::{is_transferred_with, newest_votes};
 use crate::moving::passes_on;
 use crate::parcel::{Holding, Parcel};
 use crate::record::add_stage;
 use crate::stages::{Action, Stage};
-use crate::standing::{is_transferred_with, newest_votes};
 use crate::terms::Terms;
-use paper::Columns;
+use paper::{Columns, MAX_CANDIDATES};
 use votes::Votes;
 
 /// What the papers of some parcels are worth, in units.
 fn worth_of_parcels(parcels: &[Parcel]) -> u64
-    requires { total_of (λ rest v. v) parcels.now ≤ 499950000000 }
+    requires { total_of (λ rest v. v) parcels.now ≤ max_units }
     ensures { result ≡ total_of (λ rest v. v) parcels.now }
 {
     let mut sum = 0u64;
@@ -29,7 +31,7 @@ fn worth_of_parcels(parcels: &[Parcel]) -> u64
 
 /// What the papers of some holdings are worth to a holder, in units.
 fn worth_to(holder: u8, holdings: &[Holding]) -> u64
-    requires { worth_of holdings.now ≤ 499950000000 }
+    requires { worth_of holdings.now ≤ max_units }
     ensures { result ≡ worth_to_of holder holdings.now }
 {
     let mut sum = 0u64;
@@ -43,7 +45,7 @@ fn worth_to(holder: u8, holdings: &[Holding]) -> u64
 
 /// What the papers of some holdings are worth together, in units.
 fn worth(holdings: &[Holding]) -> u64
-    requires { worth_of holdings.now ≤ 499950000000 }
+    requires { worth_of holdings.now ≤ max_units }
     ensures { result ≡ worth_of holdings.now }
 {
     let mut sum = 0u64;
@@ -57,7 +59,7 @@ fn worth(holdings: &[Holding]) -> u64
 /// gone, else what he has kept and what he is given.
 fn votes_with(quota: Votes, stages: &[Stage], action: &Action, moved: &[Holding], c: u8) -> Votes
     requires some { 1 ≤ c }
-    requires few { c ≤ 30 }
+    requires few { c ≤ max_candidates }
     requires small { AreSmall (reverse stages.now) moved.now }
     ensures { result ≡ votes_with_of quota (reverse stages.now) action.now moved.now c }
 {
@@ -72,12 +74,17 @@ fn votes_with(quota: Votes, stages: &[Stage], action: &Action, moved: &[Holding]
 }
 
 /// The votes of all numbers once an action has moved papers.
-fn all_votes(quota: Votes, stages: &[Stage], action: &Action, moved: &[Holding]) -> [Votes; 30]
+fn all_votes(
+    quota: Votes,
+    stages: &[Stage],
+    action: &Action,
+    moved: &[Holding],
+) -> [Votes; MAX_CANDIDATES]
     requires { AreSmall (reverse stages.now) moved.now }
     ensures { result ≡ map (votes_with_of quota (reverse stages.now) action.now moved.now) numbers }
 {
-    let mut votes = [Votes::from_units(0); 30];
-    for i in 0..30usize {
+    let mut votes = [Votes::from_units(0); MAX_CANDIDATES];
+    for i in 0..MAX_CANDIDATES {
         votes[i] = votes_with(quota, stages, action, moved, i as u8 + 1);
     }
     votes
@@ -96,7 +103,7 @@ fn non_transferable_with(stages: &[Stage], moved: &[Holding]) -> Votes
 }
 
 /// What the stages so far have lost by fractions.
-pub fn newest_lost(stages: &[Stage]) -> u64
+fn newest_lost(stages: &[Stage]) -> u64
     ensures { result ≡ newest_lost_of (reverse stages.now) }
 {
     match stages.split_last() {
@@ -108,7 +115,7 @@ pub fn newest_lost(stages: &[Stage]) -> u64
 /// What is lost by fractions once an action has moved papers: a surplus loses what it holds beyond
 /// the values that it gives.
 fn lost_with(quota: Votes, stages: &[Stage], action: &Action, moved: &[Holding]) -> Votes
-    requires column { (c : ℕ) → action.now ≡ Action.Surplus c → (1 ≤ c) × (c ≤ 30) }
+    requires column { (c : ℕ) → action.now ≡ Action.Surplus c → (1 ≤ c) × (c ≤ max_candidates) }
     requires small { AreSmall (reverse stages.now) moved.now }
     ensures { result ≡ lost_with_of quota (reverse stages.now) action.now moved.now }
 {
@@ -129,7 +136,7 @@ fn lost_with(quota: Votes, stages: &[Stage], action: &Action, moved: &[Holding])
 /// Adds the stage of an action to those before it, where there is room.
 pub fn record_stage(terms: &Terms, stages: &mut Vec<Stage>, action: &Action, moved: &[Holding])
     requires room { vec_len stages.old < vec_capacity stages.old }
-    requires column { (c : ℕ) → action.now ≡ Action.Surplus c → (1 ≤ c) × (c ≤ 30) }
+    requires column { (c : ℕ) → action.now ≡ Action.Surplus c → (1 ≤ c) × (c ≤ max_candidates) }
     requires small { AreSmall (reverse stages.old.items) moved.now }
     ensures { Records terms.now (reverse stages.old.items) action.now moved.now (reverse stages.new.items) }
 {

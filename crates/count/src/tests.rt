@@ -1,19 +1,16 @@
-//! Worked elections, counted by parcels; small made-up ones, counted by each book.
-
-ghost use Rattle.std.specs.Prelude.{◌<◌};
+//! Worked elections, stage by stage; lots; and growths that are refused.
 
 mod worked;
 
 use super::{
-    Action, AdvanceError, CountBook, CountEnd, Due, Kind, ParcelBook, PlainBook, is_contest,
-    run_count,
+    Action, AdvanceError, CountBook, CountEnd, Due, Kind, ParcelBook, Stage, is_contest, run_count,
 };
 use paper::{Columns, Prefs};
 use std::alloc::Global;
 use std::process::Abort;
 use std::test::Fail;
 use votes::Votes;
-use worked::WORKED;
+use worked::{Expected, WORKED};
 
 /// The candidates 1 to n.
 fn first_columns(n: u8) -> Columns {
@@ -37,6 +34,22 @@ fn papers_of(alloc: Global, groups: &[(u32, &[u8])]) -> Result<Vec<Prefs>, Fail>
     Ok(papers)
 }
 
+/// Whether a stage records what it has to.
+fn records(rt: &impl Abort, stage: &Stage, expected: &Expected, name: &str) {
+    assert_eq!(rt; stage.action, expected.action, "{name}");
+    assert_eq!(rt;
+        stage.non_transferable,
+        Votes::from_units(expected.sums.0),
+        "{name}"
+    );
+    assert_eq!(rt; stage.lost, Votes::from_units(expected.sums.1), "{name}");
+    assert_eq!(rt; stage.elected.as_slice(), expected.elected, "{name}");
+    for (place, votes) in stage.votes.iter().enumerate() {
+        let units = expected.votes.get(place).copied().unwrap_or(0);
+        assert_eq!(rt; *votes, Votes::from_units(units), "{name} at place {place}");
+    }
+}
+
 #[test]
 fn worked_elections(rt: HostRuntime) -> Result<(), Fail> {
     for worked in &WORKED {
@@ -53,34 +66,7 @@ fn worked_elections(rt: HostRuntime) -> Result<(), Fail> {
         assert_eq!(rt; end, CountEnd::Finished, "{}", worked.name);
         assert_eq!(rt; book.stages().len(), worked.stages.len(), "{}", worked.name);
         for (stage, expected) in book.stages().iter().zip(worked.stages) {
-            assert_eq!(rt; stage.action, expected.action, "{}", worked.name);
-            assert_eq!(rt;
-                stage.non_transferable,
-                Votes::from_units(expected.sums.0),
-                "{}",
-                worked.name
-            );
-            assert_eq!(rt;
-                stage.lost,
-                Votes::from_units(expected.sums.1),
-                "{}",
-                worked.name
-            );
-            assert_eq!(rt;
-                stage.elected.as_slice(),
-                expected.elected,
-                "{}",
-                worked.name
-            );
-            for (place, votes) in stage.votes.iter().enumerate() {
-                let units = expected.votes.get(place).copied().unwrap_or(0);
-                assert_eq!(rt;
-                    *votes,
-                    Votes::from_units(units),
-                    "{} at place {place}",
-                    worked.name
-                );
-            }
+            records(&rt, stage, expected, worked.name);
         }
     }
     Ok(())
@@ -127,87 +113,6 @@ fn recorded_lots_decide(rt: HostRuntime) -> Result<(), Fail> {
     for (lots, end) in ends {
         let mut book = ParcelBook::new(rt.alloc(), candidates, 1, &papers)?;
         assert_eq!(rt; run_count(&mut book, lots)?, end);
-    }
-    Ok(())
-}
-
-/// A fixed generator of small elections, by xorshift.
-#[derive(Drop)]
-struct Draws {
-    state: u32,
-}
-
-impl Draws {
-    /// A number below a bound.
-    fn below(&mut self, bound: u32) -> u32
-        requires { 0 < bound }
-        ensures { result < bound }
-    {
-        self.state ^= self.state << 13;
-        self.state ^= self.state >> 17;
-        self.state ^= self.state << 5;
-        self.state % bound
-    }
-
-    /// The preferences of a paper for some of the candidates 1 to n.
-    fn paper(&mut self, n: u8) -> Option<Prefs> {
-        let mut order = [1u8, 2, 3, 4, 5, 6];
-        for place in 0..6usize {
-            let other = self.below(6) as usize;
-            let here = order[place];
-            order[place] = order[other];
-            order[other] = here;
-        }
-        let mut list = [0u8; 6];
-        let mut len = 0usize;
-        let most = self.below(6) as usize + 1;
-        for c in order {
-            if c <= n && len < most && len < 6 {
-                list[len] = c;
-                len += 1;
-            }
-        }
-        Prefs::from_slice(&list[..len.min(6)])
-    }
-}
-
-/// Counts by two books side by side, with the first of the tied for each lot.
-fn agree<A: CountBook, B: CountBook>(rt: &impl Abort, one: &mut A, other: &mut B, name: u32) {
-    for _ in 0..9 {
-        assert_eq!(rt; one.due(), other.due(), "election {name}");
-        let lot = match one.due() {
-            Due::Act(_) => None,
-            Due::Lot { among, .. } => among.as_slice().first().copied(),
-            Due::Finished => return,
-        };
-        assert_eq!(rt; one.advance(lot), Ok(()), "election {name}");
-        assert_eq!(rt; other.advance(lot), Ok(()), "election {name}");
-        assert!(rt; one.stages() == other.stages(), "election {name}");
-    }
-}
-
-#[test]
-fn books_agree(rt: HostRuntime) -> Result<(), Fail> {
-    let mut draws = Draws { state: 2463534242 };
-    for election in 0..300u32 {
-        let n = draws.below(5) as u8 + 2;
-        let seats = draws.below(u32::from(n) - 1) as u8 + 1;
-        let count = draws.below(13);
-        let mut papers = Vec::new(rt.alloc());
-        for _ in 0..count {
-            if let Some(paper) = draws.paper(n) {
-                papers.push(paper)?;
-            }
-        }
-        let candidates = first_columns(n);
-        assert!(rt;
-            is_contest(&candidates, seats, &papers),
-            "election {election}"
-        );
-        let mut parcels = ParcelBook::new(rt.alloc(), candidates, seats, &papers)?;
-        let mut plain = PlainBook::new(rt.alloc(), candidates, seats, &papers)?;
-        agree(&rt, &mut parcels, &mut plain, election);
-        assert_eq!(rt; parcels.due(), Due::Finished, "election {election}");
     }
     Ok(())
 }

@@ -2,18 +2,19 @@
 
 ghost use Rattle.std.specs.Prelude.{◌≡◌, ℕ, ◌≤◌, reverse};
 ghost use Rattle.std.specs.List.{list_any};
-ghost use Rattle.count.specs.Due.{is_above as is_above_of, highest as highest_of, lowest as lowest_of};
+ghost use Rattle.paper.specs.Columns.{max_candidates};
+ghost use Rattle.count.specs.Law.Due.{is_above as is_above_of, highest as highest_of, lowest as lowest_of};
 
+use crate::elected::{append, votes_after};
 use crate::stages::Stage;
-use crate::standing::{choose, votes_after};
 use paper::Columns;
 
 /// Whether a candidate had more votes than another at the most recent stage at which they differed.
 fn is_above(stages: &[Stage], c: u8, d: u8) -> bool
     requires some { 1 ≤ c }
-    requires few { c ≤ 30 }
+    requires few { c ≤ max_candidates }
     requires some_other { 1 ≤ d }
-    requires few_other { d ≤ 30 }
+    requires few_other { d ≤ max_candidates }
     ensures { result ≡ is_above_of (reverse stages.now) c d }
 {
     match stages.split_last() {
@@ -35,7 +36,7 @@ fn is_above(stages: &[Stage], c: u8, d: u8) -> bool
 /// Whether one of a group is above a candidate.
 fn has_above(stages: &[Stage], group: &Columns, c: u8) -> bool
     requires some { 1 ≤ c }
-    requires few { c ≤ 30 }
+    requires few { c ≤ max_candidates }
     ensures { result ≡ list_any (λ d. is_above_of (reverse stages.now) d c) group.now }
 {
     for d in group.as_slice() {
@@ -49,7 +50,7 @@ fn has_above(stages: &[Stage], group: &Columns, c: u8) -> bool
 /// Whether a candidate is above one of a group.
 fn has_below(stages: &[Stage], group: &Columns, c: u8) -> bool
     requires some { 1 ≤ c }
-    requires few { c ≤ 30 }
+    requires few { c ≤ max_candidates }
     ensures { result ≡ list_any (λ d. is_above_of (reverse stages.now) c d) group.now }
 {
     for d in group.as_slice() {
@@ -67,7 +68,7 @@ pub fn highest(stages: &[Stage], group: &Columns) -> Columns
     let mut chosen = Columns::empty();
     for c in group.as_slice() {
         if !has_above(stages, group, *c) {
-            choose(&mut chosen, *c);
+            append(&mut chosen, *c);
         }
     }
     chosen
@@ -80,7 +81,7 @@ pub fn lowest(stages: &[Stage], group: &Columns) -> Columns
     let mut chosen = Columns::empty();
     for c in group.as_slice() {
         if !has_below(stages, group, *c) {
-            choose(&mut chosen, *c);
+            append(&mut chosen, *c);
         }
     }
     chosen

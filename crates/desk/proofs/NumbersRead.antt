@@ -1,7 +1,7 @@
 -- What a typed getter of `clap` reads of a text is the number that the text is.
-use Rattle.std.proofs.Common.{◌≡◌, ◌∙◌, ◌<◌, ◌^◌, ℕ, Bool, List, Option, Some, None, true, false, refl, sym, arith, ap}
-use Rattle.std.specs.Prelude.{Result, Ok, Err, unwrap_or, ◌≤◌}
-use Rattle.std.specs.Str.Parse.{ParsesUnsigned, digits_value, without_leading_plus}
+use Rattle.std.proofs.Common.{◌≡◌, ℕ, Bool, List, Option, Some, None, true, false, refl, arith}
+use Rattle.std.specs.Prelude.{Result, Ok, Err, unwrap_or}
+use Rattle.std.specs.Str.Parse.{ParsesUnsigned}
 use Rattle.clap.specs.Matches.{ReadsOne}
 use Rattle.clap.specs.ValueTests.{accepts}
 use Rattle.clap.specs.declared.builder.value_parser.ValueParser.TheVariants as parser

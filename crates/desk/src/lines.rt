@@ -15,7 +15,7 @@ const LINE: usize = 240;
 
 /// What an order came to.
 #[derive(Debug, Drop)]
-pub enum Outcome {
+pub(crate) enum Outcome {
     /// An office was made.
     Ready,
     /// A request was accepted, now or before, and this is replied.
@@ -23,7 +23,7 @@ pub enum Outcome {
     /// A request was refused.
     Refused(Refusal),
     /// The office gave up.
-    Gave(Fault),
+    Failed(Fault),
 }
 
 /// Why the program gives up: a fault of the office, told by its number 101 to 106, or an output that
@@ -77,7 +77,7 @@ pub fn tell_failure<E: Sink>(failure: Failure, err: &mut E) -> u8
 
 /// Tells an outcome, and gives its status: 0 with a line on the output; 1 with a refusal, or 3 with a
 /// fault, on the error output; and 3 where one of the two fails.
-pub fn tell<O: Sink, E: Sink>(outcome: &Outcome, out: &mut O, err: &mut E) -> u8
+pub(crate) fn tell<O: Sink, E: Sink>(outcome: &Outcome, out: &mut O, err: &mut E) -> u8
     requires out { O.failed out.old < 2 ^ 64 - 1 }
     requires err { E.failed err.old < 2 ^ 64 - 1 }
     ensures broken { (result ≡ 3) ⊎ ((O.failed out.new ≡ O.failed out.old) × (E.failed err.new ≡ E.failed err.old)) }
@@ -91,7 +91,7 @@ pub fn tell<O: Sink, E: Sink>(outcome: &Outcome, out: &mut O, err: &mut E) -> u8
                 Err(Broken) => 3,
             };
         }
-        Outcome::Gave(fault) => return tell_failure(Failure::Office(*fault), err),
+        Outcome::Failed(fault) => return tell_failure(Failure::Office(*fault), err),
     };
     match told {
         Ok(()) => 0,

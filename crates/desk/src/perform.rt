@@ -5,7 +5,7 @@ ghost use Rattle.std.specs.Prelude.{◌≡◌, ◌⊎◌, ◌+◌, ◌-◌, ◌^
 use crate::lines::{Outcome, tell};
 use crate::orders::Order;
 use office::{Answer, Office};
-use register::Command;
+use register::{Command, WardCommand};
 use sqlite::{Alter, Connection};
 use std::alloc::{AllocError, Global};
 use store::Fault;
@@ -17,7 +17,7 @@ const OFFICE: u32 = 0;
 fn make_office<S: Alter>(alloc: Global, conn: Connection<S>) -> (Outcome, Connection<S>) {
     match Office::create(alloc, conn) {
         Ok(office) => (Outcome::Ready, office.into_connection()),
-        Err((fault, conn)) => (Outcome::Gave(fault), conn),
+        Err((fault, conn)) => (Outcome::Failed(fault), conn),
     }
 }
 
@@ -30,22 +30,22 @@ fn request<S: Alter>(
 ) -> (Outcome, Connection<S>) {
     let mut office = match Office::open_from(alloc, conn) {
         Ok(office) => office,
-        Err((fault, conn)) => return (Outcome::Gave(fault), conn),
+        Err((fault, conn)) => return (Outcome::Failed(fault), conn),
     };
     let outcome = match office.handle(OFFICE, id, command) {
         Ok(Answer::Done(reply) | Answer::Kept(reply)) => Outcome::Replied(reply),
         Ok(Answer::Refused(refusal)) => Outcome::Refused(refusal),
-        Err(fault) => Outcome::Gave(fault),
+        Err(fault) => Outcome::Failed(fault),
     };
     (outcome, office.into_connection())
 }
 
 fn ward_command(alloc: Global, ward: u32, seats: u32, name: &str) -> Result<Command, AllocError> {
-    Ok(Command::AddWard {
+    Ok(Command::Ward(WardCommand::Add {
         ward,
         seats,
         name: String::from_str(alloc, name)?,
-    })
+    }))
 }
 
 /// Does an order over an opened connection, which it gives back, prints its line, and gives the status.
@@ -72,7 +72,7 @@ pub fn perform<S: Alter, O: Sink, E: Sink>(
             id,
         } => match ward_command(alloc, *ward, *seats, name) {
             Ok(command) => request(alloc, conn, id, &command),
-            Err(AllocError) => (Outcome::Gave(Fault::Memory), conn),
+            Err(AllocError) => (Outcome::Failed(Fault::Memory), conn),
         },
     };
     (tell(&outcome, out, err), conn)

@@ -42,11 +42,11 @@ module _ {Row : Type 0} (read : ℕ → Record → Result Row Flaw) where
           rw (ih later are, same, ← whole) (pushed row later (rows_from read (k + length (r ∷ rs)) others))
 
   -- no fault of these records stands before them
-  pub rows_from-late : (k : ℕ) (records : List Record) → IfErr (rows_from read k records) (λ fault. k ≤ fault.record)
+  pub rows_from-late : (k : ℕ) (records : List Record) → IfErr (rows_from read k records) (λ fault. k ≤ fault.record_number)
   rows_from-late k [] = tt
   rows_from-late k (r ∷ rs) = by_results (read k r) (rows_from read (suc k) rs) (rows_from-late (suc k) rs)
     where
-      by_results : (one : Result Row Flaw) (more : Result (List Row) FileFault) → IfErr more (λ fault. suc k ≤ fault.record) → IfErr (and_rows k one more) (λ fault. k ≤ fault.record)
+      by_results : (one : Result Row Flaw) (more : Result (List Row) FileFault) → IfErr more (λ fault. suc k ≤ fault.record_number) → IfErr (and_rows k one more) (λ fault. k ≤ fault.record_number)
       by_results (Err flaw) more late = omega arith
       by_results (Ok row) (Err fault) late = omega (arith, late)
       by_results (Ok row) (Ok rows) late = tt
@@ -92,12 +92,12 @@ module _ {Row : Type 0} (format : Format Row) where
 
   -- a fault stands behind records that are read as rows
   pub file_rows-late : (records others : List Record) (rows : List Row) → file_rows format records ≡ Ok rows
-      → IfErr (file_rows format (records ++ others)) (λ fault. length records ≤ fault.record)
+      → IfErr (file_rows format (records ++ others)) (λ fault. length records ≤ fault.record_number)
   file_rows-late [] others rows is = cc
   file_rows-late (header ∷ records) others rows is =
       rw (file_rows-append (header ∷ records) others rows is) (later (rows_from (read_record format header) (suc (length records)) others) (rows_from-late (read_record format header) (suc (length records)) others))
     where
-      later : (rest : Result (List Row) FileFault) → IfErr rest (λ fault. suc (length records) ≤ fault.record) → IfErr (before rows rest) (λ fault. suc (length records) ≤ fault.record)
+      later : (rest : Result (List Row) FileFault) → IfErr rest (λ fault. suc (length records) ≤ fault.record_number) → IfErr (before rows rest) (λ fault. suc (length records) ≤ fault.record_number)
       later (Ok rest) late = tt
       later (Err fault) late = late
 

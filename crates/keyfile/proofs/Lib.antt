@@ -1,3 +1,4 @@
+-- What the proofs of the readers share.
 pub mod KeyedLemmas
 pub mod MarkLemmas
 pub mod FieldLemmas

@@ -23,14 +23,14 @@ known-map (Some xs) f h = f xs h
 
 module _ {Row : Type 0} (format : Format Row) where
   -- the own fault of a file, at a record that it has
-  own_fault : (records : List Record) (fault : FileFault) → file_rows format records ≡ Err fault → fault.record ≤ length records → IsFaultOf format records fault
+  own_fault : (records : List Record) (fault : FileFault) → file_rows format records ≡ Err fault → fault.record_number ≤ length records → IsFaultOf format records fault
   own_fault records fault is within = record {
     own = λ _. is;
     within = λ _. within;
     before = λ _. rw is (omega arith);
   }
 
-  told_at : (xs : List ℕ) (records : List Record) (fields : Record) (rows : List Row) (fault : FileFault) → Begins xs (records ++ fields ∷ []) → fault.record ≡ length records
+  told_at : (xs : List ℕ) (records : List Record) (fields : Record) (rows : List Row) (fault : FileFault) → Begins xs (records ++ fields ∷ []) → fault.record_number ≡ length records
       → file_rows format records ≡ Ok rows → read_behind format records fields ≡ Err fault.flaw → IsFaultOf format (file_records xs) fault
   told_at xs records fields rows fault starts at is read =
       let whole : file_records xs ≡ records ++ fields ∷ starts.0 = starts.1 ∙ append_assoc records (fields ∷ []) starts.0 in
@@ -38,7 +38,7 @@ module _ {Row : Type 0} (format : Format Row) where
       let size = length-append records (fields ∷ starts.0) in
       rw whole (own_fault (records ++ fields ∷ starts.0) fault (rw at told) (omega (arith, at, size)))
 
-  stopped_at : (xs : List ℕ) (records : List Record) (rows : List Row) (fault : FileFault) → Begins xs records → fault.record ≡ length records
+  stopped_at : (xs : List ℕ) (records : List Record) (rows : List Row) (fault : FileFault) → Begins xs records → fault.record_number ≡ length records
       → file_rows format records ≡ Ok rows → is_stop fault.flaw ≡ true → IsFaultOf format (file_records xs) fault
   stopped_at xs records rows fault starts at is stop =
       let late = file_rows-late format records starts.0 rows is in
@@ -51,12 +51,12 @@ module _ {Row : Type 0} (format : Format Row) where
 
   module _ {R : Type 0} (rem : R → Option (List ℕ)) (bytes : Option (List ℕ)) (number : ℕ) (rows : List Row) (a : Reader R) (st : StandsAt rem bytes format number rows a) where
     -- the reading was stopped
-    pub stands-stopped : (fault : FileFault) → fault.record ≡ number → is_stop fault.flaw ≡ true → Told format bytes fault
+    pub stands-stopped : (fault : FileFault) → fault.record_number ≡ number → is_stop fault.flaw ≡ true → Told format bytes fault
     stands-stopped fault at stop =
         known-map bytes (λ xs (starts : Begins xs st.records). stopped_at xs st.records rows fault starts (at ∙ sym st.count) st.read stop) (after-begins rem a bytes st.records st.after)
 
     -- no record was read
-    pub stands-ended : (fault : FileFault) → fault.record ≡ number → EndsBefore bytes st.records fault.flaw → Told format bytes fault
+    pub stands-ended : (fault : FileFault) → fault.record_number ≡ number → EndsBefore bytes st.records fault.flaw → Told format bytes fault
     stands-ended fault at ends = by_flaw fault.flaw refl ends
       where
         by_flaw : (flaw : Flaw) → fault.flaw ≡ flaw → EndsBefore bytes st.records flaw → Told format bytes fault
@@ -86,19 +86,19 @@ module _ {Row : Type 0} (format : Format Row) where
             read = file_rows-more format st.records fields rows row st.read (read_behind-even format st.records fields some next.even (omega (arith, few, st.count)) ∙ rw st.count read);
           }
 
-      faulty : (fault : FileFault) → fault.record ≡ number → read_behind format st.records fields ≡ Err fault.flaw → Told format bytes fault
+      faulty : (fault : FileFault) → fault.record_number ≡ number → read_behind format st.records fields ≡ Err fault.flaw → Told format bytes fault
       faulty fault at read =
           known-map bytes (λ xs (starts : Begins xs (st.records ++ fields ∷ [])). told_at xs st.records fields rows fault starts (at ∙ sym st.count) st.read read)
           (after-begins rem b bytes (st.records ++ fields ∷ []) next.after)
 
       -- a faulty one
-      pub stands-told : (fault : FileFault) → fault.record ≡ number → number ≤ format.most → read_as_text format number fields ≡ Err fault.flaw → Told format bytes fault
+      pub stands-told : (fault : FileFault) → fault.record_number ≡ number → number ≤ format.most → read_as_text format number fields ≡ Err fault.flaw → Told format bytes fault
       stands-told fault at few read =
           let some = some_record format st.records rows st.read in
           faulty fault at (read_behind-even format st.records fields some next.even (omega (arith, few, st.count)) ∙ rw st.count read)
 
       -- one past the limit
-      pub stands-many : (fault : FileFault) → fault.record ≡ number → number ≡ format.most + 1 → fault.flaw ≡ TooManyRecords → Told format bytes fault
+      pub stands-many : (fault : FileFault) → fault.record_number ≡ number → number ≡ format.most + 1 → fault.flaw ≡ TooManyRecords → Told format bytes fault
       stands-many fault at past is =
           let some = some_record format st.records rows st.read in
           faulty fault at (read_behind-many format st.records fields some next.even (omega (arith, past, st.count)) ∙ ap Err (sym is))
@@ -107,10 +107,10 @@ module _ {Row : Type 0} (format : Format Row) where
 
   module _ {R : Type 0} (rem : R → Option (List ℕ)) (bytes : Option (List ℕ)) where
     -- the reading was stopped at the header: no fault stands before that
-    pub header-stopped : (fault : FileFault) → fault.record ≡ 0 → is_stop fault.flaw ≡ true → Told format bytes fault
+    pub header-stopped : (fault : FileFault) → fault.record_number ≡ 0 → is_stop fault.flaw ≡ true → Told format bytes fault
     header-stopped fault at stop = by_bytes bytes
       where
-        late : (result : Result (List Row) FileFault) → IfErr result (λ first. 0 ≤ first.record)
+        late : (result : Result (List Row) FileFault) → IfErr result (λ first. 0 ≤ first.record_number)
         late (Ok rows) = tt
         late (Err first) = omega arith
 
@@ -122,12 +122,12 @@ module _ {Row : Type 0} (format : Format Row) where
           before = λ _. rw at (late (file_rows format (file_records xs)));
         }
 
-    same : (fault : FileFault) → fault.record ≡ 0 → fault.flaw ≡ Header → fault ≡ fault_at 0 Header
+    same : (fault : FileFault) → fault.record_number ≡ 0 → fault.flaw ≡ Header → fault ≡ fault_at 0 Header
     same fault at is = rw (← at, ← is) refl
 
     module _ (b : Reader R) (fields : Record) (next : IsNext rem bytes [] fields b) where
       -- the first record isn't the header
-      pub header-other : (fault : FileFault) → fault.record ≡ 0 → fault.flaw ≡ Header → is_text_header format fields ≡ false → Told format bytes fault
+      pub header-other : (fault : FileFault) → fault.record_number ≡ 0 → fault.flaw ≡ Header → is_text_header format fields ≡ false → Told format bytes fault
       header-other fault at is other =
           known-map bytes
           (λ xs (starts : Begins xs (fields ∷ [])).

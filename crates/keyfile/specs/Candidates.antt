@@ -4,6 +4,7 @@ use Rattle.keyfile.specs.Records.{Record}
 use Rattle.keyfile.specs.Numbers.{number_in}
 use Rattle.keyfile.specs.Files.{Format}
 use Rattle.keyfile.specs.declared.candidates.CandidateRow.{CandidateRow}
+use Rattle.keyfile.specs.declared.candidates.TheConstants.{MOST_CANDIDATE_ROWS}
 use Rattle.keyfile.specs.declared.fault.Flaw.{Flaw}
 use Rattle.keyfile.specs.declared.fault.Flaw.TheVariants.{RecordLength, Number}
 
@@ -11,6 +12,7 @@ use Rattle.keyfile.specs.declared.fault.Flaw.TheVariants.{RecordLength, Number}
 abbrev pub CandidateEntry : Type 0
 CandidateEntry = ℕ × ℕ × List ℕ
 
+-- what a row stands for
 abbrev pub candidate_entry : CandidateRow → CandidateEntry
 candidate_entry row = (row.ward, row.candidate, string_bytes row.name)
 
@@ -19,6 +21,7 @@ abbrev pub is_candidate_header : Record → Bool
 is_candidate_header (ward ∷ candidate ∷ name ∷ []) = bytes_eq ward (codes "ward") && (bytes_eq candidate (codes "candidate") && bytes_eq name (codes "name"))
 is_candidate_header other = false
 
+-- a candidate of a name, where both numbers were read
 abbrev pub numbered : Option ℕ → Option ℕ → List ℕ → Result CandidateEntry Flaw
 numbered (Some ward) (Some candidate) name = Ok (ward, candidate, name)
 numbered (Some ward) None name = Err Number
@@ -31,4 +34,4 @@ candidate_in other = Err RecordLength
 
 -- the file of candidates: 30 of each of 99 wards at most
 abbrev pub candidates : Format CandidateEntry
-candidates = record { is_header = is_candidate_header; most = 2970; read = λ k fields. candidate_in fields }
+candidates = record { is_header = is_candidate_header; most = MOST_CANDIDATE_ROWS; read = λ k fields. candidate_in fields }

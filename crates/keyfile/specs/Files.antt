@@ -30,7 +30,7 @@ read_record format header k fields =
 
 -- a flaw of the record of some number
 abbrev pub fault_at : ℕ → Flaw → FileFault
-fault_at k flaw = record { flaw = flaw; «record» = k }
+fault_at k flaw = record { flaw = flaw; record_number = k }
 
 -- a row and the rows behind it; its own fault comes first
 abbrev pub and_rows : {Row : Type 0} → ℕ → Result Row Flaw → Result (List Row) FileFault → Result (List Row) FileFault
@@ -52,5 +52,5 @@ file_rows format (header ∷ others) =
 -- what is told of a file: its own fault; or that reading was stopped at a record, and then no fault stands before that
 pub record IsFaultOf {Row : Type 0} (format : Format Row) (records : List Record) (fault : FileFault) : Type 0 where
   pub own : is_stop fault.flaw ≡ false → file_rows format records ≡ Err fault
-  pub within : is_stop fault.flaw ≡ true → fault.record ≤ length records
-  pub before : is_stop fault.flaw ≡ true → IfErr (file_rows format records) (λ first. fault.record ≤ first.record)
+  pub within : is_stop fault.flaw ≡ true → fault.record_number ≤ length records
+  pub before : is_stop fault.flaw ≡ true → IfErr (file_rows format records) (λ first. fault.record_number ≤ first.record_number)

@@ -7,6 +7,7 @@ use Rattle.keyfile.specs.Records.{Record}
 use Rattle.keyfile.specs.Numbers.{number_in}
 use Rattle.keyfile.specs.Files.{Format}
 use Rattle.keyfile.specs.declared.fault.Flaw.{Flaw}
+use Rattle.keyfile.specs.declared.keying.TheConstants.{MOST_PAPERS}
 use Rattle.keyfile.specs.declared.fault.Flaw.TheVariants.{RecordLength, Number, PaperOrder, Marks}
 
 -- whether a number was read and is this one
@@ -29,6 +30,7 @@ is_keying_header columns (first ∷ numbers) = bytes_eq first (codes "paper") &&
 abbrev pub is_break : ℕ → Bool
 is_break b = (b == 44) || ((b == 34) || ((b == 10) || (b == 13)))
 
+-- a mark field that holds one of them
 abbrev pub breaks_marks : List ℕ → Bool
 breaks_marks mark = list_any is_break mark
 
@@ -58,7 +60,7 @@ paper_in k (paper ∷ marks) = of_number k (number_in paper) marks
 
 -- the file of a keying of papers with some columns: the papers of one batch at most
 abbrev pub keying : List ℕ → Format (List ℕ)
-keying columns = record { is_header = is_keying_header columns; most = 500; read = paper_in }
+keying columns = record { is_header = is_keying_header columns; most = MOST_PAPERS; read = paper_in }
 
 -- the marks text of a paper with some columns is read as its mark fields say: as doubtful, or as the mark of each field
 -- beside its column

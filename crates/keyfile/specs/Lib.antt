@@ -1,3 +1,4 @@
+-- What import files hold, and how they are read.
 pub mod Faults
 pub mod Records
 pub mod Numbers

@@ -14,7 +14,7 @@ use std::alloc::Global;
 use std::io::Read;
 
 /// The most candidates of a file: 30 in each of 99 wards.
-const MOST_CANDIDATES: u32 = 2970;
+const MOST_CANDIDATE_ROWS: u32 = 2970;
 
 /// A candidate of an import file. The numbers have 1 to 5 digits and the name is any text: whether
 /// they are in range is decided when the candidate is added.
@@ -51,7 +51,7 @@ impl FileFormat for CandidateFile {
     ghost entry = { candidate_entry };
 
     fn most(&self) -> u32 {
-        MOST_CANDIDATES
+        MOST_CANDIDATE_ROWS
     }
 
     fn is_header(&self, fields: &[&str]) -> bool {
@@ -71,6 +71,7 @@ impl FileFormat for CandidateFile {
     }
 }
 
+/// A candidate of a name, whose ward and number two texts write.
 fn candidate_row(
     alloc: Global,
     ward: &str,

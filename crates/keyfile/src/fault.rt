@@ -42,11 +42,11 @@ pub enum Flaw {
 
 /// The fault for which an import file is refused.
 #[derive(Clone, Copy, Debug, PartialEq, Eq, Error)]
-#[error("file fault {} at record {record}: {flaw}", .flaw.number())]
+#[error("file fault {} at record {record_number}: {flaw}", .flaw.number())]
 pub struct FileFault {
     pub flaw: Flaw,
     /// The record's number: 0 is the header. Of `ReadFailed` and `Memory` it is the record under way.
-    pub record: u32,
+    pub record_number: u32,
 }
 
 impl Flaw {
@@ -88,13 +88,13 @@ impl From<AllocError> for Flaw {
 /// An outcome at a record of a file.
 pub(crate) fn at_record<T>(number: u32, outcome: Result<T, Flaw>) -> Result<T, FileFault>
     ensures ok { IfOk result (λ value. outcome ≡ Ok value) }
-    ensures err { IfErr result (λ fault. (outcome ≡ Err fault.flaw) × (fault.record ≡ number)) }
+    ensures err { IfErr result (λ fault. (outcome ≡ Err fault.flaw) × (fault.record_number ≡ number)) }
 {
     match outcome {
         Ok(value) => Ok(value),
         Err(flaw) => Err(FileFault {
             flaw,
-            record: number,
+            record_number: number,
         }),
     }
 }

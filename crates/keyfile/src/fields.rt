@@ -47,6 +47,7 @@ pub(crate) fn number_in(text: &str) -> Option<u32>
     text.parse().ok()
 }
 
+/// Whether bytes are digits alone.
 fn all_digits(digits: &[u8]) -> bool
     ensures { result ≡ list_all is_ascii_digit digits.now }
 {

@@ -1,6 +1,6 @@
 //! What an import file holds, and how it is read whole.
 
-ghost use Rattle.std.specs.Prelude.{◌≡◌, ◌∷◌, ◌++◌, ◌+◌, ◌<◌, ◌≤◌, ◌⊎◌, [], List, Option, ℕ, true, false, map, IfOk, IfErr, IfSome, IfNone, Ok, Err, OnOk};
+ghost use Rattle.std.specs.Prelude.{◌≡◌, ◌∷◌, ◌++◌, ◌+◌, ◌-◌, ◌^◌, ◌<◌, ◌≤◌, ◌⊎◌, [], List, Option, ℕ, true, false, map, IfOk, IfErr, IfSome, IfNone, Ok, Err, OnOk};
 ghost use Rattle.csv.specs.Records.{fields_of};
 ghost use Rattle.keyfile.specs.Files.{Format, IsFaultOf, file_rows, is_text_header, read_as_text};
 ghost use Rattle.keyfile.specs.Reading.{IsAfter, Known, StandsAt};
@@ -27,7 +27,7 @@ pub(crate) trait FileFormat {
     /// The most records behind the header.
     fn most(&self) -> u32
         ensures is { result ≡ (format self.now).most }
-        ensures few { result < 10000 };
+        ensures few { result < 2 ^ 32 - 1 };
 
     /// Whether the fields of the first record are the header.
     fn is_header(&self, fields: &[&str]) -> bool
@@ -59,7 +59,7 @@ pub(crate) fn read_file<R: Read + Drop, F: FileFormat>(
         if rows.push(row).is_err() {
             return Err(FileFault {
                 flaw: Flaw::Memory,
-                record: number,
+                record_number: number,
             });
         }
     }
@@ -82,7 +82,7 @@ fn read_header<R: Read + Drop, F: FileFormat>(
         Some(raw) => at_record(0, check_header(alloc, &raw, format)),
         None => Err(FileFault {
             flaw: Flaw::Header,
-            record: 0,
+            record_number: 0,
         }),
     }
 }
@@ -151,7 +151,7 @@ fn check_end<R: Read + Drop, F: FileFormat>(
         None => Ok(()),
         Some(_) => Err(FileFault {
             flaw: Flaw::TooManyRecords,
-            record: number,
+            record_number: number,
         }),
     }
 }

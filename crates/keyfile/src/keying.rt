@@ -152,6 +152,7 @@ fn is_doubtful(marks: &[&str]) -> bool
     }
 }
 
+/// Whether mark fields are all empty.
 fn are_empty(marks: &[&str]) -> bool
     ensures { result ≡ list_all (λ t. length t.now == 0) marks.now }
 {

@@ -44,7 +44,7 @@ pub(crate) fn next_record<R: Read + Drop>(
     ensures whole { (bytes : Option (List ℕ)) (records : List Record) → IsAfter R.remaining bytes records file.old
         → IfOk result (λ o. IfNone o (Known bytes (λ xs. file_records xs ≡ records))) }
     ensures err { (bytes : Option (List ℕ)) (records : List Record) → IsAfter R.remaining bytes records file.old
-        → IfErr result (λ fault. (fault.record ≡ number) × EndsBefore bytes records fault.flaw) }
+        → IfErr result (λ fault. (fault.record_number ≡ number) × EndsBefore bytes records fault.flaw) }
 {
     let mut raw = ByteRecord::new(alloc);
     match file.read_byte_record(&mut raw) {
@@ -52,7 +52,7 @@ pub(crate) fn next_record<R: Read + Drop>(
         Ok(false) => Ok(None),
         Err(error) => Err(FileFault {
             flaw: flaw_of(&error),
-            record: number,
+            record_number: number,
         }),
     }
 }

@@ -48,20 +48,15 @@ after_next s rs i r within is = ap (after_one (after s (take i rs))) is ∙ sym 
 -- a fault at a request ends the list there
 pub stops_after : (s : OfficeState) (rs : List Request) (i : ℕ) (r : Request) (f : Fault) (closed : Bool) (st : State) → i < length rs → r ≡ get_or rs i r
     → Handled (after s (take i rs)) (step_of (after s (take i rs)) r) (Err f) closed st → StopsAfter s rs i closed st f
-stops_after s rs i r f closed st within is handled = record {
-  some = inl within;
-  exit = elim handled [
-    | inl kept ↦ inl kept.open_at
-    | inr shut ↦ inr (shut.is_closed, subst (λ y. LeavesState st (λ x. (x ≡ after s (take i rs)) ⊎ (x ≡ y))) (after_next s rs i r within is) shut.leaves)
-  ];
-}
+stops_after s rs i r f closed st within is handled = inr (record { request = r; next = take_more rs i r within ∙ ap (λ x. take i rs ++ x ∷ []) (sym is); handled = handled })
 
 -- what a stop leaves where the list ended so
-pub stops_at_beginning : (earlier rs : List Request) (i : ℕ) (f : Fault) (closed : Bool) (st : State) → i < length rs → StopsAfter (after empty_office earlier) rs i closed st f → LeavesState st (IsAfterBeginning earlier rs i)
-stops_at_beginning earlier rs i f closed st within stop = elim stop.exit [
-  | inl kept ↦ keeps_beginning earlier rs i st (omega arith) kept.at
-  | inr shut ↦ λ trees may. let it = shut.1 trees may in elim it.1 [
+pub stops_at_beginning : (earlier rs : List Request) (i : ℕ) (r : Request) (f : Fault) (closed : Bool) (st : State) → i < length rs → r ≡ get_or rs i r
+    → Handled (after (after empty_office earlier) (take i rs)) (step_of (after (after empty_office earlier) (take i rs)) r) (Err f) closed st → LeavesState st (IsAfterBeginning earlier rs i)
+stops_at_beginning earlier rs i r f closed st within is handled = elim handled [
+  | inl kept ↦ keeps_beginning earlier rs i st (omega arith) kept.open_at.at
+  | inr shut ↦ λ trees may. let it = shut.leaves trees may in elim it.1 [
     | inl before ↦ (it.0, beginning earlier rs i i (omega arith) (omega arith) (omega arith) it.0 before, it.2)
-    | inr next ↦ (it.0, beginning earlier rs i (i + 1) (omega arith) (omega arith) (omega arith) it.0 next, it.2)
+    | inr next ↦ (it.0, beginning earlier rs i (i + 1) (omega arith) (omega arith) (omega arith) it.0 (next ∙ after_next (after empty_office earlier) rs i r within is), it.2)
   ]
 ]

@@ -1,20 +1,20 @@
 -- What an answer tells, and what it says of the office.
-use Rattle.std.specs.Prelude.{◌≡◌, ◌⊎◌, ℕ, Bool, true, false, List, string_bytes, Result, Ok, Err}
+use Rattle.std.specs.Prelude.{◌≡◌, ◌⊎◌, ℕ, Bool, true, false, List, [], string_bytes, Result, Ok, Err}
 use Rattle.sqlite.specs.State.{State}
-use Rattle.register.specs.declared.refusal.Refusal.{Refusal}
+use Rattle.register.specs.declared.refusal.Reason.{Reason}
 use Rattle.register.specs.Offices.{OfficeState}
-use Rattle.register.specs.Machine.{Outcome, accepted, kept, refused, state_after}
+use Rattle.register.specs.Machine.{Outcome, accepted, kept, refused, state_after, is_accepted}
 use Rattle.tables.specs.declared.fault.Fault.{Fault}
 use Rattle.tables.specs.declared.fault.Fault.TheVariants.{Memory, Store}
 use Rattle.store.specs.Offices.{IsAt, LeavesState}
 use Rattle.office.specs.declared.answers.Answer.{Answer}
 use Rattle.office.specs.declared.answers.Answer.TheVariants.{Done, Kept, Refused}
 
--- what is told of an outcome: the reply of an accepted or a kept request, or the refusal
+-- what is told of an outcome: the reply of an accepted or a kept request, or the reason of a refusal
 pub data Told : Type 0 where
   done : List ℕ → Told
   again : List ℕ → Told
-  no : Refusal → Told
+  no : Reason → Told
 
 -- what an answer tells
 abbrev pub told : Answer → Told
@@ -28,16 +28,24 @@ told_of (accepted next reply) = done reply
 told_of (kept reply) = again reply
 told_of (refused why) = no why
 
+-- the reply of an accepted or a kept request
+abbrev pub reply_of : Outcome → List ℕ
+reply_of (accepted next reply) = reply
+reply_of (kept reply) = reply
+reply_of (refused why) = []
+
 -- an open office that keeps this state
 pub record IsOpenAt (s : OfficeState) (closed : Bool) (st : State) : Type 0 where
   pub is_open : closed ≡ false
   pub at : IsAt s st
 
--- a fault that closed the office: a stop leaves the state before the request, or the one after it
-pub record IsClosedIn (s after : OfficeState) (f : Fault) (closed : Bool) (st : State) : Type 0 where
+-- A fault that closed the office: a stop leaves the state before the request, or the one after it. Want of memory closes it only inside
+-- the transaction of an accepted request.
+pub record IsClosedIn (s : OfficeState) (outcome : Outcome) (f : Fault) (closed : Bool) (st : State) : Type 0 where
   pub is_closed : closed ≡ true
   pub fault : (f ≡ Memory) ⊎ (f ≡ Store)
-  pub leaves : LeavesState st (λ x. (x ≡ s) ⊎ (x ≡ after))
+  pub inside : f ≡ Memory → is_accepted outcome ≡ true
+  pub leaves : LeavesState st (λ x. (x ≡ s) ⊎ (x ≡ state_after s outcome))
 
 -- a fault before the transaction, for want of memory alone: nothing is changed, and the office stays open
 pub record IsKeptOpen (s : OfficeState) (f : Fault) (closed : Bool) (st : State) : Type 0 where
@@ -48,4 +56,10 @@ pub record IsKeptOpen (s : OfficeState) (f : Fault) (closed : Bool) (st : State)
 -- same unless the request was accepted. A fault: the state before, or, where it closed the office, that or the one after.
 abbrev pub Handled : OfficeState → Outcome → Result Answer Fault → Bool → State → Type 0
 Handled s outcome (Ok answer) closed st = (told answer ≡ told_of outcome) × IsOpenAt (state_after s outcome) closed st
-Handled s outcome (Err f) closed st = IsKeptOpen s f closed st ⊎ IsClosedIn s (state_after s outcome) f closed st
+Handled s outcome (Err f) closed st = IsKeptOpen s f closed st ⊎ IsClosedIn s outcome f closed st
+
+-- A request that met a fault and was accepted all the same, sent again to an office that was opened at the state after it: it is kept, with the reply that
+-- it would have had, and nothing changes. (Where the office was opened at the state before it, it is handled as for the first time.)
+abbrev pub HandledAgain : OfficeState → Outcome → Result Answer Fault → Bool → State → Type 0
+HandledAgain s outcome (Ok answer) closed st = (told answer ≡ again (reply_of outcome)) × IsOpenAt (state_after s outcome) closed st
+HandledAgain s outcome (Err f) closed st = IsKeptOpen (state_after s outcome) f closed st ⊎ (closed ≡ true)

@@ -1,14 +1,13 @@
 -- A list of requests, answered one after the other.
-use Rattle.std.specs.Prelude.{◌≡◌, ◌⊎◌, ◌≤◌, ◌<◌, ◌+◌, ℕ, Bool, true, List, [], ◌∷◌, ◌++◌, length, map, take}
+use Rattle.std.specs.Prelude.{◌≡◌, ◌⊎◌, ◌≤◌, ◌<◌, ◌+◌, ℕ, Bool, true, List, [], ◌∷◌, ◌++◌, length, map, take, Err}
 use Rattle.sqlite.specs.State.{State}
 use Rattle.register.specs.declared.command.Request.{Request}
 use Rattle.register.specs.Offices.{OfficeState, empty_office}
 use Rattle.register.specs.Machine.{Outcome, step_of, after_one, after, accepted_of}
-use Rattle.store.specs.Offices.{LeavesState}
 use Rattle.tables.specs.declared.fault.Fault.{Fault}
 use Rattle.tables.specs.declared.fault.Fault.TheVariants.{Memory}
 use Rattle.office.specs.declared.answers.Answer.{Answer}
-use Rattle.office.specs.Answers.{told, told_of, IsOpenAt}
+use Rattle.office.specs.Answers.{told, told_of, IsOpenAt, Handled}
 
 -- what the machine answers to some requests, each at the state where its turn comes
 abbrev pub outcomes : OfficeState → List Request → List Outcome
@@ -28,9 +27,18 @@ pub record IsAfterBeginning (earlier requests : List Request) (answered : ℕ) (
   pub within : count ≤ length requests
   pub is : s ≡ after empty_office (accepted_of empty_office (earlier ++ take count requests))
 
--- A fault ended the list after so many answers. Where the office stays open, it keeps the state after the answered requests; else a stop
--- leaves that state, or the one after the request that met the fault.
-pub record StopsAfter (s : OfficeState) (requests : List Request) (answered : ℕ) (closed : Bool) (st : State) (f : Fault) : Type 0 where
-  pub some : answered < length requests ⊎ (f ≡ Memory)
-  pub exit : IsOpenAt (after s (take answered requests)) closed st
-      ⊎ ((closed ≡ true) × LeavesState st (λ x. (x ≡ after s (take answered requests)) ⊎ (x ≡ after s (take (answered + 1) requests))))
+-- there was no room for the answers: nothing was handled, and the office stays open at the state before
+pub record HadNoRoom (s : OfficeState) (answered : ℕ) (f : Fault) (closed : Bool) (st : State) : Type 0 where
+  pub none : answered ≡ 0
+  pub memory : f ≡ Memory
+  pub open_at : IsOpenAt s closed st
+
+-- the request behind the answered ones met the fault, and left what its exit leaves
+pub record MetFault (s : OfficeState) (requests : List Request) (answered : ℕ) (f : Fault) (closed : Bool) (st : State) : Type 0 where
+  pub request : Request
+  pub next : take (answered + 1) requests ≡ take answered requests ++ request ∷ []
+  pub handled : Handled (after s (take answered requests)) (step_of (after s (take answered requests)) request) (Err f) closed st
+
+-- why a fault ended the list after so many answers, and what it leaves
+abbrev pub StopsAfter : OfficeState → List Request → ℕ → Bool → State → Fault → Type 0
+StopsAfter s requests answered closed st f = HadNoRoom s answered f closed st ⊎ MetFault s requests answered f closed st

@@ -3,9 +3,10 @@
 ghost use Rattle.std.specs.Prelude.{◌≡◌, ◌⊎◌, IfOk, IfErr, OnOk, IsTrue};
 ghost use Rattle.sqlite.specs.State.{HasCleanDisk};
 ghost use Rattle.sqlite.specs.Held.{state};
-ghost use Rattle.register.specs.Offices.{OfficeState, IsState};
-ghost use Rattle.register.specs.Machine.{step, state_after};
-ghost use Rattle.register.specs.Views.{ShowsState, outcome_of};
+ghost use Rattle.register.specs.Offices.{OfficeState};
+ghost use Rattle.register.specs.Items.{IsState};
+ghost use Rattle.register.specs.Machine.{step, state_after, IsKeptAgain};
+ghost use Rattle.register.specs.Views.{IsViewOf, outcome_of};
 ghost use Rattle.tables.specs.Reading.{OnlyReads};
 ghost use Rattle.store.specs.Offices.{IsAt};
 
@@ -16,8 +17,9 @@ use store::{Fault, Store};
 
 /// The decision on a view; want of memory is told as `Memory`.
 fn decided(alloc: Global, view: &View<'_>, command: &Command) -> Result<Decision, Fault>
-    ensures decides { IfOk result (λ decision. (s : OfficeState) → ShowsState s command.now view.now → outcome_of s decision ≡ step s view.now.actor view.now.id.now command.now) }
+    ensures decides { IfOk result (λ decision. (s : OfficeState) → IsViewOf s command.now view.now → outcome_of s decision ≡ step s view.now.actor view.now.id.now command.now) }
     ensures stays { (s : OfficeState) → IsState s → IsState (state_after s (step s view.now.actor view.now.id.now command.now)) }
+    ensures again { (s : OfficeState) → IsKeptAgain view.now.actor view.now.id.now command.now (step s view.now.actor view.now.id.now command.now) }
     ensures memory { IfErr result (λ f. f ≡ Fault.Memory) }
 {
     match decide(alloc, view, command) {
@@ -36,6 +38,7 @@ pub(crate) fn decision_of<S: Alter>(
 ) -> Result<Decision, Fault>
     ensures decides { HasCleanDisk (state S.Store store.new) → (s : OfficeState) → IsAt s (state S.Store store.old) → IfOk result (λ decision. outcome_of s decision ≡ step s actor id.now command.now) }
     ensures stays { OnOk result ((s : OfficeState) → IsState s → IsState (state_after s (step s actor id.now command.now))) }
+    ensures again { OnOk result ((s : OfficeState) → IsKeptAgain actor id.now command.now (step s actor id.now command.now)) }
     ensures cause { HasCleanDisk (state S.Store store.new) → (s : OfficeState) → IsAt s (state S.Store store.old) → IfErr result (λ f. (f ≡ Fault.Memory) ⊎ (f ≡ Fault.Store)) }
     ensures opens { HasCleanDisk (state S.Store store.new) → OnOk result (IsTrue (state S.Store store.new).is_open) }
     ensures keeps { HasCleanDisk (state S.Store store.new) → (s : OfficeState) → IsAt s (state S.Store store.old) → IsAt s (state S.Store store.new) }

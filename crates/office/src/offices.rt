@@ -1,19 +1,20 @@
 //! An office, open or closed.
 
-ghost use Rattle.std.specs.Prelude.{◌≡◌, ◌⊎◌, ◌+◌, ◌<◌, ◌≤◌, ◌++◌, ◌∷◌, [], List, true, false, take, length, vec_len, vec_capacity, Some, None, IfOk, IfErr, IfNone, IfSome, IsTrue};
+ghost use Rattle.std.specs.Prelude.{◌≡◌, ◌⊎◌, ◌+◌, ◌<◌, ◌≤◌, ◌++◌, ◌∷◌, [], List, true, false, take, length, vec_len, vec_capacity, Some, None, IfOk, IfErr, OnOk, IfNone, IfSome, IsTrue};
 ghost use Rattle.sqlite.specs.Tree.{Trees};
 ghost use Rattle.sqlite.specs.Effect.{Database};
 ghost use Rattle.sqlite.specs.State.{HasCleanDisk};
 ghost use Rattle.sqlite.specs.Held.{state};
 ghost use Rattle.register.specs.Offices.{OfficeState, empty_office};
-ghost use Rattle.register.specs.Machine.{step, after};
-ghost use Rattle.tables.specs.Contents.{RestsAt, Stores};
-ghost use Rattle.tables.specs.Presence.{has_some_table, IsOurs};
+ghost use Rattle.register.specs.Items.{IsState};
+ghost use Rattle.register.specs.Machine.{step, state_after, is_accepted, after, IsKeptAgain};
+ghost use Rattle.tables.specs.Contents.{RestsAt, SameContents, Stores};
+ghost use Rattle.tables.specs.Presence.{has_some_table, has_every_table, IsOurs};
 ghost use Rattle.tables.specs.Reading.{OnlyReads};
 ghost use Rattle.store.specs.Offices.{tables_of, HoldsState, IsAt, LeavesState};
-ghost use Rattle.store.specs.Openings.{IsBlank, IsToldBy};
+ghost use Rattle.store.specs.Openings.{IsBlank, IsToldBy, IsLeftAt};
 ghost use Rattle.register.specs.declared.command.Request.{Request};
-ghost use Rattle.office.specs.Answers.{IsOpenAt, Handled};
+ghost use Rattle.office.specs.Answers.{IsOpenAt, Handled, HandledAgain};
 ghost use Rattle.office.specs.Runs.{AnswersFirst, IsAfterBeginning, StopsAfter};
 
 use crate::answers::{Answer, Run};
@@ -51,7 +52,9 @@ impl<S: Alter> Office<S> {
         ensures made { IfOk result (λ o. HasCleanDisk (state S.Store o.held) → IsBlank (state S.Store conn) → IsOpenAt empty_office o.closed (state S.Store o.held)) }
         ensures stops { IfErr result (λ e. HasCleanDisk (state S.Store e.1) → IsBlank (state S.Store conn)
             → (trees : Trees) → (state S.Store e.1).may_leave trees → (state S.Store conn).may_leave trees ⊎ Stores (tables_of empty_office) trees) }
+        ensures whole { IfOk result (λ o. has_every_table (state S.Store o.held).now.schema ≡ true) }
         ensures taken { has_some_table (state S.Store conn).now.schema ≡ true → IfOk result (λ _. ⊥) }
+        ensures wrong { has_some_table (state S.Store conn).now.schema ≡ true → conn.in_transaction ≡ false → IfErr result (λ e. e.0 ≡ Fault.WrongDatabase) }
         ensures told { IfErr result (λ e. (e.0 ≡ Fault.Memory) ⊎ ((e.0 ≡ Fault.Store) ⊎ ((e.0 ≡ Fault.WrongDatabase) × (has_some_table (state S.Store conn).now.schema ≡ true) × (e.1 ≡ conn)))) }
     {
         match Store::create(alloc, conn) {
@@ -73,9 +76,12 @@ impl<S: Alter> Office<S> {
         ensures opened { IfOk result (λ o. HasCleanDisk (state S.Store o.held) → (db : Database) → IsOurs db.schema → RestsAt db (state S.Store conn)
             → (s : OfficeState) × HoldsState db s × IsOpenAt s o.closed (state S.Store o.held)) }
         ensures told { IfErr result (λ e. HasCleanDisk (state S.Store e.1) → (db : Database) → IsOurs db.schema → RestsAt db (state S.Store conn) → IsToldBy db e.0) }
+        ensures reopens { IfOk result (λ o. HasCleanDisk (state S.Store o.held) → (db : Database) → RestsAt db (state S.Store conn) → (s : OfficeState) → IsLeftAt s db → IsOpenAt s o.closed (state S.Store o.held)) }
+        ensures refuses { IfErr result (λ e. HasCleanDisk (state S.Store e.1) → (db : Database) → RestsAt db (state S.Store conn) → (s : OfficeState) → IsLeftAt s db → (e.0 ≡ Fault.Memory) ⊎ (e.0 ≡ Fault.Store)) }
         ensures reads { IfOk result (λ o. OnlyReads (state S.Store conn) (state S.Store o.held)) }
         ensures reads_too { IfErr result (λ e. OnlyReads (state S.Store conn) (state S.Store e.1)) }
         ensures alone { (db : Database) → (s t : OfficeState) → HoldsState db s → HoldsState db t → s ≡ t }
+        ensures equal { (s t : OfficeState) → IsState s → IsState t → SameContents (tables_of s) (tables_of t) → s ≡ t }
     {
         match Store::open_from(alloc, conn) {
             Ok(store) => Ok(Office {
@@ -104,9 +110,28 @@ impl<S: Alter> Office<S> {
     /// `Memory` before the transaction leaves tables and office as they were, and the office open. Any
     /// other fault closes the office: the tables before the request are found then, or, where it was
     /// accepted, those after it. A closed office answers `Closed`.
+    ///
+    /// The request that met a fault, sent again after the office was opened again, is `Done` where the old
+    /// tables were found and `Kept` where the new ones were, with the same reply and state after.
     pub fn handle(&mut self, actor: u32, id: &str, command: &Command) -> Result<Answer, Fault>
         ensures handled { HasCleanDisk (state S.Store self.new.held) → self.old.closed ≡ false → (s : OfficeState) → IsAt s (state S.Store self.old.held)
             → Handled s (step s actor id.now command.now) result self.new.closed (state S.Store self.new.held) }
+        ensures sent_again { HasCleanDisk (state S.Store self.new.held) → self.old.closed ≡ false → (s : OfficeState) → is_accepted (step s actor id.now command.now) ≡ true
+            → IsAt (state_after s (step s actor id.now command.now)) (state S.Store self.old.held)
+            → HandledAgain s (step s actor id.now command.now) result self.new.closed (state S.Store self.new.held) }
+        ensures closes { IfErr result (λ f. (f ≡ Fault.Memory) ⊎ (self.new.closed ≡ true)) }
+        ensures closed { self.old.closed ≡ true → (result ≡ Err Fault.Closed) × (self.new ≡ self.old) }
+        ensures clean { HasCleanDisk (state S.Store self.new.held) → HasCleanDisk (state S.Store self.old.held) }
+    {
+        self.answered(actor, id, command)
+    }
+
+    /// The answer to one request, from the decision on what the store holds and the commit of its change.
+    fn answered(&mut self, actor: u32, id: &str, command: &Command) -> Result<Answer, Fault>
+        ensures handled { HasCleanDisk (state S.Store self.new.held) → self.old.closed ≡ false → (s : OfficeState) → IsAt s (state S.Store self.old.held)
+            → Handled s (step s actor id.now command.now) result self.new.closed (state S.Store self.new.held) }
+        ensures again { OnOk result ((s : OfficeState) → IsKeptAgain actor id.now command.now (step s actor id.now command.now)) }
+        ensures closes { IfErr result (λ f. (f ≡ Fault.Memory) ⊎ (self.new.closed ≡ true)) }
         ensures closed { self.old.closed ≡ true → (result ≡ Err Fault.Closed) × (self.new ≡ self.old) }
         ensures clean { HasCleanDisk (state S.Store self.new.held) → HasCleanDisk (state S.Store self.old.held) }
     {
@@ -144,6 +169,7 @@ impl<S: Alter> Office<S> {
             → IfSome result.fault (StopsAfter s requests.now (vec_len result.answers) self.new.closed (state S.Store self.new.held)) }
         ensures headline { HasCleanDisk (state S.Store self.new.held) → self.old.closed ≡ false → (earlier : List Request) → IsAt (after empty_office earlier) (state S.Store self.old.held)
             → LeavesState (state S.Store self.new.held) (IsAfterBeginning earlier requests.now (vec_len result.answers)) }
+        ensures closes { IfSome result.fault (λ f. (f ≡ Fault.Memory) ⊎ (self.new.closed ≡ true)) }
         ensures closed { self.old.closed ≡ true → (result.fault ≡ Some Fault.Closed) × (vec_len result.answers ≡ 0) × (self.new ≡ self.old) }
     {
         if self.closed {

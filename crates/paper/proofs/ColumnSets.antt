@@ -1,16 +1,17 @@
+-- Sets of numbers as ascending lists.
 use Rattle.std.proofs.Common.{◌≡◌, ℕ, suc, zero, ◌+◌, ◌-◌, ◌<◌, ◌≤◌, nat_eq, nat_lt, true, false, List, [], ◌∷◌, ◌++◌, length, take, drop, slice_index, inl, inr, refl, sym, ap, ◌∙◌, subst, arith, length-append, take-append-drop}
 use Rattle.std.specs.List.{filter, AllByRecursion, list_any, prefix_len}
 use Rattle.std.proofs.lemmas.Bool.{lt-ltb, le-ltb, eq-eqb, ne_eqb, cases_order, or_parts, or_from, or_left}
-use Rattle.paper.specs.Columns.{IsColumnSet, with_column}
+use Rattle.paper.specs.Columns.{max_candidates, IsColumnSet, with_column}
 use Rattle.paper.specs.Padded.{listed, padded}
 use Rattle.paper.proofs.PaddedLists.{listed-append_zeros}
 
--- numbers that ascend from above a number on, to 30
+-- numbers of candidates that ascend from above a number on
 abbrev pub Ascends : ℕ → List ℕ → Type 0
 Ascends low [] = Unit {0}
-Ascends low (x ∷ xs) = (low < x) × (x ≤ 30) × Ascends x xs
+Ascends low (x ∷ xs) = (low < x) × (x ≤ max_candidates) × Ascends x xs
 
-ascends_each : (low : ℕ) (xs : List ℕ) → Ascends low xs → (k : ℕ) → k < length xs → (low < slice_index xs k) × (slice_index xs k ≤ 30)
+ascends_each : (low : ℕ) (xs : List ℕ) → Ascends low xs → (k : ℕ) → k < length xs → (low < slice_index xs k) × (slice_index xs k ≤ max_candidates)
 ascends_each low [] up k here = absurd (omega arith)
 ascends_each low (x ∷ xs) up zero here = (up.0, up.1)
 ascends_each low (x ∷ xs) up (suc k) here =
@@ -46,12 +47,12 @@ ascends_from low (x ∷ xs) set first = (first (omega arith), (set.within 0 (ome
 pub ascends_from_columns : (xs : List ℕ) → IsColumnSet xs → Ascends 0 xs
 ascends_from_columns xs set = ascends_from 0 xs set (λ some. (set.within 0 some).0)
 
-ascends_length : (low : ℕ) (xs : List ℕ) → low ≤ 30 → Ascends low xs → low + length xs ≤ 30
+ascends_length : (low : ℕ) (xs : List ℕ) → low ≤ max_candidates → Ascends low xs → low + length xs ≤ max_candidates
 ascends_length low [] small up = omega arith
 ascends_length low (x ∷ xs) small up = omega (arith, ascends_length x xs up.1 up.2, up.0)
 
--- a set of columns has at most 30
-pub length_columns : (xs : List ℕ) → IsColumnSet xs → length xs ≤ 30
+-- a set of columns has no more numbers than there can be candidates
+pub length_columns : (xs : List ℕ) → IsColumnSet xs → length xs ≤ max_candidates
 length_columns xs set = omega (arith, ascends_length 0 xs (omega arith) (ascends_from_columns xs set))
 
 ascends_some : (low : ℕ) (xs : List ℕ) → Ascends low xs → AllByRecursion (λ x. 1 ≤ x) xs
@@ -60,7 +61,7 @@ ascends_some low (x ∷ xs) up = (omega (arith, up.0), ascends_some x xs up.2)
 
 -- a set of columns stands in its array
 pub listed-padded_columns : (xs : List ℕ) → IsColumnSet xs → listed (padded xs) ≡ xs
-listed-padded_columns xs set = listed-append_zeros xs (30 - length xs) (ascends_some 0 xs (ascends_from_columns xs set))
+listed-padded_columns xs set = listed-append_zeros xs (max_candidates - length xs) (ascends_some 0 xs (ascends_from_columns xs set))
 
 -- none of a set that ascends from c on is below c, and all of it is above c
 none_below : (c low : ℕ) (xs : List ℕ) → c ≤ low → Ascends low xs → filter (λ d. nat_lt d c) xs ≡ []
@@ -83,7 +84,7 @@ with_same c x xs same up =
     rw (le-ltb x c (omega arith), le-ltb c x (omega arith), none_below c x xs (omega arith) up, all_above c x xs (omega arith) up) (ap (λ n. n ∷ xs) same)
 
 -- the set with a number more ascends
-with_column-Ascends : (c low : ℕ) (xs : List ℕ) → low < c → c ≤ 30 → Ascends low xs → Ascends low (with_column xs c)
+with_column-Ascends : (c low : ℕ) (xs : List ℕ) → low < c → c ≤ max_candidates → Ascends low xs → Ascends low (with_column xs c)
 with_column-Ascends c low [] high few up = (high, few, tt)
 with_column-Ascends c low (x ∷ xs) high few up =
     elim (cases_order c x) [
@@ -94,7 +95,7 @@ with_column-Ascends c low (x ∷ xs) high few up =
       ]
     ]
 
-pub with_column-IsColumnSet : (xs : List ℕ) (c : ℕ) → 1 ≤ c → c ≤ 30 → IsColumnSet xs → IsColumnSet (with_column xs c)
+pub with_column-IsColumnSet : (xs : List ℕ) (c : ℕ) → 1 ≤ c → c ≤ max_candidates → IsColumnSet xs → IsColumnSet (with_column xs c)
 with_column-IsColumnSet xs c some few set =
     columns_from_ascends 0 (with_column xs c) (with_column-Ascends c 0 xs (omega (arith, some)) few (ascends_from_columns xs set))
 
@@ -157,7 +158,7 @@ pub with_column-last : (xs : List ℕ) (c : ℕ) → IsColumnSet (xs ++ c ∷ []
 with_column-last xs c set = with_last c 0 xs (ascends_from_columns (xs ++ c ∷ []) set)
 
 -- there is room for a number that the set doesn't have
-pub with_column-room : (xs : List ℕ) (c : ℕ) → 1 ≤ c → c ≤ 30 → IsColumnSet xs → list_any (nat_eq c) xs ≡ false → length xs < 30
+pub with_column-room : (xs : List ℕ) (c : ℕ) → 1 ≤ c → c ≤ max_candidates → IsColumnSet xs → list_any (nat_eq c) xs ≡ false → length xs < max_candidates
 with_column-room xs c some few set absent =
     let n = prefix_len (λ d. nat_lt d c) xs in
     let most = length_columns (with_column xs c) (with_column-IsColumnSet xs c some few set) in

@@ -1,9 +1,11 @@
+-- The fields of a text, from the left.
 use Rattle.std.proofs.Common.{set, replicate, ◌≡◌, ℕ, suc, ◌+◌, ◌-◌, ◌*◌, ◌<◌, ◌≤◌, ◌==◌, nat_le, nat_lt, Bool, true, false, ◌&&◌, List, [], ◌∷◌, ◌++◌, length, take, drop, get_or, Ok, Err, refl, sym, ap, ◌∙◌, arith, drop-cons, length-drop, Result}
 use Rattle.std.specs.List.{list_all, fold, position_or_len, count_by, before_first, after_first}
 use Rattle.std.proofs.lemmas.Bool.{lt-ltb, ltb-true, ltb-false, leb-true, ne_eqb, cond-true, cond-false, or_from, not_from_true, and_parts}
 use Rattle.std.proofs.lemmas.List.{take_all, drop_all, drop-set-lt, drop-drop, drop-replicate}
 use Rattle.std.proofs.lemmas.List.Sums.{fails_before_first}
 use Rattle.std.proofs.lemmas.List.Splits.{length-slice_split, slice_split_none, slice_split_first}
+use Rattle.paper.specs.Columns.{max_candidates}
 use Rattle.paper.specs.MarksText.{fields, is_digit, number_in, mark_in, marks_in, and_marks}
 use Rattle.paper.specs.declared.marks.MarkFault.{MarkFault}
 use Rattle.paper.specs.declared.marks.MarkFault.TheVariants.{TooLarge}
@@ -84,9 +86,9 @@ pub fields-read : (fs : List (List ℕ)) (marks : List ℕ) (i : ℕ) → marks_
 fields-read fs marks i so_far all = so_far ∙ ap (λ others. after_marks marks (marks_in others)) (drop_all i fs all) ∙ after_marks-nil marks
 
 -- an array has a zero less behind what is written to it
-pub zeros-less : (marks : List ℕ) (i mark : ℕ) → drop i marks ≡ replicate (30 - i) 0 → drop (i + 1) (set marks i mark) ≡ replicate (30 - (i + 1)) 0
+pub zeros-less : (marks : List ℕ) (i mark : ℕ) → drop i marks ≡ replicate (max_candidates - i) 0 → drop (i + 1) (set marks i mark) ≡ replicate (max_candidates - (i + 1)) 0
 zeros-less marks i mark zeros =
-    drop-set-lt (i + 1) marks i mark (omega arith) ∙ sym (drop-drop 1 i marks) ∙ ap (drop 1) zeros ∙ drop-replicate 1 (30 - i) 0
+    drop-set-lt (i + 1) marks i mark (omega arith) ∙ sym (drop-drop 1 i marks) ∙ ap (drop 1) zeros ∙ drop-replicate 1 (max_candidates - i) 0
     ∙ ap (λ n. replicate n 0) (omega arith)
 
 -- more digits make no less

@@ -1,3 +1,4 @@
+-- The lemmas, by subject.
 pub mod PaddedLists
 pub mod Rankings
 pub mod ColumnSets

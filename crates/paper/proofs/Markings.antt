@@ -1,3 +1,4 @@
+-- Marks side by side with candidates, and who bears a number.
 use Rattle.std.proofs.Common.{◌≡◌, ℕ, suc, zero, ◌+◌, ◌<◌, ◌≤◌, ◌==◌, Bool, true, false, cond, List, [], ◌∷◌, ◌++◌, length, take, drop, get_or, map, refl, sym, ap, ◌∙◌, arith, append-nil}
 use Rattle.std.specs.List.{zip, filter}
 use Rattle.std.proofs.lemmas.Bool.{eq-eqb, ne_eqb}

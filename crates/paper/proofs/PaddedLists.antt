@@ -1,3 +1,4 @@
+-- Lists in arrays with zeros behind them.
 use borrow.Rule.Slice.PartMut.{put_mid}
 use Rattle.std.proofs.Common.{set, drop, append_assoc, length-append, ◌≡◌, ℕ, suc, zero, ◌+◌, ◌-◌, ◌<◌, ◌≤◌, ◌==◌, Bool, true, false, not, cond, List, [], ◌∷◌, ◌++◌, length, take, replicate, refl, sym, ap, ◌∙◌, arith}
 use Rattle.std.specs.List.{AllByRecursion}
@@ -5,6 +6,7 @@ use Rattle.std.proofs.lemmas.List.{set_at, take_at, drop_at, drop-replicate}
 use Rattle.std.proofs.lemmas.List.Sums.{take_while-cons}
 use Rattle.std.proofs.lemmas.List.Folds.{length-prefix_len}
 use Rattle.std.proofs.lemmas.Bool.{eqb-true}
+use Rattle.paper.specs.Columns.{max_candidates}
 use Rattle.paper.specs.Padded.{listed, padded}
 
 -- a number that isn't 0 is listed
@@ -31,23 +33,28 @@ listed-take numbers = ap (λ n. take n numbers) (length-prefix_len (λ n. not (n
 
 pub ruleset listed_by_length = listed-take
 
+-- a list put over the front of what stands behind another
+put_over : (front mid behind : List ℕ) (n k : ℕ) → length front ≡ n → put_mid n k (front ++ behind) mid ≡ front ++ (mid ++ drop k behind)
+put_over front mid behind n k size =
+    ap (λ l. l ++ (mid ++ drop k (drop n (front ++ behind)))) (take_at front behind n size) ∙ ap (λ l. front ++ (mid ++ drop k l)) (drop_at front behind n size)
+
+-- the same over zeros, with a number between
+put_over_zeros : (below : List ℕ) (c : ℕ) (above mid : List ℕ) (k zeros left : ℕ) → mid ≡ above → zeros - k ≡ left →
+    put_mid (length below + 1) k (below ++ c ∷ replicate zeros 0) mid ≡ (below ++ c ∷ above) ++ replicate left 0
+put_over_zeros below c above mid k zeros left same len =
+    ap (λ l. put_mid (length below + 1) k l mid) (sym (append_assoc below (c ∷ []) (replicate zeros 0)))
+    ∙ put_over (below ++ c ∷ []) mid (replicate zeros 0) (length below + 1) k (length-append below (c ∷ []))
+    ∙ ap (λ l. (below ++ c ∷ []) ++ (mid ++ l)) (drop-replicate k zeros 0 ∙ ap (λ n. replicate n 0) len)
+    ∙ ap (λ l. (below ++ c ∷ []) ++ (l ++ replicate left 0)) same
+    ∙ append_assoc below (c ∷ []) (above ++ replicate left 0)
+    ∙ sym (append_assoc below (c ∷ above) (replicate left 0))
+
 -- a number written behind a list in its array, and another list behind that
-pub padded-inserted : (below : List ℕ) (c : ℕ) (above mid : List ℕ) (k : ℕ) → length below + length above < 30 → mid ≡ above → k ≡ length above →
+pub padded-inserted : (below : List ℕ) (c : ℕ) (above mid : List ℕ) (k : ℕ) → length below + length above < max_candidates → mid ≡ above → k ≡ length above →
     put_mid (length below + 1) k (set (padded below) (length below) c) mid ≡ padded (below ++ c ∷ above)
 padded-inserted below c above mid k room same len =
-    let zeros = 29 - length below in
-    let e : 30 - length below ≡ suc zeros = omega (arith, room) in
-    let one : set (padded below) (length below) c ≡ below ++ c ∷ replicate zeros 0 =
-    ap (λ n. set (below ++ replicate n 0) (length below) c) e ∙ set_at below 0 (replicate zeros 0) c (length below) refl in
-    let apart : below ++ c ∷ replicate zeros 0 ≡ (below ++ c ∷ []) ++ replicate zeros 0 = sym (append_assoc below (c ∷ []) (replicate zeros 0)) in
-    let size : length (below ++ c ∷ []) ≡ length below + 1 = length-append below (c ∷ []) in
-    let front = take_at (below ++ c ∷ []) (replicate zeros 0) (length below + 1) size in
-    let back = drop_at (below ++ c ∷ []) (replicate zeros 0) (length below + 1) size in
-    let left : zeros - k ≡ 30 - length (below ++ c ∷ above) = omega (arith, len, length-append below (c ∷ above)) in
-    ap (λ l. put_mid (length below + 1) k l mid) (one ∙ apart)
-    ∙ ap (λ l. l ++ (mid ++ drop k (drop (length below + 1) ((below ++ c ∷ []) ++ replicate zeros 0)))) front
-    ∙ ap (λ l. (below ++ c ∷ []) ++ (mid ++ drop k l)) back
-    ∙ ap (λ l. (below ++ c ∷ []) ++ (mid ++ l)) (drop-replicate k zeros 0 ∙ ap (λ n. replicate n 0) left)
-    ∙ ap (λ l. (below ++ c ∷ []) ++ (l ++ replicate (30 - length (below ++ c ∷ above)) 0)) same
-    ∙ append_assoc below (c ∷ []) (above ++ replicate (30 - length (below ++ c ∷ above)) 0)
-    ∙ sym (append_assoc below (c ∷ above) (replicate (30 - length (below ++ c ∷ above)) 0))
+    let e : max_candidates - length below ≡ suc (max_candidates - 1 - length below) = omega (arith, room) in
+    let one : set (padded below) (length below) c ≡ below ++ c ∷ replicate (max_candidates - 1 - length below) 0 =
+    ap (λ n. set (below ++ replicate n 0) (length below) c) e ∙ set_at below 0 (replicate (max_candidates - 1 - length below) 0) c (length below) refl in
+    ap (λ l. put_mid (length below + 1) k l mid) one
+    ∙ put_over_zeros below c above mid k (max_candidates - 1 - length below) (max_candidates - length (below ++ c ∷ above)) same (omega (arith, len, length-append below (c ∷ above)))

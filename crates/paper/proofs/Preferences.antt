@@ -1,9 +1,10 @@
+-- The preferences worked out are the longest list of candidates who stand alone.
 use Rattle.std.proofs.Common.{◌≡◌, ℕ, suc, zero, ◌+◌, ◌-◌, ◌<◌, ◌≤◌, ◌==◌, nat_eq, Bool, true, false, cond, ◌||◌, List, [], ◌∷◌, ◌++◌, length, take, drop, set, replicate, map, inl, inr, refl, sym, ap, ◌∙◌, arith, append-nil, append_assoc}
 use Rattle.std.specs.List.{filter, list_any}
 use Rattle.std.proofs.lemmas.Bool.{eq-eqb, ne_eqb, eqb-true, cases_eq, or_left, or_right, or_from}
 use Rattle.std.proofs.lemmas.List.{take_more_set, take-append-drop, length-take-le}
 use Rattle.paper.specs.Bearers.{bearers_of}
-use Rattle.paper.specs.Columns.{IsColumnSet}
+use Rattle.paper.specs.Columns.{max_candidates, IsColumnSet}
 use Rattle.paper.specs.Marking.{Marking, candidates_of, marked_with}
 use Rattle.paper.specs.Padded.{padded}
 use Rattle.paper.specs.Preferences.{StandAlone, IsPreferences, if_alone, preferences_from, preferences, LowerMarksDecide}
@@ -32,7 +33,7 @@ longest_from zero n ms (c ∷ cs) alone few = absurd (omega (arith, few))
 longest_from (suc most) n ms (c ∷ cs) alone few = rw alone.0 (omega (arith, longest_from most (n + 1) ms cs alone.1 (omega (arith, few))))
 
 -- a number among ascending ones
-in_ascending : (c low : ℕ) (xs : List ℕ) → Ascends low xs → list_any (nat_eq c) xs ≡ true → (low < c) × (c ≤ 30)
+in_ascending : (c low : ℕ) (xs : List ℕ) → Ascends low xs → list_any (nat_eq c) xs ≡ true → (low < c) × (c ≤ max_candidates)
 in_ascending c low [] up found = cc
 in_ascending c low (x ∷ xs) up found =
     elim (cases_eq c x) [
@@ -94,13 +95,13 @@ alone_ranking n ms (c ∷ cs) up alone =
     (omega (arith, column.0), column.1, absent_later c n (n + 1) ms cs up (mark_is c n 0 ms up here) (omega arith) alone.1, alone_ranking (n + 1) ms cs up alone.1)
 
 pub preferences-IsRanking : (ms : Marking) → IsColumnSet (candidates_of ms) → IsRanking (preferences ms)
-preferences-IsRanking ms set = alone_ranking 1 ms (preferences ms) (ascends_from_columns (candidates_of ms) set) (alone_from 30 1 ms)
+preferences-IsRanking ms set = alone_ranking 1 ms (preferences ms) (ascends_from_columns (candidates_of ms) set) (alone_from max_candidates 1 ms)
 
 -- what is worked out are the preferences
 pub preferences-IsPreferences : (ms : Marking) → IsColumnSet (candidates_of ms) → IsPreferences ms (preferences ms)
 preferences-IsPreferences ms set = record {
-  alone = alone_from 30 1 ms;
-  longest = λ others alone. longest_from 30 1 ms others alone (length_ranking others (alone_ranking 1 ms others (ascends_from_columns (candidates_of ms) set) alone));
+  alone = alone_from max_candidates 1 ms;
+  longest = λ others alone. longest_from max_candidates 1 ms others alone (length_ranking others (alone_ranking 1 ms others (ascends_from_columns (candidates_of ms) set) alone));
 }
 
 -- there is a first preference where one candidate alone has the number 1
@@ -123,13 +124,13 @@ lower_from (suc most) (suc n) start others ms same =
     ∙ same_beginning n (marked_with start ms) _ _ (lower_from most n (start + 1) others ms (λ k low high. same k (omega (arith, low)) (omega (arith, high))))
 
 pub lower_marks_decide : (ms : Marking) → LowerMarksDecide ms
-lower_marks_decide ms others n same = lower_from 30 n 1 others ms (λ k low high. same k low (omega (arith, high)))
+lower_marks_decide ms others n same = lower_from max_candidates n 1 others ms (λ k low high. same k low (omega (arith, high)))
 
 -- What a loop that goes up the numbers has so far:
-step_alone : (place : ℕ) (ms : Marking) → place < 30 → preferences_from (30 - place) (place + 1) ms ≡ if_alone (marked_with (place + 1) ms) (preferences_from (30 - (place + 1)) (place + 1 + 1) ms)
+step_alone : (place : ℕ) (ms : Marking) → place < max_candidates → preferences_from (max_candidates - place) (place + 1) ms ≡ if_alone (marked_with (place + 1) ms) (preferences_from (max_candidates - (place + 1)) (place + 1 + 1) ms)
 unfolding preferences_from
 step_alone place ms more =
-    let e : 30 - place ≡ suc (30 - (place + 1)) = omega (arith, more) in
+    let e : max_candidates - place ≡ suc (max_candidates - (place + 1)) = omega (arith, more) in
     ap (λ most. preferences_from most (place + 1) ms) e
 
 pub alone-One : (cs : List ℕ) (c : ℕ) → One c ≡ bearers_of cs → cs ≡ c ∷ []
@@ -138,37 +139,37 @@ alone-One (d ∷ []) c one = cc
 alone-One (d ∷ e ∷ cs) c one = cc
 
 -- one preference more,
-pub preferred-more : (ms : Marking) (numbers : List ℕ) (place c : ℕ) → preferences ms ≡ take place numbers ++ preferences_from (30 - place) (place + 1) ms → place < 30 → length numbers ≡ 30 →
-    One c ≡ bearers_of (marked_with (place + 1) ms) → preferences ms ≡ take (place + 1) (set numbers place c) ++ preferences_from (30 - (place + 1)) (place + 1 + 1) ms
+pub preferred-more : (ms : Marking) (numbers : List ℕ) (place c : ℕ) → preferences ms ≡ take place numbers ++ preferences_from (max_candidates - place) (place + 1) ms → place < max_candidates → length numbers ≡ max_candidates →
+    One c ≡ bearers_of (marked_with (place + 1) ms) → preferences ms ≡ take (place + 1) (set numbers place c) ++ preferences_from (max_candidates - (place + 1)) (place + 1 + 1) ms
 preferred-more ms numbers place c whole more size one =
-    let behind = preferences_from (30 - (place + 1)) (place + 1 + 1) ms in
+    let behind = preferences_from (max_candidates - (place + 1)) (place + 1 + 1) ms in
     whole ∙ ap (λ l. take place numbers ++ l) (step_alone place ms more ∙ ap (λ cs. if_alone cs behind) (alone-One (marked_with (place + 1) ms) c one))
     ∙ sym (append_assoc (take place numbers) (c ∷ []) behind) ∙ ap (λ l. l ++ behind) (sym (take_more_set numbers place c (omega (arith, size, more))))
 
 -- or all of them
-pub preferred-done : (ms : Marking) (numbers : List ℕ) (place : ℕ) → preferences ms ≡ take place numbers ++ preferences_from (30 - place) (place + 1) ms → drop place numbers ≡ replicate (30 - place) 0 →
-    length numbers ≡ 30 → place ≤ 30 → preferences_from (30 - place) (place + 1) ms ≡ [] → numbers ≡ padded (preferences ms)
+pub preferred-done : (ms : Marking) (numbers : List ℕ) (place : ℕ) → preferences ms ≡ take place numbers ++ preferences_from (max_candidates - place) (place + 1) ms → drop place numbers ≡ replicate (max_candidates - place) 0 →
+    length numbers ≡ max_candidates → place ≤ max_candidates → preferences_from (max_candidates - place) (place + 1) ms ≡ [] → numbers ≡ padded (preferences ms)
 preferred-done ms numbers place whole zeros size few none =
     let all : preferences ms ≡ take place numbers = whole ∙ ap (λ l. take place numbers ++ l) none ∙ append-nil (take place numbers) in
     let count : length (take place numbers) ≡ place = length-take-le place numbers (omega (arith, size, few)) in
-    sym (take-append-drop place numbers) ∙ ap (λ l. take place numbers ++ l) (zeros ∙ ap (λ n. replicate (30 - n) 0) (sym count)) ∙ ap padded (sym all)
+    sym (take-append-drop place numbers) ∙ ap (λ l. take place numbers ++ l) (zeros ∙ ap (λ n. replicate (max_candidates - n) 0) (sym count)) ∙ ap padded (sym all)
 
-pub done-Nobody : (ms : Marking) (place : ℕ) → place < 30 → Nobody ≡ bearers_of (marked_with (place + 1) ms) → preferences_from (30 - place) (place + 1) ms ≡ []
+pub done-Nobody : (ms : Marking) (place : ℕ) → place < max_candidates → Nobody ≡ bearers_of (marked_with (place + 1) ms) → preferences_from (max_candidates - place) (place + 1) ms ≡ []
 done-Nobody ms place more nobody = step_alone place ms more ∙ by_list (marked_with (place + 1) ms) nobody
   where
-    by_list : (cs : List ℕ) → Nobody ≡ bearers_of cs → if_alone cs (preferences_from (30 - (place + 1)) (place + 1 + 1) ms) ≡ []
+    by_list : (cs : List ℕ) → Nobody ≡ bearers_of cs → if_alone cs (preferences_from (max_candidates - (place + 1)) (place + 1 + 1) ms) ≡ []
     by_list [] is = refl
     by_list (c ∷ []) is = cc
     by_list (c ∷ d ∷ cs) is = refl
 
-pub done-Several : (ms : Marking) (place : ℕ) → place < 30 → Several ≡ bearers_of (marked_with (place + 1) ms) → preferences_from (30 - place) (place + 1) ms ≡ []
+pub done-Several : (ms : Marking) (place : ℕ) → place < max_candidates → Several ≡ bearers_of (marked_with (place + 1) ms) → preferences_from (max_candidates - place) (place + 1) ms ≡ []
 done-Several ms place more several = step_alone place ms more ∙ by_list (marked_with (place + 1) ms) several
   where
-    by_list : (cs : List ℕ) → Several ≡ bearers_of cs → if_alone cs (preferences_from (30 - (place + 1)) (place + 1 + 1) ms) ≡ []
+    by_list : (cs : List ℕ) → Several ≡ bearers_of cs → if_alone cs (preferences_from (max_candidates - (place + 1)) (place + 1 + 1) ms) ≡ []
     by_list [] is = refl
     by_list (c ∷ []) is = cc
     by_list (c ∷ d ∷ cs) is = refl
 
-pub done-all : (ms : Marking) (place : ℕ) → place ≡ 30 → preferences_from (30 - place) (place + 1) ms ≡ []
+pub done-all : (ms : Marking) (place : ℕ) → place ≡ max_candidates → preferences_from (max_candidates - place) (place + 1) ms ≡ []
 unfolding preferences_from
-done-all ms place all = ap (λ n. preferences_from (30 - n) (n + 1) ms) all
+done-all ms place all = ap (λ n. preferences_from (max_candidates - n) (n + 1) ms) all

@@ -1,7 +1,9 @@
+-- Rankings: how long they are, and that they stand in their arrays.
 use Rattle.std.proofs.Common.{◌≡◌, ℕ, ◌<◌, ◌≤◌, ◌||◌, Bool, true, false, eqb, ◌==◌, List, [], ◌∷◌, length, ◌-◌, refl, sym, arith}
 use Rattle.std.specs.List.{list_any, IsDistinct, AllByRecursion}
 use Rattle.std.proofs.lemmas.Bool.{eqb-true, eqb-false}
 use Rattle.std.proofs.lemmas.Map.Steps.{length-le_from_distinct_below}
+use Rattle.paper.specs.Columns.{max_candidates}
 use Rattle.paper.specs.Padded.{listed, padded}
 use Rattle.paper.specs.Ranking.{IsRanking}
 use Rattle.paper.proofs.PaddedLists.{listed-append_zeros}
@@ -39,7 +41,7 @@ zero_apart (x ∷ xs) some = (apart x (eqb 0 x) refl some.0, zero_apart xs some.
     apart y true is above = absurd (omega (arith, eqb-true 0 y is, above))
     apart y false is above = refl
 
-below_more : (x q : ℕ) (b more : Bool) → x ≤ 30 → (more ≡ true → q < 31) → eqb q x ≡ b → (b || more) ≡ true → q < 31
+below_more : (x q : ℕ) (b more : Bool) → x ≤ max_candidates → (more ≡ true → q < 31) → eqb q x ≡ b → (b || more) ≡ true → q < 31
 below_more x q true more few later same found = omega (arith, eqb-true q x same)
 below_more x q false more few later same found = later found
 
@@ -51,13 +53,13 @@ distinct_zero : (xs : List ℕ) → IsRanking xs → IsDistinct eqb (0 ∷ xs)
 unfolding IsDistinct
 distinct_zero xs h = (zero_apart xs (ranking_some xs h), ranking_distinct xs h)
 
--- with 0 they are different numbers below 31, so a ranking has at most 30
-pub length_ranking : (xs : List ℕ) → IsRanking xs → length xs ≤ 30
+-- with 0 they are different numbers below 31, so a ranking is no longer
+pub length_ranking : (xs : List ℕ) → IsRanking xs → length xs ≤ max_candidates
 length_ranking xs h =
     omega (arith, length-le_from_distinct_below (0 ∷ xs) 31 (distinct_zero xs h) (λ q found. below_more 0 q (eqb q 0) (list_any (eqb q) xs) (omega arith) (below xs q h) refl found))
 
 -- a ranking stands in its array
 pub listed-padded_ranking : (xs : List ℕ) → IsRanking xs → listed (padded xs) ≡ xs
-listed-padded_ranking xs h = listed-append_zeros xs (30 - length xs) (ranking_some xs h)
+listed-padded_ranking xs h = listed-append_zeros xs (max_candidates - length xs) (ranking_some xs h)
 
 pub ruleset rankings = (length_ranking, listed-padded_ranking)

@@ -1,10 +1,11 @@
+-- Statuses that are given one after the other, and preferences that are passed over.
 use Rattle.std.proofs.Common.{◌⊎◌, ap, ◌≡◌, ℕ, suc, zero, ◌+◌, ◌<◌, nat_eq, Bool, true, false, not, cond, ◌||◌, List, [], ◌∷◌, length, take, drop, set, replicate, slice_index, inl, inr, refl, ◌∙◌, arith, get_or-set_other, get_or-set_same}
 use Rattle.std.specs.List.{list_any, find, prefix_len, slice_get}
 use Rattle.std.proofs.lemmas.Bool.{eq-eqb, ne_eqb, cases_eq, cases_lt, or_right}
 use Rattle.std.proofs.lemmas.List.Folds.{list_any_more}
 use Rattle.paper.specs.declared.standing.Status.{Status}
 use Rattle.paper.specs.declared.standing.Status.TheVariants.{Continuing, Elected, Excluded, Absent}
-use Rattle.paper.specs.Columns.{IsColumn}
+use Rattle.paper.specs.Columns.{max_candidates, IsColumn}
 use Rattle.paper.specs.Standing.{status_of, status_among, is_continuing_status, is_continuing, from_first}
 
 or_none : (b c : Bool) → c ≡ false → (b || c) ≡ b
@@ -68,6 +69,6 @@ is_continuing-among standing continuing elected excluded c is =
 pub column_or_not : (c : ℕ) → IsColumn c ⊎ ¬ IsColumn c
 column_or_not c =
     elim (cases_lt 0 c) [
-      | inl some ↦ elim (cases_lt 30 c) [ inl many ↦ inr (λ column. omega (arith, column.1, many)) | inr few ↦ inl (some, few) ]
+      | inl some ↦ elim (cases_lt max_candidates c) [ inl many ↦ inr (λ column. omega (arith, column.1, many)) | inr few ↦ inl (some, few) ]
       | inr none ↦ inr (λ column. omega (arith, column.0, none))
     ]

@@ -1,3 +1,4 @@
+-- The candidates beside whom one number stands.
 use Rattle.std.specs.Prelude.{ℕ, List, [], ◌∷◌}
 use Rattle.paper.specs.declared.marked.Bearers.{Bearers}
 use Rattle.paper.specs.declared.marked.Bearers.TheVariants.{Nobody, One, Several}

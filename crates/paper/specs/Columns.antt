@@ -1,10 +1,15 @@
+-- Candidates' numbers, and sets of them.
 use Rattle.std.specs.Prelude.{ℕ, ◌≤◌, nat_lt, List, ◌∷◌, ◌++◌, EachIndex, slice_index}
 use Rattle.std.specs.List.{filter}
 use Rattle.std.specs.List.Sorted.{IsStrictlyIncreasing}
 
--- the number of a candidate on a ballot paper, 1 to 30
+-- the most candidates of a ward
+abbrev pub max_candidates : ℕ
+max_candidates = 30
+
+-- the number of a candidate on a ballot paper, from 1 on
 abbrev pub IsColumn : ℕ → Type 0
-IsColumn c = (1 ≤ c) × (c ≤ 30)
+IsColumn c = (1 ≤ c) × (c ≤ max_candidates)
 
 -- a set of candidates' numbers, as the list of them in ascending order
 pub record IsColumnSet (columns : List ℕ) : Type 0 where

@@ -1,3 +1,4 @@
+-- The marks on a ballot paper.
 use Rattle.std.specs.Prelude.{ℕ, ◌≤◌, ◌==◌, List, length, map}
 use Rattle.std.specs.List.{filter, AllByRecursion}
 use Rattle.paper.specs.Columns.{IsColumnSet}
@@ -7,9 +8,11 @@ use Rattle.paper.specs.Columns.{IsColumnSet}
 abbrev pub Marking : Type 0
 Marking = List (ℕ × ℕ)
 
+-- the candidates on a paper, in ascending order
 abbrev pub candidates_of : Marking → List ℕ
 candidates_of marking = map (λ m. m.0) marking
 
+-- the number in each candidate's field, 0 where it is empty
 abbrev pub marks_of : Marking → List ℕ
 marks_of marking = map (λ m. m.1) marking
 

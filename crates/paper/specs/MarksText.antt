@@ -1,3 +1,4 @@
+-- Marks as text: what a text says, and the one text of what is keyed.
 use Rattle.std.specs.Prelude.{◌≡◌, ℕ, ◌+◌, ◌-◌, ◌*◌, Bool, not, ◌&&◌, ◌||◌, ◌==◌, nat_le, nat_lt, if◌then◌else◌, List, [], ◌∷◌, length, map, Result, Ok, Err, codes, decimal, bytes_eq}
 use Rattle.std.specs.List.{slice_split, join_with_byte, list_all, fold, zip}
 use Rattle.paper.specs.Marking.{candidates_of, marks_of}
@@ -10,6 +11,7 @@ use Rattle.paper.specs.declared.marked.Keyed.TheVariants.{Doubtful, Marked}
 abbrev pub fields : List ℕ → List (List ℕ)
 fields text = slice_split (λ b. b == 44) text
 
+-- whether a byte is a digit
 abbrev pub is_digit : ℕ → Bool
 is_digit b = nat_le 48 b && nat_le b 57
 
@@ -24,6 +26,7 @@ mark_in (b ∷ bs) =
     if b == 48 || not (list_all is_digit (b ∷ bs)) then Err NotANumber else (
     if nat_lt 99 (number_in (b ∷ bs)) then Err TooLarge else Ok (number_in (b ∷ bs)))
 
+-- the mark in a field before those in the fields behind it, or the fault of the first faulty one
 abbrev pub and_marks : Result ℕ MarkFault → Result (List ℕ) MarkFault → Result (List ℕ) MarkFault
 and_marks (Err fault) marks = Err fault
 and_marks (Ok mark) (Err fault) = Err fault
@@ -34,6 +37,7 @@ abbrev pub marks_in : List (List ℕ) → Result (List ℕ) MarkFault
 marks_in [] = Ok []
 marks_in (field ∷ fields) = and_marks (mark_in field) (marks_in fields)
 
+-- the marks beside the candidates of some columns, or the fault
 abbrev pub beside : List ℕ → Result (List ℕ) MarkFault → Result Keyed MarkFault
 beside columns (Err fault) = Err fault
 beside columns (Ok marks) = Ok (Marked (zip columns marks))

@@ -1,4 +1,6 @@
+-- The preferences of a ballot paper, and why it is rejected.
 use Rattle.std.specs.Prelude.{◌≡◌, ℕ, suc, zero, ◌+◌, ◌≤◌, List, [], ◌∷◌, length, take, Option, Some, None, ⊤}
+use Rattle.paper.specs.Columns.{max_candidates}
 use Rattle.paper.specs.Marking.{Marking, marked_with}
 use Rattle.paper.specs.declared.validity.Rejection.{Rejection}
 use Rattle.paper.specs.declared.validity.Rejection.TheVariants.{NoFirstPreference, SeveralFirstPreferences}
@@ -24,16 +26,17 @@ unfoldable pub preferences_from : ℕ → ℕ → Marking → List ℕ
 preferences_from zero n marking = []
 preferences_from (suc more) n marking = if_alone (marked_with n marking) (preferences_from more (n + 1) marking)
 
--- the preferences worked out, of a paper with at most 30 candidates
+-- the preferences worked out
 abbrev pub preferences : Marking → List ℕ
-preferences marking = preferences_from 30 1 marking
+preferences marking = preferences_from max_candidates 1 marking
 
--- why a paper is rejected by its marks, by those beside whom the number 1 stands
+-- why a paper is rejected, by those beside whom the number 1 stands
 abbrev pub rejection_by : List ℕ → Option Rejection
 rejection_by [] = Some NoFirstPreference
 rejection_by (c ∷ []) = None
 rejection_by (c ∷ d ∷ cs) = Some SeveralFirstPreferences
 
+-- why a paper is rejected by its marks, if it is
 abbrev pub rejection_of : Marking → Option Rejection
 rejection_of marking = rejection_by (marked_with 1 marking)
 

@@ -1,7 +1,9 @@
+-- Lists of candidates, each once.
 use Rattle.std.specs.Prelude.{◌≡◌, ℕ, ◌≤◌, List, [], ◌∷◌, false, ◌==◌, ⊤}
 use Rattle.std.specs.List.{list_any}
+use Rattle.paper.specs.Columns.{max_candidates}
 
--- candidates' numbers 1 to 30, none of them twice
+-- candidates' numbers, none of them twice
 abbrev pub IsRanking : List ℕ → Type 0
 IsRanking [] = ⊤
-IsRanking (x ∷ xs) = (1 ≤ x) × (x ≤ 30) × (list_any (λ y. y == x) xs ≡ false) × IsRanking xs
+IsRanking (x ∷ xs) = (1 ≤ x) × (x ≤ max_candidates) × (list_any (λ y. y == x) xs ≡ false) × IsRanking xs

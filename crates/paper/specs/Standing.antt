@@ -1,3 +1,4 @@
+-- Where candidates stand, and the next available preference.
 use Rattle.std.specs.Prelude.{◌≡◌, ℕ, nat_eq, Bool, true, false, if◌then◌else◌, List, [], ◌∷◌, drop, slice_index_or, Option}
 use Rattle.std.specs.List.{list_any, find}
 use Rattle.paper.specs.declared.standing.Status.{Status}
@@ -18,6 +19,7 @@ status_among continuing elected excluded c =
 abbrev pub AreApart : List ℕ → List ℕ → Type 0
 AreApart xs ys = (c : ℕ) → list_any (nat_eq c) xs ≡ true → list_any (nat_eq c) ys ≡ false
 
+-- whether a status is that of a continuing candidate
 abbrev pub is_continuing_status : Status → Bool
 is_continuing_status Continuing = true
 is_continuing_status Elected = false

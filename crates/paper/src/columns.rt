@@ -2,17 +2,20 @@
 
 ghost use Rattle.std.specs.Prelude.{◌≡◌, ℕ, ◌+◌, ◌<◌, ◌≤◌, [], ◌∷◌, ◌++◌, length, nat_eq, nat_lt};
 ghost use Rattle.std.specs.List.{list_any, prefix_len};
-ghost use Rattle.paper.specs.Columns.{IsColumnSet, with_column};
+ghost use Rattle.paper.specs.Columns.{max_candidates, IsColumnSet, with_column};
 ghost use Rattle.paper.specs.Padded.{padded};
 
 use crate::padded::{list_in, padded_numbers};
 use std::marker::Model;
 
-/// A set of candidates' numbers 1 to 30, seen as the list of them in ascending order.
-// 30 bytes: the numbers, and zeros behind them.
+/// The most candidates of a ward; their numbers are 1 to this one.
+pub const MAX_CANDIDATES: usize = 30;
+
+/// A set of candidates' numbers, 1 to `MAX_CANDIDATES`, seen as the list of them in ascending order.
+// The numbers, and zeros behind them.
 #[derive(Clone, Copy, Debug, PartialEq, Eq)]
 pub struct Columns {
-    numbers: [u8; 30],
+    numbers: [u8; MAX_CANDIDATES],
 }
 
 impl Model for Columns {
@@ -36,13 +39,15 @@ impl Columns {
     pub fn empty() -> Columns
         ensures { result ≡ [] }
     {
-        Columns { numbers: [0; 30] }
+        Columns {
+            numbers: [0; MAX_CANDIDATES],
+        }
     }
 
-    /// The set with a number of 1 to 30 more.
+    /// The set with a number of 1 to `MAX_CANDIDATES` more.
     pub fn with(self, c: u8) -> Columns
         requires some { 1 ≤ c }
-        requires few { c ≤ 30 }
+        requires few { c ≤ max_candidates }
         ensures is { result ≡ with_column self c }
         ensures set { IsColumnSet result }
         // a number above all others comes last
@@ -73,10 +78,10 @@ impl Columns {
         self.as_slice().contains(&c)
     }
 
-    /// How many numbers the set has, at most 30.
+    /// How many numbers the set has, at most `MAX_CANDIDATES`.
     pub fn len(&self) -> usize
         ensures is { result ≡ length self.now }
-        ensures few { result ≤ 30 }
+        ensures few { result ≤ max_candidates }
     {
         self.as_slice().len()
     }
@@ -91,8 +96,8 @@ impl Columns {
 }
 
 /// The array of a list, a number behind it, and another list.
-fn inserted(below: &[u8], c: u8, above: &[u8]) -> [u8; 30]
-    requires { length below.now + length above.now < 30 }
+fn inserted(below: &[u8], c: u8, above: &[u8]) -> [u8; MAX_CANDIDATES]
+    requires { length below.now + length above.now < max_candidates }
     ensures { result ≡ padded (below.now ++ c ∷ above.now) }
 {
     let mut numbers = padded_numbers(below);

@@ -2,7 +2,7 @@
 //!
 //! [`Marks::read`] gives what is [`Keyed`] by a text, or the exact [`MarkFault`], and
 //! [`Keyed::text`] gives the text back. [`judge`] finds the preferences of a [`Marked`] paper, or why
-//! it is rejected. [`Columns`] is a set of candidates' numbers 1 to 30, walked in ascending order;
+//! it is rejected. [`Columns`] is a set of candidates' numbers, walked in ascending order;
 //! a [`Standing`] gives each number a [`Status`], by which [`next_available`] passes over preferences.
 //!
 //! ```text
@@ -14,17 +14,21 @@
 //! ```
 #![tactic(auto)]
 
+// candidates' numbers, in sets and in arrays
 mod columns;
+mod padded;
+// what a clerk keyed, and its text
 mod marked;
 mod marks;
-mod padded;
+// the preferences of a paper, or why it is rejected
 mod prefs;
+mod validity;
+// where candidates stand, and the next available preference
 mod standing;
 #[cfg(test)]
 mod tests;
-mod validity;
 
-pub use columns::Columns;
+pub use columns::{Columns, MAX_CANDIDATES};
 pub use marked::{Keyed, Marked};
 pub use marks::{MarkFault, Marks};
 pub use prefs::Prefs;

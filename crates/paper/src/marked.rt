@@ -7,17 +7,17 @@ ghost use Rattle.paper.specs.MarksText.{ReadsBack, field_text, spelling};
 ghost use Rattle.paper.specs.Marking.{IsMarking, candidates_of, marks_of, marked_with};
 ghost use Rattle.paper.specs.Padded.{padded};
 
-use crate::columns::Columns;
+use crate::columns::{Columns, MAX_CANDIDATES};
 use std::alloc::{AllocError, Global};
 use std::fmt::Write;
 use std::marker::Model;
 
 /// The marks on a ballot paper, seen as each candidate's number beside the number in the field for
-/// him, 0 where that is empty, in ascending order of the candidates.
+/// him, 1 to 99, or 0 where that is empty, in ascending order of the candidates.
 #[derive(Clone, Copy, Debug, PartialEq, Eq)]
 pub struct Marked {
     columns: Columns,
-    marks: [u8; 30],
+    marks: [u8; MAX_CANDIDATES],
 }
 
 impl Model for Marked {
@@ -74,7 +74,7 @@ impl Marked {
     }
 
     /// The marks of some columns, in their order.
-    pub(crate) fn new(columns: Columns, marks: [u8; 30]) -> Marked
+    pub(crate) fn new(columns: Columns, marks: [u8; MAX_CANDIDATES]) -> Marked
         requires columns { candidates_of (zip columns marks) ≡ columns }
         requires marks { padded (marks_of (zip columns marks)) ≡ marks }
         requires marking { IsMarking (zip columns marks) }

@@ -2,11 +2,12 @@
 
 ghost use Rattle.std.specs.Prelude.{◌≡◌, ℕ, ◌+◌, ◌-◌, ◌<◌, ◌≤◌, ◌==◌, length, take, count_by, OnOk, IfOk, IfErr, Ok, Err};
 ghost use Rattle.std.specs.List.{after_first, before_first, list_all, position_or_len};
+ghost use Rattle.paper.specs.Columns.{max_candidates};
 ghost use Rattle.paper.specs.Numbers.{fault_number};
 ghost use Rattle.paper.specs.Padded.{padded};
 ghost use Rattle.paper.specs.MarksText.{fields, is_digit, mark_in, marks_in, reading, spelling};
 
-use crate::columns::Columns;
+use crate::columns::{Columns, MAX_CANDIDATES};
 use crate::marked::{Keyed, Marked};
 use thiserror::Error;
 
@@ -77,14 +78,14 @@ fn count_commas(text: &[u8]) -> usize
 }
 
 /// Reads the fields of a text into the front of an array.
-fn read_fields(text: &[u8], count: usize) -> Result<[u8; 30], MarkFault>
+fn read_fields(text: &[u8], count: usize) -> Result<[u8; MAX_CANDIDATES], MarkFault>
     requires all { length (fields text.now) ≡ count }
-    requires few { count ≤ 30 }
+    requires few { count ≤ max_candidates }
     ensures ok { IfOk result (λ marks. marks_in (fields text.now) ≡ Ok (take count marks)) }
     ensures behind { IfOk result (λ marks. padded (take count marks) ≡ marks) }
     ensures err { IfErr result (λ fault. marks_in (fields text.now) ≡ Err fault) }
 {
-    let mut marks = [0; 30];
+    let mut marks = [0; MAX_CANDIDATES];
     let mut rest = text;
     for i in 0..count {
         let (field, behind) = split_field(rest);

@@ -1,19 +1,21 @@
 //! The preferences of a ballot paper.
 
 ghost use Rattle.std.specs.Prelude.{◌≡◌, ℕ, ◌≤◌, length, IfSome, IsSome, IsTrue, ◌↔◌};
+ghost use Rattle.paper.specs.Columns.{max_candidates};
 ghost use Rattle.paper.specs.Padded.{listed, padded};
 ghost use Rattle.paper.specs.Ranking.{IsRanking};
 
+use crate::columns::MAX_CANDIDATES;
 use crate::padded::{list_in, padded_numbers};
 use std::marker::Model;
 
 /// The preferences of a valid ballot paper, seen as the list of its candidates' numbers, each once,
 /// the first preference first.
-// 30 bytes, which is the least for a value that is Copy and lends up to 30 numbers as a slice: the
-// numbers, and zeros behind them in place of a length.
+// One byte a candidate, which is the least for a value that is Copy and lends so many numbers as a
+// slice: the numbers, and zeros behind them in place of a length.
 #[derive(Clone, Copy, Debug, PartialEq, Eq)]
 pub struct Prefs {
-    numbers: [u8; 30],
+    numbers: [u8; MAX_CANDIDATES],
 }
 
 impl Model for Prefs {
@@ -33,8 +35,8 @@ impl Model for Prefs {
 }
 
 impl Prefs {
-    /// The preferences of a list; `None` exactly where it is empty, or has a number outside 1 to 30
-    /// or one twice.
+    /// The preferences of a list; `None` exactly where it is empty, or has a number outside 1 to
+    /// `MAX_CANDIDATES` or one twice.
     #[tactic(auto, using(crate::proofs::Rankings::rankings))]
     pub fn from_slice(list: &[u8]) -> Option<Prefs>
         ensures is { IfSome result (λ prefs. prefs ≡ list.now) }
@@ -49,7 +51,7 @@ impl Prefs {
     }
 
     /// The preferences that stand in an array, with zeros behind them.
-    pub(crate) fn from_ranking(numbers: [u8; 30]) -> Prefs
+    pub(crate) fn from_ranking(numbers: [u8; MAX_CANDIDATES]) -> Prefs
         requires whole { padded (listed numbers) ≡ numbers }
         requires some { 1 ≤ length (listed numbers) }
         requires ranking { IsRanking (listed numbers) }
@@ -68,11 +70,11 @@ impl Prefs {
     }
 }
 
-/// Whether a list has numbers 1 to 30, none of them twice.
+/// Whether a list has numbers 1 to `MAX_CANDIDATES`, none of them twice.
 #[tactic(auto, using(crate::proofs::Rankings::rankings))]
 fn is_ranking(list: &[u8]) -> bool
     ensures is { IsTrue result ↔ IsRanking list.now }
-    ensures few { IsTrue result → length list.now ≤ 30 }
+    ensures few { IsTrue result → length list.now ≤ max_candidates }
 {
     match list.split_first() {
         None => true,
@@ -80,7 +82,7 @@ fn is_ranking(list: &[u8]) -> bool
             if *c == 0 {
                 return false;
             }
-            if *c > 30 {
+            if usize::from(*c) > MAX_CANDIDATES {
                 return false;
             }
             if others.contains(c) {

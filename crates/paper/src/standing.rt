@@ -5,7 +5,7 @@ ghost use Rattle.std.specs.List.{list_any, prefix_len};
 ghost use Rattle.paper.specs.Columns.{IsColumn};
 ghost use Rattle.paper.specs.Standing.{status_of, status_among, AreApart, is_continuing, next_available_of, from_first};
 
-use crate::columns::Columns;
+use crate::columns::{Columns, MAX_CANDIDATES};
 use std::marker::Model;
 
 /// Where the bearer of a number stands.
@@ -19,11 +19,14 @@ pub enum Status {
     Absent,
 }
 
-/// A status for each number 1 to 30, seen as the list of them from number 0 on; any other number is
+/// The numbers that have a place: 0, and those of candidates.
+const NUMBERS: usize = MAX_CANDIDATES + 1;
+
+/// A status for each number 1 to `MAX_CANDIDATES`, seen as the list of them from number 0 on; any other number is
 /// absent.
 #[derive(Clone, Copy, Debug, PartialEq, Eq)]
 pub struct Standing {
-    statuses: [Status; 31],
+    statuses: [Status; NUMBERS],
 }
 
 impl Model for Standing {
@@ -53,7 +56,7 @@ impl Standing {
         ensures each { (c : ℕ) → status_of result c ≡ status_among continuing elected excluded c }
         ensures continuing { (c : ℕ) → is_continuing result c ≡ list_any (nat_eq c) continuing }
     {
-        let mut statuses = [Status::Absent; 31];
+        let mut statuses = [Status::Absent; NUMBERS];
         give(&mut statuses, &excluded, Status::Excluded);
         give(&mut statuses, &elected, Status::Elected);
         give(&mut statuses, &continuing, Status::Continuing);
@@ -86,7 +89,7 @@ impl Standing {
 }
 
 /// Gives a status to each number of a set.
-fn give(statuses: &mut [Status; 31], numbers: &Columns, status: Status)
+fn give(statuses: &mut [Status; NUMBERS], numbers: &Columns, status: Status)
     ensures each { (c : ℕ) → status_of statuses.new c ≡ (if list_any (nat_eq c) numbers.now then status else status_of statuses.old c) }
     ensures none { status_of statuses.new 0 ≡ status_of statuses.old 0 }
 {

@@ -5,6 +5,7 @@ ghost use Rattle.paper.specs.Padded.{padded};
 ghost use Rattle.paper.specs.Numbers.{rejection_code};
 ghost use Rattle.paper.specs.Preferences.{IsPreferences, LowerMarksDecide, preferences, rejection_of};
 
+use crate::columns::MAX_CANDIDATES;
 use crate::marked::{Bearers, Marked};
 use crate::prefs::Prefs;
 use thiserror::Error;
@@ -60,11 +61,11 @@ pub fn judge(m: &Marked) -> Result<Prefs, Rejection>
 }
 
 /// The preferences of a paper in an array, with zeros behind them.
-fn preferred(m: &Marked) -> [u8; 30]
+fn preferred(m: &Marked) -> [u8; MAX_CANDIDATES]
     ensures { result ≡ padded (preferences m.now) }
 {
-    let mut numbers = [0; 30];
-    for place in 0..30u8 {
+    let mut numbers = [0; MAX_CANDIDATES];
+    for place in 0..MAX_CANDIDATES as u8 {
         match m.bearers(place + 1) {
             Bearers::One(c) => numbers[usize::from(place)] = c,
             Bearers::Nobody | Bearers::Several => return numbers,

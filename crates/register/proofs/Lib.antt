@@ -1,5 +1,8 @@
 pub mod MapLemmas
-pub mod StateLemmas
-pub mod AgainLemmas
+mod LineLemmas
+mod ObjectionLemmas
+mod ItemLemmas
+mod WardLemmas
+pub mod MachineLemmas
 pub mod ListLaws
 mod Rows

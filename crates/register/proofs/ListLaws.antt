@@ -5,9 +5,10 @@ use Rattle.std.proofs.lemmas.List.Sums.{fold_push}
 use Rattle.std.proofs.lemmas.Bool.{true≢false}
 use Rattle.register.specs.declared.command.Request.{Request}
 use Rattle.std.specs.List.Sorted.{IsStrictlySortedBy}
-use Rattle.register.specs.Offices.{OfficeState, IsState, empty_office}
+use Rattle.register.specs.Offices.{OfficeState, empty_office}
+use Rattle.register.specs.Items.{IsState}
 use Rattle.register.specs.Machine.{Outcome, accepted, kept, refused, step_of, state_after, is_accepted, after_one, after, accepted_of}
-use Rattle.register.proofs.StateLemmas.{step_stays}
+use Rattle.register.proofs.MachineLemmas.{step_stays}
 use Rattle.std.specs.Prelude.{string_bytes}
 
 -- what isn't accepted changes nothing
@@ -37,4 +38,4 @@ after_stays s (r ∷ rs) is = after_stays (after_one s r) rs (step_stays s r.act
 
 pub empty_is_a_state : IsState empty_office
 unfolding IsStrictlySortedBy
-empty_is_a_state = record { wards_in_range = refl; wards_begun = refl; wards_rise = tt; receipts_in_range = refl; receipts_rise = tt }
+empty_is_a_state = record { in_range = refl; begun = refl; rise = record { wards = tt; receipts = tt } }

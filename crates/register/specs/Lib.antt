@@ -1,7 +1,11 @@
 pub mod Phases
-pub mod Refusals
+pub mod Reasons
 pub mod Ranges
 pub mod Subjects
 pub mod Offices
+pub mod Items
+pub mod Effects
+pub mod Parts
+pub mod Wards
 pub mod Machine
 pub mod Views

@@ -1,42 +1,65 @@
 -- What each request makes of the state of an office.
-use Rattle.std.specs.Prelude.{◌≡◌, ⊤, ℕ, Bool, true, false, not, ◌&&◌, ◌==◌, if◌then◌else◌, List, [], ◌∷◌, ◌++◌, fold, codes, string_bytes, Option, Some, None, is_some}
-use Rattle.std.specs.Fmt.{decimal}
+use Rattle.std.specs.Prelude.{◌≡◌, ⊤, ℕ, Bool, true, false, if◌then◌else◌, List, [], ◌∷◌, fold, string_bytes, Option, Some, None}
 use Rattle.std.specs.Str.{bytes_eq}
-use Rattle.register.specs.declared.ward.Phase.TheVariants.{Nominations}
-use Rattle.register.specs.declared.refusal.Refusal.{Refusal}
-use Rattle.register.specs.declared.refusal.Refusal.TheVariants.{BadId, IdUsed, NumberOutOfRange, BadName, WardExists}
+use Rattle.register.specs.declared.refusal.Reason.{Reason}
+use Rattle.register.specs.declared.refusal.Reason.TheVariants.{BadId, IdUsed}
 use Rattle.register.specs.declared.command.Command.{Command}
-use Rattle.register.specs.declared.command.Command.TheVariants.{AddWard}
+use Rattle.register.specs.declared.command.Command.TheVariants.{Ward}
 use Rattle.register.specs.declared.command.Request.{Request}
-use Rattle.register.specs.Ranges.{is_ward_number, is_seat_number, is_name, is_id}
-use Rattle.register.specs.Offices.{ReceiptEntry, OfficeState, put, ward_cmp, receipt_cmp, ward_at, receipt_at}
+use Rattle.register.specs.Reasons.{first_reason}
+use Rattle.register.specs.Ranges.{is_id}
+use Rattle.register.specs.Offices.{ReceiptEntry, OfficeState, receipt_at}
+use Rattle.register.specs.Effects.{EffectEntry, ChangeEntry, with_change}
+use Rattle.register.specs.Parts.{PartEntries}
+use Rattle.register.specs.Wards as wards
 
--- ---- what each command is, asks and does
+-- ---- the commands, by subject
 
--- the ward that a command names
-abbrev pub ward_named : Command → ℕ
-ward_named (AddWard ward seats name) = ward
+-- the part of the state that an actor's command needs
+abbrev pub part_of : OfficeState → ℕ → Command → PartEntries
+part_of s actor (Ward command) = wards.part_of s actor command
 
--- what its receipt is about: the same for two commands that an id may stand for only once
-unfoldable pub subject_of : Command → List ℕ
-subject_of (AddWard ward seats name) = codes "ward " ++ decimal ward
+-- what stands against it, in the order of the reasons' numbers
+abbrev pub objections : ℕ → Command → PartEntries → List (Option Reason)
+objections actor (Ward command) part = wards.objections actor command part
 
-unfoldable pub reply_to : Command → List ℕ
-reply_to (AddWard ward seats name) = codes "ward " ++ decimal ward ++ codes " added"
+-- what its receipt is about
+abbrev pub subject_of : Command → List ℕ
+subject_of (Ward command) = wards.subject_of command
 
--- its numbers are in range, and the actor is one who may send it
-abbrev pub is_in_range : ℕ → Command → Bool
-is_in_range actor (AddWard ward seats name) = (actor == 0) && (is_ward_number ward && is_seat_number seats)
+-- what is replied where it is accepted
+abbrev pub reply_to : Command → PartEntries → List ℕ
+reply_to (Ward command) part = wards.reply_to command part
 
--- what stands against it, each with its refusal, in the order of their numbers
-abbrev pub objections : OfficeState → ℕ → Command → List (Bool × Refusal)
-objections s actor (AddWard ward seats name) =
-    (not (is_in_range actor (AddWard ward seats name)), NumberOutOfRange) ∷ (not (is_name (string_bytes name)), BadName) ∷ (is_some (ward_at s ward), WardExists) ∷ []
+-- what it does where it is accepted
+abbrev pub effect_of : Command → PartEntries → EffectEntry
+effect_of (Ward command) part = wards.effect_of command part
 
--- what it makes of the state, where it is accepted
-abbrev pub effect_of : Command → OfficeState → OfficeState
-effect_of (AddWard ward seats name) s =
-    record s { wards = put ward_cmp (record { number = ward; seats = seats; phase = Nominations; done = 0; name = string_bytes name }) s.wards }
+-- ---- what is decided on a view: actor, id, command, receipt, and the part of the state
+
+-- a change and a reply, the reply of a receipt, or a reason to refuse
+pub data Ruling : Type 0 where
+  accepts : ChangeEntry → List ℕ → Ruling
+  keeps : List ℕ → Ruling
+  refuses : Reason → Ruling
+
+-- the receipt of an accepted request
+abbrev pub receipt_for : ℕ → List ℕ → Command → PartEntries → ReceiptEntry
+receipt_for actor id command part = record { actor = actor; id = id; subject = subject_of command; reply = reply_to command part }
+
+-- a new request: refused for the first reason that stands against it, or accepted
+abbrev pub judged : ℕ → List ℕ → Command → PartEntries → Option Reason → Ruling
+judged actor id command part (Some why) = refuses why
+judged actor id command part None = accepts (record { effect = effect_of command part; receipt = receipt_for actor id command part }) (reply_to command part)
+
+-- an id that has a receipt gets its reply, or is refused where that is about something else
+abbrev pub answered : ℕ → List ℕ → Command → Option ReceiptEntry → PartEntries → Ruling
+answered actor id command (Some receipt) part = if bytes_eq receipt.subject (subject_of command) then keeps receipt.reply else refuses IdUsed
+answered actor id command None part = judged actor id command part (first_reason (objections actor command part))
+
+-- a bad id is refused first
+unfoldable pub decided : ℕ → List ℕ → Command → Option ReceiptEntry → PartEntries → Ruling
+decided actor id command receipt part = if is_id id then answered actor id command receipt part else refuses BadId
 
 -- ---- the step
 
@@ -44,28 +67,24 @@ effect_of (AddWard ward seats name) s =
 pub data Outcome : Type 0 where
   accepted : OfficeState → List ℕ → Outcome
   kept : List ℕ → Outcome
-  refused : Refusal → Outcome
+  refused : Reason → Outcome
 
--- the first objection that holds
-abbrev pub first_objection : List (Bool × Refusal) → Option Refusal
-first_objection [] = None
-first_objection (o ∷ os) = if o.0 then Some o.1 else first_objection os
+-- the outcome of a ruling at a state
+abbrev pub outcome_at : OfficeState → Ruling → Outcome
+outcome_at s (accepts change reply) = accepted (with_change change s) reply
+outcome_at s (keeps reply) = kept reply
+outcome_at s (refuses why) = refused why
 
-abbrev pub with_receipt : ReceiptEntry → OfficeState → OfficeState
-with_receipt r s = record s { receipts = put receipt_cmp r s.receipts }
-
-abbrev pub judged : OfficeState → ℕ → List ℕ → Command → Option Refusal → Outcome
-judged s actor id command (Some why) = refused why
-judged s actor id command None =
-    accepted (with_receipt (record { actor = actor; id = id; subject = subject_of command; reply = reply_to command }) (effect_of command s)) (reply_to command)
-
-abbrev pub answered : OfficeState → ℕ → List ℕ → Command → Option ReceiptEntry → Outcome
-answered s actor id command (Some receipt) = if bytes_eq receipt.subject (subject_of command) then kept receipt.reply else refused IdUsed
-answered s actor id command None = judged s actor id command (first_objection (objections s actor command))
-
--- a bad id is refused; a known one gets its kept reply, or is refused for another subject; the rest is judged
+-- A step sees of the state the receipt of its actor and id, and the part that its command needs, and nothing else; the
+-- state itself is there only for the change to be made in it.
 unfoldable pub step : OfficeState → ℕ → List ℕ → Command → Outcome
-step s actor id command = if is_id id then answered s actor id command (receipt_at s actor id) else refused BadId
+step s actor id command = outcome_at s (decided actor id command (receipt_at s actor id) (part_of s actor command))
+
+-- the state after an outcome, from the one before it
+abbrev pub state_after : OfficeState → Outcome → OfficeState
+state_after s (accepted next reply) = next
+state_after s (kept reply) = s
+state_after s (refused why) = s
 
 -- an accepted request that comes again gets the same reply, and changes nothing more
 abbrev pub IsKeptAgain : ℕ → List ℕ → Command → Outcome → Type 0
@@ -75,19 +94,17 @@ IsKeptAgain actor id command (refused why) = ⊤
 
 -- ---- lists of requests
 
-abbrev pub state_after : OfficeState → Outcome → OfficeState
-state_after s (accepted next reply) = next
-state_after s (kept reply) = s
-state_after s (refused why) = s
-
+-- whether the request was accepted
 abbrev pub is_accepted : Outcome → Bool
 is_accepted (accepted next reply) = true
 is_accepted (kept reply) = false
 is_accepted (refused why) = false
 
+-- the step of a request
 abbrev pub step_of : OfficeState → Request → Outcome
 step_of s r = step s r.actor (string_bytes r.id) r.command
 
+-- the state after one request
 abbrev pub after_one : OfficeState → Request → OfficeState
 after_one s r = state_after s (step_of s r)
 

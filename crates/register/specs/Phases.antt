@@ -1,7 +1,7 @@
 -- The phases of a ward's election, by number.
 use Rattle.std.specs.Prelude.{ℕ}
-use Rattle.register.specs.declared.ward.Phase.{Phase}
-use Rattle.register.specs.declared.ward.Phase.TheVariants.{Nominations, Keying, Sealed, Declared}
+use Rattle.register.specs.declared.phase.Phase.{Phase}
+use Rattle.register.specs.declared.phase.Phase.TheVariants.{Nominations, Keying, Sealed, Declared}
 
 -- the number under which a phase is kept
 abbrev pub phase_number : Phase → ℕ

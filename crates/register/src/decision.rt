@@ -2,7 +2,7 @@
 
 use crate::receipt::Receipt;
 use crate::refusal::Refusal;
-use crate::ward::Ward;
+use crate::wards::Ward;
 
 /// One line of text, without its end.
 pub type Reply = String;

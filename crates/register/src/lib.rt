@@ -1,33 +1,43 @@
 //! The abstract machine of the office: what each request makes of its state.
 //!
-//! A request is an actor, an id and a `Command`. The machine answers it from a `View`, the part of the
-//! state that the request needs, with a `Decision`: accepted with a `Change` and a reply, kept (it was
-//! accepted before under the same id), or refused for one named reason. Nothing here touches a store.
+//! A request is an actor, an id and a `Command`. The machine answers it from a `View`, the receipt and the
+//! part of the state that the request needs, with a `Decision`: accepted with a `Change` and a reply, kept
+//! (it was accepted before under the same id), or refused for one named reason. Nothing here touches a store.
 //!
 //! ```text
 //! let decision = decide(alloc, &view, &command)?;
 //! ```
 //!
-//! `specs/Machine.antt` is the machine itself, over the maps of `specs/Offices.antt`.
+//! `specs/Machine.antt` is the machine itself, over the maps of `specs/Offices.antt`. Each subject has a
+//! file of its own, here and in `specs/`: what its commands need, what stands against them, what they are
+//! about, reply and do. The machine only chooses among the subjects.
 #![tactic(auto)]
 
+// What is asked.
 pub mod command;
-pub mod decision;
-mod machine;
-pub mod ranges;
+// What the state holds.
+pub mod phase;
 pub mod receipt;
-pub mod refusal;
-mod texts;
+// What the machine sees of it,
 pub mod view;
-pub mod ward;
+// and what it answers.
+pub mod decision;
+pub mod refusal;
+// Which numbers and texts are in range.
+pub mod ranges;
+// The commands, by subject.
+pub mod wards;
+// The machine, which chooses among the subjects.
+mod machine;
 
 pub use command::{Command, Request};
 pub use decision::{Change, Decision, Effect, Reply};
 pub use machine::decide;
+pub use phase::Phase;
 pub use receipt::Receipt;
-pub use refusal::Refusal;
-pub use view::View;
-pub use ward::{Phase, Ward};
+pub use refusal::{Reason, Refusal};
+pub use view::{Part, View};
+pub use wards::{Ward, WardCommand};
 
 #[cfg(test)]
 mod tests;

@@ -1,14 +1,21 @@
 //! The part of the state that one request needs.
 
 use crate::receipt::Receipt;
-use crate::ward::Ward;
+use crate::wards::Ward;
 
-/// What the machine sees of the state for one request: who sends it under which id, the receipt of
-/// that actor and id if there is one, and the ward that the command names if it is there.
+/// What any command may need of the state, each there only where the command needs it and the state has
+/// it: the ward that it names.
+#[derive(Debug, Drop)]
+pub struct Part {
+    pub ward: Option<Ward>,
+}
+
+/// What the machine sees for one request: who sends it under which id, the receipt of that actor and id
+/// if there is one, and the part of the state that the command needs.
 #[derive(Debug, Drop)]
 pub struct View<'a> {
     pub actor: u32,
     pub id: &'a str,
     pub receipt: Option<Receipt>,
-    pub ward: Option<Ward>,
+    pub part: Part,
 }

@@ -1,8 +1,10 @@
+-- The numbers of the candidates of a ward.
 use Rattle.std.proofs.Common.{ℕ, ◌<◌, ◌≤◌, List, [], ◌∷◌, length, get_or, map, subst, arith}
 use Rattle.std.proofs.lemmas.List.{get_or-map, length-map}
 use Rattle.paper.specs.Columns.{IsColumnSet, IsColumn}
 use Rattle.paper.proofs.ColumnSets.{Ascends, columns_from_ascends, ascends_from_columns}
-use Rattle.sheet.specs.Wards.{Ascend, HasFewPapers, IsWard}
+use Rattle.sheet.specs.Wards.{Ascend, HasFewPapers, CanBePrinted}
+use Rattle.votes.specs.Units.{max_seats}
 use Rattle.sheet.specs.declared.ward.Ward.{Ward}
 
 -- the number of each candidate is 1 to 30
@@ -19,13 +21,13 @@ ascend_of low [] up = tt
 ascend_of low (c ∷ cs) up = (up.0, up.1, ascend_of c cs up.2)
 
 -- a ward by its parts
-pub IsWard-made : (ward : Ward) → 1 ≤ ward.seats → ward.seats ≤ 15 → HasFewPapers ward.poll → Ascend 0 (map (λ candidate. candidate.0) ward.candidates.now) → IsWard ward
-IsWard-made ward some few papers up = record {
+pub CanBePrinted-made : (ward : Ward) → 1 ≤ ward.seats → ward.seats ≤ max_seats → HasFewPapers ward.poll → Ascend 0 (map (λ candidate. candidate.0) ward.candidates.now) → CanBePrinted ward
+CanBePrinted-made ward some few papers up = record {
   some_seats = some;
   few_seats = few;
   candidate_set = columns_from_ascends 0 _ (ascends_of 0 _ up);
   few_papers = papers;
 }
 
-pub IsWard-ascends : (ward : Ward) → IsWard ward → Ascend 0 (map (λ candidate. candidate.0) ward.candidates.now)
-IsWard-ascends ward is_ward = ascend_of 0 _ (ascends_from_columns _ is_ward.candidate_set)
+pub CanBePrinted-ascends : (ward : Ward) → CanBePrinted ward → Ascend 0 (map (λ candidate. candidate.0) ward.candidates.now)
+CanBePrinted-ascends ward printed = ascend_of 0 _ (ascends_from_columns _ printed.candidate_set)

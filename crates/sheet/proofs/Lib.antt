@@ -1,4 +1,6 @@
+-- What the proofs of the writers share.
 pub mod Candidates
 pub mod Texts
+pub mod Writing
 pub mod StageTexts
 pub mod Utf8

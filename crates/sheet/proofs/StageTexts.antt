@@ -1,14 +1,15 @@
-use Rattle.std.proofs.Common.{◌≡◌, ℕ, ◌+◌, ◌<◌, List, [], ◌∷◌, ◌++◌, length, take, drop, get_or, Option, sym, ◌∙◌, ap, subst, append_assoc}
+-- The texts of stages, one after the other.
+use Rattle.std.proofs.Common.{◌≡◌, ℕ, ◌+◌, ◌<◌, List, [], ◌∷◌, ◌++◌, length, take, drop, get_or, Option, Result, Ok, Err, sym, ◌∙◌, ap, subst, append_assoc}
 use Rattle.std.proofs.lemmas.List.{append-nil, take_more, take-append-drop}
-use Rattle.std.specs.Io.KnownBytes.{Appends}
-use Rattle.votes.specs.Streams.{AppendsBeginning}
 use Rattle.count.specs.declared.stages.Stage.{Stage}
 use Rattle.sheet.specs.declared.ward.Ward.{Ward}
+use Rattle.std.specs.Prelude.{IsErr}
 use Rattle.sheet.specs.Sheet.{stage_text, stages_text}
-use Rattle.sheet.proofs.Texts.{AppendsBeginning-within}
+use Rattle.sheet.specs.Writing.{Writes}
+use Rattle.sheet.proofs.Writing.{Writes-then, Writes-failed, Writes-front}
 
 -- the stages of a list are those of its front, and those of the rest after them
-stages_text-append : (ward : Ward) (earlier xs ys : List Stage) →
+pub stages_text-append : (ward : Ward) (earlier xs ys : List Stage) →
     stages_text ward earlier (xs ++ ys) ≡ stages_text ward earlier xs ++ stages_text ward (earlier ++ xs) ys
 stages_text-append ward earlier [] ys = ap (λ stages. stages_text ward stages ys) (sym (append-nil earlier))
 stages_text-append ward earlier (x ∷ xs) ys =
@@ -23,11 +24,24 @@ stages_text-take_more ward stages i d within =
     ap (stages_text ward []) (take_more stages i d within) ∙ stages_text-append ward [] (take i stages) (get_or stages i d ∷ [])
     ∙ ap (λ text. stages_text ward [] (take i stages) ++ text) (append-nil (stage_text ward (take i stages) (get_or stages i d)))
 
--- a beginning of the next stage is a beginning of all of them
-pub AppendsBeginning-stage : (old mid new : Option (List ℕ)) (ward : Ward) (stages : List Stage) (i : ℕ) (d : Stage) → i < length stages →
-    Appends old mid (stages_text ward [] (take i stages)) → AppendsBeginning mid new (stage_text ward (take i stages) (get_or stages i d)) →
-    AppendsBeginning old new (stages_text ward [] stages)
-AppendsBeginning-stage old mid new ward stages i d within taken cut_off =
-    let parted = ap (λ text. text ++ stages_text ward (take (i + 1) stages) (drop (i + 1) stages)) (sym (stages_text-take_more ward stages i d within))
-    ∙ sym (stages_text-append ward [] (take (i + 1) stages) (drop (i + 1) stages)) ∙ ap (stages_text ward []) (take-append-drop (i + 1) stages) in
-    subst (AppendsBeginning old new) parted (AppendsBeginning-within old mid new _ _ _ taken cut_off)
+-- the texts of some stages and those of the later ones
+pub stages_text-parted : (ward : Ward) (stages : List Stage) (i : ℕ) →
+    stages_text ward [] (take i stages) ++ stages_text ward (take i stages) (drop i stages) ≡ stages_text ward [] stages
+stages_text-parted ward stages i = sym (stages_text-append ward [] (take i stages) (drop i stages)) ∙ ap (stages_text ward []) (take-append-drop i stages)
+
+module _ {W : Type 0} {taken : W → Option (List ℕ)} {failed : W → ℕ} {X E : Type 0} where
+  -- the stages so far and the next one
+  pub Writes-stage : {Y F : Type 0} {old mid new : W} {x : X} (ward : Ward) (stages : List Stage) (i : ℕ) (stage : Stage) (r : Result Y F) → i < length stages → stage ≡ get_or stages i stage →
+      Writes {E = E} taken failed old mid (stages_text ward [] (take i stages)) (Ok x) → Writes taken failed mid new (stage_text ward (take i stages) stage) r →
+      Writes taken failed old new (stages_text ward [] (take (i + 1) stages)) r
+  Writes-stage {old = old} {mid = mid} {new = new} ward stages i stage r within is front next =
+      let there = subst (λ s. Writes taken failed mid new (stage_text ward (take i stages) s) r) is next in
+      subst (λ text. Writes taken failed old new text r) (sym (stages_text-take_more ward stages i stage within)) (Writes-then r front there)
+
+  -- the same where the next one fails, which is passed on: the later ones don't come
+  pub Writes-stage_cut : {old mid new : W} {x : X} {e : E} (ward : Ward) (stages : List Stage) (i : ℕ) (stage : Stage) (r : Result X E) → i < length stages → stage ≡ get_or stages i stage →
+      Writes {E = E} taken failed old mid (stages_text ward [] (take i stages)) (Ok x) → Writes {X = X} taken failed mid new (stage_text ward (take i stages) stage) (Err e) → IsErr r →
+      Writes taken failed old new (stages_text ward [] stages) r
+  Writes-stage_cut {old = old} {new = new} {e = e} ward stages i stage r within is front next failure =
+      let cut = Writes-failed r failure (Writes-stage {F = E} ward stages i stage (Err e) within is front next) in
+      subst (λ text. Writes taken failed old new text r) (stages_text-parted ward stages (i + 1)) (Writes-front (stages_text ward (take (i + 1) stages) (drop (i + 1) stages)) r failure cut)

@@ -1,5 +1,7 @@
+-- What sheets and declarations are.
 pub mod Lines
 pub mod Pieces
+pub mod Writing
 pub mod Wards
 pub mod Stages
 pub mod Sheet

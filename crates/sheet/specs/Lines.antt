@@ -1,3 +1,4 @@
+-- Lines and the columns in them.
 use Rattle.std.specs.Prelude.{ℕ, ◌-◌, List, ◌++◌, length, replicate, codes, decimal}
 use Rattle.std.specs.List.{flat_map}
 use Rattle.votes.specs.Text.{votes_text}

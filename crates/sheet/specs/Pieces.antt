@@ -1,3 +1,4 @@
+-- The texts of the pieces of a line.
 use Rattle.std.specs.Prelude.{ℕ, List, decimal}
 use Rattle.votes.specs.Text.{votes_text}
 use Rattle.sheet.specs.Lines.{number_column, value_column}

@@ -1,3 +1,4 @@
+-- The stage sheet and the declaration.
 use Rattle.std.specs.Prelude.{ℕ, ◌+◌, if◌then◌else◌, nat_eq, List, [], ◌∷◌, ◌++◌, length, slice_index, codes, decimal, string_bytes, Option, Some, None}
 use Rattle.std.specs.List.{list_any, flat_map}
 use Rattle.votes.specs.Units.{quota_of}

@@ -1,7 +1,8 @@
+-- The lines of a stage.
 use Rattle.std.specs.Prelude.{ℕ, Bool, if◌then◌else◌, nat_eq, List, [], ◌∷◌, ◌++◌, codes, decimal}
 use Rattle.std.specs.List.{list_any}
-use Rattle.count.specs.Contest.{votes_at}
-use Rattle.count.specs.Elected.{excludes}
+use Rattle.count.specs.Law.Contest.{votes_at}
+use Rattle.count.specs.Law.Elected.{excludes}
 use Rattle.count.specs.declared.stages.Stage.{Stage}
 use Rattle.count.specs.declared.stages.Action.{Action}
 use Rattle.count.specs.declared.stages.Action.TheVariants.{First, Surplus, Exclude, ExcludeLast}
@@ -14,10 +15,11 @@ heading k (Surplus c) = line (codes "Stage " ∷ decimal k ∷ codes ": surplus 
 heading k (Exclude c) = line (codes "Stage " ∷ decimal k ∷ codes ": exclusion of " ∷ decimal c ∷ [])
 heading k (ExcludeLast c) = line (codes "Stage " ∷ decimal k ∷ codes ": exclusion of " ∷ decimal c ∷ codes ", last vacancies" ∷ [])
 
--- whether a candidate is newly elected at one of some stages, and whether he is excluded at one of them
+-- whether a candidate is newly elected at one of some stages
 abbrev pub is_elected_at : List Stage → ℕ → Bool
 is_elected_at stages c = list_any (λ s. list_any (nat_eq c) s.elected) stages
 
+-- whether a candidate is excluded at one of some stages
 abbrev pub is_excluded_at : List Stage → ℕ → Bool
 is_excluded_at stages c = list_any (λ s. excludes s.action c) stages
 
@@ -33,14 +35,10 @@ abbrev pub candidate_line : List Stage → Stage → ℕ → List ℕ → List �
 candidate_line earlier stage c name =
     line (number_column c ∷ codes " " ∷ value_column (votes_at stage c) ∷ codes " " ∷ letter earlier stage c ∷ codes " " ∷ name ∷ [])
 
--- `         0.00000 non-transferable`
-abbrev pub non_transferable_line : ℕ → List ℕ
-non_transferable_line units = line (codes "   " ∷ value_column units ∷ codes " non-transferable" ∷ [])
-
--- `         0.00002 lost by fractions`
-abbrev pub lost_line : ℕ → List ℕ
-lost_line units = line (codes "   " ∷ value_column units ∷ codes " lost by fractions" ∷ [])
+-- `         0.00002 lost by fractions`: a running sum and what it sums up
+abbrev pub sum_line : ℕ → List ℕ → List ℕ
+sum_line units what = line (codes "   " ∷ value_column units ∷ codes " " ∷ what ∷ [])
 
 -- the running sums of a stage
 abbrev pub sum_lines : Stage → List ℕ
-sum_lines stage = non_transferable_line stage.non_transferable ++ lost_line stage.lost
+sum_lines stage = sum_line stage.non_transferable (codes "non-transferable") ++ sum_line stage.lost (codes "lost by fractions")

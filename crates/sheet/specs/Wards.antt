@@ -1,20 +1,22 @@
+-- The wards of which a sheet and a declaration can be printed.
 use Rattle.std.specs.Prelude.{ℕ, ◌<◌, ◌≤◌, List, [], ◌∷◌, map, Option, IfSome, ⊤}
-use Rattle.paper.specs.Columns.{IsColumnSet}
+use Rattle.paper.specs.Columns.{max_candidates, IsColumnSet}
+use Rattle.votes.specs.Units.{max_papers, max_seats}
 use Rattle.sheet.specs.declared.ward.Ward.{Ward}
 use Rattle.sheet.specs.declared.ward.Poll.{Poll}
 
--- numbers that ascend from above a number on, to 30
+-- numbers that ascend from above a number on, to the greatest of a candidate
 abbrev pub Ascend : ℕ → List ℕ → Type 0
 Ascend low [] = ⊤
-Ascend low (c ∷ cs) = (low < c) × (c ≤ 30) × Ascend c cs
+Ascend low (c ∷ cs) = (low < c) × (c ≤ max_candidates) × Ascend c cs
 
 -- no more valid papers than a ward can have
 abbrev pub HasFewPapers : Option Poll → Type 0
-HasFewPapers poll = IfSome poll (λ poll. poll.valid ≤ 4999500)
+HasFewPapers poll = IfSome poll (λ poll. poll.valid ≤ max_papers)
 
--- A ward that can be told: 1 to 15 seats, candidates in ascending number 1 to 30, and not too many papers.
-pub record IsWard (ward : Ward) : Type 0 where
+-- a ward that can be printed: at least one seat and no more than a ward can have, candidates in ascending number 1 to the greatest, and not too many papers
+pub record CanBePrinted (ward : Ward) : Type 0 where
   pub some_seats : 1 ≤ ward.seats
-  pub few_seats : ward.seats ≤ 15
+  pub few_seats : ward.seats ≤ max_seats
   pub candidate_set : IsColumnSet (map (λ candidate. candidate.0) ward.candidates.now)
   pub few_papers : HasFewPapers ward.poll

@@ -1,18 +1,20 @@
-//! Whether a ward can be told.
+//! Whether a ward can be printed.
 
 ghost use Rattle.std.specs.Prelude.{◌↔◌, map, IsTrue};
-ghost use Rattle.sheet.specs.Wards.{Ascend, HasFewPapers, IsWard};
+ghost use Rattle.sheet.specs.Wards.{Ascend, CanBePrinted, HasFewPapers};
 
 use crate::ward::{Poll, Ward};
+use paper::MAX_CANDIDATES;
+use votes::{MAX_PAPERS, MAX_SEATS};
 
-/// Whether the numbers of some candidates ascend from above a number on, to 30.
+/// Whether the numbers of some candidates ascend from above a number on, to the greatest.
 fn ascend_above(low: u8, candidates: &[(u8, String)]) -> bool
     ensures { IsTrue result ↔ Ascend low (map (λ candidate. candidate.0) candidates.now) }
 {
     match candidates.split_first() {
         None => true,
         Some((candidate, others)) => {
-            if candidate.0 <= low || candidate.0 > 30 {
+            if candidate.0 <= low || usize::from(candidate.0) > MAX_CANDIDATES {
                 return false;
             }
             ascend_above(candidate.0, others)
@@ -26,16 +28,16 @@ fn has_few_papers(poll: Option<Poll>) -> bool
 {
     match poll {
         None => true,
-        Some(poll) => poll.valid <= 4999500,
+        Some(poll) => poll.valid <= MAX_PAPERS,
     }
 }
 
-/// Whether a ward can be told: 1 to 15 seats, candidates in ascending number 1 to 30, and at most
-/// 4999500 valid papers.
-pub fn is_ward(ward: &Ward) -> bool
-    ensures { IsTrue result ↔ IsWard ward.now }
+/// Whether a ward can be printed: 1 to [`MAX_SEATS`] seats, candidates in ascending number 1 to
+/// [`MAX_CANDIDATES`], and at most [`MAX_PAPERS`] valid papers.
+pub fn can_be_printed(ward: &Ward) -> bool
+    ensures { IsTrue result ↔ CanBePrinted ward.now }
 {
-    if ward.seats < 1 || ward.seats > 15 {
+    if ward.seats < 1 || ward.seats > MAX_SEATS {
         return false;
     }
     if !has_few_papers(ward.poll) {

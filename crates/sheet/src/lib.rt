@@ -2,11 +2,11 @@
 //!
 //! A [`Ward`] has what they tell of it, with its [`Poll`] if it is contested. [`write_sheet`] and
 //! [`write_declaration`] write them to a sink, line by line, and take no memory; [`sheet_text`]
-//! gives the sheet as a text. [`is_ward`] is the test of what they ask of a ward.
+//! gives the sheet as a text. [`can_be_printed`] is the test of what they ask of a ward.
 //!
 //! ```text
 //! let ward = Ward { number: 7, name: "Harbour", seats: 2, candidates: &candidates, poll: Some(poll) };
-//! if is_ward(&ward) {
+//! if can_be_printed(&ward) {
 //!     write_sheet(&mut Counted::new(&mut page), &ward, book.stages())?;
 //! }
 //! ```
@@ -22,7 +22,7 @@ mod stage;
 mod ward;
 
 pub use declaration::write_declaration;
-pub use fitness::is_ward;
+pub use fitness::can_be_printed;
 pub use page::sheet_text;
 pub use sheets::write_sheet;
 pub use ward::{Poll, Ward};

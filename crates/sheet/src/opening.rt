@@ -1,10 +1,9 @@
 //! The lines above the stages.
 
-ghost use Rattle.std.specs.Prelude.{◌≡◌, ◌+◌, ◌-◌, ◌^◌, ◌<◌, ◌≤◌, OnOk, OnErr};
-ghost use Rattle.std.specs.Io.KnownBytes.{Appends};
-ghost use Rattle.std.specs.Str.{IsUtf8};
-ghost use Rattle.votes.specs.Streams.{AppendsBeginning};
+ghost use Rattle.std.specs.Prelude.{◌-◌, ◌^◌, ◌<◌, ◌≤◌};
+ghost use Rattle.votes.specs.Units.{max_papers, max_seats};
 ghost use Rattle.sheet.specs.Sheet.{ward_line, uncontested_line, seats_line, rejected_line};
+ghost use Rattle.sheet.specs.Writing.{Writes};
 
 use crate::line::{Piece, write_line};
 use crate::ward::Ward;
@@ -13,11 +12,7 @@ use votes::{Broken, Sink, quota};
 /// Writes the number and the name of a ward.
 pub fn write_ward_line<W: Sink>(sink: &mut W, ward: &Ward) -> Result<(), Broken>
     requires { W.failed sink.old < 2 ^ 64 - 1 }
-    ensures written { OnOk result (Appends (W.taken sink.old) (W.taken sink.new) (ward_line ward.now)) }
-    ensures utf8 { OnOk result (IsUtf8 (ward_line ward.now)) }
-    ensures ok { OnOk result (W.failed sink.new ≡ W.failed sink.old) }
-    ensures cut_off { OnErr result (AppendsBeginning (W.taken sink.old) (W.taken sink.new) (ward_line ward.now)) }
-    ensures err { OnErr result (W.failed sink.new ≡ W.failed sink.old + 1) }
+    ensures { Writes W.taken W.failed sink.old sink.new (ward_line ward.now) result }
 {
     let pieces = [
         Piece::Text("Ward "),
@@ -31,11 +26,7 @@ pub fn write_ward_line<W: Sink>(sink: &mut W, ward: &Ward) -> Result<(), Broken>
 /// Writes the seats of an uncontested ward.
 pub fn write_uncontested_line<W: Sink>(sink: &mut W, seats: u8) -> Result<(), Broken>
     requires { W.failed sink.old < 2 ^ 64 - 1 }
-    ensures written { OnOk result (Appends (W.taken sink.old) (W.taken sink.new) (uncontested_line seats)) }
-    ensures utf8 { OnOk result (IsUtf8 (uncontested_line seats)) }
-    ensures ok { OnOk result (W.failed sink.new ≡ W.failed sink.old) }
-    ensures cut_off { OnErr result (AppendsBeginning (W.taken sink.old) (W.taken sink.new) (uncontested_line seats)) }
-    ensures err { OnErr result (W.failed sink.new ≡ W.failed sink.old + 1) }
+    ensures { Writes W.taken W.failed sink.old sink.new (uncontested_line seats) result }
 {
     let pieces = [
         Piece::Text("Seats "),
@@ -48,14 +39,10 @@ pub fn write_uncontested_line<W: Sink>(sink: &mut W, seats: u8) -> Result<(), Br
 /// Writes the seats, the valid papers and the quota of a contested ward.
 pub fn write_seats_line<W: Sink>(sink: &mut W, seats: u8, valid: u32) -> Result<(), Broken>
     requires some_seats { 1 ≤ seats }
-    requires few_seats { seats ≤ 15 }
-    requires few { valid ≤ 4999500 }
+    requires few_seats { seats ≤ max_seats }
+    requires few { valid ≤ max_papers }
     requires failures { W.failed sink.old < 2 ^ 64 - 1 }
-    ensures written { OnOk result (Appends (W.taken sink.old) (W.taken sink.new) (seats_line seats valid)) }
-    ensures utf8 { OnOk result (IsUtf8 (seats_line seats valid)) }
-    ensures ok { OnOk result (W.failed sink.new ≡ W.failed sink.old) }
-    ensures cut_off { OnErr result (AppendsBeginning (W.taken sink.old) (W.taken sink.new) (seats_line seats valid)) }
-    ensures err { OnErr result (W.failed sink.new ≡ W.failed sink.old + 1) }
+    ensures { Writes W.taken W.failed sink.old sink.new (seats_line seats valid) result }
 {
     let pieces = [
         Piece::Text("Seats "),
@@ -71,11 +58,7 @@ pub fn write_seats_line<W: Sink>(sink: &mut W, seats: u8, valid: u32) -> Result<
 /// Writes the rejected papers of each code, 1 to 5.
 pub fn write_rejected_line<W: Sink>(sink: &mut W, rejected: &[u32; 5]) -> Result<(), Broken>
     requires { W.failed sink.old < 2 ^ 64 - 1 }
-    ensures written { OnOk result (Appends (W.taken sink.old) (W.taken sink.new) (rejected_line rejected.now)) }
-    ensures utf8 { OnOk result (IsUtf8 (rejected_line rejected.now)) }
-    ensures ok { OnOk result (W.failed sink.new ≡ W.failed sink.old) }
-    ensures cut_off { OnErr result (AppendsBeginning (W.taken sink.old) (W.taken sink.new) (rejected_line rejected.now)) }
-    ensures err { OnErr result (W.failed sink.new ≡ W.failed sink.old + 1) }
+    ensures { Writes W.taken W.failed sink.old sink.new (rejected_line rejected.now) result }
 {
     let pieces = [
         Piece::Text("Rejected 1: "),

@@ -2,7 +2,7 @@
 
 ghost use Rattle.std.specs.Prelude.{◌≡◌, Some, IfOk, string_bytes};
 ghost use Rattle.sheet.specs.Sheet.{sheet};
-ghost use Rattle.sheet.specs.Wards.{IsWard};
+ghost use Rattle.sheet.specs.Wards.{CanBePrinted};
 
 use crate::sheets::write_sheet;
 use crate::ward::Ward;
@@ -41,7 +41,7 @@ impl Sink for Page {
 ///
 /// The only error is want of memory.
 pub fn sheet_text(alloc: Global, ward: &Ward, stages: &[Stage]) -> Result<String, AllocError>
-    requires { IsWard ward.now }
+    requires { CanBePrinted ward.now }
     ensures { IfOk result (λ text. string_bytes text ≡ sheet ward.now stages.now) }
 {
     let mut page = Page {

@@ -1,12 +1,10 @@
 //! The stage sheet.
 
-ghost use Rattle.std.specs.Prelude.{◌≡◌, ◌+◌, ◌-◌, ◌^◌, ◌<◌, [], map, OnOk, OnErr};
-ghost use Rattle.std.specs.Io.KnownBytes.{Appends};
-ghost use Rattle.std.specs.Str.{IsUtf8};
+ghost use Rattle.std.specs.Prelude.{◌-◌, ◌^◌, ◌<◌, [], map};
 ghost use Rattle.paper.specs.Columns.{IsColumnSet};
-ghost use Rattle.votes.specs.Streams.{AppendsBeginning};
-ghost use Rattle.sheet.specs.Sheet.{seats_line, rejected_line, stages_text, below_ward, sheet};
-ghost use Rattle.sheet.specs.Wards.{IsWard};
+ghost use Rattle.sheet.specs.Sheet.{stages_text, below_ward, sheet};
+ghost use Rattle.sheet.specs.Wards.{CanBePrinted};
+ghost use Rattle.sheet.specs.Writing.{Writes};
 
 use crate::opening::{
     write_rejected_line, write_seats_line, write_uncontested_line, write_ward_line,
@@ -20,11 +18,7 @@ use votes::{Broken, Sink};
 fn write_stages<W: Sink>(sink: &mut W, ward: &Ward, stages: &[Stage]) -> Result<(), Broken>
     requires candidate_set { IsColumnSet (map (λ candidate. candidate.0) ward.now.candidates.now) }
     requires failures { W.failed sink.old < 2 ^ 64 - 1 }
-    ensures written { OnOk result (Appends (W.taken sink.old) (W.taken sink.new) (stages_text ward.now [] stages.now)) }
-    ensures utf8 { OnOk result (IsUtf8 (stages_text ward.now [] stages.now)) }
-    ensures ok { OnOk result (W.failed sink.new ≡ W.failed sink.old) }
-    ensures cut_off { OnErr result (AppendsBeginning (W.taken sink.old) (W.taken sink.new) (stages_text ward.now [] stages.now)) }
-    ensures err { OnErr result (W.failed sink.new ≡ W.failed sink.old + 1) }
+    ensures { Writes W.taken W.failed sink.old sink.new (stages_text ward.now [] stages.now) result }
 {
     for k in 0..stages.len() {
         write_stage(sink, ward, &stages[..k], &stages[k])?;
@@ -33,23 +27,17 @@ fn write_stages<W: Sink>(sink: &mut W, ward: &Ward, stages: &[Stage]) -> Result<
 }
 
 /// Writes what stands below the ward's line.
-#[tactic(auto, using(crate::proofs::Texts::beginnings))]
 fn write_below_ward<W: Sink>(sink: &mut W, ward: &Ward, stages: &[Stage]) -> Result<(), Broken>
-    requires ward { IsWard ward.now }
+    requires ward { CanBePrinted ward.now }
     requires failures { W.failed sink.old < 2 ^ 64 - 1 }
-    ensures written { OnOk result (Appends (W.taken sink.old) (W.taken sink.new) (below_ward ward.now ward.now.poll stages.now)) }
-    ensures utf8 { OnOk result (IsUtf8 (below_ward ward.now ward.now.poll stages.now)) }
-    ensures ok { OnOk result (W.failed sink.new ≡ W.failed sink.old) }
-    ensures cut_off { OnErr result (AppendsBeginning (W.taken sink.old) (W.taken sink.new) (below_ward ward.now ward.now.poll stages.now)) }
-    ensures err { OnErr result (W.failed sink.new ≡ W.failed sink.old + 1) }
+    ensures { Writes W.taken W.failed sink.old sink.new (below_ward ward.now ward.now.poll stages.now) result }
 {
     let Some(poll) = ward.poll else {
         return write_uncontested_line(sink, ward.seats);
     };
     write_seats_line(sink, ward.seats, poll.valid)?;
     write_rejected_line(sink, &poll.rejected)?;
-    write_stages(sink, ward, stages)?;
-    Ok(())
+    write_stages(sink, ward, stages)
 }
 
 /// Writes the stage sheet of a ward: its number and name, its seats and papers, and each stage with
@@ -57,17 +45,11 @@ fn write_below_ward<W: Sink>(sink: &mut W, ward: &Ward, stages: &[Stage]) -> Res
 ///
 /// Takes no memory. `Broken` comes only from the sink, which has then taken a beginning of the sheet
 /// and counts one failure more.
-#[tactic(auto, using(crate::proofs::Texts::beginnings))]
 pub fn write_sheet<W: Sink>(sink: &mut W, ward: &Ward, stages: &[Stage]) -> Result<(), Broken>
-    requires ward { IsWard ward.now }
+    requires ward { CanBePrinted ward.now }
     requires failures { W.failed sink.old < 2 ^ 64 - 1 }
-    ensures written { OnOk result (Appends (W.taken sink.old) (W.taken sink.new) (sheet ward.now stages.now)) }
-    ensures utf8 { OnOk result (IsUtf8 (sheet ward.now stages.now)) }
-    ensures ok { OnOk result (W.failed sink.new ≡ W.failed sink.old) }
-    ensures cut_off { OnErr result (AppendsBeginning (W.taken sink.old) (W.taken sink.new) (sheet ward.now stages.now)) }
-    ensures err { OnErr result (W.failed sink.new ≡ W.failed sink.old + 1) }
+    ensures { Writes W.taken W.failed sink.old sink.new (sheet ward.now stages.now) result }
 {
     write_ward_line(sink, ward)?;
-    write_below_ward(sink, ward, stages)?;
-    Ok(())
+    write_below_ward(sink, ward, stages)
 }

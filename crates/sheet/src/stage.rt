@@ -1,28 +1,21 @@
 //! The lines of one stage.
 
-ghost use Rattle.std.specs.Prelude.{◌≡◌, ◌+◌, ◌-◌, ◌^◌, ◌<◌, ◌≤◌, nat_eq, map, OnOk, OnErr};
-ghost use Rattle.std.specs.Io.KnownBytes.{Appends};
-ghost use Rattle.std.specs.Str.{IsUtf8};
-ghost use Rattle.std.specs.List.{list_any};
+ghost use Rattle.std.specs.Prelude.{◌≡◌, ◌-◌, ◌^◌, ◌<◌, map, string_bytes};
 ghost use Rattle.paper.specs.Columns.{IsColumnSet, IsColumn};
-ghost use Rattle.votes.specs.Streams.{AppendsBeginning};
-ghost use Rattle.count.specs.Elected.{excludes as excludes_of};
-ghost use Rattle.sheet.specs.Stages.{is_elected_at as is_elected_of, is_excluded_at as is_excluded_of, letter as letter_of, heading, candidate_line, non_transferable_line, lost_line, sum_lines};
+ghost use Rattle.count.specs.Law.Elected.{excludes as excludes_of};
+ghost use Rattle.sheet.specs.Stages.{is_elected_at as is_elected_of, is_excluded_at as is_excluded_of, letter as letter_of, heading, candidate_line, sum_line, sum_lines};
 ghost use Rattle.sheet.specs.Sheet.{candidate_lines, stage_text};
+ghost use Rattle.sheet.specs.Writing.{Writes};
 
 use crate::line::{Piece, write_line};
 use crate::ward::Ward;
 use count::{Action, Stage};
 use votes::{Broken, Sink, Votes};
 
-/// Writes what is done at stage k.
+/// Writes what is done at the stage of a number.
 fn write_heading<W: Sink>(sink: &mut W, k: u64, action: Action) -> Result<(), Broken>
     requires { W.failed sink.old < 2 ^ 64 - 1 }
-    ensures written { OnOk result (Appends (W.taken sink.old) (W.taken sink.new) (heading k action)) }
-    ensures utf8 { OnOk result (IsUtf8 (heading k action)) }
-    ensures ok { OnOk result (W.failed sink.new ≡ W.failed sink.old) }
-    ensures cut_off { OnErr result (AppendsBeginning (W.taken sink.old) (W.taken sink.new) (heading k action)) }
-    ensures err { OnErr result (W.failed sink.new ≡ W.failed sink.old + 1) }
+    ensures { Writes W.taken W.failed sink.old sink.new (heading k action) result }
 {
     let stage = Piece::Text("Stage ");
     let k = Piece::Number(k);
@@ -88,30 +81,26 @@ fn letter(earlier: &[Stage], stage: &Stage, c: u8) -> &'static str
     "-"
 }
 
-/// Writes the line of a candidate at a stage.
+/// Writes the line of a candidate, by his number and his name, at a stage.
 fn write_candidate_line<W: Sink>(
     sink: &mut W,
     earlier: &[Stage],
     stage: &Stage,
-    c: u8,
-    name: &str,
+    candidate: &(u8, String),
 ) -> Result<(), Broken>
-    requires column { IsColumn c }
+    requires column { IsColumn candidate.now.0 }
     requires failures { W.failed sink.old < 2 ^ 64 - 1 }
-    ensures written { OnOk result (Appends (W.taken sink.old) (W.taken sink.new) (candidate_line earlier.now stage.now c name.now)) }
-    ensures utf8 { OnOk result (IsUtf8 (candidate_line earlier.now stage.now c name.now)) }
-    ensures ok { OnOk result (W.failed sink.new ≡ W.failed sink.old) }
-    ensures cut_off { OnErr result (AppendsBeginning (W.taken sink.old) (W.taken sink.new) (candidate_line earlier.now stage.now c name.now)) }
-    ensures err { OnErr result (W.failed sink.new ≡ W.failed sink.old + 1) }
+    ensures { Writes W.taken W.failed sink.old sink.new (candidate_line earlier.now stage.now candidate.now.0 (string_bytes candidate.now.1)) result }
 {
+    let (c, name) = candidate;
     let pieces = [
-        Piece::NumberColumn(c),
+        Piece::NumberColumn(*c),
         Piece::Text(" "),
-        Piece::ValueColumn(stage.votes[usize::from(c - 1)]),
+        Piece::ValueColumn(stage.votes[usize::from(*c - 1)]),
         Piece::Text(" "),
-        Piece::Text(letter(earlier, stage, c)),
+        Piece::Text(letter(earlier, stage, *c)),
         Piece::Text(" "),
-        Piece::Text(name),
+        Piece::Text(name.as_str()),
     ];
     write_line(sink, &pieces)
 }
@@ -125,69 +114,38 @@ fn write_candidate_lines<W: Sink>(
 ) -> Result<(), Broken>
     requires candidate_set { IsColumnSet (map (λ candidate. candidate.0) ward.now.candidates.now) }
     requires failures { W.failed sink.old < 2 ^ 64 - 1 }
-    ensures written { OnOk result (Appends (W.taken sink.old) (W.taken sink.new) (candidate_lines ward.now earlier.now stage.now)) }
-    ensures utf8 { OnOk result (IsUtf8 (candidate_lines ward.now earlier.now stage.now)) }
-    ensures ok { OnOk result (W.failed sink.new ≡ W.failed sink.old) }
-    ensures cut_off { OnErr result (AppendsBeginning (W.taken sink.old) (W.taken sink.new) (candidate_lines ward.now earlier.now stage.now)) }
-    ensures err { OnErr result (W.failed sink.new ≡ W.failed sink.old + 1) }
+    ensures { Writes W.taken W.failed sink.old sink.new (candidate_lines ward.now earlier.now stage.now) result }
 {
     for candidate in ward.candidates {
-        write_candidate_line(sink, earlier, stage, candidate.0, candidate.1.as_str())?;
+        write_candidate_line(sink, earlier, stage, candidate)?;
     }
     Ok(())
 }
 
-/// Writes the running sum of what isn't transferable.
-fn write_non_transferable_line<W: Sink>(sink: &mut W, sum: Votes) -> Result<(), Broken>
+/// Writes a running sum of a stage and what it sums up.
+fn write_sum_line<W: Sink>(sink: &mut W, sum: Votes, what: &str) -> Result<(), Broken>
     requires { W.failed sink.old < 2 ^ 64 - 1 }
-    ensures written { OnOk result (Appends (W.taken sink.old) (W.taken sink.new) (non_transferable_line sum)) }
-    ensures utf8 { OnOk result (IsUtf8 (non_transferable_line sum)) }
-    ensures ok { OnOk result (W.failed sink.new ≡ W.failed sink.old) }
-    ensures cut_off { OnErr result (AppendsBeginning (W.taken sink.old) (W.taken sink.new) (non_transferable_line sum)) }
-    ensures err { OnErr result (W.failed sink.new ≡ W.failed sink.old + 1) }
+    ensures { Writes W.taken W.failed sink.old sink.new (sum_line sum what.now) result }
 {
     let pieces = [
         Piece::Text("   "),
         Piece::ValueColumn(sum),
-        Piece::Text(" non-transferable"),
-    ];
-    write_line(sink, &pieces)
-}
-
-/// Writes the running sum of what is lost by fractions.
-fn write_lost_line<W: Sink>(sink: &mut W, sum: Votes) -> Result<(), Broken>
-    requires { W.failed sink.old < 2 ^ 64 - 1 }
-    ensures written { OnOk result (Appends (W.taken sink.old) (W.taken sink.new) (lost_line sum)) }
-    ensures utf8 { OnOk result (IsUtf8 (lost_line sum)) }
-    ensures ok { OnOk result (W.failed sink.new ≡ W.failed sink.old) }
-    ensures cut_off { OnErr result (AppendsBeginning (W.taken sink.old) (W.taken sink.new) (lost_line sum)) }
-    ensures err { OnErr result (W.failed sink.new ≡ W.failed sink.old + 1) }
-{
-    let pieces = [
-        Piece::Text("   "),
-        Piece::ValueColumn(sum),
-        Piece::Text(" lost by fractions"),
+        Piece::Text(" "),
+        Piece::Text(what),
     ];
     write_line(sink, &pieces)
 }
 
 /// Writes the running sums of a stage.
-#[tactic(auto, using(crate::proofs::Texts::beginnings))]
 fn write_sum_lines<W: Sink>(sink: &mut W, stage: &Stage) -> Result<(), Broken>
     requires { W.failed sink.old < 2 ^ 64 - 1 }
-    ensures written { OnOk result (Appends (W.taken sink.old) (W.taken sink.new) (sum_lines stage.now)) }
-    ensures utf8 { OnOk result (IsUtf8 (sum_lines stage.now)) }
-    ensures ok { OnOk result (W.failed sink.new ≡ W.failed sink.old) }
-    ensures cut_off { OnErr result (AppendsBeginning (W.taken sink.old) (W.taken sink.new) (sum_lines stage.now)) }
-    ensures err { OnErr result (W.failed sink.new ≡ W.failed sink.old + 1) }
+    ensures { Writes W.taken W.failed sink.old sink.new (sum_lines stage.now) result }
 {
-    write_non_transferable_line(sink, stage.non_transferable)?;
-    write_lost_line(sink, stage.lost)?;
-    Ok(())
+    write_sum_line(sink, stage.non_transferable, "non-transferable")?;
+    write_sum_line(sink, stage.lost, "lost by fractions")
 }
 
 /// Writes a stage after earlier ones.
-#[tactic(auto, using(crate::proofs::Texts::beginnings))]
 pub fn write_stage<W: Sink>(
     sink: &mut W,
     ward: &Ward,
@@ -196,14 +154,9 @@ pub fn write_stage<W: Sink>(
 ) -> Result<(), Broken>
     requires candidate_set { IsColumnSet (map (λ candidate. candidate.0) ward.now.candidates.now) }
     requires failures { W.failed sink.old < 2 ^ 64 - 1 }
-    ensures written { OnOk result (Appends (W.taken sink.old) (W.taken sink.new) (stage_text ward.now earlier.now stage.now)) }
-    ensures utf8 { OnOk result (IsUtf8 (stage_text ward.now earlier.now stage.now)) }
-    ensures ok { OnOk result (W.failed sink.new ≡ W.failed sink.old) }
-    ensures cut_off { OnErr result (AppendsBeginning (W.taken sink.old) (W.taken sink.new) (stage_text ward.now earlier.now stage.now)) }
-    ensures err { OnErr result (W.failed sink.new ≡ W.failed sink.old + 1) }
+    ensures { Writes W.taken W.failed sink.old sink.new (stage_text ward.now earlier.now stage.now) result }
 {
     write_heading(sink, earlier.len() as u64 + 1, stage.action)?;
     write_candidate_lines(sink, ward, earlier, stage)?;
-    write_sum_lines(sink, stage)?;
-    Ok(())
+    write_sum_lines(sink, stage)
 }

@@ -3,14 +3,14 @@
 /// The papers of a contested ward.
 #[derive(Clone, Copy, Debug, PartialEq, Eq)]
 pub struct Poll {
-    /// How many papers are valid, at most 4999500.
+    /// How many papers are valid, at most [`votes::MAX_PAPERS`].
     pub valid: u32,
     /// How many papers are rejected, by code 1 to 5.
     pub rejected: [u32; 5],
 }
 
-/// A ward: its number and name, 1 to 15 seats, and its candidates in ascending number 1 to 30, each
-/// with his name.
+/// A ward: its number and name, 1 to [`votes::MAX_SEATS`] seats, and its candidates in ascending number
+/// 1 to [`paper::MAX_CANDIDATES`], each with his name.
 #[derive(Clone, Copy, Debug)]
 pub struct Ward<'a> {
     pub number: u8,

@@ -6,3 +6,4 @@ pub mod StateLemmas
 pub mod RiseLemmas
 pub mod ConditionLemmas
 pub mod TellLemmas
+pub mod ReopenLemmas

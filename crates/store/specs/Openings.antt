@@ -11,9 +11,9 @@ use Rattle.tables.specs.declared.table.Table.{Table}
 use Rattle.tables.specs.declared.table.Table.TheVariants.{Office, Ward, Candidate, Batch, Keying, Verdict, Lot, Receipt}
 use Rattle.tables.specs.Schema.{no_schema}
 use Rattle.tables.specs.Rows.{tuples, at, column_places}
-use Rattle.tables.specs.Contents.{HoldsTable}
+use Rattle.tables.specs.Contents.{HoldsTable, Stores}
 use Rattle.tables.specs.Presence.{has_table}
-use Rattle.store.specs.Offices.{HoldsState, office_row, row_of_ward, row_of_receipt}
+use Rattle.store.specs.Offices.{HoldsState, office_row, row_of_ward, row_of_receipt, tables_of}
 
 -- there is no office table, or no row in it
 abbrev pub HasNoOffice : Database → Type 0
@@ -41,6 +41,12 @@ IsToldBy db Damaged = IsDamaged db
 IsToldBy db Closed = ⊥
 IsToldBy db WrongDatabase = HasNoOffice db
 IsToldBy db NewerSchema = IsNewer db
+
+-- a sound database that holds exactly the tables of this state, as a stop leaves it
+pub record IsLeftAt (s : OfficeState) (db : Database) : Type 0 where
+  pub is : IsState s
+  pub sound : IsDatabase db
+  pub stores : Stores (tables_of s) db.trees
 
 -- an open connection, outside a transaction, to a database with nothing in it
 pub record IsBlank (st : State) : Type 0 where

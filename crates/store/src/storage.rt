@@ -7,11 +7,11 @@ ghost use Rattle.sqlite.specs.Held.{state};
 ghost use Rattle.register.specs.Offices.{OfficeState, IsState, empty_office};
 ghost use Rattle.register.specs.Views.{with_change};
 ghost use Rattle.sqlite.specs.Effect.{Database};
-ghost use Rattle.tables.specs.Contents.{Contents, Rests, RestsAt, Stores};
-ghost use Rattle.tables.specs.Presence.{has_some_table, IsOurs};
+ghost use Rattle.tables.specs.Contents.{Contents, SameContents, Rests, RestsAt, Stores};
+ghost use Rattle.tables.specs.Presence.{has_some_table, has_every_table, IsOurs};
 ghost use Rattle.tables.specs.Reading.{OnlyReads};
 ghost use Rattle.store.specs.Offices.{tables_of, ChangesTo, HoldsState, IsAt, LeavesState};
-ghost use Rattle.store.specs.Openings.{IsBlank, IsToldBy};
+ghost use Rattle.store.specs.Openings.{IsBlank, IsToldBy, IsLeftAt};
 
 use crate::opening::check;
 use crate::writing::{write_change, write_new_office};
@@ -20,7 +20,7 @@ use sqlite::{Alter, Connection};
 use std::alloc::Global;
 use std::marker::Model;
 use tables::Fault;
-use tables::presence::has_some_table;
+use tables::presence::{has_every_table, has_some_table};
 
 /// A connection between two transactions, at the tables of an office. Contracts see it as the
 /// connection that it holds.
@@ -59,19 +59,31 @@ fn commit_change<S: Alter>(conn: &mut Connection<S>, change: &Change) -> Result<
     Ok(())
 }
 
-/// Makes the tables of an empty office in one transaction.
+/// Makes the tables of an empty office in one transaction. Beside other tables no clause of `sqlite` says
+/// which tables the statements made, so it is seen here that each is there.
 fn commit_new_office<S: Alter>(conn: &mut Connection<S>) -> Result<(), Fault>
     requires { conn.old.in_transaction ≡ false }
     ensures done { HasCleanDisk (state S.Store conn.new) → IsBlank (state S.Store conn.old) → OnOk result (Rests (tables_of empty_office) (state S.Store conn.new)) }
     ensures survives { IsBlank (state S.Store conn.old) → Survives (state S.Store conn.old) (state S.Store conn.new) (Stores (tables_of empty_office)) }
     ensures clean { HasCleanDisk (state S.Store conn.new) → HasCleanDisk (state S.Store conn.old) }
+    ensures every { OnOk result (has_every_table (state S.Store conn.new).now.schema ≡ true) }
     ensures outside { conn.new.in_transaction ≡ false }
     ensures cause { IfErr result (λ f. (f ≡ Fault.Memory) ⊎ (f ≡ Fault.Store)) }
 {
     let mut tx = conn.transaction();
     write_new_office(&mut tx)?;
     tx.commit()?;
+    if !has_every_table(conn) {
+        return Err(Fault::Store);
+    }
     Ok(())
+}
+
+/// Rows tell their state: equal tables are those of equal states, so a database stands for one state.
+fn tables_tell_states()
+    ensures equal { (s t : OfficeState) → IsState s → IsState t → SameContents (tables_of s) (tables_of t) → s ≡ t }
+    ensures alone { (db : Database) → (s t : OfficeState) → HoldsState db s → HoldsState db t → s ≡ t }
+{
 }
 
 impl<S: Alter> Store<S> {
@@ -84,7 +96,9 @@ impl<S: Alter> Store<S> {
         ensures made { IfOk result (λ store. HasCleanDisk (state S.Store store) → IsBlank (state S.Store conn) → IsAt empty_office (state S.Store store)) }
         ensures stops { IfErr result (λ e. HasCleanDisk (state S.Store e.1) → IsBlank (state S.Store conn)
             → (trees : Trees) → (state S.Store e.1).may_leave trees → (state S.Store conn).may_leave trees ⊎ Stores (tables_of empty_office) trees) }
+        ensures whole { IfOk result (λ store. has_every_table (state S.Store store).now.schema ≡ true) }
         ensures taken { has_some_table (state S.Store conn).now.schema ≡ true → OnOk result ⊥ }
+        ensures wrong { has_some_table (state S.Store conn).now.schema ≡ true → conn.in_transaction ≡ false → IfErr result (λ e. e.0 ≡ Fault.WrongDatabase) }
         ensures told { IfErr result (λ e. (e.0 ≡ Fault.Memory) ⊎ ((e.0 ≡ Fault.Store) ⊎ ((e.0 ≡ Fault.WrongDatabase) × (has_some_table (state S.Store conn).now.schema ≡ true) × (e.1 ≡ conn)))) }
     {
         if !conn.is_autocommit() {
@@ -108,10 +122,14 @@ impl<S: Alter> Store<S> {
         ensures opened { IfOk result (λ store. HasCleanDisk (state S.Store store) → (db : Database) → IsOurs db.schema → RestsAt db (state S.Store conn)
             → (s : OfficeState) × HoldsState db s × IsAt s (state S.Store store)) }
         ensures told { IfErr result (λ e. HasCleanDisk (state S.Store e.1) → (db : Database) → IsOurs db.schema → RestsAt db (state S.Store conn) → IsToldBy db e.0) }
+        ensures reopens { IfOk result (λ store. HasCleanDisk (state S.Store store) → (db : Database) → RestsAt db (state S.Store conn) → (s : OfficeState) → IsLeftAt s db → IsAt s (state S.Store store)) }
+        ensures refuses { IfErr result (λ e. HasCleanDisk (state S.Store e.1) → (db : Database) → RestsAt db (state S.Store conn) → (s : OfficeState) → IsLeftAt s db → (e.0 ≡ Fault.Memory) ⊎ (e.0 ≡ Fault.Store)) }
         ensures reads { IfOk result (λ store. OnlyReads (state S.Store conn) (state S.Store store)) }
         ensures reads_too { IfErr result (λ e. OnlyReads (state S.Store conn) (state S.Store e.1)) }
         ensures alone { (db : Database) → (s t : OfficeState) → HoldsState db s → HoldsState db t → s ≡ t }
+        ensures equal { (s t : OfficeState) → IsState s → IsState t → SameContents (tables_of s) (tables_of t) → s ≡ t }
     {
+        tables_tell_states();
         if !conn.is_autocommit() {
             return Err((Fault::Store, conn));
         }

@@ -1,3 +1,4 @@
+-- Beginnings of bytes, one taken after the other.
 use Rattle.std.proofs.Common.{ℕ, ◌+◌, min, List, ◌++◌, length, take, drop, Option, sym, ◌∙◌, subst, arith}
 use Rattle.std.proofs.Math.Seq.{take-add, take-append-add}
 use Rattle.std.proofs.lemmas.List.{take_min, take-append-le}

@@ -1,3 +1,4 @@
+-- The lemmas, by subject.
 pub mod Quotas
 pub mod Cuts
 pub mod Texts

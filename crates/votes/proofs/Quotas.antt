@@ -1,3 +1,4 @@
+-- The quota worked out is the least that so many candidates cannot all reach.
 use Rattle.std.proofs.Common.{ℕ, ◌+◌, ◌/◌, arith}
 use Rattle.std.proofs.lemmas.Nat.{div-add-mod', div_below}
 use Rattle.votes.specs.Units.{IsQuota, quota_of}

@@ -1,3 +1,4 @@
+-- What votes are, their text, and the streams that it goes to.
 pub mod Units
 pub mod Text
 pub mod Streams

@@ -1,3 +1,4 @@
+-- What a stream has taken where it broke off.
 use Rattle.std.specs.Prelude.{ℕ, List, take, Option}
 use Rattle.std.specs.Io.KnownBytes.{Appends}
 

@@ -1,3 +1,4 @@
+-- The text of votes, and that it is exact.
 use Rattle.std.specs.Prelude.{◌≡◌, ℕ, ◌+◌, ◌/◌, ◌%◌, List, [], ◌∷◌, ◌++◌, drop, decimal}
 use Rattle.std.specs.Str.Parse.{digits_value}
 

@@ -1,8 +1,21 @@
+-- Votes in units, the limits of a count, the quota and the transfer value.
 use Rattle.std.specs.Prelude.{◌≡◌, ℕ, ◌+◌, ◌*◌, ◌/◌, ◌<◌, ◌≤◌, List, sum, sum_by}
 
 -- one vote, in units
 abbrev pub one_vote : ℕ
 one_vote = 100000
+
+-- the most valid ballot papers of a ward: 9999 batches of 500 papers
+abbrev pub max_papers : ℕ
+max_papers = 4999500
+
+-- the most units that anyone is credited with: one vote for each of the most papers
+abbrev pub max_units : ℕ
+max_units = 499950000000
+
+-- the most seats of a ward
+abbrev pub max_seats : ℕ
+max_seats = 15
 
 -- n is the least number with a property
 pub record IsLeast (P : ℕ → Type 0) (n : ℕ) : Type 0 where

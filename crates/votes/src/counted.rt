@@ -1,9 +1,10 @@
 //! A reader or a writer of the standard library with a count of its failures.
 
 ghost use Rattle.std.specs.Prelude.{◌≡◌, ◌+◌, ◌-◌, ◌^◌, ◌<◌};
-ghost use Rattle.votes.specs.Counted.{stream_of, failed_calls};
+ghost use Rattle.votes.specs.Counted.{stream_of, failed_calls, taken_of, given_of};
 
 use crate::streams::{Broken, Sink, Source};
+use std::io;
 use std::io::{Read, Write};
 
 /// A sink over a writer, a source over a reader.
@@ -36,15 +37,36 @@ impl<T> Counted<T> {
     }
 }
 
+/// How many of so many bytes a writer took by its answer; `None`, a failure, for an error, and where
+/// it took none of some bytes.
+fn taken(answer: io::Result<usize>, len: usize) -> Option<usize>
+    ensures { result ≡ taken_of len answer }
+{
+    match answer {
+        Ok(n) if n > 0 || len == 0 => Some(n),
+        _ => None,
+    }
+}
+
+/// How many bytes a reader gave by its answer; `None`, a failure, for an error.
+fn given(answer: io::Result<usize>) -> Option<usize>
+    ensures { result ≡ given_of answer }
+{
+    match answer {
+        Ok(n) => Some(n),
+        Err(_) => None,
+    }
+}
+
 impl<T: Write> Sink for Counted<T> {
     ghost taken = { λ s. T.contents s.stream };
 
     ghost failed = { λ s. s.failed };
 
     fn put(&mut self, bytes: &[u8]) -> Result<usize, Broken> {
-        match self.stream.write(bytes) {
-            Ok(n) if n > 0 || bytes.is_empty() => Ok(n),
-            _ => Err(self.broken()),
+        match taken(self.stream.write(bytes), bytes.len()) {
+            Some(n) => Ok(n),
+            None => Err(self.broken()),
         }
     }
 
@@ -59,9 +81,9 @@ impl<T: Read> Source for Counted<T> {
     ghost failed = { λ s. s.failed };
 
     fn fetch(&mut self, room: &mut [u8]) -> Result<usize, Broken> {
-        match self.stream.read(room) {
-            Ok(n) => Ok(n),
-            Err(_) => Err(self.broken()),
+        match given(self.stream.read(room)) {
+            Some(n) => Ok(n),
+            None => Err(self.broken()),
         }
     }
 

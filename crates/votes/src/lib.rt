@@ -1,6 +1,6 @@
 //! Votes, exact to the hundred-thousandth, and where their text goes.
 //!
-//! [`Votes`] is a number of units, of which one vote has 100000. [`quota`] and [`transfer_value`]
+//! [`Votes`] is a number of units, of which one vote has [`ONE_VOTE`]. [`quota`] and [`transfer_value`]
 //! are the two divisions of a count by the single transferable vote; both cut down, and say so.
 //! A [`Sink`] takes bytes and a [`Source`] gives them, and both count the calls that failed;
 //! [`Counted`] makes them of a writer and a reader of the standard library.
@@ -13,12 +13,15 @@
 //! ```
 #![tactic(auto)]
 
-mod counted;
+// votes
+mod units;
+// where their text goes
 mod streams;
+// streams of the standard library
+mod counted;
 #[cfg(test)]
 mod tests;
-mod units;
 
 pub use counted::Counted;
 pub use streams::{Broken, Sink, Source, put_all};
-pub use units::{Votes, quota, transfer_value};
+pub use units::{MAX_PAPERS, MAX_SEATS, ONE_VOTE, Votes, quota, transfer_value};

@@ -41,13 +41,40 @@ impl Write for Full {
     }
 }
 
-/// Fails at every read.
+/// Fails at the first call and at every second one after it; in between it takes all bytes, and gives
+/// one.
 #[derive(Drop)]
-struct Torn;
+struct Torn {
+    page: Vec<u8>,
+    fails: bool,
+}
+
+impl Torn {
+    fn next(&mut self) -> io::Result<()> {
+        self.fails = !self.fails;
+        if self.fails {
+            return Err(io::Error::from(ErrorKind::BrokenPipe));
+        }
+        Ok(())
+    }
+}
+
+impl Write for Torn {
+    fn write(&mut self, bytes: &[u8]) -> io::Result<usize> {
+        self.next()?;
+        self.page.extend_from_slice(bytes)?;
+        Ok(bytes.len())
+    }
+
+    fn flush(&mut self) -> io::Result<()> {
+        Ok(())
+    }
+}
 
 impl Read for Torn {
-    fn read(&mut self, _room: &mut [u8]) -> io::Result<usize> {
-        Err(io::Error::from(ErrorKind::BrokenPipe))
+    fn read(&mut self, room: &mut [u8]) -> io::Result<usize> {
+        self.next()?;
+        Ok(room.len().min(1))
     }
 }
 
@@ -132,7 +159,20 @@ fn a_source_gives_what_it_holds(rt: HostRuntime) {
     assert_eq!(&rt; room.as_slice(), b"otll".as_slice());
     assert_eq!(&rt; source.fetch(&mut room), Ok(0));
     assert_eq!(&rt; source.failures(), 0);
-    let mut torn = Counted::new(Torn);
+}
+
+#[test]
+fn a_failure_is_of_one_call(rt: HostRuntime) {
+    let mut torn = Counted::new(Torn {
+        page: Vec::new(rt.alloc()),
+        fails: false,
+    });
+    let long = [b'7'; 5000];
+    let mut room = [0; 5000];
+    assert!(&rt; torn.put(&long).is_err());
+    assert_eq!(&rt; Sink::failures(&torn), 1);
+    assert_eq!(&rt; torn.put(&long), Ok(5000));
     assert!(&rt; torn.fetch(&mut room).is_err());
-    assert_eq!(&rt; torn.failures(), 1);
+    assert_eq!(&rt; torn.fetch(&mut room), Ok(1));
+    assert_eq!(&rt; Source::failures(&torn), 2);
 }

@@ -3,7 +3,7 @@
 ghost use Rattle.std.specs.Prelude.{◌≡◌, ℕ, ◌+◌, ◌-◌, ◌*◌, ◌^◌, ◌<◌, ◌≤◌, OnOk, OnErr, Some};
 ghost use Rattle.std.specs.Io.KnownBytes.{Appends};
 ghost use Rattle.votes.specs.Streams.{AppendsBeginning};
-ghost use Rattle.votes.specs.Units.{IsQuota, quota_of, IsCut, cut, GivesWithin};
+ghost use Rattle.votes.specs.Units.{one_vote, max_papers, max_units, max_seats, IsQuota, quota_of, IsCut, cut, GivesWithin};
 ghost use Rattle.votes.specs.Text.{TellsUnits, fraction_text, votes_text};
 
 use crate::streams::{Broken, Sink, put_all};
@@ -11,7 +11,16 @@ use itoa::Buffer;
 use std::fmt;
 use std::marker::Model;
 
-/// A number of votes, in units: one vote is 100000 of them.
+/// One vote, in units.
+pub const ONE_VOTE: u64 = 100000;
+
+/// The most valid ballot papers of a ward: 9999 batches of 500 papers.
+pub const MAX_PAPERS: u32 = 4999500;
+
+/// The most seats of a ward.
+pub const MAX_SEATS: u8 = 15;
+
+/// A number of votes, in units: one vote is `ONE_VOTE` of them.
 #[derive(Clone, Copy, Debug, PartialEq, Eq, PartialOrd, Ord)]
 pub struct Votes(u64);
 
@@ -53,7 +62,7 @@ impl Votes {
     {
         let units = self.units();
         let mut buffer = Buffer::new();
-        put_all(sink, buffer.format(units / 100000).as_bytes())?;
+        put_all(sink, buffer.format(units / ONE_VOTE).as_bytes())?;
         put_all(sink, &fraction(units))?;
         Ok(())
     }
@@ -77,7 +86,7 @@ impl fmt::Display for Votes {
     ghost output = { λ v. Some (votes_text v) };
 
     fn fmt<W: fmt::Write>(&self, f: &mut fmt::Formatter<W>) -> fmt::Result {
-        let whole = self.0 / 100000;
+        let whole = self.0 / ONE_VOTE;
         let tenths = self.0 / 10000 % 10;
         let hundredths = self.0 / 1000 % 10;
         let thousandths = self.0 / 100 % 10;
@@ -93,28 +102,29 @@ impl fmt::Display for Votes {
 /// The quota ("Quota"): the least whole number of votes that no more candidates than there are
 /// seats can all reach.
 ///
-/// `valid` is the number of valid ballot papers, at most 4999500, and `seats` is 1 to 15.
+/// `valid` is the number of valid ballot papers, at most `MAX_PAPERS`, and `seats` is 1 to
+/// `MAX_SEATS`.
 pub fn quota(valid: u32, seats: u8) -> Votes
-    requires few { valid ≤ 4999500 }
+    requires few { valid ≤ max_papers }
     requires some_seats { 1 ≤ seats }
-    requires few_seats { seats ≤ 15 }
+    requires few_seats { seats ≤ max_seats }
     ensures least { IsQuota valid seats result }
     ensures is { result ≡ quota_of valid seats }
 {
     let whole = u64::from(valid) / (u64::from(seats) + 1) + 1;
-    Votes(whole * 100000)
+    Votes(whole * ONE_VOTE)
 }
 
-/// What a paper is worth after the surplus that takes it ("Transfer values"): its value when it was
-/// received, by the surplus, over the votes credited to its holder, cut down to whole units.
+/// The value at which a paper goes on with a surplus ("Transfer values"): the surplus times its value
+/// when received, divided by the votes credited to its holder, cut down to whole units.
 ///
-/// `received` is at most one vote, `credited` at most 4999500 votes, and `surplus` a part of
-/// `credited` that is neither nothing nor all of it.
+/// `received` is at most one vote, `credited` at most one vote for each of `MAX_PAPERS` papers, and
+/// `surplus` a part of `credited` that is neither nothing nor all of it.
 pub fn transfer_value(surplus: Votes, received: Votes, credited: Votes) -> Votes
     requires some { 0 < surplus }
     requires part { surplus < credited }
-    requires few { credited ≤ 499950000000 }
-    requires one { received ≤ 100000 }
+    requires few { credited ≤ max_units }
+    requires one { received ≤ one_vote }
     ensures greatest { IsCut surplus received credited result }
     ensures is { result ≡ cut surplus received credited }
     // cutting makes no votes

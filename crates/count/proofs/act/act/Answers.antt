@@ -1,5 +1,6 @@
+-- Of the proof of `act`: what is shown by hand.
 use Rattle.std.proofs.Common.{◌∙◌, ◌+◌, List, reverse, ap, sym, subst}
-use Rattle.count.specs.Contest.{Contest, History}
+use Rattle.count.specs.Law.Contest.{Contest, History}
 use Rattle.count.specs.Advance.{Adds}
 use Rattle.count.specs.Holdings.{total, kept_by, AreSmall}
 use Rattle.count.specs.Books.{contest_of, IsMovedBy, Records}

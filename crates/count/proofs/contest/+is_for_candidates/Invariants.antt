@@ -1,3 +1,4 @@
+-- Of the proof of `is_for_candidates`: what gets less at each call of itself.
 use Rattle.std.proofs.Common.{length}
 use Rattle.count.proofs.contest.+is_for_candidates.Given as goal
 

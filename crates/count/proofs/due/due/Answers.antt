@@ -1,10 +1,11 @@
+-- Of the proof of `due`: what is shown by hand.
 use Rattle.std.proofs.Common.{◌∙◌, ap, sym, nat_lt, reverse}
 use Rattle.std.specs.List.{filter}
-use Rattle.count.specs.Contest.{Contest, History, votes_at}
+use Rattle.count.specs.Law.Contest.{Contest, History, votes_at}
 use Rattle.count.specs.Books.{contest_of}
-use Rattle.count.specs.Due.{due_for}
+use Rattle.count.specs.Law.Due.{due_for}
 use Rattle.count.proofs.ColumnLemmas.{reverse-newest}
-use Rattle.count.proofs.DueLemmas.{due-ended, due-open}
+use Rattle.count.proofs.Law.DueLemmas.{due-ended, due-open}
 use Rattle.count.proofs.due.due.Goals as goal
 
 pub returns-then-vacancies-eq0 : goal.returns-then-vacancies-eq0

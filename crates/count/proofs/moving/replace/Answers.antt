@@ -1,5 +1,6 @@
+-- Of the proof of `replace`: what is shown by hand.
 use Rattle.std.proofs.Common.{rules, ◌≡◌, ◌++◌}
-use Rattle.count.proofs.HeldLemmas.{kept-append}
+use Rattle.count.proofs.TransferLemmas.{kept-append}
 use Rattle.count.proofs.moving.replace.Goals as goal
 
 pub returns : goal.returns

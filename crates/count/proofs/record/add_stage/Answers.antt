@@ -1,9 +1,10 @@
+-- Of the proof of `add_stage`: what is shown by hand.
 use Rattle.std.proofs.Common.{rules, ◌≡◌, ◌∙◌, ℕ, not, nat_eq, List, [], ◌∷◌, ◌++◌, length, get_or, reverse, ap, sym, subst}
 use Rattle.std.specs.List.{list_any, filter}
 use Rattle.std.proofs.Math.ListN.{set}
 use Rattle.std.proofs.Math.Seq.{get_or-append_seam}
-use Rattle.count.specs.Contest.{Contest}
-use Rattle.count.specs.Elected.{elected_after}
+use Rattle.count.specs.Law.Contest.{Contest}
+use Rattle.count.specs.Law.Elected.{elected_after}
 use Rattle.count.specs.Books.{contest_of, with_newly, IsAdded}
 use Rattle.count.specs.declared.stages.Stage.{Stage}
 use Rattle.count.proofs.RecordLemmas.{added}

@@ -1,14 +1,15 @@
+-- Of the proof of `run_count`: what is shown by hand.
 use Rattle.std.proofs.Common.{◌≡◌, ◌+◌, length, ap, sym, ◌∙◌, subst, Some}
 use Rattle.count.specs.Advance.{AdvancesBy, end_after}
-use Rattle.count.specs.Contest.{IsContest, Contest, History}
-use Rattle.count.specs.Due.{lot_for}
-use Rattle.count.specs.Right.{BeginsEachRight}
-use Rattle.count.specs.Laws.{FillsSeats}
+use Rattle.count.specs.Law.Contest.{IsContest, Contest, History}
+use Rattle.count.specs.Law.Due.{lot_for}
+use Rattle.count.specs.Law.Right.{IsWholeCount}
+use Rattle.count.specs.Law.Laws.{FillsSeats}
 use Rattle.count.specs.declared.stages.Stage.{Stage}
 use Rattle.count.specs.declared.run.CountEnd.{CountEnd}
-use Rattle.count.proofs.ActionLemmas.{steps-smaller}
-use Rattle.count.proofs.RightLemmas.{begins_each_right, one_begins}
-use Rattle.count.proofs.FinishLemmas.{finished-filled}
+use Rattle.count.proofs.Law.ActionLemmas.{steps-smaller}
+use Rattle.count.proofs.Law.RightLemmas.{whole_count, one_begins}
+use Rattle.count.proofs.Law.FinishLemmas.{finished-filled}
 use Rattle.count.proofs.run.run_count.Goals as goal
 
 pub stages-smaller : goal.stages-smaller
@@ -25,8 +26,8 @@ returns-in-Some-clause-whole g c =
     let ended : g.B.CountBook.history c.step.new.book ≡ before = rw c.in-Some.is at c.in_ok-end.ensures.ended in
     let why : end_after contest c.args.lots.now before ≡ Some c.in-Some.end =
     ap (λ (k : Contest). end_after k c.args.lots.now before) (sym c.stages.invariant.same) ∙ (sym c.in_ok-end.ensures.end ∙ c.in-Some.is) in
-    let all : BeginsEachRight contest c.args.lots.now before = begins_each_right contest c.args.lots.now before c.in-Some.end c.stages.invariant.right why in
-    subst (λ (whole : History). BeginsEachRight contest c.args.lots.now whole) (sym ended) all
+    let all : IsWholeCount contest c.args.lots.now before = whole_count contest c.args.lots.now before c.in-Some.end c.stages.invariant.right why in
+    subst (λ (whole : History). IsWholeCount contest c.args.lots.now whole) (sym ended) all
 
 pub returns-in-Some-clause-filled : goal.returns-in-Some-clause-filled
 returns-in-Some-clause-filled g c =

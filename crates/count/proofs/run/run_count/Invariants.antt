@@ -1,11 +1,13 @@
+-- Of the proof of `run_count`: what holds at each round of its loop, and what gets less.
 use Rattle.std.proofs.Common.{◌≡◌, ◌+◌, ◌-◌, ◌*◌, length}
-use Rattle.count.specs.Right.{IsRight}
+use Rattle.count.specs.Law.Right.{IsRight, IsBeginning}
 use Rattle.count.proofs.run.run_count.Given as goal
 
 abbrev pub invariant-stages : goal.invariant-stages
 invariant-stages g l = record {
   same : g.B.CountBook.contest l.book ≡ g.B.CountBook.contest l.fn.book;
   right : IsRight (g.B.CountBook.contest l.fn.book) l.lots (g.B.CountBook.history l.book);
+  begun : IsBeginning (g.B.CountBook.history l.fn.book) (g.B.CountBook.history l.book);
 }
 
 abbrev pub decreases-stages : goal.decreases-stages

@@ -1,5 +1,6 @@
+-- Of the proof of `empty_holdings`: what is shown by hand.
 use Rattle.std.proofs.Common.{rules, ◌≡◌, ◌+◌, length}
-use Rattle.count.proofs.HoldingLemmas.{total-empty, numbered-push}
+use Rattle.count.proofs.ParcelTotals.{total-empty, numbered-push}
 use Rattle.count.proofs.sorting.empty_holdings.Goals as goal
 
 pub loop-holder-preserved : goal.loop-holder-preserved

@@ -1,6 +1,8 @@
+-- Of the proof of `first_holdings`: what is shown by hand.
 use Rattle.std.proofs.Common.{◌≡◌, ◌∙◌, ℕ, ◌<◌, List, length, get_or, ap, arith}
 use Rattle.std.proofs.lemmas.List.Sums.{sum_by_more}
-use Rattle.count.specs.Places.{first_of}
+use Rattle.votes.specs.Units.{one_vote}
+use Rattle.count.specs.Law.Places.{first_of}
 use Rattle.count.proofs.FirstLemmas.{rankings-more}
 use Rattle.count.proofs.sorting.first_holdings.Goals as goal
 
@@ -11,10 +13,10 @@ loop-prefs-preserved c =
       len = c.in_ok-give.ensures.len;
       numbered = c.in_ok-give.ensures.numbered;
       dealt = λ f.
-          let one_vote : c.from_units.result ≡ 100000 = c.from_units.ensures in
-          let g : List ℕ → ℕ = λ paper. f (first_of paper) paper 100000 in
+          let value_is : c.from_units.result ≡ one_vote = c.from_units.ensures in
+          let g : List ℕ → ℕ = λ paper. f (first_of paper) paper one_vote in
           let at : f (first_of c.as_slice.result.now) c.as_slice.result.now c.from_units.result ≡ g (get_or c.args.papers.now c.loop-prefs.prefs-index c.prefs-item.result) =
-          ap (f (first_of c.as_slice.result.now) c.as_slice.result.now) one_vote ∙ ap g (c.as_slice.ensures.is ∙ c.prefs-item.is) in
+          ap (f (first_of c.as_slice.result.now) c.as_slice.result.now) value_is ∙ ap g (c.as_slice.ensures.is ∙ c.prefs-item.is) in
           omega (arith, c.in_ok-give.ensures.given f, c.loop-prefs.invariant.dealt f, sum_by_more g c.args.papers.now c.loop-prefs.prefs-index c.prefs-item.result within, at);
       rankings = rankings-more c.args.papers.now c.loop-prefs.prefs-index c.prefs-item.result within c.prefs-item.is c.as_slice.ensures.ranking c.loop-prefs.invariant.rankings;
     }

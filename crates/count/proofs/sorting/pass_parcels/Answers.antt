@@ -1,9 +1,10 @@
+-- Of the proof of `pass_parcels`: what is shown by hand.
 use Rattle.std.proofs.Common.{◌≡◌, ℕ, ◌<◌, List, length, ap, arith, Bor}
 use Rattle.std.specs.List.{sum_by}
-use Rattle.count.specs.Places.{first_of}
+use Rattle.count.specs.Law.Places.{first_of}
 use Rattle.paper.specs.Standing.{is_continuing}
 use Rattle.count.specs.Holdings.{at_passed, passed_to, new_value}
-use Rattle.count.proofs.HoldingLemmas.{total_of-more}
+use Rattle.count.proofs.ParcelTotals.{total_of-more}
 use Rattle.count.proofs.sorting.pass_parcels.Goals as goal
 
 pub loop-parcel-preserved : goal.loop-parcel-preserved

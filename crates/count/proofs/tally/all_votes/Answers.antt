@@ -1,3 +1,4 @@
+-- Of the proof of `all_votes`: what is shown by hand.
 use Rattle.std.proofs.Common.{reverse, rules, arith}
 use Rattle.std.proofs.Math.ListN.{length-set}
 use Rattle.count.specs.Holdings.{votes_with}

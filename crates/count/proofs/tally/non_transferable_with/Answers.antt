@@ -1,3 +1,4 @@
+-- Of the proof of `non_transferable_with`: what is shown by hand.
 use Rattle.std.proofs.Common.{◌≡◌, reverse, ap, arith}
 use Rattle.count.specs.Holdings.{newest_non_transferable}
 use Rattle.count.proofs.ColumnLemmas.{reverse-newest}

@@ -1,3 +1,4 @@
+-- Of the proof of `votes_with`: what is shown by hand.
 use Rattle.std.proofs.Common.{arith}
 use Rattle.count.proofs.WorthLemmas.{worth_to-within}
 use Rattle.count.proofs.tally.votes_with.Goals as goal

@@ -1,3 +1,4 @@
+-- Of the proof of `worth`: what holds at each round of its loop.
 use Rattle.std.proofs.Common.{◌≡◌, take}
 use Rattle.count.specs.Holdings.{worth}
 use Rattle.count.proofs.tally.worth.Given as goal

@@ -1,3 +1,4 @@
+-- Of the proof of `worth_of_parcels`: what holds at each round of its loop.
 use Rattle.std.proofs.Common.{◌≡◌, take}
 use Rattle.count.specs.Holdings.{total_of}
 use Rattle.count.proofs.tally.worth_of_parcels.Given as goal

@@ -1,3 +1,4 @@
+-- Of the proof of `worth_to`: what is shown by hand.
 use Rattle.std.proofs.Common.{◌≡◌, ◌<◌, length, ap, arith, ◌∙◌}
 use Rattle.count.specs.Holdings.{total_of}
 use Rattle.count.proofs.WorthLemmas.{worth_to-more, worth_to-other, worth_to-within-more}

@@ -1,6 +1,7 @@
+-- Of the proof of `has_above`: what holds at each round of its loop.
 use Rattle.std.proofs.Common.{◌≡◌, false, take, reverse}
 use Rattle.std.specs.List.{list_any}
-use Rattle.count.specs.Due.{is_above}
+use Rattle.count.specs.Law.Due.{is_above}
 use Rattle.count.proofs.ties.has_above.Given as goal
 
 abbrev pub invariant-loop-d : goal.invariant-loop-d

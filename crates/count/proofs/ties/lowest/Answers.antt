@@ -1,8 +1,9 @@
+-- Of the proof of `lowest`: what is shown by hand.
 use Rattle.std.proofs.Common.{not, reverse, rules}
 use Rattle.std.specs.List.{list_any}
-use Rattle.count.specs.Due.{is_above}
+use Rattle.count.specs.Law.Due.{is_above}
 use Rattle.count.proofs.ColumnLemmas.{columns-more}
 use Rattle.count.proofs.ties.lowest.Goals as goal
 
-pub choose-requires : goal.choose-requires
-choose-requires c = columns-more (λ x. not (list_any (λ d. is_above (reverse c.args.stages.now) x d) c.args.group.now)) _ _ _ (search rules) c.loop-c.invariant (search rules) (search rules)
+pub append-requires : goal.append-requires
+append-requires c = columns-more (λ x. not (list_any (λ d. is_above (reverse c.args.stages.now) x d) c.args.group.now)) _ _ _ (search rules) c.loop-c.invariant (search rules) (search rules)

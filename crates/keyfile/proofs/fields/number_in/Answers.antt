@@ -1,3 +1,4 @@
+-- Why `number_in` keeps its promise.
 use Rattle.std.proofs.Common.{◌∙◌, ap, sym}
 use Rattle.std.specs.Prelude.{unwrap_or, slice_get}
 use Rattle.keyfile.proofs.FieldLemmas.{number_read}

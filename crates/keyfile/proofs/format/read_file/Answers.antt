@@ -1,3 +1,4 @@
+-- Why `read_file` keeps its promise.
 use Rattle.std.proofs.Common.{◌≡◌, ◌+◌, ℕ, map, refl, subst, arith}
 use Rattle.keyfile.specs.Files.{fault_at}
 use Rattle.keyfile.specs.Reading.{StandsAt}

@@ -1,3 +1,4 @@
+-- What holds each time round the loop of `read_file`.
 use Rattle.std.proofs.Common.{map}
 use Rattle.keyfile.specs.Reading.{StandsAt}
 use Rattle.keyfile.proofs.format.read_file.Given as goal

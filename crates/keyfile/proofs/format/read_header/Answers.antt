@@ -1,3 +1,4 @@
+-- Why `read_header` keeps its promise.
 use Rattle.std.proofs.Common.{[], inl, inr, ap}
 use Rattle.std.proofs.lemmas.Result.{IfErr-weaker}
 use Rattle.csv.specs.Records.{fields_of}

@@ -1,3 +1,4 @@
+-- Why `are_columns` ends.
 use Rattle.std.proofs.Common.{length}
 use Rattle.keyfile.proofs.keying.+are_columns.Given as goal
 

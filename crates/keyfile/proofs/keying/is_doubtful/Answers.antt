@@ -1,3 +1,4 @@
+-- Why `is_doubtful` keeps its promise.
 use Rattle.std.proofs.Common.{◌∙◌}
 use Rattle.keyfile.proofs.MarkLemmas.{doubtful_by_others}
 use Rattle.keyfile.proofs.keying.is_doubtful.Goals as goal

@@ -1,3 +1,4 @@
+-- Why `next_record` keeps its promise.
 use Rattle.std.proofs.Common.{rules, refl, sym, subst}
 use Rattle.csv.specs.Records.{fields_of}
 use Rattle.keyfile.specs.Reading.{EndsBefore}

@@ -1,3 +1,4 @@
+-- Of the proof of `inserted`: what is shown by hand.
 use Rattle.std.proofs.Common.{arith}
 use Rattle.paper.proofs.PaddedLists.{padded-inserted}
 use Rattle.paper.proofs.columns.inserted.Goals as goal

@@ -1,3 +1,4 @@
+-- Of the proof of `+is_ranking`: what is shown by hand.
 use Rattle.std.proofs.Common.{rules, arith}
 use Rattle.std.proofs.lemmas.List.{nil_from_length}
 use Rattle.paper.proofs.prefs.+is_ranking.Goals as goal

@@ -1,3 +1,4 @@
+-- Of the proof of `available_from`: what is shown by hand.
 use Rattle.std.proofs.Common.{ap, ◌∙◌, drop}
 use Rattle.std.proofs.lemmas.List.{take_rest, drop_min}
 use Rattle.paper.specs.Standing.{is_continuing}
@@ -8,4 +9,7 @@ pub returns : goal.returns
 returns c =
     let rest = take_rest c.args.prefs.now c.min.result ∙ ap (λ n. drop n c.args.prefs.now) c.min.ensures ∙ drop_min c.args.from c.args.prefs.now in
     let passed = rw rest at c.count_passed.ensures.is in
-    rw (take_rest, rest, passed) (drop-passed (is_continuing c.args.standing.now) (drop c.args.from c.args.prefs.now))
+    take_rest _ c.count_passed.result
+    ∙ ap (λ l. drop c.count_passed.result l) rest
+    ∙ ap (λ n. drop n (drop c.args.from c.args.prefs.now)) passed
+    ∙ drop-passed (is_continuing c.args.standing.now) (drop c.args.from c.args.prefs.now)

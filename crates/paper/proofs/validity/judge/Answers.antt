@@ -1,3 +1,4 @@
+-- Of the proof of `judge`: what is shown by hand.
 use Rattle.std.proofs.Common.{sym, ap, ◌∙◌, subst}
 use Rattle.paper.specs.Padded.{listed, padded}
 use Rattle.paper.specs.Preferences.{IsPreferences, preferences}

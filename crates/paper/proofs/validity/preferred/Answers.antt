@@ -1,3 +1,4 @@
+-- Of the proof of `preferred`: what is shown by hand.
 use Rattle.std.proofs.Common.{sym, ◌∙◌, inl, inr, arith, length-set}
 use Rattle.paper.proofs.Fields.{zeros-less}
 use Rattle.paper.proofs.Preferences.{preferred-more, preferred-done, done-Nobody, done-Several, done-all}

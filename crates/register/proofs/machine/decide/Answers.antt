@@ -1,42 +1,22 @@
-use Rattle.register.proofs.StateLemmas.{step_stays}
-use Rattle.register.proofs.AgainLemmas.{accepted_is_kept}
+use Rattle.std.proofs.Common.{◌≡◌, option_map, ap, ◌∙◌}
+use Rattle.std.proofs.lemmas.Result.{IfOk-weaker}
+use Rattle.register.specs.Offices.{OfficeState, receipt_entry}
+use Rattle.register.specs.Parts.{part_entries}
+use Rattle.register.specs.Machine.{outcome_at, step}
+use Rattle.register.specs.Views.{IsViewOf, decided_on, ruling_of, outcome_of}
+use Rattle.register.proofs.MachineLemmas.{step_on, step_stays, accepted_is_kept}
 use Rattle.register.proofs.machine.decide.Goals as goal
 
-pub returns-in_err-subject-clause-stays_a_state : goal.returns-in_err-subject-clause-stays_a_state
-returns-in_err-subject-clause-stays_a_state c s is = step_stays s c.args.view.now.actor c.args.view.now.id.now c.args.command.now is
-
-pub returns-then-ne-clause-stays_a_state : goal.returns-then-ne-clause-stays_a_state
-returns-then-ne-clause-stays_a_state c s is = step_stays s c.args.view.now.actor c.args.view.now.id.now c.args.command.now is
-
-pub returns-in_err-clone-clause-stays_a_state : goal.returns-in_err-clone-clause-stays_a_state
-returns-in_err-clone-clause-stays_a_state c s is = step_stays s c.args.view.now.actor c.args.view.now.id.now c.args.command.now is
-
-pub returns-in-Some-clause-stays_a_state : goal.returns-in-Some-clause-stays_a_state
-returns-in-Some-clause-stays_a_state c s is = step_stays s c.args.view.now.actor c.args.view.now.id.now c.args.command.now is
-
-pub returns-in-Some-objection_to-clause-stays_a_state : goal.returns-in-Some-objection_to-clause-stays_a_state
-returns-in-Some-objection_to-clause-stays_a_state c s is = step_stays s c.args.view.now.actor c.args.view.now.id.now c.args.command.now is
-
-pub returns-clause-stays_a_state : goal.returns-clause-stays_a_state
-returns-clause-stays_a_state c s is = step_stays s c.args.view.now.actor c.args.view.now.id.now c.args.command.now is
-
-pub returns-in_err-subject-clause-kept_again : goal.returns-in_err-subject-clause-kept_again
-returns-in_err-subject-clause-kept_again c s = accepted_is_kept s c.args.view.now.actor c.args.view.now.id.now c.args.command.now
-
-pub returns-then-ne-clause-kept_again : goal.returns-then-ne-clause-kept_again
-returns-then-ne-clause-kept_again c s = accepted_is_kept s c.args.view.now.actor c.args.view.now.id.now c.args.command.now
-
-pub returns-in_err-clone-clause-kept_again : goal.returns-in_err-clone-clause-kept_again
-returns-in_err-clone-clause-kept_again c s = accepted_is_kept s c.args.view.now.actor c.args.view.now.id.now c.args.command.now
-
-pub returns-in-Some-clause-kept_again : goal.returns-in-Some-clause-kept_again
-returns-in-Some-clause-kept_again c s = accepted_is_kept s c.args.view.now.actor c.args.view.now.id.now c.args.command.now
-
-pub returns-in-Some-objection_to-clause-kept_again : goal.returns-in-Some-objection_to-clause-kept_again
-returns-in-Some-objection_to-clause-kept_again c s = accepted_is_kept s c.args.view.now.actor c.args.view.now.id.now c.args.command.now
+pub returns-clause-decides : goal.returns-clause-decides
+returns-clause-decides c =
+    let view = c.args.view.now in
+    let command = c.args.command.now in
+    IfOk-weaker c.decided.result (λ d. ruling_of d ≡ decided_on view command) (λ d. (s : OfficeState) → IsViewOf s command view → outcome_of s d ≡ step s view.actor view.id.now command)
+    (λ d same s shows. ap (outcome_at s) same ∙ step_on s view.actor view.id.now command (option_map receipt_entry view.receipt) (part_entries view.part) shows.receipt shows.part)
+    c.decided.ensures
 
 pub returns-clause-kept_again : goal.returns-clause-kept_again
 returns-clause-kept_again c s = accepted_is_kept s c.args.view.now.actor c.args.view.now.id.now c.args.command.now
 
-pub returns-then-not-is_id-clause-kept_again : goal.returns-then-not-is_id-clause-kept_again
-returns-then-not-is_id-clause-kept_again c s = accepted_is_kept s c.args.view.now.actor c.args.view.now.id.now c.args.command.now
+pub returns-clause-stays_a_state : goal.returns-clause-stays_a_state
+returns-clause-stays_a_state c s is = step_stays s c.args.view.now.actor c.args.view.now.id.now c.args.command.now is

@@ -1,30 +1,22 @@
-use Rattle.std.proofs.Common.{◌∙◌, sym, subst, string_bytes}
-use Rattle.std.proofs.KnownBytes.{Appends-trans}
-use Rattle.std.specs.Io.KnownBytes.{Appends}
-use Rattle.std.specs.Str.{IsUtf8}
-use Rattle.votes.specs.Streams.{AppendsBeginning}
+-- Why `write_elected_lines` keeps its promise.
+use Rattle.std.proofs.Common.{string_bytes}
+use Rattle.std.proofs.lemmas.List.{take_all}
 use Rattle.sheet.specs.Sheet.{elected_line}
-use Rattle.sheet.proofs.Utf8.{IsUtf8-take_more}
-use Rattle.sheet.proofs.Texts.{flat_map-take_more, AppendsBeginning-item, OnErr-holds}
+use Rattle.sheet.proofs.Writing.{Writes-none, Writes-item, Writes-item_cut}
 use Rattle.sheet.proofs.declaration.write_elected_lines.Goals as goal
 
-pub returns-in_err-write_elected_line-clause-cut_off : goal.returns-in_err-write_elected_line-clause-cut_off
-returns-in_err-write_elected_line-clause-cut_off g c =
-    let next = subst (λ candidate. AppendsBeginning (g.W.Sink.taken c.loop-candidate.sink) (g.W.Sink.taken c.write_elected_line.new.sink) (elected_line c.args.elected.now candidate.0 (string_bytes candidate.1)))
-    c.candidate-item.is (rw c.as_str.ensures.value at c.in_err-write_elected_line.ensures.cut_off) in
-    OnErr-holds c.from_residual.result (AppendsBeginning-item _ _ _ (λ candidate. elected_line c.args.elected.now candidate.0 (string_bytes candidate.1))
-    c.args.ward.now.candidates.now c.loop-candidate.candidate-index c.candidate-item.result c.loop-candidate-test.true c.loop-candidate.invariant.taken next)
+pub loop-candidate-init : goal.loop-candidate-init
+loop-candidate-init g c = Writes-none _ _
 
 pub loop-candidate-preserved : goal.loop-candidate-preserved
 loop-candidate-preserved g c =
-    let next = subst (λ candidate. Appends (g.W.Sink.taken c.loop-candidate.sink) (g.W.Sink.taken c.write_elected_line.new.sink) (elected_line c.args.elected.now candidate.0 (string_bytes candidate.1)))
-    c.candidate-item.is (rw c.as_str.ensures.value at c.in_ok-write_elected_line.ensures.written) in
-    let text = subst (λ candidate. IsUtf8 (elected_line c.args.elected.now candidate.0 (string_bytes candidate.1))) c.candidate-item.is (rw c.as_str.ensures.value at c.in_ok-write_elected_line.ensures.utf8) in
-    record {
-      taken = subst (Appends (g.W.Sink.taken c.args.sink.now) (g.W.Sink.taken c.write_elected_line.new.sink))
-          (sym (flat_map-take_more (λ candidate. elected_line c.args.elected.now candidate.0 (string_bytes candidate.1)) c.args.ward.now.candidates.now c.loop-candidate.candidate-index c.candidate-item.result c.loop-candidate-test.true))
-          (Appends-trans _ _ _ _ _ c.loop-candidate.invariant.taken next);
-      utf8 = IsUtf8-take_more (λ candidate. elected_line c.args.elected.now candidate.0 (string_bytes candidate.1)) c.args.ward.now.candidates.now c.loop-candidate.candidate-index c.candidate-item.result c.loop-candidate-test.true
-          c.loop-candidate.invariant.utf8 text;
-      failed = c.in_ok-write_elected_line.ensures.ok ∙ c.loop-candidate.invariant.failed;
-    }
+    Writes-item (λ candidate. elected_line c.args.elected.now candidate.0 (string_bytes candidate.1)) c.args.ward.now.candidates.now c.loop-candidate.candidate-index c.candidate-item.result _
+    c.loop-candidate-test.true c.candidate-item.is c.loop-candidate.invariant c.in_ok-write_elected_line.ensures
+
+pub returns-in_err-write_elected_line : goal.returns-in_err-write_elected_line
+returns-in_err-write_elected_line g c =
+    Writes-item_cut (λ candidate. elected_line c.args.elected.now candidate.0 (string_bytes candidate.1)) c.args.ward.now.candidates.now c.loop-candidate.candidate-index c.candidate-item.result c.from_residual.result
+    c.loop-candidate-test.true c.candidate-item.is c.loop-candidate.invariant c.in_err-write_elected_line.ensures c.from_residual.ensures.0
+
+pub returns : goal.returns
+returns g c = rw (take_all _ _ c.loop-candidate-test.false) at c.loop-candidate.invariant

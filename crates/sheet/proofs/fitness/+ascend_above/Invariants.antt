@@ -1,3 +1,4 @@
+-- Why `ascend_above` ends.
 use Rattle.std.proofs.Common.{length}
 use Rattle.sheet.proofs.fitness.+ascend_above.Given as goal
 

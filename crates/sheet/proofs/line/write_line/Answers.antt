@@ -1,36 +1,22 @@
-use Rattle.std.proofs.Common.{◌∙◌, subst, codes}
-use Rattle.std.proofs.KnownBytes.{Appends-trans}
-use Rattle.std.specs.Io.KnownBytes.{Appends}
+-- Why `write_line` keeps its promise.
+use Rattle.std.proofs.Common.{codes}
 use Rattle.std.proofs.lemmas.List.{take_all}
-use Rattle.votes.specs.Streams.{AppendsBeginning}
-use Rattle.votes.proofs.Beginnings.{AppendsBeginning-front, AppendsBeginning-behind}
 use Rattle.sheet.specs.Pieces.{piece_text}
-use Rattle.std.specs.Str.{IsUtf8}
-use Rattle.sheet.proofs.Utf8.{IsUtf8-line, IsUtf8-take_more}
-use Rattle.sheet.proofs.Texts.{line-map, flat_map-take_more, AppendsBeginning-item, OnErr-holds}
+use Rattle.sheet.proofs.Texts.{line-map}
+use Rattle.sheet.proofs.Writing.{Writes-none, Writes-then, Writes-front, Writes-item, Writes-item_cut}
 use Rattle.sheet.proofs.line.write_line.Goals as goal
 
-pub returns-in_err-write_piece-clause-cut_off : goal.returns-in_err-write_piece-clause-cut_off
-returns-in_err-write_piece-clause-cut_off g c =
-    let next = subst (λ piece. AppendsBeginning (g.W.Sink.taken c.loop-piece.sink) (g.W.Sink.taken c.write_piece.new.sink) (piece_text piece)) c.piece-item.is c.in_err-write_piece.ensures.cut_off in
-    let within = AppendsBeginning-item _ _ _ piece_text c.args.pieces.now c.loop-piece.piece-index c.piece-item.result c.loop-piece-test.true c.loop-piece.invariant.taken next in
-    OnErr-holds c.from_residual.result (rw line-map (AppendsBeginning-front _ _ _ (codes "\n") within))
-
-pub returns-in_err-put_all-clause-cut_off : goal.returns-in_err-put_all-clause-cut_off
-returns-in_err-put_all-clause-cut_off g c = OnErr-holds c.from_residual-in_err-put_all.result (rw line-map (AppendsBeginning-behind _ _ _ _ _ (rw (take_all _ _ c.loop-piece-test.false) at c.loop-piece.invariant.taken) c.in_err-put_all.ensures.cut_off))
-
-pub returns-clause-written : goal.returns-clause-written
-returns-clause-written g c = rw line-map (Appends-trans _ _ _ _ _ (rw (take_all _ _ c.loop-piece-test.false) at c.loop-piece.invariant.taken) c.in_ok-put_all.ensures.all)
-
-pub returns-clause-utf8 : goal.returns-clause-utf8
-returns-clause-utf8 g c = IsUtf8-line piece_text c.args.pieces.now (rw (take_all _ _ c.loop-piece-test.false) at c.loop-piece.invariant.utf8)
+pub loop-piece-init : goal.loop-piece-init
+loop-piece-init g c = Writes-none _ _
 
 pub loop-piece-preserved : goal.loop-piece-preserved
 loop-piece-preserved g c =
-    let next = subst (λ piece. Appends (g.W.Sink.taken c.loop-piece.sink) (g.W.Sink.taken c.write_piece.new.sink) (piece_text piece)) c.piece-item.is c.in_ok-write_piece.ensures.written in
-    let text = subst (λ piece. IsUtf8 (piece_text piece)) c.piece-item.is c.in_ok-write_piece.ensures.utf8 in
-    record {
-      taken = rw (flat_map-take_more piece_text c.args.pieces.now c.loop-piece.piece-index c.piece-item.result c.loop-piece-test.true) (Appends-trans _ _ _ _ _ c.loop-piece.invariant.taken next);
-      utf8 = IsUtf8-take_more piece_text c.args.pieces.now c.loop-piece.piece-index c.piece-item.result c.loop-piece-test.true c.loop-piece.invariant.utf8 text;
-      failed = c.in_ok-write_piece.ensures.ok ∙ c.loop-piece.invariant.failed;
-    }
+    Writes-item piece_text c.args.pieces.now c.loop-piece.piece-index c.piece-item.result _ c.loop-piece-test.true c.piece-item.is c.loop-piece.invariant c.in_ok-write_piece.ensures
+
+pub returns-in_err-write_piece : goal.returns-in_err-write_piece
+returns-in_err-write_piece g c =
+    let pieces = Writes-item_cut piece_text c.args.pieces.now c.loop-piece.piece-index c.piece-item.result c.from_residual.result c.loop-piece-test.true c.piece-item.is c.loop-piece.invariant c.in_err-write_piece.ensures c.from_residual.ensures.0 in
+    rw line-map (Writes-front (codes "\n") c.from_residual.result c.from_residual.ensures.0 pieces)
+
+pub returns : goal.returns
+returns g c = rw line-map (Writes-then c.write_text.result (rw (take_all _ _ c.loop-piece-test.false) at c.loop-piece.invariant) c.write_text.ensures)

@@ -1,6 +1,18 @@
-use Rattle.std.proofs.lemmas.Str.{IsUtf8-append}
+-- Why `write_below_ward` keeps its promise.
+use Rattle.sheet.proofs.Writing.{Writes-then, Writes-failed, Writes-front}
 use Rattle.sheet.proofs.sheets.write_below_ward.Goals as goal
 
-pub returns-clause-utf8 : goal.returns-clause-utf8
-returns-clause-utf8 g c =
-    rw c.in-Some.is (IsUtf8-append _ _ (IsUtf8-append _ _ c.in_ok-write_seats_line.ensures.utf8 c.in_ok-write_rejected_line.ensures.utf8) c.in_ok-write_stages.ensures.utf8)
+pub returns-in_err-write_seats_line : goal.returns-in_err-write_seats_line
+returns-in_err-write_seats_line g c =
+    let r = c.from_residual.result in
+    let failure = c.from_residual.ensures.0 in
+    rw c.in-Some.is (Writes-front _ r failure (Writes-front _ r failure (Writes-failed r failure c.in_err-write_seats_line.ensures)))
+
+pub returns-in_err-write_rejected_line : goal.returns-in_err-write_rejected_line
+returns-in_err-write_rejected_line g c =
+    let r = c.from_residual-in_err-write_rejected_line.result in
+    let failure = c.from_residual-in_err-write_rejected_line.ensures.0 in
+    rw c.in-Some.is (Writes-front _ r failure (Writes-failed r failure (Writes-then _ c.in_ok-write_seats_line.ensures c.in_err-write_rejected_line.ensures)))
+
+pub returns : goal.returns
+returns g c = rw c.in-Some.is (Writes-then _ (Writes-then _ c.in_ok-write_seats_line.ensures c.in_ok-write_rejected_line.ensures) c.write_stages.ensures)

@@ -1,27 +1,20 @@
-use Rattle.std.proofs.Common.{◌∙◌, subst, take}
-use Rattle.std.proofs.KnownBytes.{Appends-trans}
-use Rattle.std.specs.Io.KnownBytes.{Appends}
-use Rattle.votes.specs.Streams.{AppendsBeginning}
-use Rattle.std.specs.Str.{IsUtf8}
-use Rattle.std.proofs.lemmas.Str.{IsUtf8-append}
-use Rattle.sheet.specs.Sheet.{stage_text}
-use Rattle.sheet.proofs.StageTexts.{stages_text-take_more, AppendsBeginning-stage}
-use Rattle.sheet.proofs.Texts.{OnErr-holds}
+-- Why `write_stages` keeps its promise.
+use Rattle.std.proofs.lemmas.List.{take_all}
+use Rattle.sheet.proofs.StageTexts.{Writes-stage, Writes-stage_cut}
+use Rattle.sheet.proofs.Writing.{Writes-none}
 use Rattle.sheet.proofs.sheets.write_stages.Goals as goal
 
-pub returns-in_err-write_stage-clause-cut_off : goal.returns-in_err-write_stage-clause-cut_off
-returns-in_err-write_stage-clause-cut_off g c =
-    let next = subst (λ stage. AppendsBeginning (g.W.Sink.taken c.loop-k.sink) (g.W.Sink.taken c.write_stage.new.sink) (stage_text c.args.ward.now (take c.loop-k.k c.args.stages.now) stage))
-    c.index-stages-k.is c.in_err-write_stage.ensures.cut_off in
-    OnErr-holds c.from_residual.result (AppendsBeginning-stage _ _ _ c.args.ward.now c.args.stages.now c.loop-k.k c.index-stages-k.result c.loop-k-test.true c.loop-k.invariant.taken next)
+pub loop-k-init : goal.loop-k-init
+loop-k-init g c = Writes-none _ _
 
 pub loop-k-preserved : goal.loop-k-preserved
 loop-k-preserved g c =
-    let next = subst (λ stage. Appends (g.W.Sink.taken c.loop-k.sink) (g.W.Sink.taken c.write_stage.new.sink) (stage_text c.args.ward.now (take c.loop-k.k c.args.stages.now) stage))
-    c.index-stages-k.is c.in_ok-write_stage.ensures.written in
-    let text = subst (λ stage. IsUtf8 (stage_text c.args.ward.now (take c.loop-k.k c.args.stages.now) stage)) c.index-stages-k.is c.in_ok-write_stage.ensures.utf8 in
-    record {
-      taken = rw (stages_text-take_more c.args.ward.now c.args.stages.now c.loop-k.k c.index-stages-k.result c.loop-k-test.true) (Appends-trans _ _ _ _ _ c.loop-k.invariant.taken next);
-      utf8 = rw (stages_text-take_more c.args.ward.now c.args.stages.now c.loop-k.k c.index-stages-k.result c.loop-k-test.true) (IsUtf8-append _ _ c.loop-k.invariant.utf8 text);
-      failed = c.in_ok-write_stage.ensures.ok ∙ c.loop-k.invariant.failed;
-    }
+    Writes-stage c.args.ward.now c.args.stages.now c.loop-k.k c.index-stages-k.result _ c.loop-k-test.true c.index-stages-k.is c.loop-k.invariant c.in_ok-write_stage.ensures
+
+pub returns-in_err-write_stage : goal.returns-in_err-write_stage
+returns-in_err-write_stage g c =
+    Writes-stage_cut c.args.ward.now c.args.stages.now c.loop-k.k c.index-stages-k.result c.from_residual.result
+    c.loop-k-test.true c.index-stages-k.is c.loop-k.invariant c.in_err-write_stage.ensures c.from_residual.ensures.0
+
+pub returns : goal.returns
+returns g c = rw (take_all _ _ c.loop-k-test.false) at c.loop-k.invariant

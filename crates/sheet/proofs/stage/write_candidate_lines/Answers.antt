@@ -1,13 +1,10 @@
-use Rattle.std.proofs.Common.{◌∙◌, sym, subst, string_bytes}
-use Rattle.std.proofs.KnownBytes.{Appends-trans}
-use Rattle.std.specs.Io.KnownBytes.{Appends}
-use Rattle.std.specs.Str.{IsUtf8}
+-- Why `write_candidate_lines` keeps its promise.
+use Rattle.std.proofs.Common.{string_bytes, sym, subst}
+use Rattle.std.proofs.lemmas.List.{take_all}
 use Rattle.paper.specs.Columns.{IsColumn}
-use Rattle.votes.specs.Streams.{AppendsBeginning}
 use Rattle.sheet.specs.Stages.{candidate_line}
 use Rattle.sheet.proofs.Candidates.{IsColumn-candidate}
-use Rattle.sheet.proofs.Utf8.{IsUtf8-take_more}
-use Rattle.sheet.proofs.Texts.{flat_map-take_more, AppendsBeginning-item, OnErr-holds}
+use Rattle.sheet.proofs.Writing.{Writes-none, Writes-item, Writes-item_cut}
 use Rattle.sheet.proofs.stage.write_candidate_lines.Goals as goal
 
 pub write_candidate_line-requires-clause-column : goal.write_candidate_line-requires-clause-column
@@ -15,21 +12,18 @@ write_candidate_line-requires-clause-column g c =
     subst (λ candidate. IsColumn candidate.0) (sym c.candidate-item.is)
     (IsColumn-candidate (λ candidate. candidate.0) c.args.ward.now.candidates.now c.loop-candidate.candidate-index c.candidate-item.result c.loop-candidate-test.true c.requires.candidate_set)
 
-pub returns-in_err-write_candidate_line-clause-cut_off : goal.returns-in_err-write_candidate_line-clause-cut_off
-returns-in_err-write_candidate_line-clause-cut_off g c =
-    let next = subst (λ candidate. AppendsBeginning (g.W.Sink.taken c.loop-candidate.sink) (g.W.Sink.taken c.write_candidate_line.new.sink) (candidate_line c.args.earlier.now c.args.stage.now candidate.0 (string_bytes candidate.1)))
-    c.candidate-item.is (rw c.as_str.ensures.value at c.in_err-write_candidate_line.ensures.cut_off) in
-    OnErr-holds c.from_residual.result (AppendsBeginning-item _ _ _ (λ candidate. candidate_line c.args.earlier.now c.args.stage.now candidate.0 (string_bytes candidate.1))
-    c.args.ward.now.candidates.now c.loop-candidate.candidate-index c.candidate-item.result c.loop-candidate-test.true c.loop-candidate.invariant.taken next)
+pub loop-candidate-init : goal.loop-candidate-init
+loop-candidate-init g c = Writes-none _ _
 
 pub loop-candidate-preserved : goal.loop-candidate-preserved
 loop-candidate-preserved g c =
-    let next = subst (λ candidate. Appends (g.W.Sink.taken c.loop-candidate.sink) (g.W.Sink.taken c.write_candidate_line.new.sink) (candidate_line c.args.earlier.now c.args.stage.now candidate.0 (string_bytes candidate.1)))
-    c.candidate-item.is (rw c.as_str.ensures.value at c.in_ok-write_candidate_line.ensures.written) in
-    let text = subst (λ candidate. IsUtf8 (candidate_line c.args.earlier.now c.args.stage.now candidate.0 (string_bytes candidate.1))) c.candidate-item.is (rw c.as_str.ensures.value at c.in_ok-write_candidate_line.ensures.utf8) in
-    record {
-      taken = subst (Appends (g.W.Sink.taken c.args.sink.now) (g.W.Sink.taken c.write_candidate_line.new.sink))
-          (sym (flat_map-take_more (λ candidate. candidate_line c.args.earlier.now c.args.stage.now candidate.0 (string_bytes candidate.1)) c.args.ward.now.candidates.now c.loop-candidate.candidate-index c.candidate-item.result c.loop-candidate-test.true)) (Appends-trans _ _ _ _ _ c.loop-candidate.invariant.taken next);
-      utf8 = IsUtf8-take_more (λ candidate. candidate_line c.args.earlier.now c.args.stage.now candidate.0 (string_bytes candidate.1)) c.args.ward.now.candidates.now c.loop-candidate.candidate-index c.candidate-item.result c.loop-candidate-test.true c.loop-candidate.invariant.utf8 text;
-      failed = c.in_ok-write_candidate_line.ensures.ok ∙ c.loop-candidate.invariant.failed;
-    }
+    Writes-item (λ candidate. candidate_line c.args.earlier.now c.args.stage.now candidate.0 (string_bytes candidate.1)) c.args.ward.now.candidates.now c.loop-candidate.candidate-index c.candidate-item.result _
+    c.loop-candidate-test.true c.candidate-item.is c.loop-candidate.invariant c.in_ok-write_candidate_line.ensures
+
+pub returns-in_err-write_candidate_line : goal.returns-in_err-write_candidate_line
+returns-in_err-write_candidate_line g c =
+    Writes-item_cut (λ candidate. candidate_line c.args.earlier.now c.args.stage.now candidate.0 (string_bytes candidate.1)) c.args.ward.now.candidates.now c.loop-candidate.candidate-index c.candidate-item.result c.from_residual.result
+    c.loop-candidate-test.true c.candidate-item.is c.loop-candidate.invariant c.in_err-write_candidate_line.ensures c.from_residual.ensures.0
+
+pub returns : goal.returns
+returns g c = rw (take_all _ _ c.loop-candidate-test.false) at c.loop-candidate.invariant

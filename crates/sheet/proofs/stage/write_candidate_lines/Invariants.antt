@@ -1,14 +1,11 @@
-use Rattle.std.proofs.Common.{◌≡◌, take, string_bytes}
+-- What holds each time round the loop of `write_candidate_lines`.
+use Rattle.std.proofs.Common.{take, Ok, string_bytes}
 use Rattle.std.specs.List.{flat_map}
-use Rattle.std.specs.Io.KnownBytes.{Appends}
-use Rattle.std.specs.Str.{IsUtf8}
+use Rattle.votes.specs.declared.streams.Broken.{Broken}
 use Rattle.sheet.specs.Stages.{candidate_line}
+use Rattle.sheet.specs.Writing.{Writes}
 use Rattle.sheet.proofs.stage.write_candidate_lines.Given as goal
 
 abbrev pub invariant-loop-candidate : goal.invariant-loop-candidate
-invariant-loop-candidate g l = record {
-  taken : Appends (g.W.Sink.taken l.fn.sink) (g.W.Sink.taken l.sink)
-      (flat_map (λ candidate. candidate_line l.earlier l.stage candidate.0 (string_bytes candidate.1)) (take l.candidate-index l.candidate-items));
-  utf8 : IsUtf8 (flat_map (λ candidate. candidate_line l.earlier l.stage candidate.0 (string_bytes candidate.1)) (take l.candidate-index l.candidate-items));
-  failed : g.W.Sink.failed l.sink ≡ g.W.Sink.failed l.fn.sink;
-}
+invariant-loop-candidate g l =
+    Writes {E = Broken} g.W.Sink.taken g.W.Sink.failed l.fn.sink l.sink (flat_map (λ candidate. candidate_line l.earlier l.stage candidate.0 (string_bytes candidate.1)) (take l.candidate-index l.candidate-items)) (Ok (tt {0}))

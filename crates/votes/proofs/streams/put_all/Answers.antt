@@ -1,3 +1,4 @@
+-- Of the proof of `put_all`: what is shown by hand.
 use Rattle.std.proofs.Common.{rules, ◌∙◌}
 use Rattle.std.proofs.lemmas.List.{take_rest}
 use Rattle.votes.proofs.Beginnings.{Appends-take_more}

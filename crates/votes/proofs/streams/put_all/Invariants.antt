@@ -1,3 +1,4 @@
+-- Of the proof of `put_all`: what holds at each round of its loop, and what gets less.
 use Rattle.std.proofs.Common.{◌≡◌, ◌-◌, ◌≤◌, length, take}
 use Rattle.std.specs.Io.KnownBytes.{Appends}
 use Rattle.votes.proofs.streams.put_all.Given as goal

@@ -43,9 +43,8 @@ returns-in-Err-clause-headline g c clean is_open earlier at =
     let st = state g.S.Store c.handle.new.self.held in
     let here_s = after s (take i rs) in
     let handled = subst (λ id. Handled here_s (step here_s r.actor id r.command) (Err c.in-Err.fault) c.handle.new.self.closed st) c.as_str.ensures.value (c.in-Err.ensures.handled clean here.is_open here_s here.at) in
-    let stop = stops_after s rs i r c.in-Err.fault c.handle.new.self.closed st (omega arith) c.request-item.is handled in
     let counted : i ≡ vec_len c.stopped-in-Err.result.answers = sym c.loop-request.invariant.count ∙ sym (ap vec_len c.stopped-in-Err.ensures.answers) in
-    subst (λ n. LeavesState st (IsAfterBeginning earlier rs n)) counted (stops_at_beginning earlier rs i c.in-Err.fault c.handle.new.self.closed st (omega arith) stop)
+    subst (λ n. LeavesState st (IsAfterBeginning earlier rs n)) counted (stops_at_beginning earlier rs i r c.in-Err.fault c.handle.new.self.closed st (omega arith) c.request-item.is handled)
 
 pub loop-request-preserved : goal.loop-request-preserved
 loop-request-preserved g c =

@@ -1,3 +1,4 @@
+-- Of the proof of `text`: what is shown by hand.
 use Rattle.std.proofs.Common.{sym, subst}
 use Rattle.paper.specs.MarksText.{ReadsBack}
 use Rattle.paper.proofs.Spelling.{marked_reads_back}

@@ -1,3 +1,4 @@
+-- Of the proof of `bearers`: what is shown by hand.
 use Rattle.std.proofs.Common.{◌<◌, length, ap, ◌∙◌, arith}
 use Rattle.std.specs.List.{zip}
 use Rattle.paper.specs.Bearers.{bearers_of}

@@ -1,3 +1,4 @@
+-- Of the proof of `bearers`: what holds at each round of its loop.
 use Rattle.std.proofs.Common.{◌≡◌, take}
 use Rattle.std.specs.List.{zip}
 use Rattle.paper.specs.Bearers.{bearers_of}

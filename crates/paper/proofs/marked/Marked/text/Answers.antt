@@ -1,3 +1,4 @@
+-- Of the proof of `text`: what is shown by hand.
 use Rattle.std.proofs.Common.{◌++◌, take, get_or, sym, ap, ◌∙◌}
 use Rattle.paper.specs.MarksText.{field_text}
 use Rattle.paper.proofs.Spelling.{text-more}

@@ -1,3 +1,4 @@
+-- Of the proof of `fmt`: what is shown by hand.
 use Rattle.votes.proofs.Texts.{votes_text-printed}
 use Rattle.votes.proofs.units.VotesDisplay.fmt.Goals as goal
 

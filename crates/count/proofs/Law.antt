@@ -1,0 +1,18 @@
+-- What follows from the law of the count, whoever keeps the papers.
+pub mod ActionLemmas
+pub mod CandidateSums
+pub mod ConservedLemmas
+pub mod CutLemmas
+pub mod DueLemmas
+pub mod FinishLemmas
+pub mod LengthLemmas
+pub mod NewlyLemmas
+pub mod OwnLotLemmas
+pub mod PassedLemmas
+pub mod QuotaLemmas
+pub mod RightLemmas
+pub mod StepLemmas
+pub mod TieLemmas
+pub mod ValueLemmas
+pub mod VotelessLemmas
+mod WorkedElections

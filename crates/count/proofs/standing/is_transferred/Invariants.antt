@@ -1,7 +1,0 @@
-use Rattle.std.proofs.Common.{◌≡◌, false, take}
-use Rattle.std.specs.List.{list_any}
-use Rattle.count.specs.Elected.{transfers}
-use Rattle.count.proofs.standing.is_transferred.Given as goal
-
-abbrev pub invariant-loop-stage : goal.invariant-loop-stage
-invariant-loop-stage l = list_any (λ s. transfers s.action l.c) (take l.stage-index l.stages) ≡ false

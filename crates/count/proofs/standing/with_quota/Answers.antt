@@ -1,8 +1,0 @@
-use Rattle.std.proofs.Common.{[], reverse, rules}
-use Rattle.count.specs.Books.{contest_of}
-use Rattle.count.specs.Elected.{has_reached}
-use Rattle.count.proofs.ColumnLemmas.{columns-more}
-use Rattle.count.proofs.standing.with_quota.Goals as goal
-
-pub choose-requires : goal.choose-requires
-choose-requires c = columns-more (has_reached (contest_of c.args.terms.now []) (reverse c.args.stages.now)) _ _ _ (search rules) c.loop-c.invariant (search rules) (search rules)

@@ -1,7 +1,0 @@
-use Rattle.std.proofs.Common.{not, nat_eq, rules}
-use Rattle.std.specs.List.{list_any}
-use Rattle.count.proofs.ColumnLemmas.{columns-more}
-use Rattle.count.proofs.standing.without.Goals as goal
-
-pub choose-requires : goal.choose-requires
-choose-requires c = columns-more (λ x. not (list_any (nat_eq x) c.args.others.now)) _ _ _ (search rules) c.loop-c.invariant (search rules) (search rules)

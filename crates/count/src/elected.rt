@@ -1,0 +1,263 @@
+//! Who has reached the quota, is elected, continues or has a surplus after some stages.
+
+ghost use Rattle.std.specs.Prelude.{◌≡◌, ℕ, ◌≤◌, ◌&&◌, ◌||◌, not, [], ◌∷◌, ◌++◌, reverse, nat_lt, nat_eq, true};
+ghost use Rattle.paper.specs.Columns.{max_candidates, IsColumnSet};
+ghost use Rattle.paper.specs.Standing.{is_continuing as continues_of};
+ghost use Rattle.std.specs.List.{list_any, filter};
+ghost use Rattle.count.specs.Law.Contest.{Contest, votes_at, newest_votes as newest_votes_of};
+ghost use Rattle.count.specs.Law.Elected.{transfers as transfers_of, excludes as excludes_of, is_transferred as is_transferred_of, is_excluded as is_excluded_of, has_reached as has_reached_of, with_quota as with_quota_of, undecided as undecided_of, undecided_fill as fill_of, elected_after, continuing_after, is_continuing as is_continuing_of, vacancies_after};
+ghost use Rattle.count.specs.Holdings.{OnlyColumns};
+ghost use Rattle.count.specs.Books.{contest_of};
+
+use crate::stages::{Action, Stage};
+use crate::terms::Terms;
+use paper::{Columns, Standing};
+use votes::Votes;
+
+/// A candidate's votes after a stage.
+pub fn votes_after(stage: &Stage, c: u8) -> Votes
+    requires some { 1 ≤ c }
+    requires few { c ≤ max_candidates }
+    ensures { result ≡ votes_at stage.now c }
+{
+    stage.votes[usize::from(c - 1)]
+}
+
+/// A candidate's votes after the newest stage, none before the first.
+pub fn newest_votes(stages: &[Stage], c: u8) -> Votes
+    requires some { 1 ≤ c }
+    requires few { c ≤ max_candidates }
+    ensures { result ≡ newest_votes_of (reverse stages.now) c }
+{
+    match stages.split_last() {
+        None => Votes::from_units(0),
+        Some((newest, _)) => votes_after(newest, c),
+    }
+}
+
+/// Whether a candidate's votes were the quota or more at some stage.
+fn has_reached(terms: &Terms, stages: &[Stage], c: u8) -> bool
+    requires some { 1 ≤ c }
+    requires few { c ≤ max_candidates }
+    ensures { result ≡ has_reached_of (contest_of terms.now []) (reverse stages.now) c }
+{
+    for stage in stages {
+        if terms.quota.units() <= votes_after(stage, c).units() {
+            return true;
+        }
+    }
+    false
+}
+
+/// Whether an action excludes a candidate.
+fn excludes(action: &Action, c: u8) -> bool
+    ensures { result ≡ excludes_of action.now c }
+{
+    match action {
+        Action::First => false,
+        Action::Surplus(_) => false,
+        Action::Exclude(d) => *d == c,
+        Action::ExcludeLast(d) => *d == c,
+    }
+}
+
+/// Whether a candidate has been excluded.
+fn is_excluded(stages: &[Stage], c: u8) -> bool
+    ensures { result ≡ is_excluded_of (reverse stages.now) c }
+{
+    for stage in stages {
+        if excludes(&stage.action, c) {
+            return true;
+        }
+    }
+    false
+}
+
+/// Whether an action transfers the surplus of a candidate.
+fn transfers(action: &Action, c: u8) -> bool
+    ensures { result ≡ transfers_of action.now c }
+{
+    match action {
+        Action::First => false,
+        Action::Surplus(d) => *d == c,
+        Action::Exclude(_) => false,
+        Action::ExcludeLast(_) => false,
+    }
+}
+
+/// Whether the surplus of a candidate has been transferred.
+fn is_transferred(stages: &[Stage], c: u8) -> bool
+    ensures { result ≡ is_transferred_of (reverse stages.now) c }
+{
+    for stage in stages {
+        if transfers(&stage.action, c) {
+            return true;
+        }
+    }
+    false
+}
+
+/// Whether the surplus of a candidate has been transferred after one action more.
+pub fn is_transferred_with(stages: &[Stage], action: &Action, c: u8) -> bool
+    ensures { result ≡ (transfers_of action.now c || is_transferred_of (reverse stages.now) c) }
+{
+    if transfers(action, c) {
+        return true;
+    }
+    is_transferred(stages, c)
+}
+
+/// Appends a number to a set of smaller ones.
+#[tactic(auto, using(crate::proofs::ColumnLemmas::last_column))]
+pub fn append(chosen: &mut Columns, c: u8)
+    requires { IsColumnSet (chosen.old ++ c ∷ []) }
+    ensures { chosen.new ≡ chosen.old ++ c ∷ [] }
+{
+    *chosen = chosen.with(c);
+}
+
+/// The candidates who have reached the quota.
+fn with_quota(terms: &Terms, stages: &[Stage]) -> Columns
+    ensures { result ≡ with_quota_of (contest_of terms.now []) (reverse stages.now) }
+{
+    let mut chosen = Columns::empty();
+    for c in terms.candidates.as_slice() {
+        if has_reached(terms, stages, *c) {
+            append(&mut chosen, *c);
+        }
+    }
+    chosen
+}
+
+/// Whether a candidate has neither reached the quota nor been excluded.
+fn is_undecided(terms: &Terms, stages: &[Stage], c: u8) -> bool
+    requires some { 1 ≤ c }
+    requires few { c ≤ max_candidates }
+    ensures { result ≡ (not (has_reached_of (contest_of terms.now []) (reverse stages.now) c) && not (is_excluded_of (reverse stages.now) c)) }
+{
+    if has_reached(terms, stages, c) {
+        return false;
+    }
+    !is_excluded(stages, c)
+}
+
+/// The candidates who have neither reached the quota nor been excluded.
+fn undecided(terms: &Terms, stages: &[Stage]) -> Columns
+    ensures { result ≡ undecided_of (contest_of terms.now []) (reverse stages.now) }
+{
+    let mut chosen = Columns::empty();
+    for c in terms.candidates.as_slice() {
+        if is_undecided(terms, stages, *c) {
+            append(&mut chosen, *c);
+        }
+    }
+    chosen
+}
+
+/// Whether the undecided are as many as the seats that are left.
+fn undecided_fill(terms: &Terms, stages: &[Stage]) -> bool
+    ensures { result ≡ fill_of (contest_of terms.now []) (reverse stages.now) }
+{
+    with_quota(terms, stages).len() + undecided(terms, stages).len() == usize::from(terms.seats)
+}
+
+/// Whether a candidate is elected, where it is known whether the undecided fill the seats.
+fn is_elected(terms: &Terms, stages: &[Stage], fill: bool, c: u8) -> bool
+    requires some { 1 ≤ c }
+    requires few { c ≤ max_candidates }
+    ensures { result ≡ (has_reached_of (contest_of terms.now []) (reverse stages.now) c || (fill && not (is_excluded_of (reverse stages.now) c))) }
+{
+    if has_reached(terms, stages, c) {
+        return true;
+    }
+    if fill {
+        return !is_excluded(stages, c);
+    }
+    false
+}
+
+/// The candidates who are elected.
+pub fn elected(terms: &Terms, stages: &[Stage]) -> Columns
+    ensures { result ≡ elected_after (contest_of terms.now []) (reverse stages.now) }
+{
+    let fill = undecided_fill(terms, stages);
+    let mut chosen = Columns::empty();
+    for c in terms.candidates.as_slice() {
+        if is_elected(terms, stages, fill, *c) {
+            append(&mut chosen, *c);
+        }
+    }
+    chosen
+}
+
+/// Whether a candidate continues, where it is known whether the undecided fill the seats.
+fn is_continuing(terms: &Terms, stages: &[Stage], fill: bool, c: u8) -> bool
+    requires some { 1 ≤ c }
+    requires few { c ≤ max_candidates }
+    ensures { result ≡ (not (has_reached_of (contest_of terms.now []) (reverse stages.now) c || (fill && not (is_excluded_of (reverse stages.now) c))) && not (is_excluded_of (reverse stages.now) c)) }
+{
+    if is_elected(terms, stages, fill, c) {
+        return false;
+    }
+    !is_excluded(stages, c)
+}
+
+/// The candidates who continue: neither elected nor excluded.
+pub fn continuing(terms: &Terms, stages: &[Stage]) -> Columns
+    ensures { result ≡ continuing_after (contest_of terms.now []) (reverse stages.now) }
+{
+    let fill = undecided_fill(terms, stages);
+    let mut chosen = Columns::empty();
+    for c in terms.candidates.as_slice() {
+        if is_continuing(terms, stages, fill, *c) {
+            append(&mut chosen, *c);
+        }
+    }
+    chosen
+}
+
+/// How the candidates stand, as far as the next available preference asks: who continues.
+#[tactic(auto, using(crate::proofs::ColumnLemmas::only_columns))]
+pub fn standing(terms: &Terms, stages: &[Stage]) -> Standing
+    ensures is { (c : ℕ) → continues_of result c ≡ is_continuing_of (contest_of terms.now []) (reverse stages.now) c }
+    ensures known { OnlyColumns (continues_of result) }
+{
+    Standing::new(
+        continuing(terms, stages),
+        Columns::empty(),
+        Columns::empty(),
+    )
+}
+
+/// The seats that are left.
+pub fn vacancies(terms: &Terms, stages: &[Stage]) -> usize
+    ensures { result ≡ vacancies_after (contest_of terms.now []) (reverse stages.now) }
+{
+    usize::from(terms.seats).saturating_sub(elected(terms, stages).len())
+}
+
+/// The elected who have more than the quota after a stage.
+pub fn with_surplus(elected: &Columns, quota: Votes, newest: &Stage) -> Columns
+    ensures { result ≡ filter (λ c. nat_lt quota (votes_at newest.now c)) elected.now }
+{
+    let mut chosen = Columns::empty();
+    for c in elected.as_slice() {
+        if quota.units() < votes_after(newest, *c).units() {
+            append(&mut chosen, *c);
+        }
+    }
+    chosen
+}
+
+/// Those of a set who are not in another.
+pub fn without(set: &Columns, others: &Columns) -> Columns
+    ensures { result ≡ filter (λ c. not (list_any (nat_eq c) others.now)) set.now }
+{
+    let mut chosen = Columns::empty();
+    for c in set.as_slice() {
+        if !others.has(*c) {
+            append(&mut chosen, *c);
+        }
+    }
+    chosen
+}

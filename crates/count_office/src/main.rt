@@ -1,0 +1,108 @@
+//! The program `count-office`: it reads its words to one order and does it over the database DB.
+//!
+//! The crate `desk` reads the words and does the order. Here it gets the file that DB names and the two
+//! standard outputs.
+//!
+//! ```text
+//! count-office town.db init
+//! count-office town.db ward 7 2 Harbour --id w1
+//! ```
+#![tactic(auto)]
+
+ghost use Rattle.std.specs.Prelude.{◌≡◌, ◌+◌, ◌-◌, ◌^◌, ◌<◌};
+
+#[cfg(test)]
+mod tests;
+
+use desk::perform::perform;
+use desk::{Failure, Order, WordsFault, order, tell_failure, tell_words};
+use sqlite::{Connection, Wary};
+use std::alloc::Global;
+use std::process::ExitCode;
+use std::{env, io};
+use store::Fault;
+use store::fault::fault_of;
+use votes::{Counted, Sink};
+
+/// The words from DB on.
+fn given_words(rt: &HostRuntime) -> Result<Vec<String>, WordsFault> {
+    let all = match env::args(rt) {
+        Ok(all) => all,
+        Err(error) if error.kind() == io::ErrorKind::OutOfMemory => return Err(WordsFault::Memory),
+        Err(_) => return Err(not_text(rt.alloc())),
+    };
+    match all.skip(1).collect(rt.alloc()) {
+        Ok(words) => Ok(words),
+        Err(_) => Err(WordsFault::Memory),
+    }
+}
+
+fn not_text(alloc: Global) -> WordsFault {
+    match String::from_str(alloc, "error: a word is not UTF-8\n") {
+        Ok(text) => WordsFault::Words { text, status: 2 },
+        Err(_) => WordsFault::Memory,
+    }
+}
+
+/// Does an order over the file at a path, which is made if it is missing: an empty file is no office
+/// yet, and `init` makes one of it.
+fn perform_at<O: Sink, E: Sink>(
+    rt: &HostRuntime,
+    path: &str,
+    order: &Order<'_>,
+    out: &mut O,
+    err: &mut E,
+) -> u8
+    requires out { O.failed out.old < 2 ^ 64 - 1 }
+    requires err { E.failed err.old < 2 ^ 64 - 1 }
+{
+    match Connection::open_from(rt, path, false, Wary) {
+        Ok(conn) => {
+            let (status, conn) = perform(rt.alloc(), order, conn, out, err);
+            // The log is copied into the file, so that DB alone is the office. Where that fails, what was
+            // answered still stands in the log.
+            let _ = conn.close();
+            status
+        }
+        Err((error, _)) => tell_failure(Failure::Office(fault_of(error)), err),
+    }
+}
+
+/// Does what the words from DB on ask, and gives the status.
+fn follow<O: Sink, E: Sink>(rt: &HostRuntime, words: &[&str], out: &mut O, err: &mut E) -> u8
+    requires out { O.failed out.old < 2 ^ 64 - 1 }
+    requires err { E.failed err.old < 2 ^ 64 - 1 }
+{
+    match order(rt.alloc(), words) {
+        Ok(order) => {
+            let path = words.first().copied().unwrap_or("");
+            perform_at(rt, path, &order, out, err)
+        }
+        Err(fault) => tell_words(&fault, out, err),
+    }
+}
+
+/// Does what the program's words ask, and gives the status. Help is told without a database too.
+fn run<O: Sink, E: Sink>(rt: &HostRuntime, out: &mut O, err: &mut E) -> u8
+    requires out { O.failed out.old < 2 ^ 64 - 1 }
+    requires err { E.failed err.old < 2 ^ 64 - 1 }
+{
+    let given = match given_words(rt) {
+        Ok(given) => given,
+        Err(fault) => return tell_words(&fault, out, err),
+    };
+    let words: Vec<&str> = match given.iter().map(|word| word.as_str()).collect(rt.alloc()) {
+        Ok(words) => words,
+        Err(_) => return tell_failure(Failure::Office(Fault::Memory), err),
+    };
+    match words.as_slice() {
+        ["--help" | "-h"] => follow(rt, &["DB", "--help"], out, err),
+        all => follow(rt, all, out, err),
+    }
+}
+
+fn main(rt: HostRuntime) -> ExitCode {
+    let mut out = Counted::new(rt.stdout());
+    let mut err = Counted::new(rt.stderr());
+    ExitCode::from(run(&rt, &mut out, &mut err))
+}

@@ -1,0 +1,10 @@
+//! The orders as they are typed and printed, over disks that can be stopped.
+
+// What is done and told, over any store.
+mod steps;
+// The one store of these tests.
+mod disks;
+// The tests.
+mod orders;
+mod stops;
+mod words;

@@ -1,0 +1,96 @@
+//! Disks in memory that can be stopped, and what a script prints over them. No other file of the tests
+//! names the store, and clauses see nothing of it: that keeps their proofs small.
+
+ghost use Rattle.std.specs.Prelude.{⊤};
+
+use super::steps::{Said, Step, Told, play};
+use sqlite::{Connection, Error, ErrorCode, FileStore, Files, Options};
+use sqlite_disk::{Crash, Fuse, Memory};
+use std::alloc::Global;
+use std::marker::Model;
+use std::process::Abort;
+use std::test::Fail;
+
+/// The log and the database file.
+#[derive(Drop)]
+pub struct Disks {
+    files: Files<Fuse<Memory>>,
+}
+
+impl Model for Disks {
+    ghost Value = { ⊤ };
+
+    ghost view = { λ _. tt };
+}
+
+/// Opens the files, or gives them back with what `sqlite` told, if it was asked.
+fn opened(
+    alloc: Global,
+    files: Files<Fuse<Memory>>,
+) -> Result<Connection<FileStore<Fuse<Memory>>>, (Option<Error>, Files<Fuse<Memory>>)> {
+    if !files.may_be_used() {
+        return Err((None, files));
+    }
+    match Connection::open_files(alloc, files, Options::new(1)) {
+        Ok(conn) => Ok(conn),
+        Err((error, left)) => Err((Some(error), left.into_files())),
+    }
+}
+
+impl Disks {
+    /// New files, of which the log fails after so many calls and the database file after so many.
+    pub fn stopping(alloc: Global, log: u64, db: u64) -> Disks {
+        Disks {
+            files: Files {
+                log: Fuse::new(Memory::new(alloc), log),
+                db: Fuse::new(Memory::new(alloc), db),
+            },
+        }
+    }
+
+    /// New files that never fail.
+    pub fn lasting(alloc: Global) -> Disks {
+        Disks::stopping(alloc, u64::MAX, u64::MAX)
+    }
+
+    /// The machine comes back: what was not synced is lost, and no call fails from now on.
+    pub fn restarted(self) -> Disks {
+        let Disks { mut files } = self;
+        files.log.crash();
+        files.db.crash();
+        Disks { files }
+    }
+
+    /// Opens the database, does the steps, and leaves it as it is. Where the store stops as the database
+    /// is opened, nothing is said.
+    pub fn play(self, alloc: Global, script: &[Step<'_>]) -> Result<(Vec<Said>, Disks), Fail> {
+        let Disks { files } = self;
+        match opened(alloc, files) {
+            Ok(conn) => {
+                let (said, conn) = play(alloc, conn, script)?;
+                let files = conn.into_store().close();
+                Ok((said, Disks { files }))
+            }
+            Err((Some(Error::SqliteFailure(ErrorCode::OutOfMemory)), _)) => {
+                Err(Fail::from("memory was wanting"))
+            }
+            Err((Some(_), files)) => Ok((Vec::new(alloc), Disks { files })),
+            Err((None, _)) => Err(Fail::from("a file may not be used")),
+        }
+    }
+
+    /// Does the steps, which must be told so.
+    pub fn hear(
+        self,
+        rt: &(impl Abort + AllocGlobal),
+        script: &[Step<'_>],
+        wanted: &[Told<'_>],
+    ) -> Result<Disks, Fail> {
+        let (said, disks) = self.play(rt.alloc(), script)?;
+        assert!(rt; said.len() == wanted.len(), "{script:?}: {said:?}");
+        for (said, wanted) in said.iter().zip(wanted) {
+            assert_eq!(rt; said.told(), *wanted, "{script:?}");
+        }
+        Ok(disks)
+    }
+}

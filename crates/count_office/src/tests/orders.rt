@@ -1,0 +1,166 @@
+//! The first run of an office, what it refuses, and databases that are no office, or the office of a
+//! later program, or hold what no office holds.
+
+use super::disks::Disks;
+use super::steps::{Said, Step, Told};
+use register::{Command, Request, WardCommand};
+use std::alloc::{AllocError, Global};
+use std::test::Fail;
+
+pub const INIT: Step<'static> = Step::Order(&["DB", "init"]);
+
+pub const HARBOUR: Step<'static> = Step::Order(&["DB", "ward", "7", "2", "Harbour", "--id", "w1"]);
+
+const QUAY: Step<'static> = Step::Order(&["DB", "ward", "8", "2", "Quay", "--id", "w2"]);
+
+pub const READY: Told<'static> = (0, "office ready\n", "");
+
+pub const ADDED: Told<'static> = (0, "ward 7 added\n", "");
+
+const CHANGED: Told<'static> = (0, "", "");
+
+pub const FOREIGN: Told<'static> = (3, "", "fault 105: wrong database\n");
+
+const DAMAGED: Told<'static> = (3, "", "fault 103: damaged\n");
+
+const NEWER: Told<'static> = (3, "", "fault 106: newer schema\n");
+
+/// What an office that has the ward Harbour says to more orders, which change nothing.
+const ANSWERS: [(&[&str], Told<'static>); 8] = [
+    (&["DB", "ward", "7", "2", "Harbour", "--id", "w1"], ADDED),
+    (
+        &["DB", "ward", "8", "2", "Quay", "--id", "w1"],
+        (1, "", "refused 2: id used for another subject\n"),
+    ),
+    (
+        &["DB", "ward", "8", "2", "Quay", "--id", "W1"],
+        (1, "", "refused 1: bad id\n"),
+    ),
+    (
+        &["DB", "ward", "7", "3", "Pier", "--id", "w2"],
+        (1, "", "refused 6: ward exists\n"),
+    ),
+    (
+        &["DB", "ward", "0", "2", "Pier", "--id", "w3"],
+        (1, "", "refused 3: number out of range\n"),
+    ),
+    (
+        &["DB", "ward", "9", "16", "Pier", "--id", "w3"],
+        (1, "", "refused 3: number out of range\n"),
+    ),
+    (
+        &["DB", "ward", "9", "2", "", "--id", "w3"],
+        (1, "", "refused 4: bad name\n"),
+    ),
+    (&["DB", "init"], FOREIGN),
+];
+
+/// What is done to an office with one ward, and what it then says to another.
+const CHANGES: [(&str, Told<'static>); 20] = [
+    ("DROP TABLE office", FOREIGN),
+    ("DELETE FROM office", FOREIGN),
+    ("UPDATE office SET version = 3", NEWER),
+    ("UPDATE office SET version = 3; DROP TABLE lot", NEWER),
+    ("UPDATE office SET version = 0", DAMAGED),
+    ("UPDATE office SET one = 2", DAMAGED),
+    ("INSERT INTO office VALUES (2, 3)", DAMAGED),
+    ("DROP TABLE lot", DAMAGED),
+    ("INSERT INTO candidate VALUES (7, 1, 'Ann')", DAMAGED),
+    ("INSERT INTO batch VALUES (12, 7, 2, 4, 9, 1)", DAMAGED),
+    ("INSERT INTO keying VALUES (12, 1, 4, 1, 'D')", DAMAGED),
+    ("INSERT INTO verdict VALUES (12, 1, 3, '')", DAMAGED),
+    ("INSERT INTO lot VALUES (7, 2, 1)", DAMAGED),
+    ("UPDATE ward SET phase = 2", DAMAGED),
+    ("UPDATE ward SET done = 1", DAMAGED),
+    ("UPDATE ward SET name = ''", DAMAGED),
+    ("UPDATE receipt SET id = 'W1'", DAMAGED),
+    ("UPDATE receipt SET subject = 'ward 07'", DAMAGED),
+    ("UPDATE receipt SET actor = 4", DAMAGED),
+    ("CREATE TABLE note (text TEXT)", (0, "ward 8 added\n", "")),
+];
+
+/// The order was told so, and the database holds these contents.
+fn is_told(said: &[Said], wanted: Told<'_>, contents: &str) -> bool {
+    match said {
+        [order, found] => order.told() == wanted && found.told() == (0, contents, ""),
+        _ => false,
+    }
+}
+
+#[test]
+fn orders_are_told(rt: HostRuntime) -> Result<(), Fail> {
+    let torn = Step::TornOrder(&["DB", "ward", "7", "2", "Harbour", "--id", "w1"]);
+    let broken = (3, "1 failed", "fault 107: socket or output\n");
+    let runs: [(&[Step<'_>], &[Told<'_>]); 4] = [
+        (&[HARBOUR, INIT, HARBOUR], &[FOREIGN, READY, ADDED]),
+        (&[INIT, torn, HARBOUR], &[READY, broken, ADDED]),
+        (
+            &[Step::Change("CREATE TABLE note (text TEXT)"), HARBOUR, INIT],
+            &[CHANGED, FOREIGN, READY],
+        ),
+        (
+            &[Step::Change("CREATE TABLE ward (text TEXT)"), INIT],
+            &[CHANGED, FOREIGN],
+        ),
+    ];
+    for (script, wanted) in runs {
+        Disks::lasting(rt.alloc()).hear(&rt, script, wanted)?;
+    }
+    for (change, wanted) in CHANGES {
+        let script = [INIT, HARBOUR, Step::Change(change), QUAY];
+        Disks::lasting(rt.alloc()).hear(&rt, &script, &[READY, ADDED, CHANGED, wanted])?;
+    }
+    Ok(())
+}
+
+#[test]
+fn what_is_refused_changes_nothing(rt: HostRuntime) -> Result<(), Fail> {
+    let alloc = rt.alloc();
+    let disks = Disks::lasting(alloc).hear(&rt, &[INIT, HARBOUR], &[READY, ADDED])?;
+    let (kept, mut disks) = disks.play(alloc, &[Step::Contents])?;
+    let contents = match kept.first() {
+        Some(said) => said.told().1,
+        None => return Err(Fail::from("nothing was said")),
+    };
+    for (words, wanted) in ANSWERS {
+        let (said, left) = disks.play(alloc, &[Step::Order(words), Step::Contents])?;
+        assert!(&rt;
+            is_told(said.as_slice(), wanted, contents),
+            "{words:?}: {said:?}"
+        );
+        disks = left;
+    }
+    Ok(())
+}
+
+fn adding(
+    alloc: Global,
+    id: &str,
+    ward: u32,
+    seats: u32,
+    name: &str,
+) -> Result<Request, AllocError> {
+    Ok(Request {
+        actor: 0,
+        id: String::from_str(alloc, id)?,
+        command: Command::Ward(WardCommand::Add {
+            ward,
+            seats,
+            name: String::from_str(alloc, name)?,
+        }),
+    })
+}
+
+#[test]
+fn a_list_is_answered_in_order(rt: HostRuntime) -> Result<(), Fail> {
+    let alloc = rt.alloc();
+    let requests = vec![in alloc;
+        adding(alloc, "w1", 7, 2, "Harbour")?,
+        adding(alloc, "w1", 7, 2, "Harbour")?,
+        adding(alloc, "w2", 7, 3, "Pier")?,
+    ]?;
+    let script = [Step::List(requests.as_slice()), HARBOUR];
+    let answers = "done: ward 7 added\nkept: ward 7 added\nrefused 6: ward exists\n";
+    Disks::lasting(alloc).hear(&rt, &script, &[(0, answers, ""), ADDED])?;
+    Ok(())
+}

@@ -1,0 +1,184 @@
+//! Steps over an opened database, and what each prints. Nothing here names a store.
+
+ghost use Rattle.std.specs.Prelude.{◌≡◌, ◌+◌, ◌-◌, ◌^◌, ◌<◌};
+
+use desk::perform::perform;
+use desk::{WordsFault, order};
+use office::{Answer, Office, Run};
+use register::Request;
+use sqlite::{Alter, Connection};
+use std::alloc::{AllocError, Global};
+use std::io;
+use std::io::{ErrorKind, Write};
+use std::test::Fail;
+use votes::{Counted, Sink};
+
+/// One step of a script.
+#[derive(Clone, Copy, Debug)]
+pub enum Step<'a> {
+    /// The order that the words are.
+    Order(&'a [&'a str]),
+    /// The same, where the output takes nothing; how many of its calls failed stands as the output.
+    TornOrder(&'a [&'a str]),
+    /// A new office, and a list of requests handed to it; their answers stand as the output.
+    List(&'a [Request]),
+    /// Statements, whatever is in the database.
+    Change(&'a str),
+    /// Every row of every table, as the output.
+    Contents,
+}
+
+/// A status, and what was printed to the output and the error output.
+pub type Told<'a> = (u8, &'a str, &'a str);
+
+/// What an order is told that the store stopped, and never that memory was wanting.
+pub const STOPPED: Told<'static> = (3, "", "fault 102: store\n");
+
+/// What a step printed.
+#[derive(Debug, Drop)]
+pub struct Said {
+    status: u8,
+    out: String,
+    err: String,
+}
+
+impl Said {
+    fn quietly(alloc: Global, out: String) -> Said {
+        Said {
+            status: 0,
+            out,
+            err: String::new(alloc),
+        }
+    }
+
+    pub fn told(&self) -> Told<'_> {
+        (self.status, self.out.as_str(), self.err.as_str())
+    }
+}
+
+/// A writer that takes nothing.
+#[derive(Drop)]
+struct Torn;
+
+impl Write for Torn {
+    fn write(&mut self, _bytes: &[u8]) -> io::Result<usize> {
+        Err(io::Error::from(ErrorKind::BrokenPipe))
+    }
+
+    fn flush(&mut self) -> io::Result<()> {
+        Ok(())
+    }
+}
+
+/// Does the order that the words are, and gives its status and its text on the error output.
+fn give<S: Alter + Drop, O: Sink>(
+    alloc: Global,
+    conn: Connection<S>,
+    words: &[&str],
+    out: &mut O,
+) -> Result<(u8, String, Connection<S>), Fail>
+    requires { O.failed out.old < 2 ^ 64 - 1 }
+{
+    let order = match order(alloc, words) {
+        Ok(order) => order,
+        Err(WordsFault::Memory) => return Err(Fail::from("memory for the words")),
+        Err(WordsFault::Words { text, .. }) => return Err(Fail::from(text)),
+    };
+    let mut err = Vec::new(alloc);
+    let (status, conn) = perform(alloc, &order, conn, out, &mut Counted::new(&mut err));
+    Ok((status, String::from_utf8(err)?, conn))
+}
+
+fn answered(alloc: Global, run: &Run) -> Result<String, AllocError> {
+    let mut text = String::new(alloc);
+    for answer in run.answers.iter() {
+        let line = match answer {
+            Answer::Done(reply) => format!(in alloc; "done: {reply}\n"),
+            Answer::Kept(reply) => format!(in alloc; "kept: {reply}\n"),
+            Answer::Refused(why) => format!(in alloc; "refused {}: {}\n", why.number(), why.text()),
+        };
+        text.push_str(line?.as_str())?;
+    }
+    if run.fault.is_some() {
+        text.push_str("stopped\n")?;
+    }
+    Ok(text)
+}
+
+fn list<S: Alter + Drop>(
+    alloc: Global,
+    conn: Connection<S>,
+    requests: &[Request],
+) -> Result<(Said, Connection<S>), Fail> {
+    let Ok(mut office) = Office::create(alloc, conn) else {
+        return Err(Fail::from("no office is made"));
+    };
+    let run = office.run(requests);
+    let conn = office.into_connection();
+    Ok((Said::quietly(alloc, answered(alloc, &run)?), conn))
+}
+
+const TABLES: &str = "SELECT name FROM sqlite_schema WHERE type = 'table' ORDER BY name";
+
+/// Every row of every table, in the order of the tables' names.
+fn contents<S: Alter + Drop>(alloc: Global, conn: &mut Connection<S>) -> Result<String, Fail> {
+    let mut text = String::new(alloc);
+    for found in conn.query_all(TABLES, &[])? {
+        let name: String = found.get(0)?;
+        writeln!(text, "{name}")?;
+        let all = format!(in alloc; "SELECT * FROM {name}")?;
+        for row in conn.query_all(all.as_str(), &[])? {
+            writeln!(text, "{row:?}")?;
+        }
+    }
+    Ok(text)
+}
+
+fn done<S: Alter + Drop>(
+    alloc: Global,
+    mut conn: Connection<S>,
+    step: Step<'_>,
+) -> Result<(Said, Connection<S>), Fail> {
+    match step {
+        Step::Order(words) => {
+            let mut out = Vec::new(alloc);
+            let (status, err, conn) = give(alloc, conn, words, &mut Counted::new(&mut out))?;
+            let out = String::from_utf8(out)?;
+            Ok((Said { status, out, err }, conn))
+        }
+        Step::TornOrder(words) => {
+            let mut out = Counted::new(Torn);
+            let (status, err, conn) = give(alloc, conn, words, &mut out)?;
+            let out = format!(in alloc; "{} failed", out.failures())?;
+            Ok((Said { status, out, err }, conn))
+        }
+        Step::List(requests) => list(alloc, conn, requests),
+        Step::Change(statements) => {
+            conn.execute_batch(statements)?;
+            Ok((Said::quietly(alloc, String::new(alloc)), conn))
+        }
+        Step::Contents => {
+            let text = contents(alloc, &mut conn)?;
+            Ok((Said::quietly(alloc, text), conn))
+        }
+    }
+}
+
+/// Does the steps in turn, up to the first that is told of a stop.
+pub fn play<S: Alter + Drop>(
+    alloc: Global,
+    mut conn: Connection<S>,
+    script: &[Step<'_>],
+) -> Result<(Vec<Said>, Connection<S>), Fail> {
+    let mut said = Vec::new(alloc);
+    for step in script {
+        let (last, back) = done(alloc, conn, *step)?;
+        conn = back;
+        let stopped = last.told() == STOPPED;
+        said.push(last)?;
+        if stopped {
+            break;
+        }
+    }
+    Ok((said, conn))
+}

@@ -1,0 +1,89 @@
+-- Plain numbers and lines, as receipts have them.
+use Rattle.std.proofs.Common.{rules, ◌==◌, inl, inr, ◌≡◌, ℕ, ◌<◌, ◌≤◌, ◌+◌, ◌^◌, nat_le, true, false, not, List, [], ◌∷◌, ◌++◌, length, ap, ◌∙◌, arith, length-append, get_or, refl}
+use Rattle.std.specs.List.{list_all}
+use Rattle.std.specs.Fmt.{decimal}
+use Rattle.std.specs.Str.{IsAscii, all_ascii_digits, is_utf8}
+use Rattle.std.specs.Str.Parse.{digits_value}
+use Rattle.std.proofs.lemmas.Bool.{and_parts, and_from, leb-true, le-leb}
+use Rattle.std.proofs.lemmas.Bool.Decides.{eqb_tells}
+use Rattle.std.proofs.lemmas.Fmt.{decimal_is_IsNumeral, digits_decimal, first_decimal, length-decimal-le, IsAscii-decimal}
+use Rattle.std.proofs.lemmas.List.Folds.{list_all-append}
+use Rattle.std.proofs.lemmas.Str.{IsAscii-append, IsUtf8-from_ascii, is_utf8-from_IsUtf8}
+use Rattle.std.proofs.lemmas.Str.Parse.{IsNumeralModel, numerals_by_value}
+use Rattle.register.specs.Ranges.{is_between, is_line_byte, is_reply}
+use Rattle.register.specs.Subjects.{is_plain_number}
+
+own : IsNumeralModel (λ ds. all_ascii_digits ds ≡ true) (digits_value 10)
+own = numerals_by_value _ (search rules)
+
+-- a number in a range lies above its lower end, and below its upper one
+pub lower : (low high n : ℕ) → is_between low high n ≡ true → low ≤ n
+lower low high n h = leb-true low n (and_parts (nat_le low n) (nat_le n high) h).0
+
+pub upper : (low high n : ℕ) → is_between low high n ≡ true → n ≤ high
+upper low high n h = leb-true n high (and_parts (nat_le low n) (nat_le n high) h).1
+
+small : (low high n : ℕ) → high < 2 ^ 64 → is_between low high n ≡ true → n < 2 ^ 64
+small low high n below h = omega (arith, upper low high n h, below)
+
+not_equal : (a b : ℕ) → b < a → (a == b) ≡ false
+not_equal a b above = elim (eqb_tells a b) [ inl same ↦ absurd (omega (arith, same.1, above)) | inr other ↦ other.0 ]
+
+-- a number in a range from 1 on is written plainly
+pub is_plain-decimal : (high n : ℕ) → high < 2 ^ 64 → is_between 1 high n ≡ true → is_plain_number 1 high (decimal n) ≡ true
+unfolding is_plain_number
+is_plain-decimal high n below h =
+    let fits = small 1 high n below h in
+    let least = lower 1 high n h in
+    let value = (decimal_is_IsNumeral n fits).1 in
+    let first = first_decimal n (omega (arith, least)) fits in
+    let differs = not_equal (get_or (decimal n) 0 0) 48 first in
+    and_from _ _ (ap not differs) (and_from _ _ (digits_decimal own n fits) (rw value h))
+
+-- ---- lines
+
+-- ASCII without a line end, of a length up to k
+pub record IsLine (k : ℕ) (t : List ℕ) : Type 0 where
+  pub ascii : IsAscii t
+  pub short : length t ≤ k
+  pub plain : list_all is_line_byte t ≡ true
+
+-- given words are a line
+pub words : (t : List ℕ) → IsAscii t → list_all is_line_byte t ≡ true → IsLine (length t) t
+words t ascii plain = record { ascii = ascii; short = omega arith; plain = plain }
+
+-- two lines, one after the other
+pub line_append : {j k : ℕ} {s t : List ℕ} → IsLine j s → IsLine k t → IsLine (j + k) (s ++ t)
+line_append {j} {k} {s} {t} first second = record {
+  ascii = IsAscii-append s t first.ascii second.ascii;
+  short = let a = first.short in let b = second.short in omega (arith, length-append s t, a, b);
+  plain = list_all-append is_line_byte s t ∙ and_from _ _ first.plain second.plain;
+}
+
+digits_plain : (ds : List ℕ) → all_ascii_digits ds ≡ true → list_all is_line_byte ds ≡ true
+digits_plain [] h = refl
+digits_plain (d ∷ ds) h =
+    let low = lower 48 57 d (and_parts (is_between 48 57 d) (all_ascii_digits ds) h).0 in
+    and_from _ _ (ap not (not_equal d 10 (omega (arith, low)))) (digits_plain ds (and_parts (is_between 48 57 d) (all_ascii_digits ds) h).1)
+
+-- a number in a range has at most ten digits
+pub line_number : (high n : ℕ) → high < 2 ^ 32 → is_between 1 high n ≡ true → IsLine 10 (decimal n)
+line_number high n below h =
+    let most = upper 1 high n h in
+    let fits : n < 2 ^ 64 = omega (arith, most, below) in
+    record {
+      ascii = IsAscii-decimal n fits;
+      short = length-decimal-le 10 n (omega arith) (omega (arith, most, below)) fits;
+      plain = digits_plain (decimal n) (digits_decimal own n fits);
+    }
+
+-- a line is text
+pub line_text : {k : ℕ} {t : List ℕ} → IsLine k t → is_utf8 t ≡ true
+line_text {k} {t} line = is_utf8-from_IsUtf8 t (IsUtf8-from_ascii t line.ascii)
+
+-- a line of up to 200 bytes is a reply
+pub line_reply : {k : ℕ} {t : List ℕ} → IsLine k t → k ≤ 200 → is_reply t ≡ true
+unfolding is_reply
+line_reply {k} {t} line low =
+    let short = line.short in
+    and_from _ _ (line_text line) (and_from _ _ (le-leb (length t) 200 (omega (arith, short, low))) line.plain)

@@ -1,0 +1,41 @@
+//! How far the election of a ward has come.
+
+ghost use Rattle.std.specs.Prelude.{◌≡◌, ◌≢◌, IfSome, IfNone};
+ghost use Rattle.register.specs.Phases.{phase_number};
+
+/// How far the election of a ward has come.
+#[derive(Clone, Copy, PartialEq, Eq, Debug)]
+pub enum Phase {
+    Nominations,
+    Keying,
+    Sealed,
+    Declared,
+}
+
+impl Phase {
+    /// The number under which a phase is kept: 1 to 4, in the order of an election.
+    pub fn number(self) -> u32
+        ensures { result ≡ phase_number self }
+    {
+        match self {
+            Phase::Nominations => 1,
+            Phase::Keying => 2,
+            Phase::Sealed => 3,
+            Phase::Declared => 4,
+        }
+    }
+
+    /// The phase that is kept under a number; none where the number isn't 1 to 4.
+    pub fn from_number(n: u32) -> Option<Phase>
+        ensures found { IfSome result (λ phase. phase_number phase ≡ n) }
+        ensures none { IfNone result ((phase : Phase) → phase_number phase ≢ n) }
+    {
+        match n {
+            1 => Some(Phase::Nominations),
+            2 => Some(Phase::Keying),
+            3 => Some(Phase::Sealed),
+            4 => Some(Phase::Declared),
+            _ => None,
+        }
+    }
+}

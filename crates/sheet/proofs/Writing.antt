@@ -1,0 +1,68 @@
+-- Texts that are written one after the other.
+use Rattle.std.specs.Prelude.{OnOk, OnErr, IsErr}
+use Rattle.std.proofs.Common.{◌≡◌, ℕ, ◌+◌, ◌<◌, List, [], ◌++◌, length, take, drop, get_or, Option, Result, Ok, Err, refl, sym, ◌∙◌, ap, subst}
+use Rattle.std.specs.List.{flat_map}
+use Rattle.std.specs.Io.KnownBytes.{Appends}
+use Rattle.std.specs.Str.{IsUtf8}
+use Rattle.std.proofs.KnownBytes.{Appends-nil, Appends-trans}
+use Rattle.std.proofs.lemmas.Str.{IsUtf8-nil, IsUtf8-append}
+use Rattle.votes.specs.Streams.{AppendsBeginning}
+use Rattle.votes.proofs.Beginnings.{AppendsBeginning-front, AppendsBeginning-behind}
+use Rattle.sheet.specs.Writing.{Writes}
+use Rattle.sheet.proofs.Texts.{flat_map-take_more, flat_map-parted}
+
+module _ {W : Type 0} {taken : W → Option (List ℕ)} {failed : W → ℕ} {X E : Type 0} where
+  -- bytes that were put, where they are a text
+  pub Writes-put : (old new : W) (bytes text : List ℕ) (r : Result X E) → bytes ≡ text → IsUtf8 text →
+      OnOk r (Appends (taken old) (taken new) bytes) → OnOk r (failed new ≡ failed old) →
+      OnErr r (AppendsBeginning (taken old) (taken new) bytes) → OnErr r (failed new ≡ failed old + 1) → Writes taken failed old new text r
+  Writes-put old new bytes text (Ok x) is utf8 all ok cut_off err = record { written = subst (Appends (taken old) (taken new)) is all; utf8 = utf8; ok = ok; cut_off = tt; err = tt }
+  Writes-put old new bytes text (Err e) is utf8 all ok cut_off err = record { written = tt; utf8 = tt; ok = tt; cut_off = subst (AppendsBeginning (taken old) (taken new)) is cut_off; err = err }
+
+  -- nothing was written yet
+  pub Writes-none : (s : W) (x : X) → Writes {E = E} taken failed s s [] (Ok x)
+  Writes-none s x = record { written = Appends-nil (taken s); utf8 = IsUtf8-nil; ok = refl; cut_off = tt; err = tt }
+
+  -- a text and what comes behind it
+  pub Writes-then : {Y F : Type 0} {old mid new : W} {xs ys : List ℕ} {x : X} (r : Result Y F) →
+      Writes {E = E} taken failed old mid xs (Ok x) → Writes taken failed mid new ys r → Writes taken failed old new (xs ++ ys) r
+  Writes-then (Ok y) one two = record {
+    written = Appends-trans _ _ _ _ _ one.written two.written;
+    utf8 = IsUtf8-append _ _ one.utf8 two.utf8;
+    ok = two.ok ∙ one.ok;
+    cut_off = tt;
+    err = tt;
+  }
+  Writes-then (Err f) one two = record {
+    written = tt;
+    utf8 = tt;
+    ok = tt;
+    cut_off = AppendsBeginning-behind _ _ _ _ _ one.written two.cut_off;
+    err = two.err ∙ ap (λ n. n + 1) one.ok;
+  }
+
+  -- a failure that is passed on
+  pub Writes-failed : {Y F : Type 0} {old new : W} {xs : List ℕ} {e : E} (r : Result Y F) → IsErr r → Writes {X = X} taken failed old new xs (Err e) → Writes taken failed old new xs r
+  Writes-failed (Ok y) is cut = absurd (cc is)
+  Writes-failed (Err f) is cut = record { written = tt; utf8 = tt; ok = tt; cut_off = cut.cut_off; err = cut.err }
+
+  -- after a failure nothing comes behind
+  pub Writes-front : {old new : W} {xs : List ℕ} (ys : List ℕ) (r : Result X E) → IsErr r → Writes taken failed old new xs r → Writes taken failed old new (xs ++ ys) r
+  Writes-front ys (Ok x) is cut = absurd (cc is)
+  Writes-front ys (Err e) is cut = record { written = tt; utf8 = tt; ok = tt; cut_off = AppendsBeginning-front _ _ _ ys cut.cut_off; err = cut.err }
+
+  -- the texts of some elements and that of the next
+  pub Writes-item : {A Y F : Type 0} {old mid new : W} {x : X} (f : A → List ℕ) (items : List A) (i : ℕ) (item : A) (r : Result Y F) → i < length items →
+      item ≡ get_or items i item → Writes {E = E} taken failed old mid (flat_map f (take i items)) (Ok x) → Writes taken failed mid new (f item) r →
+      Writes taken failed old new (flat_map f (take (i + 1) items)) r
+  Writes-item {old = old} {mid = mid} {new = new} f items i item r within is front next =
+      let there = subst (λ a. Writes taken failed mid new (f a) r) is next in
+      subst (λ text. Writes taken failed old new text r) (sym (flat_map-take_more f items i item within)) (Writes-then r front there)
+
+  -- the same where the next one fails, which is passed on: those behind it don't come
+  pub Writes-item_cut : {A : Type 0} {old mid new : W} {x : X} {e : E} (f : A → List ℕ) (items : List A) (i : ℕ) (item : A) (r : Result X E) → i < length items →
+      item ≡ get_or items i item → Writes {E = E} taken failed old mid (flat_map f (take i items)) (Ok x) → Writes {X = X} taken failed mid new (f item) (Err e) →
+      IsErr r → Writes taken failed old new (flat_map f items) r
+  Writes-item_cut {old = old} {new = new} {e = e} f items i item r within is front next failure =
+      let cut = Writes-failed r failure (Writes-item {F = E} f items i item (Err e) within is front next) in
+      subst (λ text. Writes taken failed old new text r) (flat_map-parted f items (i + 1)) (Writes-front (flat_map f (drop (i + 1) items)) r failure cut)

@@ -1,0 +1,69 @@
+-- A database that a stop left opens again, at the state whose tables it holds.
+use Rattle.std.proofs.Common.{◌≡◌, ◌⊎◌, inl, inr, true, refl, sym, ap₂, subst}
+use Rattle.sqlite_trees.specs.Objects.{catalog_tree}
+use Rattle.sqlite_catalog.specs.Listing.{Lists}
+use Rattle.sqlite_catalog.proofs.ReadLemmas.{lists_once}
+use Rattle.sqlite_schema.specs.Names.{same_name}
+use Rattle.sqlite.specs.Tree.{Trees}
+use Rattle.sqlite.specs.Schema.{Schema}
+use Rattle.sqlite.specs.Effect.{Database, IsDatabase}
+use Rattle.sqlite.specs.State.{State}
+use Rattle.register.specs.Offices.{OfficeState}
+use Rattle.tables.specs.declared.fault.Fault.{Fault}
+use Rattle.tables.specs.declared.fault.Fault.TheVariants.{Memory, Store, Damaged, Closed, WrongDatabase, NewerSchema}
+use Rattle.tables.specs.declared.table.Table.TheVariants.{Office}
+use Rattle.tables.specs.Schema.{IsOfficeSchema}
+use Rattle.tables.specs.Contents.{Contents, IsOffice}
+use Rattle.tables.specs.Presence.{has_table, IsOurs}
+use Rattle.store.specs.Offices.{tables_of, HoldsState, IsAt}
+use Rattle.store.specs.Openings.{HasNoOffice, IsNewer, IsLeftAt, IsToldBy}
+use Rattle.tables.proofs.ListingLemmas.{begins_to}
+use Rattle.store.proofs.StateLemmas.{one_state}
+use Rattle.store.proofs.TellLemmas.{this_office}
+
+sound : (c : Contents) (db : Database) → IsOffice c db → IsDatabase db
+unfolding IsOffice
+sound c db office = office.sound
+
+begins : (c : Contents) (db : Database) → IsOffice c db → IsOfficeSchema db.schema
+unfolding IsOffice
+begins c db office = office.begins
+
+-- the trees tell the schema, so the database is the one whose tables they are
+pub left_holds : (s : OfficeState) (db : Database) → IsLeftAt s db → HoldsState db s
+left_holds s db left =
+    let it = left.stores in
+    let other : Lists (db.trees catalog_tree) it.db.schema = subst (λ (t : Trees). Lists (t catalog_tree) it.db.schema) (sym it.same) (sound (tables_of s) it.db it.office).lists in
+    let schema : db.schema ≡ it.db.schema = lists_once (db.trees catalog_tree) db.schema it.db.schema left.sound.lists other in
+    let same : db ≡ it.db = ap₂ (λ sc tr. let x : Database = record { schema = sc; trees = tr } in x) schema it.same in
+    record { is = left.is; office = subst (IsOffice (tables_of s)) (sym same) it.office }
+
+pub left_ours : (s : OfficeState) (db : Database) → IsLeftAt s db → IsOurs db.schema
+left_ours s db left =
+    let schema = begins (tables_of s) db (left_holds s db left).office in
+    record { office = λ _. begins_to Office db.schema schema; every = λ _. schema }
+
+office_there : (s : Schema) → IsOfficeSchema s → has_table Office s ≡ true
+unfolding same_name
+office_there s h = subst (λ (x : Schema). has_table Office x ≡ true) (sym h.is) refl
+
+-- where a state is held, there is an office of this version
+holds_office : (s : OfficeState) (db : Database) → HoldsState db s → (¬ HasNoOffice db) × (¬ IsNewer db)
+unfolding IsOffice
+holds_office s db held = this_office db (office_there db.schema held.office.begins) (held.office.holds Office)
+
+-- no fault is told of it but those that come at any database
+pub left_told : (s : OfficeState) (db : Database) (f : Fault) → IsLeftAt s db → IsToldBy db f → (f ≡ Memory) ⊎ (f ≡ Store)
+left_told s db f left told = go f told
+  where
+    go : (f : Fault) → IsToldBy db f → (f ≡ Memory) ⊎ (f ≡ Store)
+    go Memory told = inl refl
+    go Store told = inr refl
+    go Damaged told = absurd (told.no_state s (left_holds s db left))
+    go Closed told = absurd told
+    go WrongDatabase told = absurd ((holds_office s db (left_holds s db left)).0 told)
+    go NewerSchema told = absurd ((holds_office s db (left_holds s db left)).1 told)
+
+-- and the state found in it is this one
+pub left_opened : (s : OfficeState) (db : Database) (st : State) → IsLeftAt s db → (x : OfficeState) × HoldsState db x × IsAt x st → IsAt s st
+left_opened s db st left found = subst (λ (x : OfficeState). IsAt x st) (one_state db found.0 s found.1 (left_holds s db left)) found.2
