@@ -83,7 +83,7 @@ values_of (c ∷ cs) (v ∷ vs) h = and_from _ _ (value_of c.kind v (and_parts _
 -- ---- what a query shows
 
 -- a query of all rows shows all of them
-lists_all : (t : Table) (db : Database) (rows : List Row) → Lists t (begins_with []) db rows → IsPermutation (map (at (column_places t)) (tuples t db.trees)) rows
+pub lists_all : (t : Table) (db : Database) (rows : List Row) → Lists t (begins_with []) db rows → IsPermutation (map (at (column_places t)) (tuples t db.trees)) rows
 lists_all t db rows lists = subst (λ l. IsPermutation (map (at (column_places t)) l) rows) (all_pass (tuples t db.trees)) lists.same
 
 -- the rows that a query shows have all columns and no more

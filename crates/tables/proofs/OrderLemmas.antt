@@ -1,9 +1,11 @@
 -- Keys as SQL compares and orders them.
-use Rattle.std.proofs.Common.{◌≡◌, ◌≢◌, ℕ, ◌+◌, ◌-◌, ◌<◌, ◌≤◌, ◌==◌, ℤ, pos, List, [], ◌∷◌, length, get_or, true, false, refl, sym, ap, ◌∙◌, arith, Ordering, Less, Equal, Greater, int_cmp, nat_cmp, Bool, Some}
+use Rattle.std.proofs.Common.{◌≡◌, ◌≢◌, ℕ, ◌+◌, ◌-◌, ◌<◌, ◌≤◌, ◌==◌, ◌&&◌, ℤ, pos, List, [], ◌∷◌, length, get_or, true, false, refl, sym, ap, ◌∙◌, arith, Ordering, Less, Equal, Greater, int_cmp, nat_cmp, Bool, Some}
 use Rattle.std.specs.Ordering.{is_lt, is_eq, ordering_then, ordering_reverse}
 use Rattle.std.specs.Cmp.{IsTotalOrder}
 use Rattle.std.specs.Cmp.Lexicographic.{slice_cmp}
 use Rattle.std.specs.List.Sorted.{IsSorted, IsStrictlySortedBy}
+use Rattle.std.proofs.Math.Bool.{and-true}
+use Rattle.std.proofs.lemmas.Cmp.{nat_cmp_total, nat_list_cmp_total}
 use Rattle.std.proofs.lemmas.Bool.Decides.{nat_tests}
 use Rattle.std.proofs.lemmas.Int.{ints}
 use Rattle.std.specs.Str.{bytes_eq}
@@ -49,6 +51,19 @@ equal-words s t = equal-Text s t ∙ is_eq-slice_cmp s t
 
 -- ---- the order of keys
 
+turned : {X : Type 0} {cmp : X → X → Ordering} → IsTotalOrder cmp → (x y : X) → is_eq (cmp x y) ≡ is_eq (cmp y x)
+turned {X} {cmp} total x y = ap is_eq (total.antisymm x y) ∙ go (cmp y x)
+  where
+    go : (o : Ordering) → is_eq (ordering_reverse o) ≡ is_eq o
+    go Less = refl
+    go Equal = refl
+    go Greater = refl
+
+then_equal : (a b : Ordering) → (is_eq a && is_eq b) ≡ is_eq (ordering_then a b)
+then_equal Less b = refl
+then_equal Equal b = refl
+then_equal Greater b = refl
+
 numbers : (m n : ℕ) → int_cmp (pos m) (pos n) ≡ nat_cmp m n
 numbers m n = grind (arith, ints, nat_tests)
 
@@ -71,6 +86,16 @@ four_numbers a b c d k l m n =
     ap (λ o. ordering_then o (ordering_then (value_cmp (Int (pos b)) (Int (pos l))) (ordering_then (value_cmp (Int (pos c)) (Int (pos m))) (ordering_then (value_cmp (Int (pos d)) (Int (pos n))) Equal)))) (value_cmp-Int (pos a) (pos k) ∙ numbers a k)
     ∙ ap (λ o. ordering_then (nat_cmp a k) (ordering_then o (ordering_then (value_cmp (Int (pos c)) (Int (pos m))) (ordering_then (value_cmp (Int (pos d)) (Int (pos n))) Equal)))) (value_cmp-Int (pos b) (pos l) ∙ numbers b l)
     ∙ ap (λ o. ordering_then (nat_cmp a k) (ordering_then (nat_cmp b l) o)) (two_numbers c d m n)
+
+-- ---- a row that begins with a key
+
+pub key_of_number : (n m : ℕ) → (equal Binary (Int (pos m)) (Int (pos n)) && true) ≡ is_eq (nat_cmp n m)
+key_of_number n m = and-true _ ∙ equal-Int (pos m) (pos n) ∙ ap is_eq (numbers m n) ∙ turned nat_cmp_total m n
+
+pub key_of_number_and_text : (n m : ℕ) (s t : List ℕ) → (equal Binary (Int (pos m)) (Int (pos n)) && (equal Binary (Text t) (Text s) && true)) ≡ is_eq (ordering_then (nat_cmp n m) (slice_cmp nat_cmp s t))
+key_of_number_and_text n m s t =
+    ap (λ b. b && (equal Binary (Text t) (Text s) && true)) (equal-Int (pos m) (pos n) ∙ ap is_eq (numbers m n) ∙ turned nat_cmp_total m n)
+    ∙ ap (λ b. is_eq (nat_cmp n m) && b) (and-true _ ∙ equal-Text t s ∙ turned nat_list_cmp_total t s) ∙ then_equal (nat_cmp n m) (slice_cmp nat_cmp s t)
 
 -- ---- rows that rise
 

@@ -1,5 +1,5 @@
 -- The rows of all tables, and what a connection or a stop has of them.
-use Rattle.std.specs.Prelude.{◌≡◌, true, false, not, if◌then◌else◌, ◌==◌, List, ◌∷◌, ◌++◌, map, filter, IsTrue}
+use Rattle.std.specs.Prelude.{◌≡◌, true, false, not, if◌then◌else◌, ◌==◌, List, [], ◌∷◌, ◌++◌, map, filter, IsTrue}
 use Rattle.std.specs.List.{list_all}
 use Rattle.std.specs.List.Sorted.{IsPermutation}
 use Rattle.sqlite.specs.Order.{Row}
@@ -21,6 +21,11 @@ SameContents c d = (t : Table) → IsPermutation (c t) (d t)
 -- the contents with the rows of one table changed
 abbrev pub changed : Table → (List Row → List Row) → Contents → Contents
 changed t f c u = if place_of u == place_of t then f (c u) else c u
+
+-- these rows in these tables, and none in the others
+abbrev pub filled : List (Table × List Row) → Contents
+filled [] u = []
+filled (one ∷ more) u = if place_of u == place_of one.0 then one.1 else filled more u
 
 -- ---- what statements make of the contents; each is opaque, so that a search does not compute it
 
@@ -81,6 +86,10 @@ pub record Rests (c : Contents) (s : State) : Type 0 where
   pub outside : s.in_transaction ≡ false
   pub settled : s.now ≡ s.committed
   pub office : IsOffice c s.now
+
+-- the same of a connection that may have been shut
+abbrev pub RestsIfOpen : Contents → State → Type 0
+RestsIfOpen c s = IsTrue s.is_open → Rests c s
 
 -- a connection inside a transaction, which sees an office with these contents
 pub record Sees (c : Contents) (s : State) : Type 0 where

@@ -5,13 +5,14 @@
 //! key begins alike, or those with another value, `making` makes the tables, `presence` looks for them by
 //! name. Their clauses say what the tables hold afterwards and what a stop may leave of them.
 //!
-//! An `Entry` is a value that stands in a row of a table. `listing`, `finding` and `writing` are those
-//! statements over entries; one more table asks for one more `impl`. `Fault` says why a call gave up.
+//! An `impl` of `Entries` says what the rows of a table stand for; `listing`, `finding` and `writing` are
+//! those statements over entries. One more table asks for one more `impl`. `Fault` says why a call gave
+//! up.
 //!
 //! ```text
-//! add_entry(alloc, &mut tx, &ward)?;
-//! let ward: Option<Ward> = find_entry(&mut conn, &[number(7)])?;
-//! let batches: Vec<Batch> = entries_referring(alloc, &mut conn, Reference::WardOfBatch, number(7))?;
+//! add_entry::<Wards, S>(alloc, &mut tx, &ward)?;
+//! let ward = find_entry::<Wards, S>(&mut conn, &[number(7)])?;
+//! let batches = entries_referring::<Batches, S>(alloc, &mut conn, Reference::WardOfBatch, number(7))?;
 //! ```
 #![tactic(auto)]
 
@@ -34,6 +35,6 @@ pub mod finding;
 pub mod listing;
 pub mod writing;
 
-pub use entry::Entry;
+pub use entry::Entries;
 pub use fault::Fault;
 pub use table::{Reference, Table};

@@ -9,7 +9,7 @@ ghost use Rattle.tables.specs.Rows.{at, column_places};
 ghost use Rattle.tables.specs.Contents.{RestsAt};
 ghost use Rattle.tables.specs.Reading.{OnlyReads, ListsKeyed, ListsEntries, HasOther, HoldsNone};
 
-use crate::entry::Entry;
+use crate::entry::Entries;
 use crate::fault::Fault;
 use crate::order::keys_rise;
 use crate::reading::all_rows;
@@ -19,7 +19,7 @@ use sqlite::{Alter, Connection, Row};
 use std::alloc::Global;
 
 /// The entries of rows; `Damaged` where one row is that of no entry.
-pub(crate) fn entries_of<E: Entry>(alloc: Global, rows: &[Row]) -> Result<Vec<E>, Fault>
+pub(crate) fn entries_of<E: Entries>(alloc: Global, rows: &[Row]) -> Result<Vec<E::Entry>, Fault>
     ensures reads { IfOk result (λ found. map (at (column_places E.TABLE)) rows.now ≡ map E.row_of found.items) }
     ensures cause { IfErr result (λ f. (f ≡ Fault.Memory) ⊎ ((f ≡ Fault.Damaged) × HasOther E.is_row rows.now)) }
 {
@@ -55,10 +55,10 @@ pub fn keyed_rows<S: Alter>(conn: &mut Connection<S>, table: Table) -> Result<Ve
 
 /// All entries of a table, in the order of the key. `Damaged` where the rows are no entries', each with a
 /// key above that of the one before.
-pub fn all_entries<E: Entry, S: Alter>(
+pub fn all_entries<E: Entries, S: Alter>(
     alloc: Global,
     conn: &mut Connection<S>,
-) -> Result<Vec<E>, Fault>
+) -> Result<Vec<E::Entry>, Fault>
     requires { conn.old.in_transaction ≡ false }
     ensures lists { HasCleanDisk (state S.Store conn.new) → (db : Database) → BeginsTo E.TABLE db.schema → RestsAt db (state S.Store conn.old)
         → IfOk result (λ found. ListsEntries E.TABLE db (map E.row_of found.items)) }
@@ -72,6 +72,6 @@ pub fn all_entries<E: Entry, S: Alter>(
     if !keys_rise(E::TABLE, &rows) {
         return Err(Fault::Damaged);
     }
-    let entries = entries_of(alloc, &rows)?;
+    let entries = entries_of::<E>(alloc, &rows)?;
     Ok(entries)
 }
