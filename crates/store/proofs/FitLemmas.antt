@@ -1,39 +1,52 @@
--- What is in range fits a row's columns.
-use Rattle.std.proofs.Common.{List, [], ◌∷◌, zero, suc, ◌==◌, ◌≡◌, ◌<◌, ◌≤◌, ◌^◌, ℕ, Bool, true, false, ◌&&◌, ◌||◌, refl, sym, arith, inl, inr, ◌⊎◌}
-use Rattle.std.specs.Str.{IsUtf8, IsAscii}
-use Rattle.std.specs.List.{list_all}
-use Rattle.std.proofs.lemmas.Bool.{and_parts, leb-true, cases_Bool, true≢false}
+-- What is in range fits a row's columns, so that its row reads.
+use Rattle.std.proofs.Common.{◌≡◌, inl, inr, ℕ, zero, suc, ◌<◌, ◌^◌, List, [], ◌∷◌, map, Bool, true, ◌&&◌, ◌==◌, nat_le, refl, arith}
+use Rattle.std.specs.Str.{IsAscii}
+use Rattle.std.specs.List.{AllByRecursion, list_all}
+use Rattle.std.proofs.lemmas.Bool.{and_parts, and_from, leb-true}
 use Rattle.std.proofs.lemmas.Bool.Decides.{Decides-eqb, eqb_tells, nat_tests}
 use Rattle.std.proofs.lemmas.Str.{IsUtf8-from_is_utf8, IsUtf8-from_ascii}
-use Rattle.register.specs.Ranges.{is_between, is_name, is_id, is_reply, is_id_byte}
-use Rattle.register.specs.declared.ward.Phase.{Phase}
-use Rattle.register.specs.declared.ward.Phase.TheVariants.{Nominations, Keying, Sealed, Declared}
+use Rattle.sqlite.specs.Order.{Row}
+use Rattle.register.specs.Ranges.{is_between, last_ward, most_seats, last_clerk, is_name, is_id, is_reply, is_id_byte}
 use Rattle.register.specs.Phases.{phase_number}
-use Rattle.register.specs.Offices.{WardEntry, ReceiptEntry, is_ward, is_begun, is_receipt}
+use Rattle.register.specs.Offices.{WardEntry, ReceiptEntry, OfficeState}
+use Rattle.register.specs.Items.{is_ward, is_begun, is_receipt, is_about, IsState}
+use Rattle.tables.specs.declared.table.Table.TheVariants.{Ward, Receipt}
+use Rattle.store.specs.EntryRows.{row_of_ward, IsWardRow, row_of_receipt, IsReceiptRow}
+use Rattle.store.specs.Offices.{tables_of}
 
 small : (low high n : ℕ) → high < 2 ^ 32 → is_between low high n ≡ true → n < 2 ^ 32
-small low high n below h = let upper = leb-true n high (and_parts _ _ h).1 in omega (arith, upper, below)
+small low high n below h = let upper = leb-true n high (and_parts (nat_le low n) (nat_le n high) h).1 in omega (arith, upper, below)
 
-phase_small : (p : Phase) → phase_number p < 2 ^ 32
-phase_small Nominations = omega arith
-phase_small Keying = omega arith
-phase_small Sealed = omega arith
-phase_small Declared = omega arith
+-- each of a list that passes a test, and its image
+all_passed : {X : Type 0} (p : X → Bool) (P : Row → Type 0) (row : X → Row) → ((x : X) → p x ≡ true → P (row x)) → (xs : List X) → list_all p xs ≡ true → AllByRecursion P (map row xs)
+all_passed p P row each [] all = tt
+all_passed p P row each (x ∷ xs) all = (each x (and_parts _ _ all).0, all_passed p P row each xs (and_parts _ _ all).1)
 
-pub record WardFits (w : WardEntry) : Type 0 where
-  pub number : w.number < 2 ^ 32
-  pub seats : w.seats < 2 ^ 32
-  pub phase : phase_number w.phase < 2 ^ 32
-  pub done : w.done < 2 ^ 32
-  pub name : IsUtf8 w.name
+both_passed : {X : Type 0} (p q : X → Bool) (xs : List X) → list_all p xs ≡ true → list_all q xs ≡ true → list_all (λ x. p x && q x) xs ≡ true
+both_passed p q [] first second = refl
+both_passed p q (x ∷ xs) first second =
+    let a = and_parts _ _ first in
+    let b = and_parts _ _ second in
+    and_from _ _ (and_from (p x) (q x) a.0 b.0) (both_passed p q xs a.1 b.1)
 
-pub ward_fits : (w : WardEntry) → is_ward w ≡ true → is_begun w ≡ true → WardFits w
+-- ---- wards
+
+ward_fits : (w : WardEntry) → (is_ward w && is_begun w) ≡ true → IsWardRow (row_of_ward w)
 unfolding is_ward is_begun is_name
-ward_fits w good begun =
+ward_fits w both =
+    let good = (and_parts (is_ward w) (is_begun w) both).0 in
+    let begun = (and_parts (is_ward w) (is_begun w) both).1 in
     let a = and_parts _ _ good in
     let b = and_parts _ _ a.1 in
-    let none = (Decides-eqb w.done 0).0 (and_parts _ _ begun).1 in
-    record { number = small 1 99 w.number (omega arith) a.0; seats = small 1 15 w.seats (omega arith) b.0; phase = phase_small w.phase; done = omega (arith, none); name = IsUtf8-from_is_utf8 w.name (and_parts _ _ b.1).0 }
+    let none : w.done ≡ 0 = (Decides-eqb w.done 0).0 (and_parts (phase_number w.phase == 1) (w.done == 0) begun).1 in (
+      (w.number, small 1 last_ward w.number (omega arith) a.0, refl),
+      (w.seats, small 1 most_seats w.seats (omega arith) b.0, refl),
+      (w.phase, refl),
+      (w.done, omega (arith, none), refl),
+      (w.name, IsUtf8-from_is_utf8 w.name (and_parts _ _ b.1).0, refl),
+    )
+
+-- ---- receipts
 
 byte_small : (b : ℕ) → is_id_byte b ≡ true → b < 128
 byte_small b h = grind (arith, nat_tests)
@@ -43,27 +56,30 @@ id_ascii [] h i = omega arith
 id_ascii (b ∷ bs) h zero = byte_small b (and_parts _ _ h).0
 id_ascii (b ∷ bs) h (suc i) = id_ascii bs (and_parts _ _ h).1 i
 
-pub record ReceiptFits (r : ReceiptEntry) : Type 0 where
-  pub actor : r.actor < 2 ^ 32
-  pub id : IsUtf8 r.id
-  pub subject : IsUtf8 r.subject
-  pub reply : IsUtf8 r.reply
-
-actor_small : (n : ℕ) (p q : Bool) → (((n == 0) && p) || (is_between 1 999 n && q)) ≡ true → n < 2 ^ 32
-actor_small n p q h = elim (eqb_tells n 0) [
+actor_small : (actor : ℕ) (subject : List ℕ) → is_about actor subject ≡ true → actor < 2 ^ 32
+actor_small actor subject h = elim (eqb_tells actor 0) [
   | inl office ↦ let none = office.1 in omega (arith, none)
-  | inr other ↦ let clerk : (is_between 1 999 n && q) ≡ true = rw other.0 at h in small 1 999 n (omega arith) (and_parts _ _ clerk).0
+  | inr other ↦ let clerk = rw other.0 at h in small 1 last_clerk actor (omega arith) (and_parts _ _ clerk).0
 ]
 
-pub receipt_fits : (r : ReceiptEntry) → is_receipt r ≡ true → ReceiptFits r
+receipt_fits : (r : ReceiptEntry) → is_receipt r ≡ true → IsReceiptRow (row_of_receipt r)
 unfolding is_receipt is_id is_reply
 receipt_fits r h =
     let a = and_parts _ _ h in
     let b = and_parts _ _ a.1 in
-    let d = and_parts _ _ b.1 in
-    record {
-      actor = actor_small r.actor _ _ a.0;
-      id = IsUtf8-from_ascii r.id (id_ascii r.id (and_parts _ _ d.0).1);
-      subject = IsUtf8-from_is_utf8 r.subject b.0;
-      reply = IsUtf8-from_is_utf8 r.reply (and_parts _ _ d.1).0;
-    }
+    let d = and_parts _ _ b.1 in (
+      (r.actor, actor_small r.actor r.subject a.0, refl),
+      (r.id, IsUtf8-from_ascii r.id (id_ascii r.id (and_parts _ _ d.0).1), refl),
+      (r.subject, IsUtf8-from_is_utf8 r.subject b.0, refl),
+      (r.reply, IsUtf8-from_is_utf8 r.reply (and_parts _ _ d.1).0, refl),
+    )
+
+-- ---- the rows of a state read as entries
+
+pub wards_fit : (s : OfficeState) → IsState s → AllByRecursion IsWardRow (tables_of s Ward)
+unfolding tables_of
+wards_fit s is = all_passed (λ w. is_ward w && is_begun w) IsWardRow row_of_ward ward_fits s.wards (both_passed is_ward is_begun s.wards (and_parts _ _ is.in_range).0 is.begun)
+
+pub receipts_fit : (s : OfficeState) → IsState s → AllByRecursion IsReceiptRow (tables_of s Receipt)
+unfolding tables_of
+receipts_fit s is = all_passed is_receipt IsReceiptRow row_of_receipt receipt_fits s.receipts (and_parts _ _ is.in_range).1

@@ -1,11 +1,11 @@
 -- A store that keeps a state.
-use Rattle.std.proofs.Common.{◌≡◌, ◌⊎◌, inl, inr, IsTrue, refl, sym, subst, Result, Ok, Err, OnOk}
+use Rattle.std.proofs.Common.{◌≡◌, ◌⊎◌, inl, inr, IsTrue, refl, subst, Result, Ok, Err, OnOk}
 use Rattle.sqlite.specs.Tree.{Trees}
 use Rattle.sqlite.specs.Effect.{Database}
 use Rattle.sqlite.specs.State.{State, HasCleanDisk, Survives}
-use Rattle.register.specs.declared.decision.Change.{Change}
-use Rattle.register.specs.Offices.{OfficeState, IsState}
-use Rattle.register.specs.Views.{with_change}
+use Rattle.register.specs.Offices.{OfficeState}
+use Rattle.register.specs.Items.{IsState}
+use Rattle.register.specs.Effects.{ChangeEntry, with_change}
 use Rattle.tables.specs.Contents.{Contents, Stores, Rests, RestsAt}
 use Rattle.tables.specs.Reading.{OnlyReads}
 use Rattle.store.specs.Offices.{tables_of, ChangesTo, HoldsState, IsAt, LeavesState}
@@ -33,11 +33,11 @@ is_at_read s old new reads honest at = record {
 }
 
 -- what a change makes of the tables
-pub changes_to : (change : Change) (s : OfficeState) → ChangesTo change (tables_of s) (tables_of (with_change change s))
+pub changes_to : (change : ChangeEntry) (s : OfficeState) → ChangesTo change (tables_of s) (tables_of (with_change change s))
 changes_to change s = record { old = s; from = refl; to = refl }
 
 -- a stop in a change leaves the old tables or the new ones
-pub change_leaves : (change : Change) (s : OfficeState) (old new : State) → HasCleanDisk new → IsAt s old → Survives old new (Stores (tables_of (with_change change s))) → LeavesState new (λ x. (x ≡ s) ⊎ (x ≡ with_change change s))
+pub change_leaves : (change : ChangeEntry) (s : OfficeState) (old new : State) → HasCleanDisk new → IsAt s old → Survives old new (Stores (tables_of (with_change change s))) → LeavesState new (λ x. (x ≡ s) ⊎ (x ≡ with_change change s))
 change_leaves change s old new honest at survives trees may = elim (survives.crash honest trees may) [
   | inl was ↦ let it = at.leaves trees was in (it.0, inl it.1, it.2)
   | inr made ↦ (with_change change s, inr refl, made)

@@ -1,9 +1,9 @@
+pub mod RowLemmas
+pub mod StateLemmas
 pub mod FitLemmas
+pub mod FindLemmas
 pub mod WriteLemmas
 pub mod KeepLemmas
-pub mod FindLemmas
-pub mod StateLemmas
-pub mod RiseLemmas
-pub mod ConditionLemmas
 pub mod TellLemmas
 pub mod ReopenLemmas
+pub mod ListsLemmas

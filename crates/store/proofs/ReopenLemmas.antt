@@ -19,7 +19,7 @@ use Rattle.store.specs.Offices.{tables_of, HoldsState, IsAt}
 use Rattle.store.specs.Openings.{HasNoOffice, IsNewer, IsLeftAt, IsToldBy}
 use Rattle.tables.proofs.ListingLemmas.{begins_to}
 use Rattle.store.proofs.StateLemmas.{one_state}
-use Rattle.store.proofs.TellLemmas.{this_office}
+use Rattle.store.proofs.TellLemmas.{this_office, state_version}
 
 sound : (c : Contents) (db : Database) → IsOffice c db → IsDatabase db
 unfolding IsOffice
@@ -50,7 +50,7 @@ office_there s h = subst (λ (x : Schema). has_table Office x ≡ true) (sym h.i
 -- where a state is held, there is an office of this version
 holds_office : (s : OfficeState) (db : Database) → HoldsState db s → (¬ HasNoOffice db) × (¬ IsNewer db)
 unfolding IsOffice
-holds_office s db held = this_office db (office_there db.schema held.office.begins) (held.office.holds Office)
+holds_office s db held = this_office db (office_there db.schema held.office.begins) (state_version db s held)
 
 -- no fault is told of it but those that come at any database
 pub left_told : (s : OfficeState) (db : Database) (f : Fault) → IsLeftAt s db → IsToldBy db f → (f ≡ Memory) ⊎ (f ≡ Store)

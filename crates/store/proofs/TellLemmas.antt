@@ -1,12 +1,10 @@
 -- Which fault the rows of a table give.
-use Rattle.std.proofs.Common.{◌≡◌, ◌⊎◌, inl, inr, ℕ, zero, suc, ◌<◌, ℤ, pos, negsuc, ◌<ℤ◌, List, [], ◌∷◌, map, drop, length, get_or, Bool, true, false, refl, sym, ap, subst, ◌∙◌, true≢false, arith}
+use Rattle.std.proofs.Common.{◌≡◌, ◌⊎◌, inl, inr, ℕ, ◌+◌, ◌<◌, ℤ, pos, negsuc, ◌<ℤ◌, List, [], ◌∷◌, map, drop, length, get_or, Bool, true, false, Ok, Err, Result, OnOk, IfErr, refl, sym, ap, subst, ◌∙◌, true≢false, arith}
+use Rattle.std.specs.List.{AllByRecursion}
 use Rattle.std.specs.List.Sorted.{IsPermutation}
 use Rattle.std.proofs.lemmas.Int.{ints}
+use Rattle.std.proofs.lemmas.Bool.{cases_lt}
 use Rattle.std.proofs.lemmas.List.Sorted.{IsPermutation-refl, IsPermutation-trans, length_permutation}
-use Rattle.sqlite_rules.proofs.ListLemmas.{test_has}
-use Rattle.sqlite.specs.declared.error.Error.{Error}
-use Rattle.sqlite.specs.declared.error.Error.TheVariants.{SqliteFailure}
-use Rattle.sqlite.specs.declared.error.ErrorCode.TheVariants.{OutOfMemory}
 use Rattle.sqlite.specs.declared.types.Value.{Value}
 use Rattle.sqlite.specs.declared.types.Value.TheVariants.{Int}
 use Rattle.sqlite.specs.Order.{Row, column}
@@ -15,80 +13,86 @@ use Rattle.sqlite.specs.Schema.{Schema}
 use Rattle.sqlite.specs.Effect.{Database, IsDatabase}
 use Rattle.sqlite.specs.State.{State, IsLive}
 use Rattle.sqlite.proofs.Callers.{one_permutation}
-use Rattle.register.specs.Offices.{is_ward, is_begun, is_receipt, OfficeState}
-use Rattle.rowcheck.specs.declared.rows.Rows.{Rows}
+use Rattle.register.specs.Offices.{OfficeState, MapsRise}
+use Rattle.register.specs.Items.{IsState}
 use Rattle.tables.specs.declared.fault.Fault.{Fault}
 use Rattle.tables.specs.declared.fault.Fault.TheVariants.{Memory, Store, Damaged, Closed, WrongDatabase, NewerSchema}
 use Rattle.tables.specs.declared.table.Table.{Table}
 use Rattle.tables.specs.declared.table.Table.TheVariants.{Office, Ward, Candidate, Batch, Keying, Verdict, Lot, Receipt}
-use Rattle.tables.specs.Schema.{tree_of, BeginsTo, IsOfficeSchema}
-use Rattle.tables.specs.Rows.{tuples, at, column_places, Keyed}
-use Rattle.tables.specs.Contents.{HoldsTable, RestsAt, IsOffice}
-use Rattle.tables.specs.Faults.{fault_of, TellsQuery}
-use Rattle.tables.specs.Reading.{Lists}
-use Rattle.store.specs.Entries.{IsRowOfWard, IsRowOfReceipt}
-use Rattle.store.specs.Offices.{HoldsState, tables_of, office_row, row_of_ward, row_of_receipt}
+use Rattle.tables.specs.Schema.{tree_of, place_of, BeginsTo, IsOfficeSchema}
+use Rattle.tables.specs.Rows.{tuples, at, column_places, begins_with, Keyed}
+use Rattle.tables.specs.Contents.{SameContents, HoldsTable, RestsAt, IsOffice}
 use Rattle.tables.specs.Presence.{has_table, has_every_table}
-use Rattle.store.specs.Listing.{ListsKeyed, HasOther, ListsRows, AreOrdered, ShowsState, AreRowsOf, ward_rows, receipt_rows}
-use Rattle.store.specs.Openings.{HasNoOffice, IsNewer, HoldsNoState, IsToldBy, TellsNoState, IsVersion, TellsRow, TellsRows, HasVersion, TellsOffice, TellsRowsIn, AreEmpty, HoldsEntries}
+use Rattle.tables.specs.Reading.{Lists, ListsKeyed, HoldsNone}
+use Rattle.store.specs.EntryRows.{office_row}
+use Rattle.store.specs.Offices.{HoldsState, tables_of}
+use Rattle.store.specs.Openings.{HasNoOffice, IsNewer, HoldsNoState, IsToldBy, TellsNoState, IsVersion, TellsRow, TellsRows, HasVersion, TellsOffice, has_entries, is_later, TellsRowsIn, AreEmpty, ListsMaps, HoldsEntries}
 use Rattle.tables.proofs.ListLemmas.{mapped_length}
-use Rattle.tables.proofs.EntryLemmas.{shown_rows, entries_held, held_listed, no_wrong}
+use Rattle.tables.proofs.TableLemmas.{same_place}
+use Rattle.tables.proofs.HoldLemmas.{lists_all, shown_rows, rows_held, held_listed}
 use Rattle.tables.proofs.ListingLemmas.{begins_to}
-use Rattle.store.proofs.StateLemmas.{ward_entries, receipt_entries, version_entries}
+use Rattle.store.proofs.StateLemmas.{tables_rise, maps_rise, equal_maps}
 
--- ---- faults of a query
+-- ---- the tables, by what an opening makes of them
 
-cause_of : (e : Error) → (fault_of e ≡ Memory) ⊎ (fault_of e ≡ Store)
-cause_of (SqliteFailure OutOfMemory) = inl refl
-cause_of _ = inr refl
+-- a table is the office's, one of entries, or one that no command fills yet
+which_kind : (t : Table) → (t ≡ Office) ⊎ ((has_entries t ≡ true) ⊎ (is_later t ≡ true))
+which_kind Office = inl refl
+which_kind Ward = inr (inl refl)
+which_kind Receipt = inr (inl refl)
+which_kind Candidate = inr (inr refl)
+which_kind Batch = inr (inr refl)
+which_kind Keying = inr (inr refl)
+which_kind Verdict = inr (inr refl)
+which_kind Lot = inr (inr refl)
 
-pub query_cause : (sql : List ℕ) (params : Row) (old new : State) (f : Fault) → TellsQuery sql params old new f → (f ≡ Memory) ⊎ (f ≡ Store)
-query_cause sql params old new f tells = subst (λ (x : Fault). (x ≡ Memory) ⊎ (x ≡ Store)) (sym tells.1) (cause_of tells.0)
+office_rows : (s : OfficeState) → tables_of s Office ≡ office_row 1 ∷ []
+unfolding tables_of
+office_rows s = refl
+
+-- a table that no command fills has no row in any state
+later_rows : (t : Table) → is_later t ≡ true → (s : OfficeState) → tables_of s t ≡ []
+unfolding tables_of
+later_rows Office later s = absurd (true≢false (sym later))
+later_rows Ward later s = absurd (true≢false (sym later))
+later_rows Receipt later s = absurd (true≢false (sym later))
+later_rows _ later s = refl
+
+-- ---- faults
 
 pub told_store : (db : Database) (f : Fault) → (f ≡ Memory) ⊎ (f ≡ Store) → TellsNoState db f
 told_store db f (inl same) = subst (TellsNoState db) (sym same) tt
 told_store db f (inr same) = subst (TellsNoState db) (sym same) tt
 
-pub told_damaged : (db : Database) (f : Fault) → (f ≡ Memory) ⊎ (f ≡ Damaged) → (f ≡ Damaged → HoldsNoState db) → TellsNoState db f
-told_damaged db f (inl same) none = subst (TellsNoState db) (sym same) tt
-told_damaged db f (inr same) none = subst (TellsNoState db) (sym same) (none same)
-
--- ---- all rows of a table
-
-pub listed_as : (t : Table) (db : Database) (rows shown : List Row) → ListsKeyed t db rows → map (at (column_places t)) rows ≡ shown → ListsKeyed t db shown
-listed_as t db rows shown keyed is = subst (ListsKeyed t db) (sym (shown_rows t db rows keyed.lists) ∙ is) keyed
-
-pub other_wards : (db : Database) (rows : List Row) → ListsKeyed Ward db rows → HasOther IsRowOfWard rows → HoldsNoState db
+-- rows that are no list of entries are those of no state
+pub told_entries : (t : Table) (IsRow : Row → Type 0) → has_entries t ≡ true → ((s : OfficeState) → IsState s → AllByRecursion IsRow (tables_of s t)) → (db : Database) (f : Fault)
+    → (f ≡ Memory) ⊎ ((f ≡ Store) ⊎ ((f ≡ Damaged) × HoldsNone t IsRow db)) → TellsNoState db f
 unfolding IsOffice
-other_wards db rows keyed other s holds =
-    no_wrong Ward row_of_ward ward_entries IsRowOfWard rows other.0 other.1 other.2 s.wards
-    (λ w h. (w, record { in_range = test_has is_ward s.wards w holds.is.wards_in_range h; begun = test_has is_begun s.wards w holds.is.wards_begun h; same = refl }))
-    (held_listed Ward row_of_ward ward_entries db rows keyed.lists s.wards (holds.office.holds Ward))
+told_entries t IsRow has fits db f (inl memory) = told_store db f (inl memory)
+told_entries t IsRow has fits db f (inr (inl store)) = told_store db f (inr store)
+told_entries t IsRow has fits db f (inr (inr none)) = subst (TellsNoState db) (sym none.0) (λ s holds. none.1 (tables_of s t) (fits s holds.is) (tables_rise s holds.is.rise t has) (holds.office.holds t))
 
-pub other_receipts : (db : Database) (rows : List Row) → ListsKeyed Receipt db rows → HasOther IsRowOfReceipt rows → HoldsNoState db
+-- ---- the entries of a state
+
+-- maps whose rows the tables hold are those of each state that the database holds
+maps_same : (db : Database) (s x : OfficeState) → ListsMaps db s → HoldsState db x → SameContents (tables_of x) (tables_of s)
 unfolding IsOffice
-other_receipts db rows keyed other s holds =
-    no_wrong Receipt row_of_receipt receipt_entries IsRowOfReceipt rows other.0 other.1 other.2 s.receipts
-    (λ r h. (r, record { in_range = test_has is_receipt s.receipts r holds.is.receipts_in_range h; same = refl }))
-    (held_listed Receipt row_of_receipt receipt_entries db rows keyed.lists s.receipts (holds.office.holds Receipt))
+maps_same db s x lists holds t = elim (which_kind t) [
+  | inl office ↦ subst (λ (u : Table). IsPermutation (tables_of x u) (tables_of s u)) (sym office) (subst (λ l. IsPermutation l (tables_of s Office)) (sym (office_rows x)) (subst (IsPermutation (office_row 1 ∷ [])) (sym (office_rows s)) (IsPermutation-refl _)))
+  | inr other ↦ elim other [
+    | inl has ↦ held_listed t db (tables_of s t) (lists t has).all.lists (tables_of x t) (holds.office.holds t)
+    | inr later ↦ subst (λ l. IsPermutation l (tables_of s t)) (sym (later_rows t later x)) (subst (IsPermutation []) (sym (later_rows t later s)) (IsPermutation-refl []))
+  ]
+]
 
-pub rows_ordered : (db : Database) (rows : Rows) → ListsRows db rows → AreOrdered rows
-rows_ordered db rows lists = record { wards = lists.wards.lists.sorted; receipts = lists.receipts.lists.sorted }
+pub lists_rise : (db : Database) (s : OfficeState) → ListsMaps db s → MapsRise s
+lists_rise db s lists = maps_rise s (λ t has. (lists t has).rise)
 
-pub rows_of : (db : Database) (rows : Rows) → ListsRows db rows → (s : OfficeState) → HoldsState db s → AreRowsOf rows s
-unfolding IsOffice
-rows_of db rows lists s holds = record {
-  is = holds.is;
-  wards = held_listed Ward row_of_ward ward_entries db (ward_rows rows) lists.wards.lists s.wards (holds.office.holds Ward);
-  receipts = held_listed Receipt row_of_receipt receipt_entries db (receipt_rows rows) lists.receipts.lists s.receipts (holds.office.holds Receipt);
-}
+pub maps_are : (db : Database) (s x : OfficeState) → ListsMaps db s → HoldsState db x → x ≡ s
+maps_are db s x lists holds = equal_maps x s holds.is.rise (lists_rise db s lists) (maps_same db s x lists holds)
 
-pub entries_from : (db : Database) → IsOfficeSchema db.schema → IsDatabase db → (rows : Rows) → ListsRows db rows → (s : OfficeState) → ShowsState rows s → HoldsEntries db s
-entries_from db begins sound rows lists s shows = record {
-  is = shows.is;
-  wards = entries_held Ward row_of_ward ward_entries db (begins_to Ward db.schema begins) sound lists.wards.keyed (ward_rows rows) lists.wards.lists s.wards shows.wards;
-  receipts = entries_held Receipt row_of_receipt receipt_entries db (begins_to Receipt db.schema begins) sound lists.receipts.keyed (receipt_rows rows) lists.receipts.lists s.receipts shows.receipts;
-}
+pub entries_held : (db : Database) → IsOfficeSchema db.schema → IsDatabase db → (s : OfficeState) → IsState s → ListsMaps db s → HoldsEntries db s
+entries_held db begins sound s is lists = record { is = is; entries = λ t has. rows_held t db (begins_to t db.schema begins) sound (tables_of s t) (lists t has).all (lists t has).typed }
 
 -- ---- tables with no row
 
@@ -96,27 +100,53 @@ pub none_long : {X : Type 0} (xs : List X) → length xs ≡ 0 → xs ≡ []
 none_long [] h = refl
 none_long (x ∷ xs) h = absurd (omega (arith, h))
 
-listed_length : (t : Table) (db : Database) (rows : List Row) → Lists t db rows → length rows ≡ length (tuples t db.trees)
-listed_length t db rows lists = length_permutation _ _ lists.same ∙ mapped_length (at (column_places t)) (tuples t db.trees)
+listed_length : (t : Table) (db : Database) (rows : List Row) → Lists t (begins_with []) db rows → length rows ≡ length (tuples t db.trees)
+listed_length t db rows lists = length_permutation _ _ (lists_all t db rows lists) ∙ mapped_length (at (column_places t)) (tuples t db.trees)
 
-pub none_listed : (t : Table) (db : Database) (rows : List Row) → Lists t db rows → rows ≡ [] → tuples t db.trees ≡ []
+none_listed : (t : Table) (db : Database) (rows : List Row) → Lists t (begins_with []) db rows → rows ≡ [] → tuples t db.trees ≡ []
 none_listed t db rows lists none = none_long (tuples t db.trees) (sym (listed_length t db rows lists) ∙ ap length none)
 
-pub some_listed : (t : Table) (db : Database) (rows : List Row) → Lists t db rows → tuples t db.trees ≡ [] → rows ≡ []
+some_listed : (t : Table) (db : Database) (rows : List Row) → Lists t (begins_with []) db rows → tuples t db.trees ≡ [] → rows ≡ []
 some_listed t db rows lists none = none_long rows (listed_length t db rows lists ∙ ap length none)
 
-pub empty_held : (t : Table) (db : Database) (rows : List Row) → Lists t db rows → rows ≡ [] → HoldsTable t [] db.trees
+pub empty_held : (t : Table) (db : Database) (rows : List Row) → Lists t (begins_with []) db rows → rows ≡ [] → HoldsTable t [] db.trees
 empty_held t db rows lists none =
     let tuple = none_listed t db rows lists none in
     let bare : db.trees (tree_of t) ≡ [] = none_long (db.trees (tree_of t)) (sym (mapped_length (drop 1) (db.trees (tree_of t))) ∙ ap length tuple) in
     record {
       same = subst (IsPermutation []) (sym tuple) (IsPermutation-refl []);
-      keyed = subst Keyed (sym bare) (record { ints = λ r h. absurd h; once = λ a b h. absurd h });
+      keyed = λ _. subst Keyed (sym bare) (record { ints = λ r h. absurd h; once = λ a b h. absurd h });
       typed = refl;
     }
 
-pub empty_listed : (t : Table) (db : Database) (rows : List Row) → Lists t db rows → HoldsTable t [] db.trees → rows ≡ []
+pub empty_listed : (t : Table) (db : Database) (rows : List Row) → Lists t (begins_with []) db rows → HoldsTable t [] db.trees → rows ≡ []
 empty_listed t db rows lists holds = some_listed t db rows lists (none_long (tuples t db.trees) (length_permutation _ _ holds.same))
+
+-- a row in a table that no command fills is in no state
+pub told_later : (t : Table) → is_later t ≡ true → (db : Database) (f : Fault) → TellsRowsIn t db f → TellsNoState db f
+unfolding IsOffice
+told_later t later db Memory told = tt
+told_later t later db Store told = tt
+told_later t later db Damaged told = λ s holds. told (subst (λ rows. HoldsTable t rows db.trees) (later_rows t later s) (holds.office.holds t))
+told_later t later db Closed told = told
+told_later t later db WrongDatabase told = told
+told_later t later db NewerSchema told = told
+
+pub if_told_later : {X : Type 0} (t : Table) → is_later t ≡ true → (db : Database) (r : Result X Fault) → IfErr r (TellsRowsIn t db) → IfErr r (TellsNoState db)
+if_told_later t later db (Ok x) told = tt
+if_told_later t later db (Err f) told = told_later t later db f told
+
+pub if_held_later : {X F : Type 0} (t : Table) (db : Database) (r : Result X F) → OnOk r (HoldsTable t [] db.trees) → OnOk r (is_later t ≡ true → HoldsTable t [] db.trees)
+if_held_later t db (Ok x) holds = λ _. holds
+if_held_later t db (Err f) holds = tt
+
+-- one table more, in the order of making
+pub next_empty : (db : Database) (n : ℕ) (t : Table) → place_of t ≡ n → (is_later t ≡ true → HoldsTable t [] db.trees) → ((u : Table) → place_of u < n → is_later u ≡ true → HoldsTable u [] db.trees)
+    → (u : Table) → place_of u < n + 1 → is_later u ≡ true → HoldsTable u [] db.trees
+next_empty db n t place here before u low later = elim (cases_lt (place_of u) n) [
+  | inl less ↦ before u less later
+  | inr past ↦ let same : t ≡ u = same_place t u (omega (arith, low, past, place)) in subst (λ (v : Table). HoldsTable v [] db.trees) same (here (subst (λ (v : Table). is_later v ≡ true) (sym same) later))
+]
 
 -- ---- the row of an office
 
@@ -164,12 +194,12 @@ row_told rows r is NewerSchema told = (r, is, told)
 
 pub version_held : (n : ℕ) (db : Database) → BeginsTo Office db.schema → IsDatabase db → (rows : List Row) → ListsKeyed Office db rows → (row : Row) → rows ≡ row ∷ [] → IsVersion n row → HasVersion n db
 version_held n db begins sound rows keyed row is shown =
-    entries_held Office office_row version_entries db begins sound keyed.keyed rows keyed.lists (n ∷ [])
-    (sym (shown_rows Office db rows keyed.lists) ∙ ap (map (at (column_places Office))) is ∙ ap (λ r. r ∷ []) shown)
+    let same : rows ≡ office_row n ∷ [] = sym (shown_rows Office (begins_with []) db rows keyed.lists) ∙ ap (map (at (column_places Office))) is ∙ ap (λ r. r ∷ []) shown in
+    rows_held Office db begins sound (office_row n ∷ []) (subst (ListsKeyed Office db) same keyed) refl
 
 -- the rows that are shown of one office row
-version_listed : (n : ℕ) (db : Database) (rows : List Row) → Lists Office db rows → IsPermutation (office_row n ∷ []) (map (at (column_places Office)) (tuples Office db.trees)) → rows ≡ office_row n ∷ []
-version_listed n db rows lists same = one_permutation (office_row n) rows (IsPermutation-trans _ _ _ same lists.same)
+version_listed : (n : ℕ) (db : Database) (rows : List Row) → Lists Office (begins_with []) db rows → IsPermutation (office_row n ∷ []) (map (at (column_places Office)) (tuples Office db.trees)) → rows ≡ office_row n ∷ []
+version_listed n db rows lists same = one_permutation (office_row n) rows (IsPermutation-trans _ _ _ same (lists_all Office db rows lists))
 
 pub office_told : (db : Database) → BeginsTo Office db.schema → IsDatabase db → (rows : List Row) → ListsKeyed Office db rows → (f : Fault) → TellsRows rows f → TellsOffice db f
 office_told db begins sound rows keyed Memory told = tt
@@ -182,7 +212,7 @@ office_told db begins sound rows keyed Damaged told = (
         let tuple : tuples Office db.trees ≡ office_row n.0 ∷ [] = newer.2 ∙ ap (λ v. (Int (pos 1) ∷ Int v ∷ []) ∷ []) n.1 in
         let up = n.2 in
         told.1 (office_row n.0) (version_listed n.0 db rows keyed.lists (subst (λ l. IsPermutation (office_row n.0 ∷ []) (map (at (column_places Office)) l)) (sym tuple) (IsPermutation-refl _))) n.0 (omega (arith, up)) refl),
-    (λ holds. told.1 (office_row 1) (one_permutation (office_row 1) rows (held_listed Office office_row version_entries db rows keyed.lists (1 ∷ []) holds)) 1 (omega arith) refl),
+    (λ holds. told.1 (office_row 1) (one_permutation (office_row 1) rows (held_listed Office db rows keyed.lists (office_row 1 ∷ []) holds)) 1 (omega arith) refl),
   ),
 )
 office_told db begins sound rows keyed Closed told = told
@@ -216,21 +246,25 @@ missing_damaged db missing s holds = true≢false (sym (all_there db.schema hold
 
 pub office_damaged : (db : Database) → ¬ HasVersion 1 db → HoldsNoState db
 unfolding IsOffice
-office_damaged db wrong s holds = wrong (holds.office.holds Office)
+office_damaged db wrong s holds = wrong (subst (λ rows. HoldsTable Office rows db.trees) (office_rows s) (holds.office.holds Office))
 
 pub state_held : (db : Database) → IsOfficeSchema db.schema → IsDatabase db → HasVersion 1 db → AreEmpty db → (s : OfficeState) → HoldsEntries db s → HoldsState db s
 unfolding IsOffice
 state_held db begins sound office empty s entries = record { is = entries.is; office = record { begins = begins; sound = sound; holds = each } }
   where
     each : (t : Table) → HoldsTable t (tables_of s t) db.trees
-    each Office = office
-    each Ward = entries.wards
-    each Candidate = empty.candidates
-    each Batch = empty.batches
-    each Keying = empty.keyings
-    each Verdict = empty.verdicts
-    each Lot = empty.lots
-    each Receipt = entries.receipts
+    each t = elim (which_kind t) [
+      | inl same ↦ subst (λ (u : Table). HoldsTable u (tables_of s u) db.trees) (sym same) (subst (λ rows. HoldsTable Office rows db.trees) (sym (office_rows s)) office)
+      | inr other ↦ elim other [
+        | inl has ↦ entries.entries t has
+        | inr later ↦ subst (λ rows. HoldsTable t rows db.trees) (sym (later_rows t later s)) (empty t later)
+      ]
+    ]
+
+-- a database that holds a state holds the office row of this version
+pub state_version : (db : Database) (s : OfficeState) → HoldsState db s → HasVersion 1 db
+unfolding IsOffice
+state_version db s holds = subst (λ rows. HoldsTable Office rows db.trees) (office_rows s) (holds.office.holds Office)
 
 -- the faults of an opening, from those of its parts
 pub told_office : (db : Database) → has_table Office db.schema ≡ true → (f : Fault) → TellsOffice db f → IsToldBy db f
@@ -260,31 +294,6 @@ store_office db f (inr same) = subst (TellsOffice db) (sym same) tt
 pub store_rows : (t : Table) (db : Database) (f : Fault) → (f ≡ Memory) ⊎ (f ≡ Store) → TellsRowsIn t db f
 store_rows t db f (inl same) = subst (TellsRowsIn t db) (sym same) tt
 store_rows t db f (inr same) = subst (TellsRowsIn t db) (sym same) tt
-
--- ---- the tables that no command fills yet
-
-abbrev pub later_tables : List Table
-later_tables = Candidate ∷ Batch ∷ Keying ∷ Verdict ∷ Lot ∷ []
-
-later_none : (i : ℕ) → i < 5 → (s : OfficeState) → tables_of s (get_or later_tables i Office) ≡ []
-later_none zero low s = refl
-later_none (suc zero) low s = refl
-later_none (suc (suc zero)) low s = refl
-later_none (suc (suc (suc zero))) low s = refl
-later_none (suc (suc (suc (suc zero)))) low s = refl
-later_none (suc (suc (suc (suc (suc n))))) low s = absurd (omega (arith, low))
-
-pub told_later : (i : ℕ) → i < 5 → (db : Database) (f : Fault) → TellsRowsIn (get_or later_tables i Office) db f → TellsNoState db f
-unfolding IsOffice
-told_later i low db Memory told = tt
-told_later i low db Store told = tt
-told_later i low db Damaged told = λ s holds. told (subst (λ rows. HoldsTable (get_or later_tables i Office) rows db.trees) (later_none i low s) (holds.office.holds (get_or later_tables i Office)))
-told_later i low db Closed told = told
-told_later i low db WrongDatabase told = told
-told_later i low db NewerSchema told = told
-
-pub all_empty : (db : Database) → ((i : ℕ) → i < 5 → HoldsTable (get_or later_tables i Office) [] db.trees) → AreEmpty db
-all_empty db each = record { candidates = each 0 (omega arith); batches = each 1 (omega arith); keyings = each 2 (omega arith); verdicts = each 3 (omega arith); lots = each 4 (omega arith) }
 
 -- ---- what a connection answers of the database that it rests at
 

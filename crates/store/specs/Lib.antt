@@ -1,4 +1,3 @@
+pub mod EntryRows
 pub mod Offices
-pub mod Entries
 pub mod Openings
-pub mod Listing

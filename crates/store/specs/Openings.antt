@@ -1,19 +1,22 @@
 -- What an opening finds.
-use Rattle.std.specs.Prelude.{◌≡◌, ◌≢◌, ◌⊎◌, ◌<◌, ℕ, ℤ, pos, ◌<ℤ◌, false, List, [], ◌∷◌, map, ⊤, IsTrue}
+use Rattle.std.specs.Prelude.{◌≡◌, ◌≢◌, ◌⊎◌, ◌<◌, ℕ, ℤ, pos, ◌<ℤ◌, Bool, true, false, not, List, [], ◌∷◌, ⊤, IsTrue}
 use Rattle.sqlite.specs.declared.types.Value.TheVariants.{Int}
 use Rattle.sqlite.specs.Order.{Row}
 use Rattle.sqlite.specs.Effect.{Database, IsDatabase}
 use Rattle.sqlite.specs.State.{State}
-use Rattle.register.specs.Offices.{OfficeState, IsState}
+use Rattle.register.specs.Offices.{OfficeState}
+use Rattle.register.specs.Items.{IsState}
 use Rattle.tables.specs.declared.fault.Fault.{Fault}
 use Rattle.tables.specs.declared.fault.Fault.TheVariants.{Memory, Store, Damaged, Closed, WrongDatabase, NewerSchema}
 use Rattle.tables.specs.declared.table.Table.{Table}
-use Rattle.tables.specs.declared.table.Table.TheVariants.{Office, Ward, Candidate, Batch, Keying, Verdict, Lot, Receipt}
+use Rattle.tables.specs.declared.table.Table.TheVariants.{Office, Ward, Receipt}
 use Rattle.tables.specs.Schema.{no_schema}
 use Rattle.tables.specs.Rows.{tuples, at, column_places}
 use Rattle.tables.specs.Contents.{HoldsTable, Stores}
 use Rattle.tables.specs.Presence.{has_table}
-use Rattle.store.specs.Offices.{HoldsState, office_row, row_of_ward, row_of_receipt, tables_of}
+use Rattle.tables.specs.Reading.{ListsEntries}
+use Rattle.store.specs.EntryRows.{office_row}
+use Rattle.store.specs.Offices.{tables_of, HoldsState}
 
 -- there is no office table, or no row in it
 abbrev pub HasNoOffice : Database → Type 0
@@ -102,6 +105,17 @@ TellsOffice db Closed = ⊥
 TellsOffice db WrongDatabase = tuples Office db.trees ≡ []
 TellsOffice db NewerSchema = IsNewer db
 
+-- the tables whose rows are the entries of a state
+abbrev pub has_entries : Table → Bool
+has_entries Ward = true
+has_entries Receipt = true
+has_entries _ = false
+
+-- the tables that no command fills yet
+abbrev pub is_later : Table → Bool
+is_later Office = false
+is_later t = not (has_entries t)
+
 -- the fault that a table gives which has to be empty
 abbrev pub TellsRowsIn : Table → Database → Fault → Type 0
 TellsRowsIn t db Memory = ⊤
@@ -112,15 +126,14 @@ TellsRowsIn t db WrongDatabase = ⊥
 TellsRowsIn t db NewerSchema = ⊥
 
 -- the tables that no command fills yet hold no row
-pub record AreEmpty (db : Database) : Type 0 where
-  pub candidates : HoldsTable Candidate [] db.trees
-  pub batches : HoldsTable Batch [] db.trees
-  pub keyings : HoldsTable Keying [] db.trees
-  pub verdicts : HoldsTable Verdict [] db.trees
-  pub lots : HoldsTable Lot [] db.trees
+abbrev pub AreEmpty : Database → Type 0
+AreEmpty db = (t : Table) → is_later t ≡ true → HoldsTable t [] db.trees
 
--- the wards and receipts of the database are those of the state
+-- all rows of each table of entries, those of these maps
+abbrev pub ListsMaps : Database → OfficeState → Type 0
+ListsMaps db s = (t : Table) → has_entries t ≡ true → ListsEntries t db (tables_of s t)
+
+-- each table of entries holds those of the state
 pub record HoldsEntries (db : Database) (s : OfficeState) : Type 0 where
   pub is : IsState s
-  pub wards : HoldsTable Ward (map row_of_ward s.wards) db.trees
-  pub receipts : HoldsTable Receipt (map row_of_receipt s.receipts) db.trees
+  pub entries : (t : Table) → has_entries t ≡ true → HoldsTable t (tables_of s t) db.trees

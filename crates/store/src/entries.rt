@@ -1,51 +1,111 @@
-//! Rows of wards and receipts, as values.
+//! Wards and receipts, as the rows of their tables.
 
-ghost use Rattle.std.specs.Prelude.{◌≡◌, ◌⊎◌, IfOk, IfErr};
-ghost use Rattle.register.specs.Offices.{receipt_entry};
-ghost use Rattle.tables.specs.Rows.{at, column_places};
-ghost use Rattle.store.specs.Offices.{row_of_typed, row_of_receipt};
-ghost use Rattle.store.specs.Entries.{IsRowOfWard, IsRowOfReceipt};
+ghost use Rattle.std.specs.Prelude.{◌≡◌, ◌⊎◌, pos, IfOk, IfErr, refl};
+ghost use Rattle.sqlite.specs.Order.{column};
+ghost use Rattle.sqlite.specs.declared.types.Value.TheVariants.{Int};
+ghost use Rattle.register.specs.Phases.{phase_number};
+ghost use Rattle.register.specs.Offices.{ward_entry, receipt_entry};
+ghost use Rattle.tables.specs.declared.table.Table.TheVariants.{Ward as WardTable, Receipt as ReceiptTable};
+ghost use Rattle.store.specs.EntryRows.{IsPhase, IsWardRow, IsReceiptRow, row_of_ward, row_of_receipt};
 
-use register::Receipt;
-use rowcheck::WardRow;
+use register::{Phase, Receipt, Ward};
 use sqlite::Row;
-use tables::cells::{number_at, text_at};
-use tables::{Fault, Table};
+use sqlite_value::value::ValueRef;
+use std::alloc::Global;
+use tables::cells::{number, number_at, text, text_at};
+use tables::{Entries, Fault, Table};
 
-/// The typed row that a row of the table of wards holds; `Damaged` where it is that of no ward.
-pub fn ward_row_of(row: &Row) -> Result<WardRow, Fault>
-    ensures reads { IfOk result (λ w. at (column_places Table.Ward) row.now ≡ row_of_typed w) }
-    ensures damaged { IfErr result (λ f. f ≡ Fault.Damaged → ¬ IsRowOfWard row.now) }
-    ensures cause { IfErr result (λ f. (f ≡ Fault.Memory) ⊎ (f ≡ Fault.Damaged)) }
+/// The phase in a column; `Damaged` where there is none.
+fn phase_at(row: &Row, place: usize) -> Result<Phase, Fault>
+    ensures phase { IfOk result (λ phase. column row.now place ≡ Int (pos (phase_number phase))) }
+    ensures cause { IfErr result (λ f. (f ≡ Fault.Memory) ⊎ ((f ≡ Fault.Damaged) × ¬ IsPhase (column row.now place))) }
 {
-    let ward = number_at(row, 0)?;
-    let seats = number_at(row, 1)?;
-    let phase = number_at(row, 2)?;
-    let done = number_at(row, 3)?;
-    let name = text_at(row, 4)?;
-    Ok(WardRow {
-        ward,
-        seats,
-        phase,
-        done,
-        name,
-    })
+    let n = number_at(row, place)?;
+    match Phase::from_number(n) {
+        Some(phase) => Ok(phase),
+        None => Err(Fault::Damaged),
+    }
 }
 
-/// The receipt that a row holds; `Damaged` where it is that of no receipt.
-pub fn receipt_of(row: &Row) -> Result<Receipt, Fault>
-    ensures reads { IfOk result (λ r. at (column_places Table.Receipt) row.now ≡ row_of_receipt (receipt_entry r)) }
-    ensures damaged { IfErr result (λ f. f ≡ Fault.Damaged → ¬ IsRowOfReceipt row.now) }
-    ensures cause { IfErr result (λ f. (f ≡ Fault.Memory) ⊎ (f ≡ Fault.Damaged)) }
-{
-    let actor = number_at(row, 0)?;
-    let id = text_at(row, 1)?;
-    let subject = text_at(row, 2)?;
-    let reply = text_at(row, 3)?;
-    Ok(Receipt {
-        actor,
-        id,
-        subject,
-        reply,
-    })
+/// The wards, by number.
+pub(crate) struct Wards;
+
+impl Entries for Wards {
+    type Entry = Ward;
+
+    ghost row_of = { λ w. row_of_ward (ward_entry w) };
+
+    ghost is_row = { IsWardRow };
+
+    ghost TABLE = { WardTable };
+
+    const TABLE: Table = Table::Ward;
+
+    fn values<'a>(ward: &'a Ward, alloc: Global) -> Result<Vec<ValueRef<'a>>, Fault> {
+        let values = [
+            number(ward.number),
+            number(ward.seats),
+            number(ward.phase.number()),
+            number(ward.done),
+            text(ward.name.as_str()),
+        ];
+        Vec::from_array(alloc, values).map_err(|_| Fault::Memory)
+    }
+
+    fn read(row: &Row) -> Result<Ward, Fault> {
+        let number = number_at(row, 0)?;
+        let seats = number_at(row, 1)?;
+        let phase = phase_at(row, 2)?;
+        let done = number_at(row, 3)?;
+        let name = text_at(row, 4)?;
+        Ok(Ward {
+            number,
+            seats,
+            phase,
+            done,
+            name,
+        })
+    }
+
+    ghost typed = { λ w. refl };
+}
+
+/// The receipts, by actor and id.
+pub(crate) struct Receipts;
+
+impl Entries for Receipts {
+    type Entry = Receipt;
+
+    ghost row_of = { λ r. row_of_receipt (receipt_entry r) };
+
+    ghost is_row = { IsReceiptRow };
+
+    ghost TABLE = { ReceiptTable };
+
+    const TABLE: Table = Table::Receipt;
+
+    fn values<'a>(receipt: &'a Receipt, alloc: Global) -> Result<Vec<ValueRef<'a>>, Fault> {
+        let values = [
+            number(receipt.actor),
+            text(receipt.id.as_str()),
+            text(receipt.subject.as_str()),
+            text(receipt.reply.as_str()),
+        ];
+        Vec::from_array(alloc, values).map_err(|_| Fault::Memory)
+    }
+
+    fn read(row: &Row) -> Result<Receipt, Fault> {
+        let actor = number_at(row, 0)?;
+        let id = text_at(row, 1)?;
+        let subject = text_at(row, 2)?;
+        let reply = text_at(row, 3)?;
+        Ok(Receipt {
+            actor,
+            id,
+            subject,
+            reply,
+        })
+    }
+
+    ghost typed = { λ r. refl };
 }

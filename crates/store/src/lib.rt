@@ -14,7 +14,6 @@
 //! The statements over any table stand in the crate `tables`; here stand the rows of a state.
 #![tactic(auto)]
 
-mod conditions;
 mod entries;
 mod listing;
 mod opening;

@@ -1,34 +1,28 @@
 //! Whether a database is the office of a state.
 
-ghost use Rattle.std.specs.Prelude.{◌≡◌, [], ◌∷◌, false, IfErr, OnOk, IsTrue};
+ghost use Rattle.std.specs.Prelude.{◌≡◌, [], ◌∷◌, true, false, IfErr, OnOk, IsTrue};
 ghost use Rattle.sqlite.specs.Effect.{Database, IsDatabase};
 ghost use Rattle.sqlite.specs.State.{HasCleanDisk};
 ghost use Rattle.sqlite.specs.Held.{state};
-ghost use Rattle.register.specs.Offices.{OfficeState};
+ghost use Rattle.register.specs.Offices.{OfficeState, MapsRise};
+ghost use Rattle.register.specs.Items.{IsState};
+ghost use Rattle.rowcheck.specs.States.{state_of};
 ghost use Rattle.tables.specs.Schema.{BeginsTo, IsOfficeSchema};
 ghost use Rattle.tables.specs.Contents.{RestsAt, HoldsTable};
 ghost use Rattle.tables.specs.Presence.{IsOurs};
 ghost use Rattle.tables.specs.Reading.{OnlyReads};
 ghost use Rattle.store.specs.Offices.{HoldsState};
-ghost use Rattle.store.specs.Openings.{IsToldBy, TellsNoState, IsVersion, TellsRow, TellsRows, HasVersion, TellsOffice, TellsRowsIn, AreEmpty, HoldsEntries};
+ghost use Rattle.store.specs.Openings.{IsToldBy, TellsNoState, IsVersion, TellsRow, TellsRows, HasVersion, TellsOffice, is_later, TellsRowsIn, AreEmpty, HoldsEntries};
 
-use crate::conditions::are_of_state;
-use crate::listing::{keyed_rows, typed_rows};
+use crate::listing;
+use rowcheck::{Rows, are_begun, item1};
 use sqlite::{Alter, Connection, Row};
 use std::alloc::Global;
 use tables::cells::integer_at;
+use tables::listing::keyed_rows;
 use tables::presence::{has_every_table, has_table};
 use tables::reading::all_rows;
 use tables::{Fault, Table};
-
-/// The tables that no command fills yet.
-const LATER: [Table; 5] = [
-    Table::Candidate,
-    Table::Batch,
-    Table::Keying,
-    Table::Verdict,
-    Table::Lot,
-];
 
 /// Sees that the row is that of an office of version 1.
 fn check_row(row: &Row) -> Result<(), Fault>
@@ -100,6 +94,34 @@ fn check_empty<S: Alter>(conn: &mut Connection<S>, table: Table) -> Result<(), F
     }
 }
 
+/// Whether no command fills the table yet.
+fn is_later(table: Table) -> bool
+    ensures { result ≡ is_later table }
+{
+    match table {
+        Table::Office | Table::Ward | Table::Receipt => false,
+        Table::Candidate | Table::Batch | Table::Keying | Table::Verdict | Table::Lot => true,
+    }
+}
+
+/// Sees that a table is empty, if no command fills it yet.
+fn check_if_later<S: Alter>(conn: &mut Connection<S>, table: Table) -> Result<(), Fault>
+    requires { conn.old.in_transaction ≡ false }
+    ensures holds { HasCleanDisk (state S.Store conn.new) → (db : Database) → IsOfficeSchema db.schema → RestsAt db (state S.Store conn.old)
+        → OnOk result (is_later table ≡ true → HoldsTable table [] db.trees) }
+    ensures told { HasCleanDisk (state S.Store conn.new) → (db : Database) → IsOfficeSchema db.schema → RestsAt db (state S.Store conn.old)
+        → IfErr result (TellsNoState db) }
+    ensures opens { HasCleanDisk (state S.Store conn.new) → IsTrue (state S.Store conn.old).is_open → OnOk result (IsTrue (state S.Store conn.new).is_open) }
+    ensures reads { OnlyReads (state S.Store conn.old) (state S.Store conn.new) }
+    ensures outside { conn.new.in_transaction ≡ false }
+{
+    if is_later(table) {
+        check_empty(conn, table)
+    } else {
+        Ok(())
+    }
+}
+
 /// Sees that the tables that no command fills yet are empty.
 fn check_later<S: Alter>(conn: &mut Connection<S>) -> Result<(), Fault>
     requires { conn.old.in_transaction ≡ false }
@@ -111,13 +133,24 @@ fn check_later<S: Alter>(conn: &mut Connection<S>) -> Result<(), Fault>
     ensures reads { OnlyReads (state S.Store conn.old) (state S.Store conn.new) }
     ensures outside { conn.new.in_transaction ≡ false }
 {
-    for table in LATER {
-        check_empty(conn, table)?;
+    for table in Table::ALL {
+        check_if_later(conn, table)?;
     }
     Ok(())
 }
 
-/// Sees that the rows of wards and receipts are those of a state.
+/// Whether maps in the order of their keys are a state.
+fn are_of_state(rows: &Rows) -> bool
+    ensures some { result ≡ true → MapsRise (state_of rows.now) → IsState (state_of rows.now) }
+    ensures none { result ≡ false → ¬ IsState (state_of rows.now) }
+{
+    if !item1(rows) {
+        return false;
+    }
+    are_begun(rows)
+}
+
+/// Sees that the entries are those of a state.
 fn check_state<S: Alter>(alloc: Global, conn: &mut Connection<S>) -> Result<(), Fault>
     requires { conn.old.in_transaction ≡ false }
     ensures holds { HasCleanDisk (state S.Store conn.new) → (db : Database) → IsOfficeSchema db.schema → IsDatabase db → RestsAt db (state S.Store conn.old)
@@ -128,7 +161,7 @@ fn check_state<S: Alter>(alloc: Global, conn: &mut Connection<S>) -> Result<(), 
     ensures reads { OnlyReads (state S.Store conn.old) (state S.Store conn.new) }
     ensures outside { conn.new.in_transaction ≡ false }
 {
-    let rows = typed_rows(alloc, conn)?;
+    let rows = listing::all_rows(alloc, conn)?;
     if are_of_state(&rows) {
         Ok(())
     } else {

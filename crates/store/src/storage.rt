@@ -4,8 +4,9 @@ ghost use Rattle.std.specs.Prelude.{◌≡◌, ◌⊎◌, true, false, IfOk, IfE
 ghost use Rattle.sqlite.specs.Tree.{Trees};
 ghost use Rattle.sqlite.specs.State.{HasCleanDisk, Survives};
 ghost use Rattle.sqlite.specs.Held.{state};
-ghost use Rattle.register.specs.Offices.{OfficeState, IsState, empty_office};
-ghost use Rattle.register.specs.Views.{with_change};
+ghost use Rattle.register.specs.Offices.{OfficeState, empty_office};
+ghost use Rattle.register.specs.Items.{IsState};
+ghost use Rattle.register.specs.Effects.{change_entry, with_change};
 ghost use Rattle.sqlite.specs.Effect.{Database};
 ghost use Rattle.tables.specs.Contents.{Contents, SameContents, Rests, RestsAt, Stores};
 ghost use Rattle.tables.specs.Presence.{has_some_table, has_every_table, IsOurs};
@@ -43,18 +44,22 @@ impl<S: Alter> Model for Store<S> {
 }
 
 /// Writes a change in one transaction.
-fn commit_change<S: Alter>(conn: &mut Connection<S>, change: &Change) -> Result<(), Fault>
+fn commit_change<S: Alter>(
+    alloc: Global,
+    conn: &mut Connection<S>,
+    change: &Change,
+) -> Result<(), Fault>
     requires { conn.old.in_transaction ≡ false }
-    ensures done { HasCleanDisk (state S.Store conn.new) → (c d : Contents) → ChangesTo change.now c d → Rests c (state S.Store conn.old)
+    ensures done { HasCleanDisk (state S.Store conn.new) → (c d : Contents) → ChangesTo (change_entry change.now) c d → Rests c (state S.Store conn.old)
         → OnOk result (Rests d (state S.Store conn.new)) }
-    ensures survives { (c d : Contents) → ChangesTo change.now c d → Rests c (state S.Store conn.old)
+    ensures survives { (c d : Contents) → ChangesTo (change_entry change.now) c d → Rests c (state S.Store conn.old)
         → Survives (state S.Store conn.old) (state S.Store conn.new) (Stores d) }
     ensures clean { HasCleanDisk (state S.Store conn.new) → HasCleanDisk (state S.Store conn.old) }
     ensures outside { conn.new.in_transaction ≡ false }
     ensures cause { IfErr result (λ f. (f ≡ Fault.Memory) ⊎ (f ≡ Fault.Store)) }
 {
     let mut tx = conn.transaction();
-    write_change(&mut tx, change)?;
+    write_change(alloc, &mut tx, change)?;
     tx.commit()?;
     Ok(())
 }
@@ -83,8 +88,7 @@ fn commit_new_office<S: Alter>(conn: &mut Connection<S>) -> Result<(), Fault>
 fn tables_tell_states()
     ensures equal { (s t : OfficeState) → IsState s → IsState t → SameContents (tables_of s) (tables_of t) → s ≡ t }
     ensures alone { (db : Database) → (s t : OfficeState) → HoldsState db s → HoldsState db t → s ≡ t }
-{
-}
+{}
 
 impl<S: Alter> Store<S> {
     /// Makes the tables of an empty office in the connection's database.
@@ -143,13 +147,13 @@ impl<S: Alter> Store<S> {
     /// ones may be found.
     pub fn commit(&mut self, change: &Change) -> Result<(), Fault>
         ensures done { HasCleanDisk (state S.Store self.new) → IsTrue (state S.Store self.old).is_open → (s : OfficeState) → IsAt s (state S.Store self.old)
-            → IsState (with_change change.now s) → OnOk result (IsAt (with_change change.now s) (state S.Store self.new)) }
+            → IsState (with_change (change_entry change.now) s) → OnOk result (IsAt (with_change (change_entry change.now) s) (state S.Store self.new)) }
         ensures stops { HasCleanDisk (state S.Store self.new) → IsTrue (state S.Store self.old).is_open → (s : OfficeState) → IsAt s (state S.Store self.old)
-            → LeavesState (state S.Store self.new) (λ x. (x ≡ s) ⊎ (x ≡ with_change change.now s)) }
+            → LeavesState (state S.Store self.new) (λ x. (x ≡ s) ⊎ (x ≡ with_change (change_entry change.now) s)) }
         ensures clean { HasCleanDisk (state S.Store self.new) → HasCleanDisk (state S.Store self.old) }
         ensures cause { IfErr result (λ f. (f ≡ Fault.Memory) ⊎ (f ≡ Fault.Store)) }
     {
-        commit_change(&mut self.conn, change)
+        commit_change(self.alloc, &mut self.conn, change)
     }
 
     /// Gives the connection back as it is.

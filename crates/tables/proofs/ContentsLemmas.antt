@@ -14,16 +14,16 @@ use Rattle.sqlite_schema.specs.declared.schema.Index.{Index}
 use Rattle.sqlite_schema.specs.declared.schema.View.{View}
 use Rattle.tables.specs.declared.table.Table.{Table}
 use Rattle.tables.specs.Texts.{insert_text}
-use Rattle.tables.specs.Schema.{Definition, schema_from, definition, place_of, tree_of, shape, places_from, AreFree}
+use Rattle.tables.specs.Schema.{Definition, schema_from, definition, place_of, tree_of, shape, columns_of, checks_from, places_from, AreFree}
 use Rattle.tables.specs.Rows.{is_row_of, Keyed}
 use Rattle.tables.specs.Contents.{Contents, changed, added, HoldsTable, Holds, IsOffice, Sees}
 use Rattle.tables.proofs.PlaceLemmas.{typed_at}
 use Rattle.tables.proofs.TableLemmas.{which_table, has_table}
-use Rattle.tables.proofs.InsertLemmas.{Adds, inserts}
+use Rattle.tables.proofs.InsertLemmas.{Changes, inserts}
 use Rattle.tables.proofs.Inserts.{inserts_row, inserted, width_of}
 
 table_kept : (t : Table) (rows : List Row) (old new : Trees) → new (tree_of t) ≡ old (tree_of t) → HoldsTable t rows old → HoldsTable t rows new
-table_kept t rows old new same h = record { same = subst (λ l. IsPermutation rows (map (drop 1) l)) (sym same) h.same; keyed = subst Keyed (sym same) h.keyed; typed = h.typed }
+table_kept t rows old new same h = record { same = subst (λ l. IsPermutation rows (map (drop 1) l)) (sym same) h.same; keyed = λ changes. subst Keyed (sym same) (h.keyed changes); typed = h.typed }
 
 -- one table is changed, and the others are not
 pub holds_changed : (t : Table) (f : List Row → List Row) (old new : Trees) → ((rows : List Row) → HoldsTable t rows old → HoldsTable t (f rows) new)
@@ -55,31 +55,41 @@ keeps sql params old new r runs ended = elim (cases_Bool old.in_transaction) [
   | inr outside ↦ let same = ended outside in record { was_open = λ h. subst (λ (s : State). IsTrue s.is_open) same h; committed = λ _. ap (λ (s : State). s.committed) same }
 ]
 
--- ---- an INSERT
+-- ---- a statement that changes one table
 
-pub adds : (rest : List Definition) (others : List Index) (views : List View) → AreFree rest → (t : Table) (params : Row) → is_row_of t params ≡ true → (old new : State) (count : ℕ) → old.now.schema ≡ schema_from 8 rest others views
-    → Executes (insert_text t) params old new (Ok count) → Adds (schema_from 8 rest others views) (tree_of t) params old.now new.now
-adds rest others views free t params kinds old new count has h =
-    let it = inserts_row rest others views t in
-    inserts (places_from 1 (shape t).key) (shape t).name (tree_of t) (shape t).columns (shape t).checks (schema_from 8 rest others views) (it.alone free) (place_of t) it.place (insert_text t) (inserted t) (width_of t) it.is it.plain
-    params params (it.shows params ∙ ap (λ r. (Null ∷ r) ∷ []) (rw append-nil (typed_at (shape t).columns params kinds))) kinds old new count has h
+module _ (t : Table) (f : List Row → List Row) (sql : List ℕ) (params : Row) (old new : State)
+    (changed_as : (rest : List Definition) (others : List Index) (views : List View) → AreFree rest → (count : ℕ) → old.now.schema ≡ schema_from 8 rest others views → Executes sql params old new (Ok count)
+    → (rows : List Row) → HoldsTable t rows old.now.trees → Changes (schema_from 8 rest others views) (tree_of t) old.now new.now × HoldsTable t (f rows) new.now.trees)
+  where
+    -- it changes the table's rows, and no other's
+    pub table_changed : (r : Result ℕ Error) → (IsTrue old.in_transaction → ExecutesInside 0 sql params old new r) → (c : Contents) → Sees c old → OnOk r (Sees (changed t f c) new)
+    unfolding IsOffice
+    table_changed (Err e) runs c sees = tt
+    table_changed (Ok count) runs c sees =
+        let s = sees.office.begins in
+        let ran = runs sees.inside in
+        let at = λ (rows : List Row) (was : HoldsTable t rows old.now.trees). changed_as s.rest s.others s.views s.free count s.is ran.0 rows was in
+        let change = (at (c t) (sees.office.holds t)).0 in
+        record {
+          inside = ran.1.mode;
+          office = record {
+            begins = record { rest = s.rest; others = s.others; views = s.views; free = s.free; is = change.is };
+            sound = change.sound;
+            holds = holds_changed t f old.now.trees new.now.trees (λ rows was. (at rows was).1) (others_of s.rest s.others s.views t old.now.trees new.now.trees change.others) c sees.office.holds;
+          };
+        }
+
+-- ---- an INSERT
 
 -- it adds the row
 pub row_added : (t : Table) (params : Row) → is_row_of t params ≡ true → (old new : State) (r : Result ℕ Error) → (IsTrue old.in_transaction → ExecutesInside 0 (insert_text t) params old new r)
     → (c : Contents) → Sees c old → OnOk r (Sees (added t params c) new)
-unfolding added IsOffice
-row_added t params kinds old new (Err e) runs c sees = tt
-row_added t params kinds old new (Ok count) runs c sees =
-    let s = sees.office.begins in
-    let ran = runs sees.inside in
-    let change = adds s.rest s.others s.views s.free t params kinds old new count s.is ran.0 in
-    record {
-      inside = ran.1.mode;
-      office = record {
-        begins = record { rest = s.rest; others = s.others; views = s.views; free = s.free; is = change.is };
-        sound = change.sound;
-        holds = holds_changed t (λ rows. params ∷ rows) old.now.trees new.now.trees
-            (λ rows was. record { same = IsPermutation-trans _ _ _ (IsPermutation-cons params _ _ was.same) change.row; keyed = change.keyed was.keyed; typed = and_from _ _ kinds was.typed })
-            (others_of s.rest s.others s.views t old.now.trees new.now.trees change.others) c sees.office.holds;
-      };
-    }
+unfolding added
+row_added t params kinds old new r runs c sees =
+    table_changed t (λ rows. params ∷ rows) (insert_text t) params old new
+    (λ rest others views free count has ran rows was.
+    let it = inserts_row rest others views t in
+    let change = inserts (places_from 1 (shape t).key) (shape t).name (tree_of t) (columns_of t) (checks_from 1 (shape t).fields) (schema_from 8 rest others views) (it.alone free) (place_of t) it.place (insert_text t) (inserted t) (width_of t) it.is it.plain
+    params params (it.shows params ∙ ap (λ r. (Null ∷ r) ∷ []) (rw append-nil (typed_at (columns_of t) params kinds))) kinds old new count has ran in
+    (change.changes, record { same = IsPermutation-trans _ _ _ (IsPermutation-cons params _ _ was.same) change.row; keyed = λ changes. change.keyed (was.keyed changes); typed = and_from _ _ kinds was.typed }))
+    r runs c sees

@@ -1,5 +1,5 @@
 -- One INSERT of one row.
-use Rattle.std.proofs.Common.{◌≡◌, ◌≢◌, ◌⊎◌, inl, inr, ℕ, ℤ, List, [], ◌∷◌, ◌++◌, map, drop, slice_get, Bool, true, false, cond, Some, None, Ok, Err, Result, refl, sym, ap, subst, ◌∙◌, Ordering, Less, Equal, Greater, true≢false, length, ◌/◌}
+use Rattle.std.proofs.Common.{◌≡◌, ◌≢◌, ℕ, ℤ, List, [], ◌∷◌, ◌++◌, map, drop, fold, Option, slice_get, Bool, true, false, cond, Some, None, Ok, refl, sym, ap, subst, ◌∙◌, Ordering, Less, Equal, Greater, true≢false, length, ◌/◌}
 use Rattle.std.specs.List.{AllByRecursion}
 use Rattle.std.specs.List.Sorted.{IsPermutation}
 use Rattle.std.specs.Ordering.{is_eq, match_ordering}
@@ -15,6 +15,7 @@ use Rattle.sqlite.specs.Kind.{Kind}
 use Rattle.sqlite.specs.Kind.TheVariants.{Integer, Text as Words, Blob as Bytes}
 use Rattle.sqlite_schema.specs.declared.schema.Column.{Column}
 use Rattle.sqlite_schema.specs.declared.schema.Keys.TheVariants.{Enforced}
+use Rattle.sqlite.specs.Source.{Source}
 use Rattle.sqlite.specs.Source.TheVariants.{Values}
 use Rattle.sqlite.specs.Command.TheVariants.{Insert}
 use Rattle.sqlite.specs.Edit.{edit_of, put_all, is_taken, are_fresh, with_rowid, taken_by}
@@ -22,8 +23,8 @@ use Rattle.sqlite.specs.Cast.{cast, cast_all}
 use Rattle.sqlite.specs.Rowids.TheVariants.{Chosen}
 use Rattle.sqlite.specs.Tree.{Trees, rowid, put_row}
 use Rattle.sqlite.specs.Effect.{Database, IsDatabase, value_rows}
-use Rattle.sqlite.specs.Does.{Tally, Does, AtPlace, OnRows}
-use Rattle.sqlite.specs.Rows.{Written, Task}
+use Rattle.sqlite.specs.Does.{Does, AtPlace, OnRows}
+use Rattle.sqlite.specs.Rows.{Part, Written, Task, Then, Gives, Sourced, Edited, Inserts, Counter, Counts, count_of, higher, last_id, stamped}
 use Rattle.sqlite_rules.specs.Action.{works}
 use Rattle.sqlite.specs.Listing.{understood}
 use Rattle.sqlite.specs.State.{State, mode_of, Executes}
@@ -31,11 +32,12 @@ use Rattle.sqlite.proofs.Callers.{IsPlain, command_of, statement_of, runs_as, on
 use Rattle.tables.specs.Schema.{Definition, keyed_by}
 use Rattle.tables.specs.Rows.{Keyed, is_of, are_of}
 use Rattle.tables.proofs.KeyedLemmas.{keyed_put_all}
+use Rattle.tables.proofs.WentLemmas.{given, then_went, read, write_went}
 
 -- ---- lists
 
 -- a row with a free rowid is put among the others
-put_fresh : (new : Row) (rows : List Row) → is_taken rows new ≡ false → IsPermutation (new ∷ rows) (put_row new rows)
+pub put_fresh : (new : Row) (rows : List Row) → is_taken rows new ≡ false → IsPermutation (new ∷ rows) (put_row new rows)
 put_fresh new [] free = IsPermutation-refl _
 put_fresh new (r ∷ rows) free = go (value_cmp (rowid r) (rowid new)) (or_parts _ _ free).0 (put_fresh new rows (or_parts _ _ free).1)
   where
@@ -50,7 +52,7 @@ either : (b : Bool) (x : Value) → cond b x x ≡ x
 either true x = refl
 either false x = refl
 
-cast_int : (n : ℤ) → cast Integer (Int n) ≡ Int n
+pub cast_int : (n : ℤ) → cast Integer (Int n) ≡ Int n
 unfolding unary
 cast_int n = either _ (Int n)
 
@@ -58,15 +60,7 @@ cast_null : cast Integer Null ≡ Null
 unfolding unary
 cast_null = either _ Null
 
--- a part that gave a value did not stop on the way
-pub went : {B E R : Type 0} {b : B} {Stops : E → Type 0} → ((stop : E) × Stops stop × (Ok b ≡ Err stop)) ⊎ R → R
-went (inl stopped) = absurd (let e = stopped.2 in cc)
-went (inr on) = on
-
-pub same_value : {B E : Type 0} {a b : B} → ◌≡◌ {A = Result B E} (Ok a) (Ok b) → a ≡ b
-same_value e = cc
-
-cast_all_of : (columns : List Column) (vs : Row) → are_of columns vs ≡ true → cast_all columns vs ≡ vs
+pub cast_all_of : (columns : List Column) (vs : Row) → are_of columns vs ≡ true → cast_all columns vs ≡ vs
 cast_all_of [] [] h = refl
 cast_all_of [] (v ∷ vs) h = absurd (true≢false (sym h))
 cast_all_of (c ∷ cs) [] h = absurd (true≢false (sym h))
@@ -80,50 +74,87 @@ cast_all_of (c ∷ cs) (v ∷ vs) h = ap (λ x. x ∷ cast_all cs vs) (one c.kin
 
 -- ---- the statement
 
--- one table has one row more, and no other table is changed
-pub record Adds (schema : Schema) (tree : ℕ) (tuple : Row) (old new : Database) : Type 0 where
+-- one table's rows may be others now, and no other table is changed
+pub record Changes (schema : Schema) (tree : ℕ) (old new : Database) : Type 0 where
   pub is : new.schema ≡ schema
   pub sound : IsDatabase new
+  pub others : AllByRecursion (λ t. t.tree ≢ tree → new.trees t.tree ≡ old.trees t.tree) schema.tables
+
+-- one table has one row more
+pub record Adds (schema : Schema) (tree : ℕ) (tuple : Row) (old new : Database) : Type 0 where
+  pub changes : Changes schema tree old new
   pub row : IsPermutation (tuple ∷ map (drop 1) (old.trees tree)) (map (drop 1) (new.trees tree))
   pub keyed : Keyed (old.trees tree) → Keyed (new.trees tree)
-  pub others : AllByRecursion (λ t. t.tree ≢ tree → new.trees t.tree ≡ old.trees t.tree) schema.tables
 
 module _ (key : List ℕ) (name : List ℕ) (tree : ℕ) (columns : List Column) (checks : List Term) where
   abbrev table : Definition
   table = keyed_by key name tree columns checks
 
+  module _ (limit : Option ℕ) (schema : Schema) (params : Row) where
+    abbrev task : Task
+    task = record { limit = limit; keys = Enforced; schema = schema; table = table; params = params }
+
+    -- what the statement itself wrote
+    abbrev written : Trees → List Row → Trees → Written
+    written db rows next = let news = (edit_of db table [] Chosen 0 rows).news in record { trees = next; rows = news; last = last_id news }
+
+    -- a table with no counter
+    abbrev ends : Trees → List Row → Option Row → Trees → Part Written
+    ends db rows counter mid = Then (Counts task mid counter (fold higher (count_of counter) (edit_of db table [] Chosen 0 rows).news)) (λ next. Gives (written db rows next))
+
+    ended : (db : Trees) (rows : List Row) (counter : Option Row) (mid : Trees) (w : Written) → ends db rows counter mid (Ok w) → mid ≡ w.trees
+    ended db rows counter mid w h =
+        let done = then_went (Counts task mid counter (fold higher (count_of counter) (edit_of db table [] Chosen 0 rows).news)) (λ next. Gives (written db rows next)) w h in
+        subst (λ (x : Written). mid ≡ x.trees) (sym (given (written db rows done.0) w done.2)) (sym (given mid done.0 done.1))
+
+    kept_as : (db : Trees) (rows : List Row) (mid next : Trees) → mid ≡ next → Edited schema Enforced db (edit_of db table [] Chosen 0 rows) (Ok mid) → Edited schema Enforced db (edit_of db table [] Chosen 0 rows) (Ok next)
+    kept_as db rows mid next same edited = subst (λ (x : Trees). Edited schema Enforced db (edit_of db table [] Chosen 0 rows) (Ok x)) same edited
+
+    insert_went : (from : Source) (db : Trees) (w : Written) → Inserts task from db (Ok w)
+        → (rows : List Row) × Sourced limit (read task db) (stamped table params) from (Ok rows) × Edited schema Enforced db (edit_of db table [] Chosen 0 rows) (Ok w.trees)
+    insert_went from db w h =
+        let edits = λ (rows : List Row) (counter : Option Row). Then (Edited schema Enforced db (edit_of db table [] Chosen 0 rows)) (ends db rows counter) in
+        let sourced = then_went (Sourced limit (read task db) (stamped table params) from) (λ rows. Then (Counter task db) (edits rows)) w h in
+        let rows = sourced.0 in
+        let counted = then_went (Counter task db) (edits rows) w sourced.2 in
+        let edited = then_went (Edited schema Enforced db (edit_of db table [] Chosen 0 rows)) (ends db rows counted.0) w counted.2 in
+        (rows, sourced.1, kept_as db rows edited.0 w.trees (ended db rows counted.0 edited.0 w edited.2) edited.1)
+
   module _ (schema : Schema) (alone : (olds news : List Row) → works schema Enforced 0 tree olds news ≡ []) (at : ℕ) (place : slice_get schema.tables at ≡ Some table)
       (sql : List ℕ) (terms : List Term) (width : ℕ) (is : command_of (understood schema sql) ≡ Insert at (Values terms width)) (plain : IsPlain (understood schema sql))
       (params tuple : Row) (source : value_rows (params ++ []) width (length terms / width) terms ≡ (Null ∷ tuple) ∷ []) (kinds : are_of columns tuple ≡ true)
     where
+      -- the row is put in under a rowid that no other row has
+      finish : (old new : Database) → IsDatabase new → (trees : Trees) → new ≡ record { schema = schema; trees = trees } → (rows : List Row) → rows ≡ (Null ∷ tuple) ∷ [] → Edited schema Enforced old.trees (edit_of old.trees table [] Chosen 0 rows) (Ok trees)
+          → Adds schema tree tuple old new
+      finish old new sound trees now rows one edited =
+          let db = old.trees in
+          let edit = edit_of db table [] Chosen 0 rows in
+          let step = one_step schema _ db trees edit (alone (taken_by db edit) edit.news) edited in
+          let row = with_rowid Chosen (db tree) (Null ∷ tuple) in
+          let news : edit.news ≡ row ∷ [] = ap (λ all. (edit_of db table [] Chosen 0 all).news) one ∙ rw (cast_null, cast_all_of columns tuple kinds) in
+          let free : is_taken (db tree) row ≡ false = not-true _ (and_parts _ _ (subst (λ all. are_fresh (db tree) all ≡ true) news step.fresh)).0 in
+          let same : new.trees ≡ trees = ap (λ (d : Database). d.trees) now in
+          let after : new.trees tree ≡ put_all (db tree) edit.news = ap (λ (t : Trees). t tree) same ∙ step.rows in
+          record {
+            changes = record {
+              is = ap (λ (d : Database). d.schema) now;
+              sound = sound;
+              others = subst (λ (t : Trees). AllByRecursion (λ u. u.tree ≢ tree → t u.tree ≡ db u.tree) schema.tables) (sym same) step.tables;
+            };
+            row = subst (λ l. IsPermutation (tuple ∷ map (drop 1) (db tree)) (map (drop 1) l)) (sym (after ∙ ap (put_all (db tree)) news)) (IsPermutation-map (drop 1) _ _ (put_fresh row (db tree) free));
+            keyed = λ keyed. subst Keyed (sym after) (keyed_put_all edit.news (db tree) keyed step.keyed step.fresh);
+          }
+
       pub inserts : (old new : State) (count : ℕ) → old.now.schema ≡ schema → Executes sql params old new (Ok count) → Adds schema tree tuple old.now new.now
       inserts old new count has h =
           let db = old.now.trees in
           let command = Insert at (Values terms width) in
           let w = runs_as sql params old new schema has command is plain count h in
           let text = statement_of sql (understood schema sql) in
-          let task = λ (t : Definition). let it : Task = record { limit = old.step_limit; keys = Enforced; schema = schema; table = t; params = params } in it in
           let done0 = subst (λ s. Does old.step_limit (mode_of old) params (record old.now { schema = s }) text None command (Ok (w.tally, new.now))) has w.changed in
-          let done1 = subst (λ o. AtPlace (λ t. OnRows (task t) (mode_of old) None command db) o (Ok (w.tally, new.now))) place done0 in
-          let done = went done1 in
-          let now = ap (λ (p : Tally × Database). p.1) (same_value (went (went done.2).2).2) in
-          let given = went done.1 in
-          let counter = went given.2 in
-          let written = went counter.2 in
-          let counted = went written.2 in
-          let trees : done.0.trees ≡ written.0 = ap (λ (it : Written). it.trees) (same_value counted.2) ∙ same_value counted.1 in
-          let rows : given.0 ≡ (Null ∷ tuple) ∷ [] = given.1.1 ∙ source in
-          let edit = edit_of db table [] Chosen 0 given.0 in
-          let step = one_step schema _ db written.0 edit (alone (taken_by db edit) edit.news) written.1 in
-          let row = with_rowid Chosen (db tree) (Null ∷ tuple) in
-          let news : edit.news ≡ row ∷ [] = ap (λ all. (edit_of db table [] Chosen 0 all).news) rows ∙ rw (cast_null, cast_all_of columns tuple kinds) in
-          let free : is_taken (db tree) row ≡ false = not-true _ (and_parts _ _ (subst (λ all. are_fresh (db tree) all ≡ true) news step.fresh)).0 in
-          let after : new.now.trees tree ≡ put_row row (db tree) = ap (λ (d : Database). d.trees tree) now ∙ ap (λ (t : Trees). t tree) trees ∙ step.rows ∙ ap (put_all (db tree)) news in
-          let same : new.now.trees ≡ written.0 = ap (λ (d : Database). d.trees) now ∙ trees in
-          record {
-            is = ap (λ (d : Database). d.schema) now;
-            sound = w.sound;
-            row = subst (λ l. IsPermutation (tuple ∷ map (drop 1) (db tree)) (map (drop 1) l)) (sym after) (IsPermutation-map (drop 1) _ _ (put_fresh row (db tree) free));
-            keyed = λ keyed. subst Keyed (sym (ap (λ (d : Database). d.trees tree) now ∙ ap (λ (t : Trees). t tree) trees ∙ step.rows)) (keyed_put_all edit.news (db tree) keyed step.keyed step.fresh);
-            others = subst (λ (t : Trees). AllByRecursion (λ u. u.tree ≢ tree → t u.tree ≡ db u.tree) schema.tables) (sym same) step.tables;
-          }
+          let tasks = λ (t : Definition). let it : Task = record { limit = old.step_limit; keys = Enforced; schema = schema; table = t; params = params } in it in
+          let done1 = subst (λ o. AtPlace (λ t. OnRows (tasks t) (mode_of old) None command db) o (Ok (w.tally, new.now))) place done0 in
+          let wrote = write_went (tasks table) (mode_of old) command db w.tally new.now done1 in
+          let given = insert_went old.step_limit schema params (Values terms width) db wrote.0 wrote.1 in
+          finish old.now new.now w.sound wrote.0.trees wrote.2 given.0 (given.1.1 ∙ source) given.2

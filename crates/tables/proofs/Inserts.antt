@@ -18,15 +18,15 @@ use Rattle.sqlite_tied.specs.Compute.{everything}
 use Rattle.tables.specs.declared.table.Table.{Table}
 use Rattle.tables.specs.declared.table.Table.TheVariants.{Office, Ward, Candidate, Batch, Keying, Verdict, Lot, Receipt}
 use Rattle.tables.specs.Texts.{insert_text}
-use Rattle.tables.specs.Schema.{Definition, schema_from, definition, place_of, tree_of, shape, AreFree}
+use Rattle.tables.specs.Schema.{Definition, schema_from, definition, place_of, tree_of, columns_of, AreFree}
 use Rattle.tables.specs.Rows.{at, column_places}
 
-none_from : (schema : Schema) (tree : ℕ) (olds news : List Row) (ts : List Definition) → AreFree ts → flat_map (λ child. filter_map (work_for schema Enforced 0 tree olds news child) child.references) ts ≡ []
+pub none_from : (schema : Schema) (tree : ℕ) (olds news : List Row) (ts : List Definition) → AreFree ts → flat_map (λ child. filter_map (work_for schema Enforced 0 tree olds news child) child.references) ts ≡ []
 none_from schema tree olds news [] h = refl
 none_from schema tree olds news (t ∷ ts) h = rw h.0 (none_from schema tree olds news ts h.1)
 
--- the parameters in turn
-abbrev given : List ℕ → List Term
+-- these parameters in turn
+abbrev pub given : List ℕ → List Term
 given = map (col 0)
 
 -- no rowid, then the parameters
@@ -34,7 +34,7 @@ abbrev pub inserted : Table → List Term
 inserted t = lit Null ∷ given (column_places t)
 
 abbrev pub width_of : Table → ℕ
-width_of t = 1 + length (shape t).columns
+width_of t = 1 + length (columns_of t)
 
 module _ (rest : List Definition) (others : List Index) (views : List View) where
   abbrev schema : Schema
@@ -48,44 +48,13 @@ module _ (rest : List Definition) (others : List Index) (views : List View) wher
     pub shows : (params : Row) → value_rows (params ++ []) (width_of t) (length (inserted t) / width_of t) (inserted t) ≡ (Null ∷ at (column_places t) (params ++ [])) ∷ []
     pub alone : AreFree rest → (olds news : List Row) → works schema Enforced 0 (tree_of t) olds news ≡ []
 
-  into_office : InsertsRow Office
-  unfolding understood everything
-  into_office = record { place = refl; is = refl; plain = (refl, refl); shows = λ _. refl; alone = λ free olds news. none_from schema 0 olds news rest free }
-
-  into_ward : InsertsRow Ward
-  unfolding understood everything
-  into_ward = record { place = refl; is = refl; plain = (refl, refl); shows = λ _. refl; alone = λ free olds news. none_from schema 2 olds news rest free }
-
-  into_candidate : InsertsRow Candidate
-  unfolding understood everything
-  into_candidate = record { place = refl; is = refl; plain = (refl, refl); shows = λ _. refl; alone = λ free olds news. none_from schema 4 olds news rest free }
-
-  into_batch : InsertsRow Batch
-  unfolding understood everything
-  into_batch = record { place = refl; is = refl; plain = (refl, refl); shows = λ _. refl; alone = λ free olds news. none_from schema 6 olds news rest free }
-
-  into_keying : InsertsRow Keying
-  unfolding understood everything
-  into_keying = record { place = refl; is = refl; plain = (refl, refl); shows = λ _. refl; alone = λ free olds news. none_from schema 8 olds news rest free }
-
-  into_verdict : InsertsRow Verdict
-  unfolding understood everything
-  into_verdict = record { place = refl; is = refl; plain = (refl, refl); shows = λ _. refl; alone = λ free olds news. none_from schema 10 olds news rest free }
-
-  into_lot : InsertsRow Lot
-  unfolding understood everything
-  into_lot = record { place = refl; is = refl; plain = (refl, refl); shows = λ _. refl; alone = λ free olds news. none_from schema 12 olds news rest free }
-
-  into_receipt : InsertsRow Receipt
-  unfolding understood everything
-  into_receipt = record { place = refl; is = refl; plain = (refl, refl); shows = λ _. refl; alone = λ free olds news. none_from schema 14 olds news rest free }
-
   pub inserts_row : (t : Table) → InsertsRow t
-  inserts_row Office = into_office
-  inserts_row Ward = into_ward
-  inserts_row Candidate = into_candidate
-  inserts_row Batch = into_batch
-  inserts_row Keying = into_keying
-  inserts_row Verdict = into_verdict
-  inserts_row Lot = into_lot
-  inserts_row Receipt = into_receipt
+  unfolding understood everything insert_text
+  inserts_row Office = record { place = refl; is = refl; plain = (refl, refl); shows = λ _. refl; alone = λ free olds news. none_from schema 0 olds news rest free }
+  inserts_row Ward = record { place = refl; is = refl; plain = (refl, refl); shows = λ _. refl; alone = λ free olds news. none_from schema 2 olds news rest free }
+  inserts_row Candidate = record { place = refl; is = refl; plain = (refl, refl); shows = λ _. refl; alone = λ free olds news. none_from schema 4 olds news rest free }
+  inserts_row Batch = record { place = refl; is = refl; plain = (refl, refl); shows = λ _. refl; alone = λ free olds news. none_from schema 6 olds news rest free }
+  inserts_row Keying = record { place = refl; is = refl; plain = (refl, refl); shows = λ _. refl; alone = λ free olds news. none_from schema 8 olds news rest free }
+  inserts_row Verdict = record { place = refl; is = refl; plain = (refl, refl); shows = λ _. refl; alone = λ free olds news. none_from schema 10 olds news rest free }
+  inserts_row Lot = record { place = refl; is = refl; plain = (refl, refl); shows = λ _. refl; alone = λ free olds news. none_from schema 12 olds news rest free }
+  inserts_row Receipt = record { place = refl; is = refl; plain = (refl, refl); shows = λ _. refl; alone = λ free olds news. none_from schema 14 olds news rest free }

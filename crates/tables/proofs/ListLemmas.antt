@@ -1,6 +1,7 @@
 -- Elements of mapped, permuted and filtered lists.
-use Rattle.std.proofs.Common.{◌≡◌, inl, inr, ℕ, zero, suc, ◌+◌, ◌<◌, List, [], ◌∷◌, map, filter, length, get_or, slice_get, Some, Bool, true, refl, sym, ap, ◌∙◌, arith, Ordering}
-use Rattle.std.specs.List.{list_all}
+use Rattle.std.proofs.Common.{◌≡◌, inl, inr, ℕ, zero, suc, ◌+◌, ◌<◌, List, [], ◌∷◌, map, filter, length, get_or, slice_get, Some, Bool, true, false, cond, refl, sym, ap, ◌∙◌, arith, Ordering}
+use Rattle.std.specs.List.{AllByRecursion, list_all}
+use Rattle.std.proofs.lemmas.Bool.{and_from}
 use Rattle.std.specs.Ordering.{is_lt}
 use Rattle.std.specs.List.Sorted.{IsPermutation, IsSorted}
 use Rattle.std.proofs.lemmas.List.Sorted.{IsPermutation-sym}
@@ -38,10 +39,36 @@ pub all_pass : {X : Type 0} (xs : List X) → filter (λ _. true) xs ≡ xs
 all_pass [] = refl
 all_pass (x ∷ xs) = ap (λ l. x ∷ l) (all_pass xs)
 
+pub filtered_has : {X : Type 0} (p : X → Bool) (xs : List X) (x : X) → Has xs x → p x ≡ true → Has (filter p xs) x
+filtered_has p [] x h is = absurd h
+filtered_has p (z ∷ xs) x (inl same) is = rw (ap p (sym same) ∙ is) (inl same)
+filtered_has p (z ∷ xs) x (inr later) is = go (p z) (filtered_has p xs x later is)
+  where
+    go : (b : Bool) → Has (filter p xs) x → Has (cond b (z ∷ filter p xs) (filter p xs)) x
+    go true h = inr h
+    go false h = h
+
+pub filtered_same : {X : Type 0} (p q : X → Bool) (xs : List X) → ((x : X) → Has xs x → p x ≡ q x) → filter p xs ≡ filter q xs
+filtered_same p q [] each = refl
+filtered_same p q (x ∷ xs) each = ap (λ b. cond b (x ∷ filter p xs) (filter p xs)) (each x (inl refl)) ∙ ap (λ l. cond (q x) (x ∷ l) l) (filtered_same p q xs (λ y h. each y (inr h)))
+
+pub all_mapped : {A X : Type 0} (p : X → Bool) (f : A → X) → ((a : A) → p (f a) ≡ true) → (xs : List A) → list_all p (map f xs) ≡ true
+all_mapped p f each [] = refl
+all_mapped p f each (x ∷ xs) = and_from _ _ (each x) (all_mapped p f each xs)
+
+pub all_from : {X : Type 0} (P : X → Type 0) (xs : List X) → ((x : X) → Has xs x → P x) → AllByRecursion P xs
+all_from P [] each = tt
+all_from P (x ∷ xs) each = (each x (inl refl), all_from P xs (λ y h. each y (inr h)))
+
 pub has_at : {X : Type 0} (xs : List X) (k : ℕ) (d : X) → k < length xs → Has xs (get_or xs k d)
 has_at [] k d h = absurd (omega (arith, h))
 has_at (x ∷ xs) zero d h = inl refl
 has_at (x ∷ xs) (suc k) d h = inr (has_at xs k d (omega (arith, h)))
+
+pub get_any : {X : Type 0} (xs : List X) (k : ℕ) (d e : X) → k < length xs → get_or xs k d ≡ get_or xs k e
+get_any [] k d e h = absurd (omega (arith, h))
+get_any (x ∷ xs) zero d e h = refl
+get_any (x ∷ xs) (suc k) d e h = get_any xs k d e (omega (arith, h))
 
 pub has_place : {X : Type 0} (xs : List X) (k : ℕ) (x : X) → slice_get xs k ≡ Some x → Has xs x
 has_place [] k x at = absurd cc

@@ -27,7 +27,7 @@ use Rattle.tables.specs.Contents.{HoldsTable, IsOffice, Sees}
 use Rattle.tables.specs.Making.{no_contents, SeesMade}
 use Rattle.tables.proofs.ListLemmas.{mapped_has}
 use Rattle.tables.proofs.TableLemmas.{same_place, place_below}
-use Rattle.tables.proofs.InsertLemmas.{went, same_value}
+use Rattle.tables.proofs.WentLemmas.{went, same_value}
 
 -- the schema with the tables before this one, and nothing else
 abbrev before : Table → Schema
@@ -43,47 +43,16 @@ record MakesTable (t : Table) : Type 0 where
   next : created (before t) (shaped (shape t) 0) ≡ schema_from (place_of t + 1) [] [] []
   tree : next_tree (before t) ≡ tree_of t
 
-office_made : MakesTable Office
-unfolding understood everything
-office_made = record { is = refl; plain = (refl, refl); whole = refl; defined = refl; uncounted = refl; next = refl; tree = refl }
-
-ward_made : MakesTable Ward
-unfolding understood everything
-ward_made = record { is = refl; plain = (refl, refl); whole = refl; defined = refl; uncounted = refl; next = refl; tree = refl }
-
-candidate_made : MakesTable Candidate
-unfolding understood everything
-candidate_made = record { is = refl; plain = (refl, refl); whole = refl; defined = refl; uncounted = refl; next = refl; tree = refl }
-
-batch_made : MakesTable Batch
-unfolding understood everything
-batch_made = record { is = refl; plain = (refl, refl); whole = refl; defined = refl; uncounted = refl; next = refl; tree = refl }
-
-keying_made : MakesTable Keying
-unfolding understood everything
-keying_made = record { is = refl; plain = (refl, refl); whole = refl; defined = refl; uncounted = refl; next = refl; tree = refl }
-
-verdict_made : MakesTable Verdict
-unfolding understood everything
-verdict_made = record { is = refl; plain = (refl, refl); whole = refl; defined = refl; uncounted = refl; next = refl; tree = refl }
-
-lot_made : MakesTable Lot
-unfolding understood everything
-lot_made = record { is = refl; plain = (refl, refl); whole = refl; defined = refl; uncounted = refl; next = refl; tree = refl }
-
-receipt_made : MakesTable Receipt
-unfolding understood everything
-receipt_made = record { is = refl; plain = (refl, refl); whole = refl; defined = refl; uncounted = refl; next = refl; tree = refl }
-
 makes_table : (t : Table) → MakesTable t
-makes_table Office = office_made
-makes_table Ward = ward_made
-makes_table Candidate = candidate_made
-makes_table Batch = batch_made
-makes_table Keying = keying_made
-makes_table Verdict = verdict_made
-makes_table Lot = lot_made
-makes_table Receipt = receipt_made
+unfolding understood everything create_text
+makes_table Office = record { is = refl; plain = (refl, refl); whole = refl; defined = refl; uncounted = refl; next = refl; tree = refl }
+makes_table Ward = record { is = refl; plain = (refl, refl); whole = refl; defined = refl; uncounted = refl; next = refl; tree = refl }
+makes_table Candidate = record { is = refl; plain = (refl, refl); whole = refl; defined = refl; uncounted = refl; next = refl; tree = refl }
+makes_table Batch = record { is = refl; plain = (refl, refl); whole = refl; defined = refl; uncounted = refl; next = refl; tree = refl }
+makes_table Keying = record { is = refl; plain = (refl, refl); whole = refl; defined = refl; uncounted = refl; next = refl; tree = refl }
+makes_table Verdict = record { is = refl; plain = (refl, refl); whole = refl; defined = refl; uncounted = refl; next = refl; tree = refl }
+makes_table Lot = record { is = refl; plain = (refl, refl); whole = refl; defined = refl; uncounted = refl; next = refl; tree = refl }
+makes_table Receipt = record { is = refl; plain = (refl, refl); whole = refl; defined = refl; uncounted = refl; next = refl; tree = refl }
 
 -- ---- one table more
 
@@ -114,12 +83,12 @@ has_before n u low = front_has (map definition (take n all_tables)) [] (definiti
 empty_table : (t : Table) (trees : Trees) → trees (tree_of t) ≡ [] → HoldsTable t [] trees
 empty_table t trees empty = record {
   same = subst (λ l. IsPermutation [] (map (drop 1) l)) (sym empty) (IsPermutation-refl []);
-  keyed = subst Keyed (sym empty) (record { ints = λ r none. absurd none; once = λ a b none. absurd none });
+  keyed = λ _. subst Keyed (sym empty) (record { ints = λ r none. absurd none; once = λ a b none. absurd none });
   typed = refl;
 }
 
 kept_table : (t : Table) (old new : Trees) → new (tree_of t) ≡ old (tree_of t) → HoldsTable t [] old → HoldsTable t [] new
-kept_table t old new same h = record { same = subst (λ l. IsPermutation [] (map (drop 1) l)) (sym same) h.same; keyed = subst Keyed (sym same) h.keyed; typed = refl }
+kept_table t old new same h = record { same = subst (λ l. IsPermutation [] (map (drop 1) l)) (sym same) h.same; keyed = λ changes. subst Keyed (sym same) (h.keyed changes); typed = refl }
 
 makes : (t : Table) (old new : State) (count : ℕ) → SeesMade (place_of t) old → ExecutesInside 0 (create_text t) [] old new (Ok count) → SeesMade (place_of t + 1) new
 makes t old new count sees h =

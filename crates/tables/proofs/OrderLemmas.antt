@@ -1,22 +1,28 @@
 -- Keys as SQL compares and orders them.
-use Rattle.std.proofs.Common.{◌≡◌, ◌≢◌, ℕ, ◌+◌, ◌<◌, ◌==◌, ℤ, pos, List, [], ◌∷◌, map, length, get_or, true, false, refl, sym, ap, ◌∙◌, arith, Ordering, Less, Equal, Greater, int_cmp, nat_cmp, Bool, Some}
+use Rattle.std.proofs.Common.{◌≡◌, ◌≢◌, ℕ, ◌+◌, ◌-◌, ◌<◌, ◌≤◌, ◌==◌, ◌&&◌, ℤ, pos, List, [], ◌∷◌, length, get_or, true, false, refl, sym, ap, ◌∙◌, arith, Ordering, Less, Equal, Greater, int_cmp, nat_cmp, Bool, Some}
 use Rattle.std.specs.Ordering.{is_lt, is_eq, ordering_then, ordering_reverse}
 use Rattle.std.specs.Cmp.{IsTotalOrder}
 use Rattle.std.specs.Cmp.Lexicographic.{slice_cmp}
 use Rattle.std.specs.List.Sorted.{IsSorted, IsStrictlySortedBy}
+use Rattle.std.proofs.Math.Bool.{and-true}
+use Rattle.std.proofs.lemmas.Cmp.{nat_cmp_total, nat_list_cmp_total}
 use Rattle.std.proofs.lemmas.Bool.Decides.{nat_tests}
 use Rattle.std.proofs.lemmas.Int.{ints}
 use Rattle.std.specs.Str.{bytes_eq}
 use Rattle.std.proofs.lemmas.Map.Text.{is_eq-slice_cmp}
 use Rattle.std.proofs.lemmas.Map.Keys.{sorted_from_all_adjacent}
-use Rattle.sqlite_value.proofs.OrderLemmas.{value_cmp-Int, value_cmp-Text, then-Equal}
-use Rattle.sqlite.specs.declared.types.Value.TheVariants.{Int, Text}
+use Rattle.sqlite_value.proofs.OrderLemmas.{value_cmp-Int, value_cmp-Text, value_cmp-Blob, then-Equal}
+use Rattle.sqlite.specs.declared.types.Value.TheVariants.{Int, Text, Blob}
 use Rattle.sqlite.specs.Collation.TheVariants.{Binary}
 use Rattle.sqlite.specs.Ops.{binary, is_true, from_truth}
 use Rattle.sqlite_schema.specs.Rules.{equal}
 use Rattle.sqlite.specs.Order.{Row, value_cmp}
-use Rattle.tables.specs.Rows.{keys_cmp}
-use Rattle.tables.proofs.ListLemmas.{get_mapped, mapped_length}
+use Rattle.tables.specs.Rows.{keys_cmp, row_cmp, ascending_keys}
+use Rattle.tables.specs.declared.table.Table.{Table}
+use Rattle.tables.specs.Schema.{shape}
+use Rattle.tables.specs.Reading.{FailsToRise}
+use Rattle.sqlite_sql.proofs.QueryLemmas.{key_cmp_total}
+use Rattle.tables.proofs.ListLemmas.{get_any}
 
 -- ---- SQL's = of keys
 
@@ -33,6 +39,10 @@ pub equal-Text : (s t : List ℕ) → equal Binary (Text s) (Text t) ≡ is_eq (
 unfolding binary
 equal-Text s t = told (is_eq (value_cmp (Text s) (Text t))) ∙ ap is_eq (value_cmp-Text s t)
 
+pub equal-Blob : (s t : List ℕ) → equal Binary (Blob s) (Blob t) ≡ is_eq (slice_cmp nat_cmp s t)
+unfolding binary
+equal-Blob s t = told (is_eq (value_cmp (Blob s) (Blob t))) ∙ ap is_eq (value_cmp-Blob s t)
+
 pub equal-number : (m n : ℕ) → equal Binary (Int (pos m)) (Int (pos n)) ≡ (m == n)
 equal-number m n = equal-Int (pos m) (pos n) ∙ grind (arith, ints, nat_tests)
 
@@ -40,6 +50,19 @@ pub equal-words : (s t : List ℕ) → equal Binary (Text s) (Text t) ≡ bytes_
 equal-words s t = equal-Text s t ∙ is_eq-slice_cmp s t
 
 -- ---- the order of keys
+
+turned : {X : Type 0} {cmp : X → X → Ordering} → IsTotalOrder cmp → (x y : X) → is_eq (cmp x y) ≡ is_eq (cmp y x)
+turned {X} {cmp} total x y = ap is_eq (total.antisymm x y) ∙ go (cmp y x)
+  where
+    go : (o : Ordering) → is_eq (ordering_reverse o) ≡ is_eq o
+    go Less = refl
+    go Equal = refl
+    go Greater = refl
+
+then_equal : (a b : Ordering) → (is_eq a && is_eq b) ≡ is_eq (ordering_then a b)
+then_equal Less b = refl
+then_equal Equal b = refl
+then_equal Greater b = refl
 
 numbers : (m n : ℕ) → int_cmp (pos m) (pos n) ≡ nat_cmp m n
 numbers m n = grind (arith, ints, nat_tests)
@@ -64,28 +87,41 @@ four_numbers a b c d k l m n =
     ∙ ap (λ o. ordering_then (nat_cmp a k) (ordering_then o (ordering_then (value_cmp (Int (pos c)) (Int (pos m))) (ordering_then (value_cmp (Int (pos d)) (Int (pos n))) Equal)))) (value_cmp-Int (pos b) (pos l) ∙ numbers b l)
     ∙ ap (λ o. ordering_then (nat_cmp a k) (ordering_then (nat_cmp b l) o)) (two_numbers c d m n)
 
--- ---- neighbours in order
+-- ---- a row that begins with a key
 
-falls : {X : Type 0} {cmp : X → X → Ordering} → IsTotalOrder cmp → (x y : X) → is_lt (cmp y x) ≡ false → cmp x y ≡ Greater → ⊥
-falls {X} {cmp} total x y low greater =
-    let turned : cmp y x ≡ Less = total.antisymm y x ∙ ap ordering_reverse greater in
+pub key_of_number : (n m : ℕ) → (equal Binary (Int (pos m)) (Int (pos n)) && true) ≡ is_eq (nat_cmp n m)
+key_of_number n m = and-true _ ∙ equal-Int (pos m) (pos n) ∙ ap is_eq (numbers m n) ∙ turned nat_cmp_total m n
+
+pub key_of_number_and_text : (n m : ℕ) (s t : List ℕ) → (equal Binary (Int (pos m)) (Int (pos n)) && (equal Binary (Text t) (Text s) && true)) ≡ is_eq (ordering_then (nat_cmp n m) (slice_cmp nat_cmp s t))
+key_of_number_and_text n m s t =
+    ap (λ b. b && (equal Binary (Text t) (Text s) && true)) (equal-Int (pos m) (pos n) ∙ ap is_eq (numbers m n) ∙ turned nat_cmp_total m n)
+    ∙ ap (λ b. is_eq (nat_cmp n m) && b) (and-true _ ∙ equal-Text t s ∙ turned nat_list_cmp_total t s) ∙ then_equal (nat_cmp n m) (slice_cmp nat_cmp s t)
+
+-- ---- rows that rise
+
+pub row_total : (t : Table) → IsTotalOrder (row_cmp t)
+row_total t = key_cmp_total (ascending_keys (shape t).key) 0
+
+pub rise_all : (t : Table) (rows : List Row) → ((k : ℕ) → k + 1 < length rows → row_cmp t (get_or rows k []) (get_or rows (k + 1) []) ≡ Less) → IsStrictlySortedBy (row_cmp t) rows
+rise_all t rows each = sorted_from_all_adjacent (row_total t) rows [] each
+
+-- a row whose key is not above that of the one before
+pub fails_there : (t : Table) (rows : List Row) (i : ℕ) (a b : Row) → 1 ≤ i → i < length rows → a ≡ get_or rows (i - 1) a → b ≡ get_or rows i b → row_cmp t a b ≢ Less → FailsToRise t rows
+fails_there t rows i a b above below first second not_less =
+    let next : (i - 1) + 1 ≡ i = omega (arith, above) in
+    ((i - 1), omega (arith, above, below), rw (next, get_any rows (i - 1) [] a (omega (arith, above, below)), get_any rows i [] b below, sym first, sym second) not_less)
+
+falls : (t : Table) (x y : Row) → is_lt (row_cmp t y x) ≡ false → row_cmp t x y ≡ Greater → ⊥
+falls t x y low greater =
+    let turned : row_cmp t y x ≡ Less = (row_total t).antisymm y x ∙ ap ordering_reverse greater in
     let e : true ≡ false = sym (ap is_lt turned) ∙ low in
     absurd cc
 
--- what is sorted by an image that compares as the elements do never falls
-pub never_falls : {X : Type 0} (row : X → Row) (by : Row → Row → Ordering) {cmp : X → X → Ordering} → IsTotalOrder cmp → ((x y : X) → by (row x) (row y) ≡ cmp x y) → (xs : List X) → IsSorted by (map row xs)
-    → (k : ℕ) (d : X) → k + 1 < length xs → cmp (get_or xs k d) (get_or xs (k + 1) d) ≢ Greater
-never_falls row by total alike xs sorted k d next =
-    let here : k < length xs = omega (arith, next) in
-    let low = rw (get_mapped row xs (k + 1) [] d next, get_mapped row xs k [] d here) at (sorted k [] (omega arith) (omega (arith, next, mapped_length row xs))) in
-    falls total (get_or xs k d) (get_or xs (k + 1) d) (ap is_lt (sym (alike (get_or xs (k + 1) d) (get_or xs k d))) ∙ low)
-
--- if neighbours are never equal either, the elements rise
-pub neighbours_rise : {X : Type 0} {cmp : X → X → Ordering} → IsTotalOrder cmp → (xs : List X) (d : X) → ((k : ℕ) → k + 1 < length xs → cmp (get_or xs k d) (get_or xs (k + 1) d) ≢ Greater)
-    → ((k : ℕ) → k + 1 < length xs → cmp (get_or xs k d) (get_or xs (k + 1) d) ≢ Equal) → IsStrictlySortedBy cmp xs
-neighbours_rise {X} {cmp} total xs d never apart = sorted_from_all_adjacent total xs d (λ k next. less (cmp (get_or xs k d) (get_or xs (k + 1) d)) (never k next) (apart k next))
+-- of rows in the order of their keys, two that do not rise have one key
+pub one_key : (t : Table) (rows : List Row) → IsSorted (row_cmp t) rows → (fails : FailsToRise t rows) → row_cmp t (get_or rows fails.0 []) (get_or rows (fails.0 + 1) []) ≡ Equal
+one_key t rows sorted fails = tie (row_cmp t (get_or rows fails.0 []) (get_or rows (fails.0 + 1) [])) refl
   where
-    less : (o : Ordering) → o ≢ Greater → o ≢ Equal → o ≡ Less
-    less Less not_greater not_equal = refl
-    less Equal not_greater not_equal = absurd (not_equal refl)
-    less Greater not_greater not_equal = absurd (not_greater refl)
+    tie : (o : Ordering) → row_cmp t (get_or rows fails.0 []) (get_or rows (fails.0 + 1) []) ≡ o → row_cmp t (get_or rows fails.0 []) (get_or rows (fails.0 + 1) []) ≡ Equal
+    tie Less is = absurd (fails.2 is)
+    tie Equal is = is
+    tie Greater is = absurd (falls t (get_or rows fails.0 []) (get_or rows (fails.0 + 1) []) (sorted fails.0 [] (omega arith) fails.1) is)

@@ -1,5 +1,5 @@
 -- The values of a row, by their places.
-use Rattle.std.proofs.Common.{◌≡◌, ℕ, zero, suc, ◌≤◌, List, [], ◌∷◌, length, true, refl, sym, ap, ◌∙◌, arith, true≢false}
+use Rattle.std.proofs.Common.{◌≡◌, ℕ, zero, suc, ◌<◌, ◌≤◌, List, [], ◌∷◌, length, true, refl, sym, ap, ◌∙◌, arith, true≢false}
 use Rattle.std.proofs.lemmas.Bool.{and_parts}
 use Rattle.sqlite.specs.declared.types.Value.{Value}
 use Rattle.sqlite.specs.declared.types.Value.TheVariants.{Null}
@@ -44,6 +44,20 @@ typed_length [] [] h = refl
 typed_length [] (v ∷ vs) h = absurd (true≢false (sym h))
 typed_length (c ∷ cs) [] h = absurd (true≢false (sym h))
 typed_length (c ∷ cs) (v ∷ vs) h = ap suc (typed_length cs vs (and_parts _ _ h).1)
+
+-- a place within those that are shown
+padded_column : (n k : ℕ) (r : Row) → k < n → column (padded n r) k ≡ column r k
+padded_column zero k r low = absurd (omega (arith, low))
+padded_column (suc n) zero [] low = refl
+padded_column (suc n) zero (v ∷ vs) low = refl
+padded_column (suc n) (suc k) [] low = padded_column n k [] (omega (arith, low)) ∙ none k
+  where
+    none : (j : ℕ) → column [] j ≡ column [] (suc j)
+    none j = refl
+padded_column (suc n) (suc k) (v ∷ vs) low = padded_column n k vs (omega (arith, low))
+
+pub column_shown : (n k : ℕ) (r : Row) → k < n → column (at (places_from 0 n) r) k ≡ column r k
+column_shown n k r low = ap (λ (x : Row). column x k) (pads n r) ∙ padded_column n k r low
 
 -- a row of the right kinds is what its places show
 pub typed_at : (cs : List Column) (r : Row) → are_of cs r ≡ true → at (places_from 0 (length cs)) r ≡ r

@@ -1,217 +1,89 @@
 -- What each query is, under a schema that begins with the tables up to its own.
-use Rattle.std.proofs.Common.{◌≡◌, ℕ, ◌+◌, List, [], ◌∷◌, map, codes, length, true, refl}
+use Rattle.std.proofs.Common.{◌≡◌, ℕ, zero, suc, ◌+◌, ◌≤◌, List, [], ◌∷◌, codes, length, true, refl, sym, arith, true≢false}
 use Rattle.sqlite.specs.Collation.TheVariants.{Binary}
+use Rattle.sqlite_sql.specs.declared.ops.BinaryOp.TheVariants.{Compare}
+use Rattle.sqlite_sql.specs.declared.ops.CompareOp.TheVariants.{Eq}
 use Rattle.sqlite_value.specs.Keys.{ascending}
-use Rattle.sqlite.specs.Term.{col}
+use Rattle.sqlite.specs.Term.{Term, col, op2}
 use Rattle.sqlite.specs.Listing.{understood}
-use Rattle.sqlite_schema.specs.declared.schema.Column.{Column}
 use Rattle.sqlite_schema.specs.declared.schema.Index.{Index}
 use Rattle.sqlite_schema.specs.declared.schema.View.{View}
 use Rattle.sqlite_resolve.specs.Compile.{first}
 use Rattle.sqlite_tied.specs.Compute.{everything}
 use Rattle.tables.specs.declared.table.Table.{Table}
 use Rattle.tables.specs.declared.table.Table.TheVariants.{Office, Ward, Candidate, Batch, Keying, Verdict, Lot, Receipt}
-use Rattle.tables.specs.Texts.{rows_text, row_text, rowids_text}
-use Rattle.tables.specs.Schema.{Definition, schema_from, place_of, tree_of, shape}
+use Rattle.tables.specs.declared.table.Reference.{Reference}
+use Rattle.tables.specs.declared.table.Reference.TheVariants.{WardOfBatch}
+use Rattle.tables.specs.Texts.{names_of, select_text, select_by_reference_text, select_rowids_text}
+use Rattle.tables.specs.Schema.{Definition, schema_from, place_of, tree_of, shape, columns_of, changes_rows, table_sought, place_sought}
 use Rattle.tables.specs.Reading.{is_query_text, IsQuery}
 use Rattle.tables.proofs.QueryLemmas.{query_text}
 use Rattle.tables.proofs.SelectLemmas.{IsSelect, columns_from, ordered_from, tests_from}
 
--- the texts of a table's reads are queries
-pub record AreQueries (t : Table) : Type 0 where
-  pub rows : is_query_text (first (rows_text t)) ≡ true
-  pub row : is_query_text (first (row_text t)) ≡ true
-  pub rowids : is_query_text (first (rowids_text t)) ≡ true
+-- what a SELECT of all columns in the order of the key has to be, under a schema that begins with the tables up to its own
+pub record Reads (t : Table) (sql : List ℕ) (tests : List Term) : Type 0 where
+  pub query : is_query_text (first sql) ≡ true
+  pub select : (rest : List Definition) (others : List Index) (views : List View) → IsSelect (schema_from (1 + place_of t) rest others views) sql (tree_of t) tests (columns_from 0 (length (columns_of t))) (ordered_from 0 (shape t).key) (names_of t)
 
-office_queries : AreQueries Office
-unfolding everything
-office_queries = record { rows = refl; row = refl; rowids = refl }
+pub selects : (t : Table) (n : ℕ) → n ≤ (shape t).key → Reads t (select_text t n) (tests_from 0 n)
+unfolding understood everything select_text
+selects Office zero low = record { query = refl; select = λ rest others views. record { is = refl; unlisted = refl; plain = (refl, refl); low = λ db. refl } }
+selects Office (suc zero) low = record { query = refl; select = λ rest others views. record { is = refl; unlisted = refl; plain = (refl, refl); low = λ db. refl } }
+selects Office (suc (suc n)) low = absurd (omega (arith, low))
+selects Ward zero low = record { query = refl; select = λ rest others views. record { is = refl; unlisted = refl; plain = (refl, refl); low = λ db. refl } }
+selects Ward (suc zero) low = record { query = refl; select = λ rest others views. record { is = refl; unlisted = refl; plain = (refl, refl); low = λ db. refl } }
+selects Ward (suc (suc n)) low = absurd (omega (arith, low))
+selects Candidate zero low = record { query = refl; select = λ rest others views. record { is = refl; unlisted = refl; plain = (refl, refl); low = λ db. refl } }
+selects Candidate (suc zero) low = record { query = refl; select = λ rest others views. record { is = refl; unlisted = refl; plain = (refl, refl); low = λ db. refl } }
+selects Candidate (suc (suc zero)) low = record { query = refl; select = λ rest others views. record { is = refl; unlisted = refl; plain = (refl, refl); low = λ db. refl } }
+selects Candidate (suc (suc (suc n))) low = absurd (omega (arith, low))
+selects Batch zero low = record { query = refl; select = λ rest others views. record { is = refl; unlisted = refl; plain = (refl, refl); low = λ db. refl } }
+selects Batch (suc zero) low = record { query = refl; select = λ rest others views. record { is = refl; unlisted = refl; plain = (refl, refl); low = λ db. refl } }
+selects Batch (suc (suc n)) low = absurd (omega (arith, low))
+selects Keying zero low = record { query = refl; select = λ rest others views. record { is = refl; unlisted = refl; plain = (refl, refl); low = λ db. refl } }
+selects Keying (suc zero) low = record { query = refl; select = λ rest others views. record { is = refl; unlisted = refl; plain = (refl, refl); low = λ db. refl } }
+selects Keying (suc (suc zero)) low = record { query = refl; select = λ rest others views. record { is = refl; unlisted = refl; plain = (refl, refl); low = λ db. refl } }
+selects Keying (suc (suc (suc zero))) low = record { query = refl; select = λ rest others views. record { is = refl; unlisted = refl; plain = (refl, refl); low = λ db. refl } }
+selects Keying (suc (suc (suc (suc zero)))) low = record { query = refl; select = λ rest others views. record { is = refl; unlisted = refl; plain = (refl, refl); low = λ db. refl } }
+selects Keying (suc (suc (suc (suc (suc n))))) low = absurd (omega (arith, low))
+selects Verdict zero low = record { query = refl; select = λ rest others views. record { is = refl; unlisted = refl; plain = (refl, refl); low = λ db. refl } }
+selects Verdict (suc zero) low = record { query = refl; select = λ rest others views. record { is = refl; unlisted = refl; plain = (refl, refl); low = λ db. refl } }
+selects Verdict (suc (suc zero)) low = record { query = refl; select = λ rest others views. record { is = refl; unlisted = refl; plain = (refl, refl); low = λ db. refl } }
+selects Verdict (suc (suc (suc n))) low = absurd (omega (arith, low))
+selects Lot zero low = record { query = refl; select = λ rest others views. record { is = refl; unlisted = refl; plain = (refl, refl); low = λ db. refl } }
+selects Lot (suc zero) low = record { query = refl; select = λ rest others views. record { is = refl; unlisted = refl; plain = (refl, refl); low = λ db. refl } }
+selects Lot (suc (suc zero)) low = record { query = refl; select = λ rest others views. record { is = refl; unlisted = refl; plain = (refl, refl); low = λ db. refl } }
+selects Lot (suc (suc (suc n))) low = absurd (omega (arith, low))
+selects Receipt zero low = record { query = refl; select = λ rest others views. record { is = refl; unlisted = refl; plain = (refl, refl); low = λ db. refl } }
+selects Receipt (suc zero) low = record { query = refl; select = λ rest others views. record { is = refl; unlisted = refl; plain = (refl, refl); low = λ db. refl } }
+selects Receipt (suc (suc zero)) low = record { query = refl; select = λ rest others views. record { is = refl; unlisted = refl; plain = (refl, refl); low = λ db. refl } }
+selects Receipt (suc (suc (suc n))) low = absurd (omega (arith, low))
 
-ward_queries : AreQueries Ward
-unfolding everything
-ward_queries = record { rows = refl; row = refl; rowids = refl }
+pub selects_by_reference : (r : Reference) → Reads (table_sought r) (select_by_reference_text r) (op2 (Compare Eq Binary) (col 1 (suc (place_sought r))) (col 0 0) ∷ [])
+unfolding understood everything select_by_reference_text
+selects_by_reference WardOfBatch = record { query = refl; select = λ rest others views. record { is = refl; unlisted = refl; plain = (refl, refl); low = λ db. refl } }
 
-candidate_queries : AreQueries Candidate
-unfolding everything
-candidate_queries = record { rows = refl; row = refl; rowids = refl }
+-- what a SELECT of the rowids has to be
+pub record ReadsRowids (t : Table) : Type 0 where
+  pub query : is_query_text (first (select_rowids_text t)) ≡ true
+  pub select : (rest : List Definition) (others : List Index) (views : List View) → IsSelect (schema_from (1 + place_of t) rest others views) (select_rowids_text t) (tree_of t) [] (col 1 0 ∷ []) ((col 1 0, ascending Binary) ∷ []) (codes "rowid" ∷ [])
 
-batch_queries : AreQueries Batch
-unfolding everything
-batch_queries = record { rows = refl; row = refl; rowids = refl }
+pub selects_rowids : (t : Table) → changes_rows t ≡ true → ReadsRowids t
+unfolding understood everything select_rowids_text
+selects_rowids Office changes = absurd (true≢false (sym changes))
+selects_rowids Ward changes = record { query = refl; select = λ rest others views. record { is = refl; unlisted = refl; plain = (refl, refl); low = λ db. refl } }
+selects_rowids Candidate changes = record { query = refl; select = λ rest others views. record { is = refl; unlisted = refl; plain = (refl, refl); low = λ db. refl } }
+selects_rowids Batch changes = record { query = refl; select = λ rest others views. record { is = refl; unlisted = refl; plain = (refl, refl); low = λ db. refl } }
+selects_rowids Keying changes = absurd (true≢false (sym changes))
+selects_rowids Verdict changes = absurd (true≢false (sym changes))
+selects_rowids Lot changes = absurd (true≢false (sym changes))
+selects_rowids Receipt changes = absurd (true≢false (sym changes))
 
-keying_queries : AreQueries Keying
-unfolding everything
-keying_queries = record { rows = refl; row = refl; rowids = refl }
+pub selects_query : (t : Table) (n : ℕ) → n ≤ (shape t).key → IsQuery (select_text t n)
+selects_query t n low = query_text (select_text t n) (selects t n low).query
 
-verdict_queries : AreQueries Verdict
-unfolding everything
-verdict_queries = record { rows = refl; row = refl; rowids = refl }
+pub reference_query : (r : Reference) → IsQuery (select_by_reference_text r)
+reference_query r = query_text (select_by_reference_text r) (selects_by_reference r).query
 
-lot_queries : AreQueries Lot
-unfolding everything
-lot_queries = record { rows = refl; row = refl; rowids = refl }
-
-receipt_queries : AreQueries Receipt
-unfolding everything
-receipt_queries = record { rows = refl; row = refl; rowids = refl }
-
-pub are_queries : (t : Table) → AreQueries t
-are_queries Office = office_queries
-are_queries Ward = ward_queries
-are_queries Candidate = candidate_queries
-are_queries Batch = batch_queries
-are_queries Keying = keying_queries
-are_queries Verdict = verdict_queries
-are_queries Lot = lot_queries
-are_queries Receipt = receipt_queries
-
-pub rows_query : (t : Table) → IsQuery (rows_text t)
-rows_query t = query_text (rows_text t) (are_queries t).rows
-
-pub row_query : (t : Table) → IsQuery (row_text t)
-row_query t = query_text (row_text t) (are_queries t).row
-
-pub rowids_query : (t : Table) → IsQuery (rowids_text t)
-rowids_query t = query_text (rowids_text t) (are_queries t).rowids
-
-abbrev names_of : Table → List (List ℕ)
-names_of t = map (λ (c : Column). c.name) (shape t).columns
-
-module _ (rest : List Definition) (others : List Index) (views : List View) where
-  -- what a query of all rows has to be
-  abbrev pub SelectsAll : Table → Type 0
-  SelectsAll t = IsSelect (schema_from (1 + place_of t) rest others views) (rows_text t) (tree_of t) [] (columns_from 0 (length (shape t).columns)) (ordered_from 0 (shape t).key) (names_of t)
-
-  -- what a query of the row with a key has to be
-  abbrev pub SelectsOne : Table → Type 0
-  SelectsOne t = IsSelect (schema_from (1 + place_of t) rest others views) (row_text t) (tree_of t) (tests_from 0 (shape t).key) (columns_from 0 (length (shape t).columns)) [] (names_of t)
-
-  -- what a query of the rowids has to be
-  abbrev pub SelectsRowids : Table → Type 0
-  SelectsRowids t = IsSelect (schema_from (1 + place_of t) rest others views) (rowids_text t) (tree_of t) [] (col 1 0 ∷ []) ((col 1 0, ascending Binary) ∷ []) (codes "rowid" ∷ [])
-
-  office_all : SelectsAll Office
-  unfolding understood everything
-  office_all = record { is = refl; unlisted = refl; plain = (refl, refl); low = λ db. refl }
-
-  ward_all : SelectsAll Ward
-  unfolding understood everything
-  ward_all = record { is = refl; unlisted = refl; plain = (refl, refl); low = λ db. refl }
-
-  candidate_all : SelectsAll Candidate
-  unfolding understood everything
-  candidate_all = record { is = refl; unlisted = refl; plain = (refl, refl); low = λ db. refl }
-
-  batch_all : SelectsAll Batch
-  unfolding understood everything
-  batch_all = record { is = refl; unlisted = refl; plain = (refl, refl); low = λ db. refl }
-
-  keying_all : SelectsAll Keying
-  unfolding understood everything
-  keying_all = record { is = refl; unlisted = refl; plain = (refl, refl); low = λ db. refl }
-
-  verdict_all : SelectsAll Verdict
-  unfolding understood everything
-  verdict_all = record { is = refl; unlisted = refl; plain = (refl, refl); low = λ db. refl }
-
-  lot_all : SelectsAll Lot
-  unfolding understood everything
-  lot_all = record { is = refl; unlisted = refl; plain = (refl, refl); low = λ db. refl }
-
-  receipt_all : SelectsAll Receipt
-  unfolding understood everything
-  receipt_all = record { is = refl; unlisted = refl; plain = (refl, refl); low = λ db. refl }
-
-  pub selects_all : (t : Table) → SelectsAll t
-  selects_all Office = office_all
-  selects_all Ward = ward_all
-  selects_all Candidate = candidate_all
-  selects_all Batch = batch_all
-  selects_all Keying = keying_all
-  selects_all Verdict = verdict_all
-  selects_all Lot = lot_all
-  selects_all Receipt = receipt_all
-
-  office_one : SelectsOne Office
-  unfolding understood everything
-  office_one = record { is = refl; unlisted = refl; plain = (refl, refl); low = λ db. refl }
-
-  ward_one : SelectsOne Ward
-  unfolding understood everything
-  ward_one = record { is = refl; unlisted = refl; plain = (refl, refl); low = λ db. refl }
-
-  candidate_one : SelectsOne Candidate
-  unfolding understood everything
-  candidate_one = record { is = refl; unlisted = refl; plain = (refl, refl); low = λ db. refl }
-
-  batch_one : SelectsOne Batch
-  unfolding understood everything
-  batch_one = record { is = refl; unlisted = refl; plain = (refl, refl); low = λ db. refl }
-
-  keying_one : SelectsOne Keying
-  unfolding understood everything
-  keying_one = record { is = refl; unlisted = refl; plain = (refl, refl); low = λ db. refl }
-
-  verdict_one : SelectsOne Verdict
-  unfolding understood everything
-  verdict_one = record { is = refl; unlisted = refl; plain = (refl, refl); low = λ db. refl }
-
-  lot_one : SelectsOne Lot
-  unfolding understood everything
-  lot_one = record { is = refl; unlisted = refl; plain = (refl, refl); low = λ db. refl }
-
-  receipt_one : SelectsOne Receipt
-  unfolding understood everything
-  receipt_one = record { is = refl; unlisted = refl; plain = (refl, refl); low = λ db. refl }
-
-  pub selects_one : (t : Table) → SelectsOne t
-  selects_one Office = office_one
-  selects_one Ward = ward_one
-  selects_one Candidate = candidate_one
-  selects_one Batch = batch_one
-  selects_one Keying = keying_one
-  selects_one Verdict = verdict_one
-  selects_one Lot = lot_one
-  selects_one Receipt = receipt_one
-
-  office_rowids : SelectsRowids Office
-  unfolding understood everything
-  office_rowids = record { is = refl; unlisted = refl; plain = (refl, refl); low = λ db. refl }
-
-  ward_rowids : SelectsRowids Ward
-  unfolding understood everything
-  ward_rowids = record { is = refl; unlisted = refl; plain = (refl, refl); low = λ db. refl }
-
-  candidate_rowids : SelectsRowids Candidate
-  unfolding understood everything
-  candidate_rowids = record { is = refl; unlisted = refl; plain = (refl, refl); low = λ db. refl }
-
-  batch_rowids : SelectsRowids Batch
-  unfolding understood everything
-  batch_rowids = record { is = refl; unlisted = refl; plain = (refl, refl); low = λ db. refl }
-
-  keying_rowids : SelectsRowids Keying
-  unfolding understood everything
-  keying_rowids = record { is = refl; unlisted = refl; plain = (refl, refl); low = λ db. refl }
-
-  verdict_rowids : SelectsRowids Verdict
-  unfolding understood everything
-  verdict_rowids = record { is = refl; unlisted = refl; plain = (refl, refl); low = λ db. refl }
-
-  lot_rowids : SelectsRowids Lot
-  unfolding understood everything
-  lot_rowids = record { is = refl; unlisted = refl; plain = (refl, refl); low = λ db. refl }
-
-  receipt_rowids : SelectsRowids Receipt
-  unfolding understood everything
-  receipt_rowids = record { is = refl; unlisted = refl; plain = (refl, refl); low = λ db. refl }
-
-  pub selects_rowids : (t : Table) → SelectsRowids t
-  selects_rowids Office = office_rowids
-  selects_rowids Ward = ward_rowids
-  selects_rowids Candidate = candidate_rowids
-  selects_rowids Batch = batch_rowids
-  selects_rowids Keying = keying_rowids
-  selects_rowids Verdict = verdict_rowids
-  selects_rowids Lot = lot_rowids
-  selects_rowids Receipt = receipt_rowids
+pub rowids_query : (t : Table) → changes_rows t ≡ true → IsQuery (select_rowids_text t)
+rowids_query t changes = query_text (select_rowids_text t) (selects_rowids t changes).query

@@ -1,6 +1,6 @@
 -- What the rowids of a table, in order, tell of it.
 use Rattle.std.proofs.lemmas.Bool.{cases_lt}
-use Rattle.std.proofs.Common.{zero, ◌≡◌, ◌⊎◌, inl, inr, ℕ, ◌+◌, ◌<◌, ◌≤ℤ◌, ℤ, List, [], ◌∷◌, map, length, get_or, true, false, refl, sym, ap, subst, ◌∙◌, arith, Less, Equal, int_cmp, add-one, suc, ◌<ℤ◌, ◌-◌}
+use Rattle.std.proofs.Common.{◌≡◌, ◌⊎◌, inl, inr, ℕ, ◌+◌, ◌<◌, ◌≤ℤ◌, ℤ, List, [], ◌∷◌, map, length, get_or, true, false, refl, sym, ap, subst, ◌∙◌, arith, Less, Equal, int_cmp, add-one, ◌<ℤ◌, ◌-◌}
 use Rattle.std.specs.Ordering.{is_lt}
 use Rattle.std.specs.List.Sorted.{IsStrictlySortedBy}
 use Rattle.std.proofs.lemmas.Int.{ints}
@@ -20,8 +20,8 @@ use Rattle.sqlite.specs.Effect.{Database}
 use Rattle.tables.specs.declared.table.Table.{Table}
 use Rattle.tables.specs.Schema.{tree_of}
 use Rattle.tables.specs.Rows.{Keyed, HasWrongRowid, RepeatsRowid}
-use Rattle.tables.specs.Reading.{ListsRowids, RowidsRise, RowidsStick, alone}
-use Rattle.tables.proofs.ListLemmas.{mapped_has, has_at, get_mapped, mapped_length, permuted_has}
+use Rattle.tables.specs.Reading.{ListsRowids, RowidsRise, RowidsFailToRise, alone}
+use Rattle.tables.proofs.ListLemmas.{get_any, mapped_has, has_at, get_mapped, mapped_length, permuted_has}
 
 pub no_integer : (v : Value) → ((n : ℤ) → ¬ (v ≡ Int n)) → is_int v ≡ false
 no_integer Null none = refl
@@ -31,11 +31,6 @@ no_integer (Text t) none = refl
 no_integer (Blob b) none = refl
 
 -- ---- one rowid more
-
-get_any : {X : Type 0} (xs : List X) (k : ℕ) (d e : X) → k < length xs → get_or xs k d ≡ get_or xs k e
-get_any [] k d e h = absurd (omega (arith, h))
-get_any (x ∷ xs) zero d e h = refl
-get_any (x ∷ xs) (suc k) d e h = get_any xs k d e (omega (arith, h))
 
 -- the rowid of a row that was read at a place
 pub rowid_there : (rows : List Row) (k : ℕ) (r : Row) (n : ℤ) → k < length rows → r ≡ get_or rows k r → rowid r ≡ Int n → rowid (get_or rows k []) ≡ Int n
@@ -61,8 +56,8 @@ rise_more rows i m n some first second less before k low = elim (cases_lt (k + 1
     lower : (a b : ℤ) → a <ℤ b → int_cmp a b ≡ Less
     lower a b h = grind (arith, ints, nat_tests)
 
-pub sticks : (rows : List Row) (i : ℕ) (m n : ℤ) → 0 < i → i < length rows → rowid (get_or rows (i - 1) []) ≡ Int m → rowid (get_or rows i []) ≡ Int n → n ≤ℤ m → RowidsStick rows
-sticks rows i m n some low first second above =
+pub fall_there : (rows : List Row) (i : ℕ) (m n : ℤ) → 0 < i → i < length rows → rowid (get_or rows (i - 1) []) ≡ Int m → rowid (get_or rows i []) ≡ Int n → n ≤ℤ m → RowidsFailToRise rows
+fall_there rows i m n some low first second above =
     let next : i ≡ i - 1 + 1 = omega (arith, some) in
     inr ((i - 1), m, n, omega (arith, some, low), first, subst (λ j. rowid (get_or rows j []) ≡ Int n) next second, above)
 
@@ -121,13 +116,13 @@ keyed_from t db rows lists rise =
 not_above : (a b : ℤ) → is_lt (int_cmp b a) ≡ false → b ≤ℤ a → a ≡ b
 not_above a b low high = grind (arith, ints, nat_tests)
 
-pub stuck : (t : Table) (db : Database) (rows : List Row) → ListsRowids t db rows → RowidsStick rows → HasWrongRowid (db.trees (tree_of t)) ⊎ RepeatsRowid (db.trees (tree_of t))
-stuck t db rows lists (inl wrong) =
+pub repeated : (t : Table) (db : Database) (rows : List Row) → ListsRowids t db rows → RowidsFailToRise rows → HasWrongRowid (db.trees (tree_of t)) ⊎ RepeatsRowid (db.trees (tree_of t))
+repeated t db rows lists (inl wrong) =
     let k = wrong.0 in
     let there = shown_at lists.ordered rows lists.shown k wrong.1 in
     let r = get_or lists.ordered k [] in
     inl (r, permuted_has r lists.ordered (db.trees (tree_of t)) (IsPermutation-sym _ _ lists.same) (has_at lists.ordered k [] there.0), ap is_int (sym there.1) ∙ wrong.2)
-stuck t db rows lists (inr repeats) =
+repeated t db rows lists (inr repeats) =
     let k = repeats.0 in
     let a = repeats.1 in
     let b = repeats.2 in

@@ -1,6 +1,8 @@
 -- Contents are known up to the order of each table's rows.
-use Rattle.std.proofs.Common.{List, true, false, ◌==◌, cond, ◌≡◌, ◌≢◌, inl, inr, [], ◌∷◌, refl, ap}
+use Rattle.std.proofs.Common.{List, Bool, not, ◌++◌, ◌∙◌, true, false, ◌==◌, cond, ◌≡◌, ◌≢◌, inl, inr, [], ◌∷◌, refl, ap}
+use Rattle.std.specs.List.{list_all}
 use Rattle.std.specs.List.Sorted.{IsPermutation}
+use Rattle.std.proofs.lemmas.Bool.{and_parts, not-true}
 use Rattle.std.proofs.lemmas.List.Sorted.{IsPermutation-refl, IsPermutation-sym, IsPermutation-trans, IsPermutation-cons}
 use Rattle.sqlite.specs.Order.{Row}
 use Rattle.sqlite.specs.Tree.{Trees}
@@ -11,7 +13,7 @@ use Rattle.tables.specs.Schema.{place_of, IsOfficeSchema, tree_of}
 use Rattle.tables.specs.Rows.{is_row_of}
 use Rattle.tables.specs.Making.{no_contents}
 use Rattle.tables.proofs.TableLemmas.{which_table}
-use Rattle.tables.specs.Contents.{added, Contents, SameContents, changed, HoldsTable, Holds, IsOffice, Stores, Rests, Sees, Leaves}
+use Rattle.tables.specs.Contents.{added, Contents, SameContents, changed, filled, HoldsTable, Holds, IsOffice, Stores, Rests, Sees, Leaves}
 use Rattle.tables.proofs.ListLemmas.{permuted_all}
 
 pub same_itself : (c : Contents) → SameContents c c
@@ -30,6 +32,23 @@ same_changed t f each c d same u = go (place_of u == place_of t)
     go : (b : _) → IsPermutation (cond b (f (c u)) (c u)) (cond b (f (d u)) (d u))
     go true = each (c u) (d u) (same u)
     go false = same u
+
+-- ---- one table changed, the others as they were
+
+-- where one table has other rows, and no table before it in the list is that one
+pub filled_changed : (front : List (Table × List Row)) (t : Table) (rows news : List Row) (back : List (Table × List Row)) (f : List Row → List Row) → list_all (λ (x : Table × List Row). not (place_of x.0 == place_of t)) front ≡ true
+    → IsPermutation (f rows) news → SameContents (changed t f (filled (front ++ (t, rows) ∷ back))) (filled (front ++ (t, news) ∷ back))
+filled_changed [] t rows news back f apart same u = go (place_of u == place_of t)
+  where
+    go : (b : Bool) → IsPermutation (cond b (f (cond b rows (filled back u))) (cond b rows (filled back u))) (cond b news (filled back u))
+    go true = same
+    go false = IsPermutation-refl _
+filled_changed (one ∷ front) t rows news back f apart same u = elim (which_table one.0 u) [
+  | inl here ↦
+      let other : (place_of u == place_of t) ≡ false = ap (λ (x : Table). place_of x == place_of t) here.1 ∙ not-true _ (and_parts _ _ apart).0 in
+      rw (other, here.0) (IsPermutation-refl _)
+  | inr past ↦ rw past.0 (filled_changed front t rows news back f (and_parts _ _ apart).1 same u)
+]
 
 -- ---- what holds of some contents holds of the same in another order
 

@@ -4,6 +4,8 @@ use Rattle.std.specs.List.{list_all, flat_map}
 use Rattle.std.specs.Ordering.{on}
 use Rattle.std.specs.List.Sorted.{IsPermutation, IsSorted}
 use Rattle.sqlite_trees.proofs.ListLemmas.{pull_back}
+use Rattle.std.proofs.Math.Bool.{and-true}
+use Rattle.sqlite.specs.declared.types.Value.{Value}
 use Rattle.sqlite.specs.declared.types.Value.TheVariants.{Null, Int}
 use Rattle.sqlite.specs.Collation.TheVariants.{Binary}
 use Rattle.sqlite_sql.specs.declared.ops.BinaryOp.TheVariants.{Compare}
@@ -21,8 +23,9 @@ use Rattle.sqlite.specs.Command.TheVariants.{Select}
 use Rattle.sqlite.specs.Listing.{understood, reads_listing}
 use Rattle.sqlite.specs.State.{State, Shown}
 use Rattle.sqlite.proofs.Callers.{IsPlain, command_of, reads_as}
-use Rattle.tables.specs.Schema.{places_from}
-use Rattle.tables.specs.Rows.{at, agree_at}
+use Rattle.tables.specs.declared.table.Reference.{Reference}
+use Rattle.tables.specs.Schema.{places_from, place_sought}
+use Rattle.tables.specs.Rows.{at, agree_at, refers_to, ascending_keys}
 use Rattle.tables.proofs.ListLemmas.{mapped_twice}
 
 drop_none : {X : Type 0} (xs : List X) → drop 0 xs ≡ xs
@@ -128,7 +131,7 @@ ordered_from k n = map (λ p. (col 1 p, ascending Binary)) (places_from (suc k) 
 pub ordered_terms : (k n : ℕ) → map (λ t. t.0) (ordered_from k n) ≡ columns_from k n
 ordered_terms k n = mapped_twice (λ p. (col 1 p, ascending Binary)) (λ t. t.0) (places_from (suc k) n)
 
-pub ordered_keys : (k n : ℕ) → map (λ t. t.1) (ordered_from k n) ≡ map (λ _. ascending Binary) (places_from k n)
+pub ordered_keys : (k n : ℕ) → map (λ t. t.1) (ordered_from k n) ≡ ascending_keys n
 ordered_keys k zero = refl
 ordered_keys k (suc n) = ap (λ l. ascending Binary ∷ l) (ordered_keys (suc k) n)
 
@@ -139,3 +142,7 @@ tests_from k n = map (λ p. op2 (Compare Eq Binary) (col 1 (suc p)) (col 0 p)) (
 pub tests_agree : (k n : ℕ) (params r : Row) → list_all (holds (params ∷ r ∷ [])) (tests_from k n) ≡ agree_at (places_from k n) (drop 1 r) params
 tests_agree k zero params r = refl
 tests_agree k (suc n) params r = rw (sym (later k r)) (ap (λ b. equal Binary (column r (suc k)) (column params k) && b) (tests_agree (suc k) n params r))
+
+-- a column outside the key is the parameter
+pub refers : (r : Reference) (value : Value) (row : Row) → list_all (holds ((value ∷ []) ∷ row ∷ [])) (op2 (Compare Eq Binary) (col 1 (suc (place_sought r))) (col 0 0) ∷ []) ≡ refers_to r value (drop 1 row)
+refers r value row = rw (later (place_sought r) row) (and-true _)

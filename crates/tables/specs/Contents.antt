@@ -1,5 +1,5 @@
 -- The rows of all tables, and what a connection or a stop has of them.
-use Rattle.std.specs.Prelude.{◌≡◌, true, false, if◌then◌else◌, ◌==◌, List, ◌∷◌, IsTrue}
+use Rattle.std.specs.Prelude.{◌≡◌, true, false, not, if◌then◌else◌, ◌==◌, List, [], ◌∷◌, ◌++◌, map, filter, IsTrue}
 use Rattle.std.specs.List.{list_all}
 use Rattle.std.specs.List.Sorted.{IsPermutation}
 use Rattle.sqlite.specs.Order.{Row}
@@ -7,8 +7,8 @@ use Rattle.sqlite.specs.Tree.{Trees}
 use Rattle.sqlite.specs.Effect.{Database, IsDatabase}
 use Rattle.sqlite.specs.State.{State}
 use Rattle.tables.specs.declared.table.Table.{Table}
-use Rattle.tables.specs.Schema.{place_of, tree_of, IsOfficeSchema}
-use Rattle.tables.specs.Rows.{tuples, is_row_of, Keyed}
+use Rattle.tables.specs.Schema.{place_of, tree_of, changes_rows, IsOfficeSchema}
+use Rattle.tables.specs.Rows.{tuples, is_row_of, has_key, Keyed}
 
 -- for each table its rows, in some order
 abbrev pub Contents : Type 0
@@ -22,14 +22,35 @@ SameContents c d = (t : Table) → IsPermutation (c t) (d t)
 abbrev pub changed : Table → (List Row → List Row) → Contents → Contents
 changed t f c u = if place_of u == place_of t then f (c u) else c u
 
--- the contents with one row more; opaque, so that a search does not compute it
+-- these rows in these tables, and none in the others
+abbrev pub filled : List (Table × List Row) → Contents
+filled [] u = []
+filled (one ∷ more) u = if place_of u == place_of one.0 then one.1 else filled more u
+
+-- ---- what statements make of the contents; each is opaque, so that a search does not compute it
+
+-- one row more
 unfoldable pub added : Table → Row → Contents → Contents
 added t row = changed t (λ rows. row ∷ rows)
 
--- the rows, in some order, are those of the table, each with a value of the right kind in each column
+-- these rows more
+unfoldable pub added_all : Table → List Row → Contents → Contents
+added_all t news = changed t (λ rows. news ++ rows)
+
+-- this row in the place of the one with its key
+unfoldable pub replaced : Table → Row → Contents → Contents
+replaced t row = changed t (map (λ r. if has_key t row r then row else r))
+
+-- without the row with this key
+unfoldable pub removed : Table → Row → Contents → Contents
+removed t key = changed t (filter (λ r. not (has_key t key r)))
+
+-- ---- what holds contents
+
+-- the rows, in some order, are those of the table, each with a value of the right kind in each column; where rows change, each has a rowid of its own
 pub record HoldsTable (t : Table) (rows : List Row) (trees : Trees) : Type 0 where
   pub same : IsPermutation rows (tuples t trees)
-  pub keyed : Keyed (trees (tree_of t))
+  pub keyed : changes_rows t ≡ true → Keyed (trees (tree_of t))
   pub typed : list_all (is_row_of t) rows ≡ true
 
 -- each table holds its rows and no other
@@ -65,6 +86,10 @@ pub record Rests (c : Contents) (s : State) : Type 0 where
   pub outside : s.in_transaction ≡ false
   pub settled : s.now ≡ s.committed
   pub office : IsOffice c s.now
+
+-- the same of a connection that may have been shut
+abbrev pub RestsIfOpen : Contents → State → Type 0
+RestsIfOpen c s = IsTrue s.is_open → Rests c s
 
 -- a connection inside a transaction, which sees an office with these contents
 pub record Sees (c : Contents) (s : State) : Type 0 where

@@ -1,8 +1,9 @@
-pub mod Faults
-pub mod Texts
 pub mod Schema
+pub mod Texts
+pub mod Cells
 pub mod Rows
 pub mod Contents
+pub mod Faults
 pub mod Making
-pub mod Reading
 pub mod Presence
+pub mod Reading

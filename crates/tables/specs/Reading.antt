@@ -1,11 +1,12 @@
 -- What a read tells, and what it leaves.
-use Rattle.std.specs.Prelude.{◌≡◌, ◌⊎◌, ◌<◌, ◌+◌, ◌≤ℤ◌, ℕ, ℤ, List, [], ◌∷◌, map, filter, length, slice_index_or, Bool, true, false, None, Ok, Err, IsTrue}
+use Rattle.std.specs.Prelude.{◌≡◌, ◌≢◌, ◌⊎◌, ◌<◌, ◌+◌, ◌≤ℤ◌, ℕ, ℤ, List, [], ◌∷◌, map, filter, length, slice_index_or, Bool, true, false, None, Ok, Err, IsTrue}
 use Rattle.std.specs.declared.cmp.Ordering.TheVariants.{Less}
 use Rattle.std.specs.Ordering.{on}
 use Rattle.sqlite.specs.declared.types.Value.TheVariants.{Int}
 use Rattle.sqlite.specs.View.{is_int}
-use Rattle.tables.specs.Schema.{tree_of}
-use Rattle.std.specs.List.Sorted.{IsPermutation, IsSorted}
+use Rattle.tables.specs.Schema.{tree_of, changes_rows}
+use Rattle.std.specs.List.{AllByRecursion, list_all}
+use Rattle.std.specs.List.Sorted.{IsPermutation, IsSorted, IsStrictlySortedBy}
 use Rattle.sqlite.specs.Order.{Row, value_cmp}
 use Rattle.sqlite.specs.Tree.{Trees, rowid}
 use Rattle.sqlite_ast.specs.declared.Statement.{Statement}
@@ -18,8 +19,8 @@ use Rattle.sqlite.specs.Listing.{understood}
 use Rattle.sqlite.specs.Effect.{Database}
 use Rattle.sqlite.specs.State.{State, HasCleanDisk}
 use Rattle.tables.specs.declared.table.Table.{Table}
-use Rattle.tables.specs.Rows.{tuples, at, column_places, has_key, row_cmp}
-use Rattle.tables.specs.Contents.{Contents, RestsAt}
+use Rattle.tables.specs.Rows.{tuples, at, column_places, is_row_of, begins_with, row_cmp, Keyed}
+use Rattle.tables.specs.Contents.{Contents, HoldsTable, RestsAt}
 
 -- the text is a SELECT
 abbrev pub is_query : Statement → Bool
@@ -41,14 +42,38 @@ pub record OnlyReads (old new : State) : Type 0 where
   pub rests : HasCleanDisk new → IsTrue new.is_open → (db : Database) → RestsAt db old → RestsAt db new
   pub leaves : HasCleanDisk new → (trees : Trees) → new.may_leave trees → old.may_leave trees
 
--- the table's rows with this key, each with all its columns
-abbrev pub Finds : Table → Row → Contents → List Row → Type 0
-Finds t key c rows = IsPermutation (filter (has_key t key) (c t)) rows
-
--- the rows of the table, each with all its columns, in the order of the key
-pub record Lists (t : Table) (db : Database) (rows : List Row) : Type 0 where
-  pub same : IsPermutation (map (at (column_places t)) (tuples t db.trees)) rows
+-- the rows of the table that pass a test, each with all its columns, in the order of the key
+pub record Lists (t : Table) (test : Row → Bool) (db : Database) (rows : List Row) : Type 0 where
+  pub same : IsPermutation (map (at (column_places t)) (filter test (tuples t db.trees))) rows
   pub sorted : IsSorted (row_cmp t) rows
+
+-- the rows of these contents that pass a test, in the order of the key
+pub record Finds (t : Table) (test : Row → Bool) (c : Contents) (rows : List Row) : Type 0 where
+  pub same : IsPermutation (filter test (c t)) rows
+  pub sorted : IsSorted (row_cmp t) rows
+
+-- all rows of a table, in the order of the key; where rows change, each has a rowid of its own
+pub record ListsKeyed (t : Table) (db : Database) (rows : List Row) : Type 0 where
+  pub keyed : changes_rows t ≡ true → Keyed (db.trees (tree_of t))
+  pub lists : Lists t (begins_with []) db rows
+
+-- all rows of a table, each of the right kinds, and each with a key above that of the one before
+pub record ListsEntries (t : Table) (db : Database) (rows : List Row) : Type 0 where
+  pub all : ListsKeyed t db rows
+  pub typed : list_all (is_row_of t) rows ≡ true
+  pub rise : IsStrictlySortedBy (row_cmp t) rows
+
+-- the table holds no list of such rows that rises by the key
+abbrev pub HoldsNone : Table → (Row → Type 0) → Database → Type 0
+HoldsNone t IsRow db = (rows : List Row) → AllByRecursion IsRow rows → IsStrictlySortedBy (row_cmp t) rows → ¬ HoldsTable t rows db.trees
+
+-- some row is not of this kind
+abbrev pub HasOther : (Row → Type 0) → List Row → Type 0
+HasOther IsRow rows = (k : ℕ) × (k < length rows) × ¬ IsRow (slice_index_or rows k [])
+
+-- some row's key is not below that of the next one
+abbrev pub FailsToRise : Table → List Row → Type 0
+FailsToRise t rows = (k : ℕ) × (k + 1 < length rows) × (row_cmp t (slice_index_or rows k []) (slice_index_or rows (k + 1) []) ≢ Less)
 
 -- a row of its rowid alone
 abbrev pub alone : Row → Row
@@ -67,7 +92,7 @@ pub record RowidsRise (rows : List Row) : Type 0 where
   pub rise : (k : ℕ) → k + 1 < length rows → value_cmp (rowid (slice_index_or rows k [])) (rowid (slice_index_or rows (k + 1) [])) ≡ Less
 
 -- some rowid is no integer, or is an integer that is not below the next one
-abbrev pub RowidsStick : List Row → Type 0
-RowidsStick rows =
+abbrev pub RowidsFailToRise : List Row → Type 0
+RowidsFailToRise rows =
     ((k : ℕ) × (k < length rows) × (is_int (rowid (slice_index_or rows k [])) ≡ false))
     ⊎ ((k : ℕ) × (a : ℤ) × (b : ℤ) × (k + 1 < length rows) × (rowid (slice_index_or rows k []) ≡ Int a) × (rowid (slice_index_or rows (k + 1) []) ≡ Int b) × (b ≤ℤ a))

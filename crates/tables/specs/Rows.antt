@@ -1,7 +1,6 @@
 -- Rows of the tables.
-use Rattle.std.specs.Prelude.{◌≡◌, ◌<◌, ◌+◌, ℕ, List, [], ◌∷◌, map, drop, length, slice_index_or, Bool, true, false, ◌&&◌}
+use Rattle.std.specs.Prelude.{◌≡◌, ◌<◌, ◌+◌, ℕ, zero, suc, List, [], ◌∷◌, map, drop, length, slice_index_or, Bool, true, false, ◌&&◌}
 use Rattle.std.specs.declared.cmp.Ordering.{Ordering}
-use Rattle.std.specs.Ordering.{on}
 use Rattle.std.specs.List.Sorted.{IsPermutation}
 use Rattle.sqlite_rules.specs.Lists.{Has}
 use Rattle.sqlite.specs.declared.types.Value.{Value}
@@ -11,13 +10,15 @@ use Rattle.sqlite.specs.Kind.TheVariants.{Integer, Text as Words, Blob as Bytes}
 use Rattle.sqlite.specs.Collation.TheVariants.{Binary}
 use Rattle.sqlite_schema.specs.declared.schema.Column.{Column}
 use Rattle.sqlite_schema.specs.Rules.{equal}
+use Rattle.sqlite_value.specs.declared.keys.Key.{Key}
 use Rattle.sqlite_value.specs.Keys.{ascending}
 use Rattle.sqlite.specs.Query.{key_cmp}
 use Rattle.sqlite.specs.Order.{Row, column}
 use Rattle.sqlite.specs.View.{is_int}
 use Rattle.sqlite.specs.Tree.{Trees, rowid}
 use Rattle.tables.specs.declared.table.Table.{Table}
-use Rattle.tables.specs.Schema.{shape, places_from, tree_of}
+use Rattle.tables.specs.declared.table.Reference.{Reference}
+use Rattle.tables.specs.Schema.{shape, columns_of, places_from, place_sought, tree_of}
 
 -- the columns of the table's rows, without the rowid
 abbrev pub tuples : Table → Trees → List Row
@@ -29,7 +30,7 @@ at places row = map (column row) places
 
 -- the places of all columns
 abbrev pub column_places : Table → List ℕ
-column_places t = places_from 0 (length (shape t).columns)
+column_places t = places_from 0 (length (columns_of t))
 
 -- the places of the key's columns
 abbrev pub key_places : Table → List ℕ
@@ -50,24 +51,37 @@ are_of _ _ = false
 
 -- the row has a value of the right kind for each column
 abbrev pub is_row_of : Table → Row → Bool
-is_row_of t = are_of (shape t).columns
+is_row_of t = are_of (columns_of t)
 
 -- two rows have the same values at these places, as SQL's = says
 abbrev pub agree_at : List ℕ → Row → Row → Bool
 agree_at [] a b = true
 agree_at (p ∷ ps) a b = equal Binary (column a p) (column b p) && agree_at ps a b
 
--- the row has this key
+-- the row has this key, which stands in the first columns
 abbrev pub has_key : Table → Row → Row → Bool
 has_key t key row = agree_at (key_places t) row key
 
--- in the order of so many keys, each by SQL's order of values
+-- the row begins with these values
+abbrev pub begins_with : Row → Row → Bool
+begins_with key row = agree_at (places_from 0 (length key)) row key
+
+-- the row has this value in a column outside the key
+abbrev pub refers_to : Reference → Value → Row → Bool
+refers_to r value row = equal Binary (column row (place_sought r)) value
+
+-- so many keys, each by SQL's order of values
+abbrev pub ascending_keys : ℕ → List Key
+ascending_keys zero = []
+ascending_keys (suc n) = ascending Binary ∷ ascending_keys n
+
+-- rows in the order of their first columns, so many
 abbrev pub keys_cmp : ℕ → Row → Row → Ordering
-keys_cmp n = key_cmp 0 (map (λ _. ascending Binary) (places_from 0 n))
+keys_cmp n = key_cmp 0 (ascending_keys n)
 
 -- rows in the order of the table's key
 abbrev pub row_cmp : Table → Row → Row → Ordering
-row_cmp t = on (at (key_places t)) (keys_cmp (shape t).key)
+row_cmp t = keys_cmp (shape t).key
 
 -- rowids are integers, and rows that share one are equal
 pub record Keyed (rows : List Row) : Type 0 where

@@ -1,8 +1,9 @@
 -- The schema of an office, as `sqlite` reads it in the texts.
-use Rattle.std.specs.Prelude.{◌≡◌, ◌++◌, ◌+◌, ◌*◌, ℕ, zero, suc, List, [], ◌∷◌, codes, map, take, true, false, None, pos}
+use Rattle.std.specs.Prelude.{◌≡◌, ◌++◌, ◌+◌, ◌*◌, ℕ, zero, suc, Bool, List, [], ◌∷◌, codes, map, take, true, false, Option, None, Some, pos}
 use Rattle.std.specs.List.{AllByRecursion}
 use Rattle.sqlite.specs.declared.types.Value.TheVariants.{Null, Int}
 use Rattle.sqlite.specs.Collation.TheVariants.{Binary}
+use Rattle.sqlite.specs.Kind.{Kind}
 use Rattle.sqlite.specs.Kind.TheVariants.{Integer, Text}
 use Rattle.sqlite.specs.Term.{Term, lit, col, op2}
 use Rattle.sqlite_sql.specs.declared.ops.BinaryOp.TheVariants.{And, Compare}
@@ -15,6 +16,8 @@ use Rattle.sqlite_catalog.specs.Listing.{automatic}
 use Rattle.sqlite.specs.Table as sqlite_table
 use Rattle.sqlite.specs.Schema.{Schema}
 use Rattle.tables.specs.declared.table.Table.{Table}
+use Rattle.tables.specs.declared.table.Reference.{Reference}
+use Rattle.tables.specs.declared.table.Reference.TheVariants.{WardOfBatch}
 use Rattle.tables.specs.declared.table.Table.TheVariants.{Office, Ward, Candidate, Batch, Keying, Verdict, Lot, Receipt}
 
 -- a table as `sqlite` keeps it in a schema
@@ -23,70 +26,85 @@ Definition = sqlite_table.Table
 
 -- ---- what tells the tables apart
 
--- a column of whole numbers
-abbrev pub number_column : List ℕ → Column
-number_column name = record { name = name; kind = Integer; is_strict = true; not_null = true; default = Null; collation = Binary }
+-- a column as the text of its table has it: whole numbers or texts, and the range that they are held to
+pub record Field : Type 0 where
+  pub name : List ℕ
+  pub kind : Kind
+  pub range : Option (ℕ × ℕ)
 
--- a column of texts
-abbrev pub text_column : List ℕ → Column
-text_column name = record { name = name; kind = Text; is_strict = true; not_null = true; default = Null; collation = Binary }
+-- whole numbers
+abbrev pub number : List ℕ → Field
+number name = record { name = name; kind = Integer; range = None }
 
--- the column at this place lies in a range
-abbrev pub within : ℕ → ℕ → ℕ → Term
-within place low high = op2 And (op2 (Compare Ge Binary) (col 1 place) (lit (Int (pos low)))) (op2 (Compare Le Binary) (col 1 place) (lit (Int (pos high))))
+-- whole numbers from the first to the second
+abbrev pub within : List ℕ → ℕ → ℕ → Field
+within name low high = record { name = name; kind = Integer; range = Some (low, high) }
 
--- The first columns, so many, are the key.
+-- texts
+abbrev pub words : List ℕ → Field
+words name = record { name = name; kind = Text; range = None }
+
+-- A table's name and columns; the first columns, so many, are the key.
 pub record Shape : Type 0 where
   pub name : List ℕ
   pub key : ℕ
-  pub columns : List Column
-  pub checks : List Term
+  pub fields : List Field
 
 -- each table's columns, key and ranges
 abbrev pub shape : Table → Shape
-shape Office = record { name = codes "office"; key = 1; columns = number_column (codes "one") ∷ number_column (codes "version") ∷ []; checks = [] }
+shape Office = record { name = codes "office"; key = 1; fields = number (codes "one") ∷ number (codes "version") ∷ [] }
 shape Ward = record {
   name = codes "ward";
   key = 1;
-  columns = number_column (codes "ward") ∷ number_column (codes "seats") ∷ number_column (codes "phase") ∷ number_column (codes "done") ∷ text_column (codes "name") ∷ [];
-  checks = within 1 1 99 ∷ within 2 1 15 ∷ [];
+  fields = within (codes "ward") 1 99 ∷ within (codes "seats") 1 15 ∷ number (codes "phase") ∷ number (codes "done") ∷ words (codes "name") ∷ [];
 }
-shape Candidate = record {
-  name = codes "candidate";
-  key = 2;
-  columns = number_column (codes "ward") ∷ number_column (codes "candidate") ∷ text_column (codes "name") ∷ [];
-  checks = within 1 1 99 ∷ within 2 1 30 ∷ [];
-}
+shape Candidate = record { name = codes "candidate"; key = 2; fields = within (codes "ward") 1 99 ∷ within (codes "candidate") 1 30 ∷ words (codes "name") ∷ [] }
 shape Batch = record {
   name = codes "batch";
   key = 1;
-  columns = number_column (codes "batch") ∷ number_column (codes "ward") ∷ number_column (codes "size") ∷ number_column (codes "clerk_a") ∷ number_column (codes "clerk_b") ∷ number_column (codes "round") ∷ [];
-  checks = within 1 1 9999 ∷ within 2 1 99 ∷ within 3 1 500 ∷ within 4 1 999 ∷ within 5 1 999 ∷ within 6 1 99 ∷ [];
+  fields = within (codes "batch") 1 9999 ∷ within (codes "ward") 1 99 ∷ within (codes "size") 1 500 ∷ within (codes "clerk_a") 1 999 ∷ within (codes "clerk_b") 1 999 ∷ within (codes "round") 1 99 ∷ [];
 }
 shape Keying = record {
   name = codes "keying";
   key = 4;
-  columns = number_column (codes "batch") ∷ number_column (codes "round") ∷ number_column (codes "clerk") ∷ number_column (codes "paper") ∷ text_column (codes "marks") ∷ [];
-  checks = within 1 1 9999 ∷ within 2 1 99 ∷ within 3 1 999 ∷ within 4 1 500 ∷ [];
+  fields = within (codes "batch") 1 9999 ∷ within (codes "round") 1 99 ∷ within (codes "clerk") 1 999 ∷ within (codes "paper") 1 500 ∷ words (codes "marks") ∷ [];
 }
-shape Verdict = record {
-  name = codes "verdict";
-  key = 2;
-  columns = number_column (codes "batch") ∷ number_column (codes "paper") ∷ number_column (codes "code") ∷ text_column (codes "marks") ∷ [];
-  checks = within 1 1 9999 ∷ within 2 1 500 ∷ [];
-}
-shape Lot = record {
-  name = codes "lot";
-  key = 2;
-  columns = number_column (codes "ward") ∷ number_column (codes "stage") ∷ number_column (codes "candidate") ∷ [];
-  checks = within 1 1 99 ∷ within 2 2 31 ∷ within 3 1 30 ∷ [];
-}
-shape Receipt = record {
-  name = codes "receipt";
-  key = 2;
-  columns = number_column (codes "actor") ∷ text_column (codes "id") ∷ text_column (codes "subject") ∷ text_column (codes "reply") ∷ [];
-  checks = within 1 0 999 ∷ [];
-}
+shape Verdict = record { name = codes "verdict"; key = 2; fields = within (codes "batch") 1 9999 ∷ within (codes "paper") 1 500 ∷ number (codes "code") ∷ words (codes "marks") ∷ [] }
+shape Lot = record { name = codes "lot"; key = 2; fields = within (codes "ward") 1 99 ∷ within (codes "stage") 2 31 ∷ within (codes "candidate") 1 30 ∷ [] }
+shape Receipt = record { name = codes "receipt"; key = 2; fields = within (codes "actor") 0 999 ∷ words (codes "id") ∷ words (codes "subject") ∷ words (codes "reply") ∷ [] }
+
+-- the tables whose rows are replaced or removed; the others only grow
+abbrev pub changes_rows : Table → Bool
+changes_rows Ward = true
+changes_rows Candidate = true
+changes_rows Batch = true
+changes_rows _ = false
+
+-- the table in which rows are sought by a column outside the key
+abbrev pub table_sought : Reference → Table
+table_sought WardOfBatch = Batch
+
+-- the place of that column
+abbrev pub place_sought : Reference → ℕ
+place_sought WardOfBatch = 1
+
+-- a column as `sqlite` keeps it
+abbrev pub column_of : Field → Column
+column_of f = record { name = f.name; kind = f.kind; is_strict = true; not_null = true; default = Null; collation = Binary }
+
+-- the table's columns as `sqlite` keeps them
+abbrev pub columns_of : Table → List Column
+columns_of t = map column_of (shape t).fields
+
+-- the column at this place lies in this range, if there is one
+abbrev pub range_check : ℕ → Option (ℕ × ℕ) → List Term
+range_check place None = []
+range_check place (Some range) = op2 And (op2 (Compare Ge Binary) (col 1 place) (lit (Int (pos range.0)))) (op2 (Compare Le Binary) (col 1 place) (lit (Int (pos range.1)))) ∷ []
+
+-- the ranges of the columns, from a place on
+abbrev pub checks_from : ℕ → List Field → List Term
+checks_from place [] = []
+checks_from place (f ∷ more) = range_check place f.range ++ checks_from (suc place) more
 
 -- where the table stands in the order of making
 abbrev pub place_of : Table → ℕ
@@ -129,7 +147,7 @@ keyed_by key name tree columns checks = record {
 
 -- a table of this shape, with its rows in this tree
 abbrev pub shaped : Shape → ℕ → Definition
-shaped s tree = keyed_by (places_from 1 s.key) s.name tree s.columns s.checks
+shaped s tree = keyed_by (places_from 1 s.key) s.name tree (map column_of s.fields) (checks_from 1 s.fields)
 
 -- the tree of a table's rows; the next one is that of its key
 abbrev pub tree_of : Table → ℕ

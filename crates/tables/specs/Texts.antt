@@ -1,59 +1,99 @@
--- The texts of the statements.
-use Rattle.std.specs.Prelude.{ℕ, List, codes}
+-- The texts of the statements, made from the tables' shapes.
+use Rattle.std.specs.Prelude.{ℕ, zero, suc, ◌+◌, ◌/◌, ◌%◌, ◌==◌, nat_lt, ◌++◌, List, [], ◌∷◌, codes, map, take, drop, length, slice_index_or, if◌then◌else◌, Option, None, Some}
+use Rattle.sqlite.specs.Kind.{Kind}
+use Rattle.sqlite.specs.Kind.TheVariants.{Text}
 use Rattle.tables.specs.declared.table.Table.{Table}
-use Rattle.tables.specs.declared.table.Table.TheVariants.{Office, Ward, Candidate, Batch, Keying, Verdict, Lot, Receipt}
+use Rattle.tables.specs.declared.table.Reference.{Reference}
+use Rattle.tables.specs.Schema.{Field, shape, places_from, table_sought, place_sought}
+
+-- ---- parts
+
+-- texts in turn, with this one between them
+abbrev pub joined : List ℕ → List (List ℕ) → List ℕ
+joined between [] = []
+joined between (one ∷ []) = one
+joined between (one ∷ other ∷ more) = one ++ between ++ joined between (other ∷ more)
+
+abbrev pub comma : List ℕ
+comma = codes ", "
+
+-- the parameter of a place: ?1 at place 0, and so on to ?9
+abbrev pub parameter : ℕ → List ℕ
+parameter place = codes "?" ++ ((49 + place) ∷ [])
+
+-- each name beside its parameter, those from a place on
+abbrev pub matched : ℕ → List (List ℕ) → List (List ℕ)
+matched place [] = []
+matched place (name ∷ more) = (name ++ codes " = " ++ parameter place) ∷ matched (suc place) more
+
+abbrev pub names_of : Table → List (List ℕ)
+names_of t = map (λ (f : Field). f.name) (shape t).fields
+
+abbrev pub key_names : Table → List (List ℕ)
+key_names t = take (shape t).key (names_of t)
+
+-- where all of these hold
+abbrev pub where_text : List (List ℕ) → List ℕ
+where_text [] = []
+where_text (one ∷ more) = codes " WHERE " ++ joined (codes " AND ") (one ∷ more)
+
+-- all columns of the rows of which these hold, in the order of the key
+abbrev pub select_where : Table → List (List ℕ) → List ℕ
+select_where t conditions = codes "SELECT " ++ joined comma (names_of t) ++ codes " FROM " ++ (shape t).name ++ where_text conditions ++ codes " ORDER BY " ++ joined comma (key_names t)
+
+-- ---- parts of CREATE TABLE
+
+abbrev pub kind_text : Kind → List ℕ
+kind_text Text = codes " TEXT NOT NULL"
+kind_text _ = codes " INT NOT NULL"
+
+-- the digits of a number that has at most so many
+abbrev pub numeral : ℕ → ℕ → List ℕ
+numeral zero n = []
+numeral (suc most) n = if nat_lt n 10 then (48 + n) ∷ [] else numeral most (n / 10) ++ ((48 + n % 10) ∷ [])
+
+abbrev pub range_text : List ℕ → Option (ℕ × ℕ) → List ℕ
+range_text name None = []
+range_text name (Some range) = codes " CHECK (" ++ name ++ codes " BETWEEN " ++ numeral 4 range.0 ++ codes " AND " ++ numeral 4 range.1 ++ codes ")"
+
+-- a key of one column stands beside it
+abbrev pub key_text : ℕ → List ℕ
+key_text key = if key == 1 then codes " PRIMARY KEY" else []
+
+abbrev pub field_texts : ℕ → List Field → List (List ℕ)
+field_texts key [] = []
+field_texts key (f ∷ more) = (f.name ++ kind_text f.kind ++ key_text key ++ range_text f.name f.range) ∷ map (λ (g : Field). g.name ++ kind_text g.kind ++ range_text g.name g.range) more
+
+-- a key of several columns stands after all of them
+abbrev pub keys_text : Table → List (List ℕ)
+keys_text t = if (shape t).key == 1 then [] else (codes "PRIMARY KEY (" ++ joined comma (key_names t) ++ codes ")") ∷ []
+
+-- ---- statements; each is opaque, so that a search does not compute it
 
 -- makes the table
-abbrev pub create_text : Table → List ℕ
-create_text Office = codes "CREATE TABLE office (one INT NOT NULL PRIMARY KEY, version INT NOT NULL) STRICT"
-create_text Ward = codes "CREATE TABLE ward (ward INT NOT NULL PRIMARY KEY CHECK (ward BETWEEN 1 AND 99), seats INT NOT NULL CHECK (seats BETWEEN 1 AND 15), phase INT NOT NULL, done INT NOT NULL, name TEXT NOT NULL) STRICT"
-create_text Candidate = codes "CREATE TABLE candidate (ward INT NOT NULL CHECK (ward BETWEEN 1 AND 99), candidate INT NOT NULL CHECK (candidate BETWEEN 1 AND 30), name TEXT NOT NULL, PRIMARY KEY (ward, candidate)) STRICT"
-create_text Batch = codes "CREATE TABLE batch (batch INT NOT NULL PRIMARY KEY CHECK (batch BETWEEN 1 AND 9999), ward INT NOT NULL CHECK (ward BETWEEN 1 AND 99), size INT NOT NULL CHECK (size BETWEEN 1 AND 500), clerk_a INT NOT NULL CHECK (clerk_a BETWEEN 1 AND 999), clerk_b INT NOT NULL CHECK (clerk_b BETWEEN 1 AND 999), round INT NOT NULL CHECK (round BETWEEN 1 AND 99)) STRICT"
-create_text Keying = codes "CREATE TABLE keying (batch INT NOT NULL CHECK (batch BETWEEN 1 AND 9999), round INT NOT NULL CHECK (round BETWEEN 1 AND 99), clerk INT NOT NULL CHECK (clerk BETWEEN 1 AND 999), paper INT NOT NULL CHECK (paper BETWEEN 1 AND 500), marks TEXT NOT NULL, PRIMARY KEY (batch, round, clerk, paper)) STRICT"
-create_text Verdict = codes "CREATE TABLE verdict (batch INT NOT NULL CHECK (batch BETWEEN 1 AND 9999), paper INT NOT NULL CHECK (paper BETWEEN 1 AND 500), code INT NOT NULL, marks TEXT NOT NULL, PRIMARY KEY (batch, paper)) STRICT"
-create_text Lot = codes "CREATE TABLE lot (ward INT NOT NULL CHECK (ward BETWEEN 1 AND 99), stage INT NOT NULL CHECK (stage BETWEEN 2 AND 31), candidate INT NOT NULL CHECK (candidate BETWEEN 1 AND 30), PRIMARY KEY (ward, stage)) STRICT"
-create_text Receipt = codes "CREATE TABLE receipt (actor INT NOT NULL CHECK (actor BETWEEN 0 AND 999), id TEXT NOT NULL, subject TEXT NOT NULL, reply TEXT NOT NULL, PRIMARY KEY (actor, id)) STRICT"
+unfoldable pub create_text : Table → List ℕ
+create_text t = codes "CREATE TABLE " ++ (shape t).name ++ codes " (" ++ joined comma (field_texts (shape t).key (shape t).fields ++ keys_text t) ++ codes ") STRICT"
 
 -- adds one row, of the values of all columns in turn
-abbrev pub insert_text : Table → List ℕ
-insert_text Office = codes "INSERT INTO office (one, version) VALUES (?1, ?2)"
-insert_text Ward = codes "INSERT INTO ward (ward, seats, phase, done, name) VALUES (?1, ?2, ?3, ?4, ?5)"
-insert_text Candidate = codes "INSERT INTO candidate (ward, candidate, name) VALUES (?1, ?2, ?3)"
-insert_text Batch = codes "INSERT INTO batch (batch, ward, size, clerk_a, clerk_b, round) VALUES (?1, ?2, ?3, ?4, ?5, ?6)"
-insert_text Keying = codes "INSERT INTO keying (batch, round, clerk, paper, marks) VALUES (?1, ?2, ?3, ?4, ?5)"
-insert_text Verdict = codes "INSERT INTO verdict (batch, paper, code, marks) VALUES (?1, ?2, ?3, ?4)"
-insert_text Lot = codes "INSERT INTO lot (ward, stage, candidate) VALUES (?1, ?2, ?3)"
-insert_text Receipt = codes "INSERT INTO receipt (actor, id, subject, reply) VALUES (?1, ?2, ?3, ?4)"
+unfoldable pub insert_text : Table → List ℕ
+insert_text t = codes "INSERT INTO " ++ (shape t).name ++ codes " (" ++ joined comma (names_of t) ++ codes ") VALUES (" ++ joined comma (map parameter (places_from 0 (length (shape t).fields))) ++ codes ")"
 
--- all columns of all rows, in the order of the key
-abbrev pub rows_text : Table → List ℕ
-rows_text Office = codes "SELECT one, version FROM office ORDER BY one"
-rows_text Ward = codes "SELECT ward, seats, phase, done, name FROM ward ORDER BY ward"
-rows_text Candidate = codes "SELECT ward, candidate, name FROM candidate ORDER BY ward, candidate"
-rows_text Batch = codes "SELECT batch, ward, size, clerk_a, clerk_b, round FROM batch ORDER BY batch"
-rows_text Keying = codes "SELECT batch, round, clerk, paper, marks FROM keying ORDER BY batch, round, clerk, paper"
-rows_text Verdict = codes "SELECT batch, paper, code, marks FROM verdict ORDER BY batch, paper"
-rows_text Lot = codes "SELECT ward, stage, candidate FROM lot ORDER BY ward, stage"
-rows_text Receipt = codes "SELECT actor, id, subject, reply FROM receipt ORDER BY actor, id"
+-- all columns of the rows whose first columns, so many, are the parameters, in the order of the key
+unfoldable pub select_text : Table → ℕ → List ℕ
+select_text t n = select_where t (matched 0 (take n (names_of t)))
 
--- all columns of the row with a key
-abbrev pub row_text : Table → List ℕ
-row_text Office = codes "SELECT one, version FROM office WHERE one = ?1"
-row_text Ward = codes "SELECT ward, seats, phase, done, name FROM ward WHERE ward = ?1"
-row_text Candidate = codes "SELECT ward, candidate, name FROM candidate WHERE ward = ?1 AND candidate = ?2"
-row_text Batch = codes "SELECT batch, ward, size, clerk_a, clerk_b, round FROM batch WHERE batch = ?1"
-row_text Keying = codes "SELECT batch, round, clerk, paper, marks FROM keying WHERE batch = ?1 AND round = ?2 AND clerk = ?3 AND paper = ?4"
-row_text Verdict = codes "SELECT batch, paper, code, marks FROM verdict WHERE batch = ?1 AND paper = ?2"
-row_text Lot = codes "SELECT ward, stage, candidate FROM lot WHERE ward = ?1 AND stage = ?2"
-row_text Receipt = codes "SELECT actor, id, subject, reply FROM receipt WHERE actor = ?1 AND id = ?2"
+-- all columns of the rows with a value in a column outside the key, in the order of the key
+unfoldable pub select_by_reference_text : Reference → List ℕ
+select_by_reference_text r = select_where (table_sought r) (matched 0 (slice_index_or (names_of (table_sought r)) (place_sought r) [] ∷ []))
 
 -- the rowids, in order
-abbrev pub rowids_text : Table → List ℕ
-rowids_text Office = codes "SELECT rowid FROM office ORDER BY rowid"
-rowids_text Ward = codes "SELECT rowid FROM ward ORDER BY rowid"
-rowids_text Candidate = codes "SELECT rowid FROM candidate ORDER BY rowid"
-rowids_text Batch = codes "SELECT rowid FROM batch ORDER BY rowid"
-rowids_text Keying = codes "SELECT rowid FROM keying ORDER BY rowid"
-rowids_text Verdict = codes "SELECT rowid FROM verdict ORDER BY rowid"
-rowids_text Lot = codes "SELECT rowid FROM lot ORDER BY rowid"
-rowids_text Receipt = codes "SELECT rowid FROM receipt ORDER BY rowid"
+unfoldable pub select_rowids_text : Table → List ℕ
+select_rowids_text t = codes "SELECT rowid FROM " ++ (shape t).name ++ codes " ORDER BY rowid"
+
+-- the row with a key gets these values; the values of all columns in turn
+unfoldable pub update_text : Table → List ℕ
+update_text t = codes "UPDATE " ++ (shape t).name ++ codes " SET " ++ joined comma (matched (shape t).key (drop (shape t).key (names_of t))) ++ where_text (matched 0 (key_names t))
+
+-- the row with a key goes
+unfoldable pub delete_text : Table → List ℕ
+delete_text t = codes "DELETE FROM " ++ (shape t).name ++ where_text (matched 0 (key_names t))

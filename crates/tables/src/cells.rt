@@ -1,10 +1,10 @@
 //! Values on their way into a row and out of it.
 
-ghost use Rattle.std.specs.Prelude.{◌≡◌, ◌≢◌, ◌⊎◌, ℕ, ◌<◌, ◌^◌, pos, IfOk, IfErr, string_bytes};
-ghost use Rattle.std.specs.Str.{IsUtf8};
+ghost use Rattle.std.specs.Prelude.{◌≡◌, ◌≢◌, ◌⊎◌, pos, IfOk, IfErr, string_bytes};
 ghost use Rattle.sqlite.specs.Value.{owned};
 ghost use Rattle.sqlite.specs.Order.{column};
 ghost use Rattle.sqlite.specs.declared.types.Value.TheVariants.{Int as Number, Text as Words};
+ghost use Rattle.tables.specs.Cells.{IsNumber, IsText};
 ghost use Rattle.tables.specs.Faults.{value_fault};
 
 use crate::fault::Fault;
@@ -38,8 +38,7 @@ fn value_fault(e: Error) -> Fault
 /// The number below 2^32 in a column; `Damaged` where there is none.
 pub fn number_at(row: &Row, place: usize) -> Result<u32, Fault>
     ensures number { IfOk result (λ n. column row.now place ≡ Number (pos n)) }
-    ensures damaged { IfErr result (λ f. f ≡ Fault.Damaged → (n : ℕ) → n < 2 ^ 32 → column row.now place ≢ Number (pos n)) }
-    ensures cause { IfErr result (λ f. (f ≡ Fault.Memory) ⊎ (f ≡ Fault.Damaged)) }
+    ensures cause { IfErr result (λ f. (f ≡ Fault.Memory) ⊎ ((f ≡ Fault.Damaged) × ¬ IsNumber (column row.now place))) }
 {
     match row.get::<u32>(place) {
         Ok(n) => Ok(n),
@@ -50,8 +49,7 @@ pub fn number_at(row: &Row, place: usize) -> Result<u32, Fault>
 /// The integer in a column; `Damaged` where there is none.
 pub fn integer_at(row: &Row, place: usize) -> Result<i64, Fault>
     ensures integer { IfOk result (λ n. column row.now place ≡ Number n) }
-    ensures damaged { IfErr result (λ f. f ≡ Fault.Damaged → (n : _) → column row.now place ≢ Number n) }
-    ensures cause { IfErr result (λ f. (f ≡ Fault.Memory) ⊎ (f ≡ Fault.Damaged)) }
+    ensures cause { IfErr result (λ f. (f ≡ Fault.Memory) ⊎ ((f ≡ Fault.Damaged) × ((n : _) → column row.now place ≢ Number n))) }
 {
     match row.get::<i64>(place) {
         Ok(n) => Ok(n),
@@ -62,8 +60,7 @@ pub fn integer_at(row: &Row, place: usize) -> Result<i64, Fault>
 /// The text in a column; `Damaged` where there is none, or one that is not UTF-8.
 pub fn text_at(row: &Row, place: usize) -> Result<String, Fault>
     ensures text { IfOk result (λ s. column row.now place ≡ Words (string_bytes s)) }
-    ensures damaged { IfErr result (λ f. f ≡ Fault.Damaged → (t : _) → IsUtf8 t → column row.now place ≢ Words t) }
-    ensures cause { IfErr result (λ f. (f ≡ Fault.Memory) ⊎ (f ≡ Fault.Damaged)) }
+    ensures cause { IfErr result (λ f. (f ≡ Fault.Memory) ⊎ ((f ≡ Fault.Damaged) × ¬ IsText (column row.now place))) }
 {
     match row.get::<String>(place) {
         Ok(s) => Ok(s),

@@ -1,7 +1,7 @@
 //! Why a call of the office gave up.
 
 ghost use Rattle.std.specs.Prelude.{◌≡◌, ◌↔◌};
-ghost use Rattle.tables.specs.Faults.{number_of, fault_of};
+ghost use Rattle.tables.specs.Faults.{fault_number, fault_of};
 
 use sqlite::{Error, ErrorCode};
 use thiserror::Error as Describe;
@@ -32,7 +32,7 @@ pub enum Fault {
 impl Fault {
     /// The number that the fault is told by, from 101 on.
     pub fn number(&self) -> u32
-        ensures { result ≡ number_of self.now }
+        ensures { result ≡ fault_number self.now }
     {
         match self {
             Fault::Memory => 101,

@@ -1,26 +1,40 @@
 //! The tables of an office in a store of `sqlite`, and the statements over any of them.
 //!
-//! `Table` names them, with the texts of their statements. `making` makes them, `presence` looks for them
-//! by name, `insertion` adds a row inside a transaction, `reading` reads all rows or the one with a key,
-//! and `rowids` sees that rowids are rows' own. Each is a function of one call, proved once for any
-//! table: its clauses say what the tables hold afterwards and what a stop may leave of them. `Fault` says
-//! why a call gave up.
+//! `Table` names the tables. A statement is a function of one call, proved once for any table: `insertion`
+//! adds rows, `replacement` and `removal` change the one with a key, `reading` reads all rows, those whose
+//! key begins alike, or those with another value, `making` makes the tables, `presence` looks for them by
+//! name. Their clauses say what the tables hold afterwards and what a stop may leave of them.
+//!
+//! An `impl` of `Entries` says what the rows of a table stand for; `listing`, `finding` and `writing` are
+//! those statements over entries. One more table asks for one more `impl`. `Fault` says why a call gave
+//! up.
 //!
 //! ```text
-//! insert(&mut tx, Table::Lot, &[number(7), number(2), number(4)])?;
-//! let rows = row_with_key(&mut conn, Table::Lot, &[number(7), number(2)])?;
-//! let candidate = number_at(&rows[0], 2)?;
+//! add_entry::<Wards, S>(alloc, &mut tx, &ward)?;
+//! let ward = find_entry::<Wards, S>(&mut conn, &[number(7)])?;
+//! let batches = entries_referring::<Batches, S>(alloc, &mut conn, Reference::WardOfBatch, number(7))?;
 //! ```
 #![tactic(auto)]
 
-pub mod cells;
 pub mod fault;
+pub mod table;
+// Statements over rows.
+pub mod cells;
 pub mod insertion;
 pub mod making;
+pub mod order;
 pub mod presence;
 pub mod reading;
+pub mod removal;
+pub mod replacement;
 pub mod rowids;
-pub mod table;
+pub mod texts;
+// Statements over entries.
+pub mod entry;
+pub mod finding;
+pub mod listing;
+pub mod writing;
 
+pub use entry::Entries;
 pub use fault::Fault;
-pub use table::Table;
+pub use table::{Reference, Table};

@@ -11,7 +11,8 @@ ghost use Rattle.tables.specs.Making.{no_contents, SeesMade};
 ghost use Rattle.tables.specs.Faults.{TellsStatement};
 
 use crate::fault::{Fault, fault_of};
-use crate::table::{Table, create_text};
+use crate::table::Table;
+use crate::texts::create_text;
 use sqlite::{Alter, Transaction};
 
 /// Makes a table, once those before it are made.

@@ -5,7 +5,6 @@ ghost use Rattle.sqlite.specs.State.{IsLive};
 ghost use Rattle.sqlite.specs.Held.{state};
 ghost use Rattle.sqlite.specs.Schema.{Schema};
 ghost use Rattle.sqlite_schema.specs.Names.{same_name};
-ghost use Rattle.tables.specs.Schema.{shape};
 ghost use Rattle.tables.specs.Presence.{has_table, has_some_table, has_every_table};
 
 use crate::table::Table;
@@ -13,27 +12,11 @@ use sqlite::{Alter, Connection};
 use sqlite_schema::names::same_name;
 use sqlite_schema::schema::Schema;
 
-/// The name of a table.
-fn name_of(table: Table) -> &'static str
-    ensures { result.now ≡ (shape table).name }
-{
-    match table {
-        Table::Office => "office",
-        Table::Ward => "ward",
-        Table::Candidate => "candidate",
-        Table::Batch => "batch",
-        Table::Keying => "keying",
-        Table::Verdict => "verdict",
-        Table::Lot => "lot",
-        Table::Receipt => "receipt",
-    }
-}
-
 /// Whether a table has this one's name, but for the case of ASCII letters.
 fn is_named(schema: &Schema, table: Table) -> bool
     ensures { result ≡ has_table table schema.now }
 {
-    let name = name_of(table).as_bytes();
+    let name = table.name().as_bytes();
     schema
         .tables
         .as_slice()

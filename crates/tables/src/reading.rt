@@ -1,18 +1,21 @@
 //! Rows that are read, outside a transaction.
 
-ghost use Rattle.std.specs.Prelude.{◌≡◌, [], false, IfOk, IfErr, OnOk, IsTrue};
-ghost use Rattle.sqlite.specs.Values.{bound};
+ghost use Rattle.std.specs.Prelude.{◌≡◌, ◌≤◌, [], ◌∷◌, false, length, IfOk, IfErr, OnOk, IsTrue};
+ghost use Rattle.sqlite.specs.Value.{owned};
+ghost use Rattle.sqlite.specs.Values.{bound, bound_value};
 ghost use Rattle.sqlite.specs.Effect.{Database};
 ghost use Rattle.sqlite.specs.State.{HasCleanDisk, Shown};
 ghost use Rattle.sqlite.specs.Held.{state};
-ghost use Rattle.tables.specs.Texts.{rows_text, row_text};
-ghost use Rattle.tables.specs.Schema.{BeginsTo};
+ghost use Rattle.tables.specs.Texts.{select_text, select_by_reference_text};
+ghost use Rattle.tables.specs.Schema.{BeginsTo, shape, table_sought};
+ghost use Rattle.tables.specs.Rows.{begins_with, refers_to};
 ghost use Rattle.tables.specs.Contents.{Contents, RestsAt, Rests};
 ghost use Rattle.tables.specs.Reading.{IsQuery, OnlyReads, Lists, Finds};
 ghost use Rattle.tables.specs.Faults.{TellsQuery};
 
 use crate::fault::{Fault, fault_of};
-use crate::table::{Table, row_text, rows_text};
+use crate::table::{Reference, Table};
+use crate::texts::{select_by_reference_text, select_text};
 use sqlite::{Alter, Connection, Row};
 use sqlite_value::value::ValueRef;
 
@@ -40,28 +43,47 @@ pub(crate) fn query<S: Alter>(
 pub fn all_rows<S: Alter>(conn: &mut Connection<S>, table: Table) -> Result<Vec<Row>, Fault>
     requires { conn.old.in_transaction ≡ false }
     ensures lists { HasCleanDisk (state S.Store conn.new) → (db : Database) → BeginsTo table db.schema → RestsAt db (state S.Store conn.old)
-        → IfOk result (λ rows. Lists table db rows.items) }
+        → IfOk result (λ rows. Lists table (begins_with []) db rows.items) }
     ensures opens { HasCleanDisk (state S.Store conn.new) → OnOk result (IsTrue (state S.Store conn.new).is_open) }
     ensures reads { OnlyReads (state S.Store conn.old) (state S.Store conn.new) }
     ensures outside { conn.new.in_transaction ≡ false }
-    ensures cause { IfErr result (TellsQuery (rows_text table) [] (state S.Store conn.old) (state S.Store conn.new)) }
+    ensures cause { IfErr result (TellsQuery (select_text table 0) [] (state S.Store conn.old) (state S.Store conn.new)) }
 {
-    query(conn, rows_text(table), &[])
+    query(conn, select_text(table, 0), &[])
 }
 
-/// The rows of a table whose key has these values, with all their columns.
-pub fn row_with_key<S: Alter>(
+/// The rows whose key begins with these values, up to the whole key, with all their columns, in the
+/// order of the key.
+pub fn rows_beginning<S: Alter>(
     conn: &mut Connection<S>,
     table: Table,
     key: &[ValueRef<'_>],
 ) -> Result<Vec<Row>, Fault>
-    requires { conn.old.in_transaction ≡ false }
+    requires outside { conn.old.in_transaction ≡ false }
+    requires key { length key.now ≤ (shape table).key }
     ensures finds { HasCleanDisk (state S.Store conn.new) → (c : Contents) → Rests c (state S.Store conn.old)
-        → IfOk result (λ rows. Finds table (bound key.now) c rows.items) }
+        → IfOk result (λ rows. Finds table (begins_with (bound key.now)) c rows.items) }
     ensures opens { HasCleanDisk (state S.Store conn.new) → OnOk result (IsTrue (state S.Store conn.new).is_open) }
     ensures reads { OnlyReads (state S.Store conn.old) (state S.Store conn.new) }
     ensures outside { conn.new.in_transaction ≡ false }
-    ensures cause { IfErr result (TellsQuery (row_text table) (bound key.now) (state S.Store conn.old) (state S.Store conn.new)) }
+    ensures cause { IfErr result (TellsQuery (select_text table (length key.now)) (bound key.now) (state S.Store conn.old) (state S.Store conn.new)) }
 {
-    query(conn, row_text(table), key)
+    query(conn, select_text(table, key.len()), key)
+}
+
+/// The rows with a value in a column outside the key, with all their columns, in the order of the key.
+pub fn rows_referring<S: Alter>(
+    conn: &mut Connection<S>,
+    reference: Reference,
+    value: ValueRef<'_>,
+) -> Result<Vec<Row>, Fault>
+    requires { conn.old.in_transaction ≡ false }
+    ensures finds { HasCleanDisk (state S.Store conn.new) → (c : Contents) → Rests c (state S.Store conn.old)
+        → IfOk result (λ rows. Finds (table_sought reference) (refers_to reference (bound_value (owned value.entry))) c rows.items) }
+    ensures opens { HasCleanDisk (state S.Store conn.new) → OnOk result (IsTrue (state S.Store conn.new).is_open) }
+    ensures reads { OnlyReads (state S.Store conn.old) (state S.Store conn.new) }
+    ensures outside { conn.new.in_transaction ≡ false }
+    ensures cause { IfErr result (λ f. TellsQuery (select_by_reference_text reference) (bound_value (owned value.entry) ∷ []) (state S.Store conn.old) (state S.Store conn.new) f) }
+{
+    query(conn, select_by_reference_text(reference), &[value])
 }

@@ -7,23 +7,24 @@ ghost use Rattle.sqlite.specs.View.{is_int};
 ghost use Rattle.sqlite.specs.Effect.{Database};
 ghost use Rattle.sqlite.specs.State.{HasCleanDisk};
 ghost use Rattle.sqlite.specs.Held.{state};
-ghost use Rattle.tables.specs.Texts.{rowids_text};
-ghost use Rattle.tables.specs.Schema.{BeginsTo, tree_of};
+ghost use Rattle.tables.specs.Texts.{select_rowids_text};
+ghost use Rattle.tables.specs.Schema.{BeginsTo, tree_of, changes_rows};
 ghost use Rattle.tables.specs.Rows.{Keyed, HasWrongRowid, RepeatsRowid};
 ghost use Rattle.tables.specs.Contents.{RestsAt};
-ghost use Rattle.tables.specs.Reading.{OnlyReads, ListsRowids, RowidsRise, RowidsStick};
+ghost use Rattle.tables.specs.Reading.{OnlyReads, ListsRowids, RowidsRise, RowidsFailToRise};
 ghost use Rattle.tables.specs.Faults.{TellsQuery};
 
 use crate::cells::integer_at;
 use crate::fault::Fault;
 use crate::reading::query;
-use crate::table::{Table, rowids_text};
+use crate::table::Table;
+use crate::texts::select_rowids_text;
 use sqlite::{Alter, Connection, Row};
 
 /// The rowid that stands alone in a row.
 fn rowid_at(row: &Row) -> Result<i64, Fault>
     ensures id { IfOk result (λ n. rowid row.now ≡ Number n) }
-    ensures wrong { IfErr result (λ f. (f ≡ Fault.Memory) ⊎ ((f ≡ Fault.Store) × (is_int (rowid row.now) ≡ false))) }
+    ensures cause { IfErr result (λ f. (f ≡ Fault.Memory) ⊎ ((f ≡ Fault.Store) × (is_int (rowid row.now) ≡ false))) }
 {
     match integer_at(row, 0) {
         Ok(id) => Ok(id),
@@ -40,10 +41,10 @@ fn is_below(id: i64, other: i64) -> bool
     id < other
 }
 
-/// Whether each rowid is below the next one.
-fn each_rises(rows: &[Row]) -> Result<(), Fault>
+/// Sees that each rowid is below the next one; `Store` where that fails.
+fn check_each(rows: &[Row]) -> Result<(), Fault>
     ensures rise { OnOk result (RowidsRise rows.now) }
-    ensures stick { IfErr result (λ f. (f ≡ Fault.Memory) ⊎ ((f ≡ Fault.Store) × RowidsStick rows.now)) }
+    ensures fall { IfErr result (λ f. (f ≡ Fault.Memory) ⊎ ((f ≡ Fault.Store) × RowidsFailToRise rows.now)) }
 {
     for i in 0..rows.len() {
         let id = rowid_at(&rows[i])?;
@@ -59,30 +60,33 @@ fn each_rises(rows: &[Row]) -> Result<(), Fault>
 
 /// The rowids of a table, in order.
 fn all_rowids<S: Alter>(conn: &mut Connection<S>, table: Table) -> Result<Vec<Row>, Fault>
-    requires { conn.old.in_transaction ≡ false }
+    requires outside { conn.old.in_transaction ≡ false }
+    requires changes { changes_rows table ≡ true }
     ensures lists { HasCleanDisk (state S.Store conn.new) → (db : Database) → BeginsTo table db.schema → RestsAt db (state S.Store conn.old)
         → IfOk result (λ rows. ListsRowids table db rows.items) }
     ensures opens { HasCleanDisk (state S.Store conn.new) → OnOk result (IsTrue (state S.Store conn.new).is_open) }
     ensures reads { OnlyReads (state S.Store conn.old) (state S.Store conn.new) }
     ensures outside { conn.new.in_transaction ≡ false }
-    ensures cause { IfErr result (TellsQuery (rowids_text table) [] (state S.Store conn.old) (state S.Store conn.new)) }
+    ensures cause { IfErr result (TellsQuery (select_rowids_text table) [] (state S.Store conn.old) (state S.Store conn.new)) }
 {
-    query(conn, rowids_text(table), &[])
+    query(conn, select_rowids_text(table), &[])
 }
 
-/// Sees that rowids are integers and no two rows share one; `Store` where that fails.
-pub fn rowids_rise<S: Alter>(conn: &mut Connection<S>, table: Table) -> Result<(), Fault>
-    requires { conn.old.in_transaction ≡ false }
+/// Sees that the rowids of a table whose rows change are integers and no two rows share one; `Store`
+/// where that fails.
+pub fn check_rowids<S: Alter>(conn: &mut Connection<S>, table: Table) -> Result<(), Fault>
+    requires outside { conn.old.in_transaction ≡ false }
+    requires changes { changes_rows table ≡ true }
     ensures keyed { HasCleanDisk (state S.Store conn.new) → (db : Database) → BeginsTo table db.schema → RestsAt db (state S.Store conn.old)
         → OnOk result (Keyed (db.trees (tree_of table))) }
     ensures opens { HasCleanDisk (state S.Store conn.new) → OnOk result (IsTrue (state S.Store conn.new).is_open) }
     ensures reads { OnlyReads (state S.Store conn.old) (state S.Store conn.new) }
     ensures outside { conn.new.in_transaction ≡ false }
     ensures cause { HasCleanDisk (state S.Store conn.new) → (db : Database) → BeginsTo table db.schema → RestsAt db (state S.Store conn.old)
-        → IfErr result (λ f. TellsQuery (rowids_text table) [] (state S.Store conn.old) (state S.Store conn.new) f
+        → IfErr result (λ f. TellsQuery (select_rowids_text table) [] (state S.Store conn.old) (state S.Store conn.new) f
         ⊎ ((f ≡ Fault.Memory) ⊎ ((f ≡ Fault.Store) × (HasWrongRowid (db.trees (tree_of table)) ⊎ RepeatsRowid (db.trees (tree_of table)))))) }
 {
     let rows = all_rowids(conn, table)?;
-    each_rises(&rows)?;
+    check_each(&rows)?;
     Ok(())
 }

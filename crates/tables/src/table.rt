@@ -1,7 +1,7 @@
-//! The tables of an office, and the texts of their statements.
+//! The tables of an office.
 
-ghost use Rattle.std.specs.Prelude.{◌≡◌};
-ghost use Rattle.tables.specs.Texts.{create_text, insert_text, rows_text, row_text, rowids_text};
+ghost use Rattle.std.specs.Prelude.{◌≡◌, length};
+ghost use Rattle.tables.specs.Schema.{shape, changes_rows, table_sought};
 
 /// The tables, in the order of making.
 #[derive(Clone, Copy, Debug, PartialEq, Eq)]
@@ -28,102 +28,59 @@ impl Table {
         Table::Lot,
         Table::Receipt,
     ];
-}
 
-/// The text that makes the table.
-pub fn create_text(table: Table) -> &'static str
-    ensures { result.now ≡ create_text table }
-{
-    match table {
-        Table::Office =>
-            "CREATE TABLE office (one INT NOT NULL PRIMARY KEY, version INT NOT NULL) STRICT",
-        Table::Ward =>
-            "CREATE TABLE ward (ward INT NOT NULL PRIMARY KEY CHECK (ward BETWEEN 1 AND 99), seats INT NOT NULL CHECK (seats BETWEEN 1 AND 15), phase INT NOT NULL, done INT NOT NULL, name TEXT NOT NULL) STRICT",
-        Table::Candidate =>
-            "CREATE TABLE candidate (ward INT NOT NULL CHECK (ward BETWEEN 1 AND 99), candidate INT NOT NULL CHECK (candidate BETWEEN 1 AND 30), name TEXT NOT NULL, PRIMARY KEY (ward, candidate)) STRICT",
-        Table::Batch =>
-            "CREATE TABLE batch (batch INT NOT NULL PRIMARY KEY CHECK (batch BETWEEN 1 AND 9999), ward INT NOT NULL CHECK (ward BETWEEN 1 AND 99), size INT NOT NULL CHECK (size BETWEEN 1 AND 500), clerk_a INT NOT NULL CHECK (clerk_a BETWEEN 1 AND 999), clerk_b INT NOT NULL CHECK (clerk_b BETWEEN 1 AND 999), round INT NOT NULL CHECK (round BETWEEN 1 AND 99)) STRICT",
-        Table::Keying =>
-            "CREATE TABLE keying (batch INT NOT NULL CHECK (batch BETWEEN 1 AND 9999), round INT NOT NULL CHECK (round BETWEEN 1 AND 99), clerk INT NOT NULL CHECK (clerk BETWEEN 1 AND 999), paper INT NOT NULL CHECK (paper BETWEEN 1 AND 500), marks TEXT NOT NULL, PRIMARY KEY (batch, round, clerk, paper)) STRICT",
-        Table::Verdict =>
-            "CREATE TABLE verdict (batch INT NOT NULL CHECK (batch BETWEEN 1 AND 9999), paper INT NOT NULL CHECK (paper BETWEEN 1 AND 500), code INT NOT NULL, marks TEXT NOT NULL, PRIMARY KEY (batch, paper)) STRICT",
-        Table::Lot =>
-            "CREATE TABLE lot (ward INT NOT NULL CHECK (ward BETWEEN 1 AND 99), stage INT NOT NULL CHECK (stage BETWEEN 2 AND 31), candidate INT NOT NULL CHECK (candidate BETWEEN 1 AND 30), PRIMARY KEY (ward, stage)) STRICT",
-        Table::Receipt =>
-            "CREATE TABLE receipt (actor INT NOT NULL CHECK (actor BETWEEN 0 AND 999), id TEXT NOT NULL, subject TEXT NOT NULL, reply TEXT NOT NULL, PRIMARY KEY (actor, id)) STRICT",
+    /// The name.
+    pub fn name(self) -> &'static str
+        ensures { result.now ≡ (shape self).name }
+    {
+        match self {
+            Table::Office => "office",
+            Table::Ward => "ward",
+            Table::Candidate => "candidate",
+            Table::Batch => "batch",
+            Table::Keying => "keying",
+            Table::Verdict => "verdict",
+            Table::Lot => "lot",
+            Table::Receipt => "receipt",
+        }
+    }
+
+    /// How many columns the key has, which are the first ones: 1 to 4.
+    pub fn key_columns(self) -> usize
+        ensures { result ≡ (shape self).key }
+    {
+        match self {
+            Table::Office | Table::Ward | Table::Batch => 1,
+            Table::Candidate | Table::Verdict | Table::Lot | Table::Receipt => 2,
+            Table::Keying => 4,
+        }
+    }
+
+    /// Whether rows are replaced or removed, and not only added.
+    pub fn changes_rows(self) -> bool
+        ensures { result ≡ changes_rows self }
+    {
+        match self {
+            Table::Ward | Table::Candidate | Table::Batch => true,
+            Table::Office | Table::Keying | Table::Verdict | Table::Lot | Table::Receipt => false,
+        }
     }
 }
 
-/// The text that adds a row, with the values of all columns as its parameters.
-pub fn insert_text(table: Table) -> &'static str
-    ensures { result.now ≡ insert_text table }
-{
-    match table {
-        Table::Office => "INSERT INTO office (one, version) VALUES (?1, ?2)",
-        Table::Ward =>
-            "INSERT INTO ward (ward, seats, phase, done, name) VALUES (?1, ?2, ?3, ?4, ?5)",
-        Table::Candidate => "INSERT INTO candidate (ward, candidate, name) VALUES (?1, ?2, ?3)",
-        Table::Batch =>
-            "INSERT INTO batch (batch, ward, size, clerk_a, clerk_b, round) VALUES (?1, ?2, ?3, ?4, ?5, ?6)",
-        Table::Keying =>
-            "INSERT INTO keying (batch, round, clerk, paper, marks) VALUES (?1, ?2, ?3, ?4, ?5)",
-        Table::Verdict => "INSERT INTO verdict (batch, paper, code, marks) VALUES (?1, ?2, ?3, ?4)",
-        Table::Lot => "INSERT INTO lot (ward, stage, candidate) VALUES (?1, ?2, ?3)",
-        Table::Receipt => "INSERT INTO receipt (actor, id, subject, reply) VALUES (?1, ?2, ?3, ?4)",
-    }
+/// The columns outside a key by which rows are sought.
+#[derive(Clone, Copy, Debug, PartialEq, Eq)]
+pub enum Reference {
+    /// The ward of a batch.
+    WardOfBatch,
 }
 
-/// The text of all columns of all rows, in the order of the key.
-pub fn rows_text(table: Table) -> &'static str
-    ensures { result.now ≡ rows_text table }
-{
-    match table {
-        Table::Office => "SELECT one, version FROM office ORDER BY one",
-        Table::Ward => "SELECT ward, seats, phase, done, name FROM ward ORDER BY ward",
-        Table::Candidate => "SELECT ward, candidate, name FROM candidate ORDER BY ward, candidate",
-        Table::Batch =>
-            "SELECT batch, ward, size, clerk_a, clerk_b, round FROM batch ORDER BY batch",
-        Table::Keying =>
-            "SELECT batch, round, clerk, paper, marks FROM keying ORDER BY batch, round, clerk, paper",
-        Table::Verdict => "SELECT batch, paper, code, marks FROM verdict ORDER BY batch, paper",
-        Table::Lot => "SELECT ward, stage, candidate FROM lot ORDER BY ward, stage",
-        Table::Receipt => "SELECT actor, id, subject, reply FROM receipt ORDER BY actor, id",
-    }
-}
-
-/// The text of all columns of the row with a key, whose values are the parameters.
-pub fn row_text(table: Table) -> &'static str
-    ensures { result.now ≡ row_text table }
-{
-    match table {
-        Table::Office => "SELECT one, version FROM office WHERE one = ?1",
-        Table::Ward => "SELECT ward, seats, phase, done, name FROM ward WHERE ward = ?1",
-        Table::Candidate =>
-            "SELECT ward, candidate, name FROM candidate WHERE ward = ?1 AND candidate = ?2",
-        Table::Batch =>
-            "SELECT batch, ward, size, clerk_a, clerk_b, round FROM batch WHERE batch = ?1",
-        Table::Keying =>
-            "SELECT batch, round, clerk, paper, marks FROM keying WHERE batch = ?1 AND round = ?2 AND clerk = ?3 AND paper = ?4",
-        Table::Verdict =>
-            "SELECT batch, paper, code, marks FROM verdict WHERE batch = ?1 AND paper = ?2",
-        Table::Lot => "SELECT ward, stage, candidate FROM lot WHERE ward = ?1 AND stage = ?2",
-        Table::Receipt =>
-            "SELECT actor, id, subject, reply FROM receipt WHERE actor = ?1 AND id = ?2",
-    }
-}
-
-/// The text of the rowids, in order.
-pub fn rowids_text(table: Table) -> &'static str
-    ensures { result.now ≡ rowids_text table }
-{
-    match table {
-        Table::Office => "SELECT rowid FROM office ORDER BY rowid",
-        Table::Ward => "SELECT rowid FROM ward ORDER BY rowid",
-        Table::Candidate => "SELECT rowid FROM candidate ORDER BY rowid",
-        Table::Batch => "SELECT rowid FROM batch ORDER BY rowid",
-        Table::Keying => "SELECT rowid FROM keying ORDER BY rowid",
-        Table::Verdict => "SELECT rowid FROM verdict ORDER BY rowid",
-        Table::Lot => "SELECT rowid FROM lot ORDER BY rowid",
-        Table::Receipt => "SELECT rowid FROM receipt ORDER BY rowid",
+impl Reference {
+    /// The table of the column.
+    pub fn table(self) -> Table
+        ensures { result ≡ table_sought self }
+    {
+        match self {
+            Reference::WardOfBatch => Table::Batch,
+        }
     }
 }

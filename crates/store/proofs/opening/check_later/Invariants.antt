@@ -1,12 +1,12 @@
-use Rattle.std.proofs.Common.{◌≡◌, ℕ, ◌<◌, [], false, get_or, IsTrue}
+use Rattle.std.proofs.Common.{◌≡◌, ◌<◌, [], true, false, IsTrue}
 use Rattle.sqlite.specs.Effect.{Database}
 use Rattle.sqlite.specs.State.{HasCleanDisk}
 use Rattle.sqlite.specs.Held.{state}
-use Rattle.tables.specs.declared.table.Table.TheVariants.{Office}
-use Rattle.tables.specs.Schema.{IsOfficeSchema}
+use Rattle.tables.specs.declared.table.Table.{Table}
+use Rattle.tables.specs.Schema.{IsOfficeSchema, place_of}
 use Rattle.tables.specs.Contents.{RestsAt, HoldsTable}
 use Rattle.tables.specs.Reading.{OnlyReads}
-use Rattle.store.proofs.TellLemmas.{later_tables}
+use Rattle.store.specs.Openings.{is_later}
 use Rattle.store.proofs.opening.check_later.Given as goal
 
 abbrev pub invariant-loop-table : goal.invariant-loop-table
@@ -15,5 +15,5 @@ invariant-loop-table g l = record {
   opens : HasCleanDisk (state g.S.Store l.conn) → IsTrue (state g.S.Store l.initial.conn).is_open → IsTrue (state g.S.Store l.conn).is_open;
   reads : OnlyReads (state g.S.Store l.initial.conn) (state g.S.Store l.conn);
   empty : HasCleanDisk (state g.S.Store l.conn) → (db : Database) → IsOfficeSchema db.schema → RestsAt db (state g.S.Store l.initial.conn)
-      → (k : ℕ) → k < l.table-index → HoldsTable (get_or later_tables k Office) [] db.trees;
+      → (t : Table) → place_of t < l.table-index → is_later t ≡ true → HoldsTable t [] db.trees;
 }

@@ -1,19 +1,23 @@
-use Rattle.std.proofs.Common.{◌≡◌, true, false, rules}
+use Rattle.std.proofs.Common.{◌≡◌, true, false, subst, rules}
 use Rattle.std.proofs.lemmas.Result.{err_from_is_err_and}
-use Rattle.store.proofs.TellLemmas.{rows_ordered, rows_of, entries_from}
+use Rattle.register.specs.Offices.{OfficeState}
+use Rattle.register.specs.Items.{IsState}
+use Rattle.rowcheck.specs.States.{state_of}
+use Rattle.store.proofs.TellLemmas.{lists_rise, maps_are, entries_held}
 use Rattle.store.proofs.opening.check_state.Goals as goal
 
 pub returns-then-are_of_state-clause-holds : goal.returns-then-are_of_state-clause-holds
 returns-then-are_of_state-clause-holds g c clean db has sound rests =
     let of : c.are_of_state.result ≡ true = search rules in
-    let s = c.are_of_state.ensures.some of in
-    (s.0, entries_from db has sound c.in_ok-rows.rows (c.in_ok-rows.ensures.lists clean db has rests) s.0 s.1)
+    let s = state_of c.in_ok-rows.rows in
+    let lists = c.in_ok-rows.ensures.lists clean db has rests in
+    (s, entries_held db has sound s (c.are_of_state.ensures.some of (lists_rise db s lists)) lists)
 
 pub returns-clause-told : goal.returns-clause-told
 returns-clause-told g c clean db has rests =
     let not : c.are_of_state.result ≡ false = search rules in
     let lists = c.in_ok-rows.ensures.lists clean db has rests in
-    λ s holds. c.are_of_state.ensures.none not (rows_ordered db c.in_ok-rows.rows lists) s (rows_of db c.in_ok-rows.rows lists s holds)
+    λ s holds. c.are_of_state.ensures.none not (subst (λ (x : OfficeState). IsState x) (maps_are db (state_of c.in_ok-rows.rows) s lists holds) holds.is)
 
 pub returns-in_err-rows-clause-told : goal.returns-in_err-rows-clause-told
 returns-in_err-rows-clause-told g c clean db has rests =

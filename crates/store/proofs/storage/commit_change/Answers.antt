@@ -1,6 +1,6 @@
 use Rattle.std.proofs.Common.{rules, ◌≡◌, arith}
 use Rattle.sqlite.specs.Held.{state}
-use Rattle.sqlite.specs.State.{HasCleanDisk, Survives, Shows}
+use Rattle.sqlite.specs.State.{HasCleanDisk, Survives}
 use Rattle.tables.specs.Contents.{Rests, Sees, Stores}
 use Rattle.tables.proofs.StopLemmas.{rests_committed, survives_storing}
 use Rattle.store.proofs.storage.commit_change.Goals as goal

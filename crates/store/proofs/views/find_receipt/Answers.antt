@@ -1,20 +1,19 @@
-use Rattle.std.proofs.Common.{◌≡◌, IsTrue, inl, map, true, ◌∙◌}
-use Rattle.std.proofs.lemmas.Result.{err_from_is_err_and}
-use Rattle.sqlite.specs.Held.{state}
+use Rattle.std.proofs.Common.{option_map}
+use Rattle.register.specs.Offices.{receipt_entry, receipt_at}
+use Rattle.store.specs.EntryRows.{row_of_receipt}
 use Rattle.store.specs.Offices.{tables_of}
-use Rattle.register.specs.Offices.{receipt_at, is_receipt, is_receipt_of}
-use Rattle.store.proofs.FindLemmas.{receipt_found, found_in_range}
+use Rattle.store.proofs.StateLemmas.{receipt_in, receipt_back}
+use Rattle.store.proofs.RowLemmas.{if_entry_told}
+use Rattle.store.proofs.FindLemmas.{receipt_found, receipt_fits}
 use Rattle.store.proofs.views.find_receipt.Goals as goal
 
 pub returns-clause-found : goal.returns-clause-found
 returns-clause-found g c clean s at =
-    let was_open : IsTrue (state g.S.Store c.args.conn.now).is_open = c.row_with_key.ensures.reads.was_open clean (c.in_ok-rows.ensures.opens clean) in
-    let finds = rw (c.number.ensures, c.text.ensures) at (c.in_ok-rows.ensures.finds clean (tables_of s) (at.rests was_open)) in
-    c.in_ok-receipt.ensures.receipt (receipt_at s c.args.actor c.args.id.now) (c.deref.ensures.value ∙ receipt_found s at.is c.args.actor c.args.id.now c.in_ok-rows.rows.items finds)
+    let receipt = receipt_at s c.args.actor c.args.id.now in
+    if_entry_told receipt_entry row_of_receipt receipt_in receipt_back c.find_entry.result receipt
+    ((rw (c.number.ensures, c.text.ensures) at (c.find_entry.ensures.found clean (tables_of s) at.rests)) (option_map row_of_receipt receipt) (receipt_found s at.is c.args.actor c.args.id.now))
 
-pub returns-in_err-receipt-clause-cause : goal.returns-in_err-receipt-clause-cause
-returns-in_err-receipt-clause-cause g c clean s at =
-    let was_open : IsTrue (state g.S.Store c.args.conn.now).is_open = c.row_with_key.ensures.reads.was_open clean (c.in_ok-rows.ensures.opens clean) in
-    let finds = rw (c.number.ensures, c.text.ensures) at (c.in_ok-rows.ensures.finds clean (tables_of s) (at.rests was_open)) in
-    let p = err_from_is_err_and c.from_residual-in_err-receipt.result c.from_residual-in_err-receipt.ensures.1 in
-    rw (p.1, p.2) (inl (c.in_err-receipt.ensures.cause (receipt_at s c.args.actor c.args.id.now) (found_in_range is_receipt (is_receipt_of c.args.actor c.args.id.now) s.receipts at.is.receipts_in_range) (c.deref.ensures.value ∙ receipt_found s at.is c.args.actor c.args.id.now c.in_ok-rows.rows.items finds)))
+pub returns-clause-cause : goal.returns-clause-cause
+returns-clause-cause g c clean s at =
+    (rw (c.number.ensures, c.text.ensures) at (c.find_entry.ensures.cause clean (tables_of s) at.rests)) (option_map row_of_receipt (receipt_at s c.args.actor c.args.id.now)) (receipt_found s at.is c.args.actor c.args.id.now)
+    (receipt_fits s at.is c.args.actor c.args.id.now)

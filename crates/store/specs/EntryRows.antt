@@ -1,0 +1,33 @@
+-- The rows that entries stand in.
+use Rattle.std.specs.Prelude.{◌≡◌, pos, ℕ, [], ◌∷◌}
+use Rattle.sqlite.specs.declared.types.Value.{Value}
+use Rattle.sqlite.specs.declared.types.Value.TheVariants.{Int, Text}
+use Rattle.sqlite.specs.Order.{Row, column}
+use Rattle.register.specs.declared.phase.Phase.{Phase}
+use Rattle.register.specs.Phases.{phase_number}
+use Rattle.register.specs.Offices.{WardEntry, ReceiptEntry}
+use Rattle.tables.specs.Cells.{IsNumber, IsText}
+
+-- the number of a phase
+abbrev pub IsPhase : Value → Type 0
+IsPhase v = (p : Phase) × (v ≡ Int (pos (phase_number p)))
+
+-- the row of the office, of a schema version
+abbrev pub office_row : ℕ → Row
+office_row version = Int (pos 1) ∷ Int (pos version) ∷ []
+
+-- the row of a ward
+abbrev pub row_of_ward : WardEntry → Row
+row_of_ward w = Int (pos w.number) ∷ Int (pos w.seats) ∷ Int (pos (phase_number w.phase)) ∷ Int (pos w.done) ∷ Text w.name ∷ []
+
+-- a row that reads as a ward's
+abbrev pub IsWardRow : Row → Type 0
+IsWardRow r = IsNumber (column r 0) × IsNumber (column r 1) × IsPhase (column r 2) × IsNumber (column r 3) × IsText (column r 4)
+
+-- the row of a receipt
+abbrev pub row_of_receipt : ReceiptEntry → Row
+row_of_receipt r = Int (pos r.actor) ∷ Text r.id ∷ Text r.subject ∷ Text r.reply ∷ []
+
+-- a row that reads as a receipt's
+abbrev pub IsReceiptRow : Row → Type 0
+IsReceiptRow r = IsNumber (column r 0) × IsText (column r 1) × IsText (column r 2) × IsText (column r 3)

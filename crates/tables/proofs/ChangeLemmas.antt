@@ -1,0 +1,111 @@
+-- What an UPDATE, a DELETE and many INSERTs make of the contents.
+use Rattle.std.proofs.Common.{◌≡◌, inl, inr, ℕ, suc, ◌+◌, ◌<◌, List, [], ◌∷◌, ◌++◌, map, filter, take, get_or, append_assoc, length, Bool, true, false, not, cond, Result, OnOk, IsTrue, refl, sym, ap, subst, ◌∙◌, arith}
+use Rattle.std.proofs.Math.Seq.{take-suc}
+use Rattle.std.specs.List.Sorted.{IsPermutation}
+use Rattle.std.proofs.lemmas.List.Sorted.{IsPermutation-refl, IsPermutation-trans, IsPermutation-map, IsPermutation-sym, IsPermutation-middle}
+use Rattle.sqlite_trees.proofs.ListLemmas.{IsPermutation-filter, filter-map}
+use Rattle.sqlite_rules.proofs.ListLemmas.{test_has, test_from, has_filtered}
+use Rattle.sqlite.specs.declared.error.Error.{Error}
+use Rattle.sqlite.specs.Order.{Row}
+use Rattle.sqlite.specs.State.{State, ExecutesInside}
+use Rattle.tables.specs.declared.table.Table.{Table}
+use Rattle.tables.specs.Texts.{update_text, delete_text}
+use Rattle.tables.specs.Schema.{schema_from, changes_rows}
+use Rattle.tables.specs.Rows.{tuples, has_key, is_row_of}
+use Rattle.tables.specs.Contents.{Contents, SameContents, added, added_all, replaced, removed, Sees}
+use Rattle.tables.proofs.ListLemmas.{filtered_same, has_mapped, permuted_all}
+use Rattle.tables.proofs.SameLemmas.{sees_same}
+use Rattle.tables.proofs.TableLemmas.{which_table}
+use Rattle.tables.proofs.Edits.{edits_row}
+use Rattle.tables.proofs.ContentsLemmas.{table_changed}
+use Rattle.tables.proofs.RemoveLemmas.{removes}
+use Rattle.tables.proofs.ReplaceLemmas.{replaces}
+
+-- ---- a DELETE
+
+-- it takes the row with the key away
+pub row_removed : (t : Table) → changes_rows t ≡ true → (key : Row) (old new : State) (r : Result ℕ Error) → (IsTrue old.in_transaction → ExecutesInside 0 (delete_text t) key old new r) → (c : Contents) → Sees c old → OnOk r (Sees (removed t key c) new)
+unfolding removed
+row_removed t changing key old new r runs c sees =
+    let stays : Row → Bool = λ x. not (has_key t key x) in
+    table_changed t (filter stays) (delete_text t) key old new
+    (λ rest others views free count has ran rows was.
+    let it = edits_row rest others views t changing in
+    let change = removes (schema_from 8 rest others views) t (it.alone free) it.place (delete_text t) it.deletes it.plain_delete it.low key old new count has (was.keyed changing) ran in (
+      change.changes,
+      record {
+        same = subst (IsPermutation _) (sym change.rows) (IsPermutation-filter stays rows (tuples t old.now.trees) was.same);
+        keyed = λ _. change.keyed;
+        typed = test_from (is_row_of t) (filter stays rows) (λ x h. test_has (is_row_of t) rows x was.typed (has_filtered stays rows x h).0);
+      },
+    ))
+    r runs c sees
+
+-- ---- an UPDATE
+
+-- it puts the row into the place of the one with its key
+pub row_replaced : (t : Table) → changes_rows t ≡ true → (row : Row) → is_row_of t row ≡ true → (old new : State) (r : Result ℕ Error) → (IsTrue old.in_transaction → ExecutesInside 0 (update_text t) row old new r)
+    → (c : Contents) → Sees c old → OnOk r (Sees (replaced t row c) new)
+unfolding replaced
+row_replaced t changing row kinds old new r runs c sees =
+    let put : Row → Row = λ x. cond (has_key t row x) row x in
+    let good : (x : Row) → is_row_of t x ≡ true → is_row_of t (put x) ≡ true = λ x typed. elim (has_key t row x) as (λ b. is_row_of t (cond b row x) ≡ true) [ true ↦ kinds | false ↦ typed ] in
+    table_changed t (map put) (update_text t) row old new
+    (λ rest others views free count has ran rows was.
+    let it = edits_row rest others views t changing in
+    let change = replaces (schema_from 8 rest others views) t (it.alone free) it.place (update_text t) it.updates it.plain_update it.low row kinds old new count has (was.keyed changing)
+    (permuted_all (is_row_of t) rows (tuples t old.now.trees) was.same was.typed) ran in (
+      change.changes,
+      record {
+        same = IsPermutation-trans _ _ _ (IsPermutation-map put rows (tuples t old.now.trees) was.same) change.rows;
+        keyed = λ _. change.keyed;
+        typed = test_from (is_row_of t) (map put rows) (λ y h.
+            let x = has_mapped put rows y h in
+            subst (λ z. is_row_of t z ≡ true) (sym x.2) (good x.0 (test_has (is_row_of t) rows x.0 was.typed x.1)));
+      },
+    ))
+    r runs c sees
+
+-- ---- many INSERTs
+
+-- no row more, and one row more after some
+none_more : (t : Table) (c : Contents) → SameContents c (added_all t [] c)
+unfolding added_all
+none_more t c u = elim (which_table t u) [ inl same ↦ rw same.0 (IsPermutation-refl (c u)) | inr other ↦ rw other.0 (IsPermutation-refl (c u)) ]
+
+one_more : (t : Table) (rows : List Row) (row : Row) (c : Contents) → SameContents (added t row (added_all t rows c)) (added_all t (rows ++ row ∷ []) c)
+unfolding added added_all
+one_more t rows row c u = elim (which_table t u) [
+  | inl same ↦ rw (same.0, append_assoc rows (row ∷ []) (c u)) (IsPermutation-sym _ _ (IsPermutation-middle rows row (c u)))
+  | inr other ↦ rw other.0 (IsPermutation-refl (c u))
+]
+
+pub none_added : (t : Table) (c : Contents) (s : State) → Sees c s → Sees (added_all t [] c) s
+none_added t c s sees = sees_same c (added_all t [] c) s (none_more t c) sees
+
+-- the rows up to one, and that one
+pub next_added : (t : Table) (rows : List Row) (k : ℕ) (row : Row) → k < length rows → get_or rows k [] ≡ row → (c : Contents) (s : State) → Sees (added t row (added_all t (take k rows) c)) s → Sees (added_all t (take (k + 1) rows) c) s
+next_added t rows k row low is c s sees =
+    let more : take (k + 1) rows ≡ take k rows ++ row ∷ [] = ap (λ n. take n rows) (plus k) ∙ take-suc rows k [] low ∙ ap (λ r. take k rows ++ r ∷ []) is in
+    subst (λ l. Sees (added_all t l c) s) (sym more) (sees_same (added t row (added_all t (take k rows) c)) (added_all t (take k rows ++ row ∷ []) c) s (one_more t (take k rows) row c) sees)
+  where
+    plus : (n : ℕ) → n + 1 ≡ suc n
+    plus n = omega arith
+
+-- ---- rows of entries
+
+-- The row of one entry in the place of the row with its key is the entry in the place of the one with its key.
+pub replaced_rows : {X : Type 0} (t : Table) (row : X → Row) (same : X → Bool) (y : X) → ((x : X) → has_key t (row y) (row x) ≡ same x) → (xs : List X)
+    → map (λ r. cond (has_key t (row y) r) (row y) r) (map row xs) ≡ map row (map (λ x. cond (same x) y x) xs)
+replaced_rows t row same y alike [] = refl
+replaced_rows t row same y alike (x ∷ xs) = ap (λ b. cond b (row y) (row x) ∷ map (λ r. cond (has_key t (row y) r) (row y) r) (map row xs)) (alike x) ∙ one (same x) (replaced_rows t row same y alike xs)
+  where
+    one : (b : Bool) → map (λ r. cond (has_key t (row y) r) (row y) r) (map row xs) ≡ map row (map (λ z. cond (same z) y z) xs)
+        → cond b (row y) (row x) ∷ map (λ r. cond (has_key t (row y) r) (row y) r) (map row xs) ≡ row (cond b y x) ∷ map row (map (λ z. cond (same z) y z) xs)
+    one true later = ap (λ l. row y ∷ l) later
+    one false later = ap (λ l. row x ∷ l) later
+
+-- The rows without a key are those of the entries without it.
+pub removed_rows : {X : Type 0} (t : Table) (key : Row) (row : X → Row) (same : X → Bool) → ((x : X) → has_key t key (row x) ≡ same x) → (xs : List X)
+    → filter (λ r. not (has_key t key r)) (map row xs) ≡ map row (filter (λ x. not (same x)) xs)
+removed_rows t key row same alike xs = filter-map (λ r. not (has_key t key r)) row xs ∙ ap (map row) (filtered_same _ _ xs (λ x h. ap not (alike x)))

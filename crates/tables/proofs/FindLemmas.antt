@@ -1,0 +1,53 @@
+-- What a query of some rows finds.
+use Rattle.std.proofs.Common.{◌≡◌, ◌⊎◌, inl, inr, List, [], ◌∷◌, map, filter, length, Option, Some, None, option_map, Bool, refl, sym, ap, subst, ◌∙◌, arith}
+use Rattle.std.specs.Option.{option_to_list}
+use Rattle.std.specs.List.{AllByRecursion}
+use Rattle.std.specs.List.Sorted.{IsPermutation}
+use Rattle.std.proofs.lemmas.List.Sorted.{IsPermutation-sym, length_permutation}
+use Rattle.sqlite_rules.specs.Lists.{Has}
+use Rattle.sqlite_rules.proofs.ListLemmas.{all_has, test_has, has_filtered}
+use Rattle.sqlite.proofs.Callers.{one_permutation}
+use Rattle.sqlite.specs.Order.{Row}
+use Rattle.sqlite.specs.State.{State}
+use Rattle.tables.specs.declared.table.Table.{Table}
+use Rattle.tables.specs.declared.fault.Fault.{Fault}
+use Rattle.tables.specs.declared.fault.Fault.TheVariants.{Memory, Store, Damaged}
+use Rattle.tables.specs.Schema.{columns_of}
+use Rattle.tables.specs.Rows.{at, column_places, is_row_of}
+use Rattle.tables.specs.Contents.{Contents, Rests}
+use Rattle.tables.specs.Reading.{Finds, HasOther}
+use Rattle.tables.proofs.ListLemmas.{mapped_same, mapped_itself, permuted_has, has_at}
+use Rattle.tables.proofs.PlaceLemmas.{typed_at}
+use Rattle.tables.proofs.ListingLemmas.{office_of}
+
+-- a row of an office has all columns and no more
+itself : (t : Table) (c : Contents) (s : State) → Rests c s → (r : Row) → Has (c t) r → at (column_places t) r ≡ r
+itself t c s rests r there = typed_at (columns_of t) r (test_has (is_row_of t) (c t) r ((office_of c s rests).holds t).typed there)
+
+-- the entries' rows are the rows that were found
+pub found_as : (t : Table) (test : Row → Bool) (c : Contents) (rows shown : List Row) → Finds t test c rows → map (at (column_places t)) rows ≡ shown → (s : State) → Rests c s → Finds t test c shown
+found_as t test c rows shown finds is s rests =
+    let whole : map (at (column_places t)) rows ≡ rows =
+    mapped_same (at (column_places t)) (λ r. r) rows (λ r h. itself t c s rests r (has_filtered test (c t) r (permuted_has r rows (filter test (c t)) (IsPermutation-sym _ _ finds.same) h)).0) ∙ mapped_itself rows in
+    subst (Finds t test c) (sym whole ∙ is) finds
+
+-- where all rows are entries', only want of memory is told
+pub found_cause : (t : Table) (test : Row → Bool) (c : Contents) (IsRow : Row → Type 0) (rows : List Row) (f : Fault) → Finds t test c rows → AllByRecursion IsRow (c t) → (f ≡ Memory) ⊎ ((f ≡ Damaged) × HasOther IsRow rows) → (f ≡ Memory) ⊎ (f ≡ Store)
+found_cause t test c IsRow rows f finds all (inl memory) = inl memory
+found_cause t test c IsRow rows f finds all (inr wrong) =
+    let k = wrong.1 in
+    let there = has_filtered test (c t) _ (permuted_has _ rows (filter test (c t)) (IsPermutation-sym _ _ finds.same) (has_at rows k.0 [] k.1)) in
+    absurd (k.2 (all_has IsRow (c t) _ all there.0))
+
+-- ---- the row with a key
+
+pub one_found : (t : Table) (test : Row → Bool) (c : Contents) (o : Option Row) (rows : List Row) → filter test (c t) ≡ option_to_list o → Finds t test c rows → rows ≡ option_to_list o
+one_found t test c None [] only finds = refl
+one_found t test c None (r ∷ rows) only finds = absurd (let n = length_permutation _ _ finds.same ∙ refl in let none = ap length only in omega (arith, n, none))
+one_found t test c (Some x) rows only finds = one_permutation x rows (subst (λ l. IsPermutation l rows) only finds.same)
+
+pub if_one_found : (t : Table) (test : Row → Bool) (c : Contents) (o : Option Row) → filter test (c t) ≡ option_to_list o → (s : State) → Rests c s → (e : Option Row) → option_map (at (column_places t)) o ≡ e → e ≡ o
+if_one_found t test c None only s rests e is = sym is
+if_one_found t test c (Some r) only s rests e is =
+    let there = has_filtered test (c t) r (subst (λ l. Has l r) (sym only) (inl refl)) in
+    sym is ∙ ap Some (itself t c s rests r there.0)

@@ -1,0 +1,23 @@
+use Rattle.std.proofs.Common.{subst}
+use Rattle.std.proofs.lemmas.Result.{err_from_is_err_and}
+use Rattle.sqlite.specs.Held.{state}
+use Rattle.sqlite.specs.Value.{owned}
+use Rattle.sqlite.specs.Values.{bound_value}
+use Rattle.tables.specs.declared.table.Table.{Table}
+use Rattle.tables.specs.Rows.{refers_to}
+use Rattle.tables.specs.Reading.{Finds}
+use Rattle.tables.proofs.FindLemmas.{found_as, found_cause}
+use Rattle.tables.proofs.finding.entries_referring.Goals as goal
+
+pub returns-clause-finds : goal.returns-clause-finds
+returns-clause-finds g c clean contents at =
+    let rests = at (c.rows_referring.ensures.reads.was_open clean (c.in_ok-rows.ensures.opens clean)) in
+    let test = refers_to c.args.reference (bound_value (owned c.args.value)) in
+    found_as g.E.Entries.TABLE test contents c.in_ok-rows.rows.items _ (subst (λ (t : Table). Finds t test contents c.in_ok-rows.rows.items) c.requires.table (c.in_ok-rows.ensures.finds clean contents rests)) (rw c.deref.ensures.value at c.in_ok-entries.ensures.reads) (state g.S.Store c.args.conn.now) rests
+
+pub returns-in_err-entries-clause-cause : goal.returns-in_err-entries-clause-cause
+returns-in_err-entries-clause-cause g c clean contents at all =
+    let rests = at (c.rows_referring.ensures.reads.was_open clean (c.in_ok-rows.ensures.opens clean)) in
+    let test = refers_to c.args.reference (bound_value (owned c.args.value)) in
+    let p = err_from_is_err_and c.from_residual-in_err-entries.result c.from_residual-in_err-entries.ensures.1 in
+    rw (p.1, p.2) (found_cause g.E.Entries.TABLE test contents g.E.Entries.is_row c.in_ok-rows.rows.items _ (subst (λ (t : Table). Finds t test contents c.in_ok-rows.rows.items) c.requires.table (c.in_ok-rows.ensures.finds clean contents rests)) all (rw c.deref.ensures.value at c.in_err-entries.ensures.cause))

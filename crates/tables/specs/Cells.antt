@@ -1,0 +1,13 @@
+-- The values that rows hold.
+use Rattle.std.specs.Prelude.{◌≡◌, ◌<◌, ◌^◌, ℕ, List, pos}
+use Rattle.std.specs.Str.{IsUtf8}
+use Rattle.sqlite.specs.declared.types.Value.{Value}
+use Rattle.sqlite.specs.declared.types.Value.TheVariants.{Int, Text}
+
+-- a number below 2^32
+abbrev pub IsNumber : Value → Type 0
+IsNumber v = (n : ℕ) × (n < 2 ^ 32) × (v ≡ Int (pos n))
+
+-- a text that is UTF-8
+abbrev pub IsText : Value → Type 0
+IsText v = (t : List ℕ) × IsUtf8 t × (v ≡ Text t)

@@ -1,0 +1,43 @@
+//! What the rows of a table stand for.
+
+ghost use Rattle.std.specs.Prelude.{◌≡◌, ◌⊎◌, true, IfOk, IfErr};
+ghost use Rattle.sqlite.specs.Order.{Row};
+ghost use Rattle.sqlite.specs.Values.{bound};
+ghost use Rattle.tables.specs.declared.table.Table.{Table};
+ghost use Rattle.tables.specs.Rows.{at, column_places, is_row_of};
+
+use crate::fault::Fault;
+use crate::table::Table;
+use sqlite::Row;
+use sqlite_value::value::ValueRef;
+use std::alloc::Global;
+
+/// The entries of a table, each in a row of its own. An `impl` of this is all that one more table asks of
+/// the code: the values of its columns, in turn, and how they are read.
+pub trait Entries {
+    /// What a row stands for.
+    type Entry: Drop;
+
+    // The row of an entry, and which rows are those of one.
+    ghost row_of: { Self.Entry → Row };
+
+    ghost is_row: { Row → Type 0 };
+
+    ghost TABLE: { Table };
+
+    /// The table.
+    const TABLE: Table;
+
+    /// The values of the row; `Memory` where there is no room for them.
+    fn values<'a>(entry: &'a Self::Entry, alloc: Global) -> Result<Vec<ValueRef<'a>>, Fault>
+        ensures values { IfOk result (λ values. bound values.items ≡ row_of entry.now) }
+        ensures cause { IfErr result (λ f. f ≡ Fault.Memory) };
+
+    /// The entry that a row holds; `Damaged` where it is that of no entry.
+    fn read(row: &Row) -> Result<Self::Entry, Fault>
+        ensures reads { IfOk result (λ entry. at (column_places TABLE) row.now ≡ row_of entry) }
+        ensures cause { IfErr result (λ f. (f ≡ Fault.Memory) ⊎ ((f ≡ Fault.Damaged) × ¬ is_row row.now)) };
+
+    // An entry's row has a value of the right kind for each column.
+    ghost typed: { (entry : Self.Entry) → is_row_of TABLE (row_of entry) ≡ true };
+}

@@ -1,0 +1,99 @@
+//! Some entries of a table: those with a key, with a beginning of it, or with another value.
+
+ghost use Rattle.std.specs.Prelude.{◌≡◌, ◌≤◌, ◌⊎◌, false, length, filter, map, Option, option_map, IfOk, IfErr, IfSome, OnOk, IsTrue};
+ghost use Rattle.std.specs.List.{AllByRecursion};
+ghost use Rattle.std.specs.Option.{option_to_list};
+ghost use Rattle.sqlite.specs.Order.{Row};
+ghost use Rattle.sqlite.specs.Value.{owned};
+ghost use Rattle.sqlite.specs.Values.{bound, bound_value};
+ghost use Rattle.sqlite.specs.State.{HasCleanDisk};
+ghost use Rattle.sqlite.specs.Held.{state};
+ghost use Rattle.tables.specs.Schema.{shape, table_sought};
+ghost use Rattle.tables.specs.Rows.{at, column_places, begins_with, refers_to};
+ghost use Rattle.tables.specs.Contents.{Contents, RestsIfOpen};
+ghost use Rattle.tables.specs.Reading.{OnlyReads, Finds};
+
+use crate::entry::Entries;
+use crate::fault::Fault;
+use crate::listing::entries_of;
+use crate::reading::{rows_beginning, rows_referring};
+use crate::table::Reference;
+use sqlite::{Alter, Connection, Row};
+use sqlite_value::value::ValueRef;
+use std::alloc::Global;
+
+/// The entries whose key begins with these values, in the order of the key; `Damaged` where a row is
+/// that of no entry.
+pub fn entries_beginning<E: Entries, S: Alter>(
+    alloc: Global,
+    conn: &mut Connection<S>,
+    key: &[ValueRef<'_>],
+) -> Result<Vec<E::Entry>, Fault>
+    requires outside { conn.old.in_transaction ≡ false }
+    requires key { length key.now ≤ (shape E.TABLE).key }
+    ensures finds { HasCleanDisk (state S.Store conn.new) → (c : Contents) → RestsIfOpen c (state S.Store conn.old)
+        → IfOk result (λ found. Finds E.TABLE (begins_with (bound key.now)) c (map E.row_of found.items)) }
+    ensures cause { HasCleanDisk (state S.Store conn.new) → (c : Contents) → RestsIfOpen c (state S.Store conn.old) → AllByRecursion E.is_row (c E.TABLE)
+        → IfErr result (λ f. (f ≡ Fault.Memory) ⊎ (f ≡ Fault.Store)) }
+    ensures opens { HasCleanDisk (state S.Store conn.new) → OnOk result (IsTrue (state S.Store conn.new).is_open) }
+    ensures reads { OnlyReads (state S.Store conn.old) (state S.Store conn.new) }
+    ensures outside { conn.new.in_transaction ≡ false }
+{
+    let rows = rows_beginning(conn, E::TABLE, key)?;
+    let entries = entries_of::<E>(alloc, &rows)?;
+    Ok(entries)
+}
+
+/// The entries with a value in a column outside the key, in the order of the key; `Damaged` where a row
+/// is that of no entry.
+pub fn entries_referring<E: Entries, S: Alter>(
+    alloc: Global,
+    conn: &mut Connection<S>,
+    reference: Reference,
+    value: ValueRef<'_>,
+) -> Result<Vec<E::Entry>, Fault>
+    requires outside { conn.old.in_transaction ≡ false }
+    requires table { table_sought reference ≡ E.TABLE }
+    ensures finds { HasCleanDisk (state S.Store conn.new) → (c : Contents) → RestsIfOpen c (state S.Store conn.old)
+        → IfOk result (λ found. Finds E.TABLE (refers_to reference (bound_value (owned value.entry))) c (map E.row_of found.items)) }
+    ensures cause { HasCleanDisk (state S.Store conn.new) → (c : Contents) → RestsIfOpen c (state S.Store conn.old) → AllByRecursion E.is_row (c E.TABLE)
+        → IfErr result (λ f. (f ≡ Fault.Memory) ⊎ (f ≡ Fault.Store)) }
+    ensures opens { HasCleanDisk (state S.Store conn.new) → OnOk result (IsTrue (state S.Store conn.new).is_open) }
+    ensures reads { OnlyReads (state S.Store conn.old) (state S.Store conn.new) }
+    ensures outside { conn.new.in_transaction ≡ false }
+{
+    let rows = rows_referring(conn, reference, value)?;
+    let entries = entries_of::<E>(alloc, &rows)?;
+    Ok(entries)
+}
+
+/// The entry of the one row of a query, if there is one.
+fn first_entry<E: Entries>(rows: &[Row]) -> Result<Option<E::Entry>, Fault>
+    ensures entry { (row : Option Row) → rows.now ≡ option_to_list row → IfOk result (λ found. option_map (at (column_places E.TABLE)) row ≡ option_map E.row_of found) }
+    ensures cause { (row : Option Row) → rows.now ≡ option_to_list row → IfSome row E.is_row → IfErr result (λ f. f ≡ Fault.Memory) }
+{
+    match rows {
+        [] => Ok(None),
+        [row, ..] => Ok(Some(E::read(row)?)),
+    }
+}
+
+/// The entry with this key, if it is there; `Damaged` where its row is that of no entry.
+pub fn find_entry<E: Entries, S: Alter>(
+    conn: &mut Connection<S>,
+    key: &[ValueRef<'_>],
+) -> Result<Option<E::Entry>, Fault>
+    requires outside { conn.old.in_transaction ≡ false }
+    requires key { length key.now ≤ (shape E.TABLE).key }
+    ensures found { HasCleanDisk (state S.Store conn.new) → (c : Contents) → RestsIfOpen c (state S.Store conn.old) → (row : Option Row) → filter (begins_with (bound key.now)) (c E.TABLE) ≡ option_to_list row
+        → IfOk result (λ entry. option_map E.row_of entry ≡ row) }
+    ensures cause { HasCleanDisk (state S.Store conn.new) → (c : Contents) → RestsIfOpen c (state S.Store conn.old) → (row : Option Row) → filter (begins_with (bound key.now)) (c E.TABLE) ≡ option_to_list row
+        → IfSome row E.is_row → IfErr result (λ f. (f ≡ Fault.Memory) ⊎ (f ≡ Fault.Store)) }
+    ensures opens { HasCleanDisk (state S.Store conn.new) → OnOk result (IsTrue (state S.Store conn.new).is_open) }
+    ensures reads { OnlyReads (state S.Store conn.old) (state S.Store conn.new) }
+    ensures outside { conn.new.in_transaction ≡ false }
+{
+    let rows = rows_beginning(conn, E::TABLE, key)?;
+    let entry = first_entry::<E>(&rows)?;
+    Ok(entry)
+}

@@ -1,0 +1,58 @@
+//! Rows in the order of their keys.
+
+ghost use Rattle.std.specs.Prelude.{◌≡◌, ◌<◌, ◌+◌, ◌^◌, true, false};
+ghost use Rattle.std.specs.List.Sorted.{IsStrictlySortedBy};
+ghost use Rattle.sqlite.specs.Value.{owned};
+ghost use Rattle.sqlite.specs.Order.{column};
+ghost use Rattle.sqlite.specs.Query.{key_cmp};
+ghost use Rattle.tables.specs.Rows.{ascending_keys, row_cmp};
+ghost use Rattle.tables.specs.Reading.{FailsToRise};
+
+use crate::table::Table;
+use sqlite::Row;
+use sqlite_value::order::compare;
+use sqlite_value::value::ValueRef;
+use std::cmp::Ordering;
+
+/// The value at a place, and NULL past the end.
+fn value_at(row: &Row, place: usize) -> ValueRef<'_>
+    ensures { owned result ≡ column row.now place }
+{
+    match row.get_ref(place) {
+        Ok(value) => value,
+        Err(_) => ValueRef::Null,
+    }
+}
+
+/// The order of two rows by so many columns, from a place on.
+fn order_from(a: &Row, b: &Row, place: usize, columns: usize) -> Ordering
+    requires { place + columns < 2 ^ 64 }
+    ensures { result ≡ key_cmp place (ascending_keys columns) a.now b.now }
+{
+    if columns == 0 {
+        return Ordering::Equal;
+    }
+    let here = compare(value_at(a, place), value_at(b, place));
+    let later = order_from(a, b, place + 1, columns - 1);
+    here.then(later)
+}
+
+/// The order of two rows by the key of their table.
+fn key_order(table: Table, a: &Row, b: &Row) -> Ordering
+    ensures { result ≡ row_cmp table a.now b.now }
+{
+    order_from(a, b, 0, table.key_columns())
+}
+
+/// Whether each row's key is below that of the next one.
+pub fn keys_rise(table: Table, rows: &[Row]) -> bool
+    ensures rise { result ≡ true → IsStrictlySortedBy (row_cmp table) rows.now }
+    ensures fall { result ≡ false → FailsToRise table rows.now }
+{
+    for i in 1..rows.len() {
+        if key_order(table, &rows[i - 1], &rows[i]) != Ordering::Less {
+            return false;
+        }
+    }
+    true
+}
