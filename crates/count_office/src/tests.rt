@@ -6,5 +6,6 @@ mod steps;
 mod disks;
 // The tests.
 mod orders;
+mod statements;
 mod stops;
 mod words;
