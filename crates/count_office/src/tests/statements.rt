@@ -26,15 +26,29 @@ fn candidate(ward: u32, place: u32, name: &str) -> [ValueRef<'_>; 3]
 fn batch<'a>(batch: u32, ward: u32, round: u32) -> [ValueRef<'a>; 6]
     ensures { bound result ≡ Number (pos batch) ∷ Number (pos ward) ∷ Number (pos 2) ∷ Number (pos 4) ∷ Number (pos 9) ∷ Number (pos round) ∷ [] }
 {
-    [number(batch), number(ward), number(2), number(4), number(9), number(round)]
+    [
+        number(batch),
+        number(ward),
+        number(2),
+        number(4),
+        number(9),
+        number(round),
+    ]
 }
 
 /// Candidates 7 1, 7 2 and 8 1, of which 7 1 goes; batches 12 and 13 of ward 7 and 14 of ward 8, of which
 /// 13 comes to its second round.
 fn fill<S: Alter>(conn: &mut Connection<S>) -> Result<(), Fail> {
+    if !conn.is_autocommit() {
+        return Err(Fail::from("the connection is inside a transaction"));
+    }
     let mut tx = conn.transaction();
     create_tables(&mut tx)?;
-    let candidates = [candidate(7, 1, "Ann"), candidate(7, 2, "Ben"), candidate(8, 1, "Cleo")];
+    let candidates = [
+        candidate(7, 1, "Ann"),
+        candidate(7, 2, "Ben"),
+        candidate(8, 1, "Cleo"),
+    ];
     insert_all(&mut tx, Table::Candidate, &candidates)?;
     let batches = [batch(12, 7, 1), batch(14, 8, 1), batch(13, 7, 1)];
     insert_all(&mut tx, Table::Batch, &batches)?;
