@@ -6,3 +6,4 @@ mod WardLemmas
 pub mod MachineLemmas
 pub mod ListLaws
 mod Rows
+mod NominationRows

@@ -23,6 +23,10 @@ is_ward_number = is_between 1 99
 abbrev pub is_seat_number : ℕ → Bool
 is_seat_number = is_between 1 15
 
+-- a candidate's number in its ward
+abbrev pub is_candidate_number : ℕ → Bool
+is_candidate_number = is_between 1 30
+
 -- a byte of no control character: not below a space, and not DEL
 abbrev pub is_name_byte : ℕ → Bool
 is_name_byte b = nat_le 32 b && not (b == 127)

@@ -24,9 +24,11 @@ pub mod refusal;
 pub mod view;
 // The rules: ranges, the commands by subject, and the machine.
 mod machine;
+pub mod candidates;
 pub mod ranges;
 pub mod wards;
 
+pub use candidates::{Candidate, CandidateCommand};
 pub use command::{Command, Request};
 pub use decision::{Change, Decision, Effect, Reply};
 pub use machine::decide;

@@ -9,6 +9,7 @@ ghost use Rattle.register.specs.Parts.{part_entries};
 ghost use Rattle.register.specs.Machine.{objections, subject_of, reply_to, effect_of, judged, step, state_after, IsKeptAgain};
 ghost use Rattle.register.specs.Views.{IsViewOf, decided_on, ruling_of, outcome_of};
 
+use crate::candidates;
 use crate::command::Command;
 use crate::decision::{Change, Decision, Effect};
 use crate::ranges::is_id;
@@ -24,6 +25,7 @@ fn objection_to(actor: u32, command: &Command, part: &Part) -> Option<Reason>
 {
     match command {
         Command::Ward(command) => wards::objection_to(actor, command, part),
+        Command::Candidate(command) => candidates::objection_to(actor, command, part),
     }
 }
 
@@ -33,6 +35,7 @@ fn subject_of(alloc: Global, command: &Command) -> Result<String, AllocError>
 {
     match command {
         Command::Ward(command) => wards::subject_of(alloc, command),
+        Command::Candidate(command) => candidates::subject_of(alloc, command),
     }
 }
 
@@ -42,6 +45,7 @@ fn reply_to(alloc: Global, command: &Command, part: &Part) -> Result<String, All
 {
     match command {
         Command::Ward(command) => wards::reply_to(alloc, command, part),
+        Command::Candidate(command) => candidates::reply_to(alloc, command, part),
     }
 }
 
@@ -51,6 +55,7 @@ fn effect_of(command: &Command, part: &Part) -> Result<Effect, AllocError>
 {
     match command {
         Command::Ward(command) => wards::effect_of(command, part),
+        Command::Candidate(command) => candidates::effect_of(command, part),
     }
 }
 

@@ -2,13 +2,15 @@
 
 ghost use Rattle.std.specs.Prelude.{◌≡◌};
 ghost use Rattle.std.specs.List.{list_all};
-ghost use Rattle.register.specs.Ranges.{is_between, is_clerk, is_ward_number, is_seat_number, is_name_byte, is_id_byte, is_line_byte, is_name, is_id, is_reply};
+ghost use Rattle.register.specs.Ranges.{is_between, is_clerk, is_ward_number, is_seat_number, is_candidate_number, is_name_byte, is_id_byte, is_line_byte, is_name, is_id, is_reply};
 
 const MOST_CLERKS: u32 = 999;
 
 const MOST_WARDS: u32 = 99;
 
 const MOST_SEATS: u32 = 15;
+
+const MOST_CANDIDATES: u32 = 30;
 
 const SPACE: u8 = 32;
 
@@ -48,6 +50,13 @@ pub fn is_seat_number(n: u32) -> bool
     ensures { result ≡ is_seat_number n }
 {
     is_between(1, MOST_SEATS, n)
+}
+
+/// Whether a number is that of a candidate in a ward: 1 to 30.
+pub fn is_candidate_number(n: u32) -> bool
+    ensures { result ≡ is_candidate_number n }
+{
+    is_between(1, MOST_CANDIDATES, n)
 }
 
 fn is_length(most: usize, n: usize) -> bool

@@ -61,7 +61,11 @@ fn told_of(
         actor,
         id,
         receipt: kept,
-        part: Part { ward },
+        part: Part {
+            ward,
+            candidate: None,
+            candidates: Vec::new(alloc),
+        },
     };
     told(alloc, &decide(alloc, &view, command)?)
 }
