@@ -1,39 +1,111 @@
 -- What may be put into the maps of a state, so that there is a state again.
-use Rattle.std.proofs.Common.{◌≡◌, ℕ, true, List, None, refl}
+use Rattle.std.proofs.Common.{◌≡◌, ℕ, ◌==◌, Bool, true, false, ◌&&◌, cond, List, filter, Some, None, is_some, refl, sym, ap, ◌∙◌}
 use Rattle.std.specs.Str.{is_utf8}
+use Rattle.std.specs.List.{list_all}
+use Rattle.std.specs.List.Sorted.{IsStrictlySortedBy}
+use Rattle.std.specs.Ordering.{nat_cmp, is_eq}
+use Rattle.std.specs.Cmp.{unsigned_tied}
 use Rattle.std.specs.Cmp.{IsTotalOrder}
-use Rattle.std.proofs.lemmas.Bool.{and_parts, and_from}
+use Rattle.std.proofs.lemmas.Bool.{and_parts, and_from, eqb-true}
+use Rattle.std.proofs.lemmas.List.Folds.{list_all-map}
 use Rattle.std.proofs.lemmas.Cmp.{nat_cmp_total, on_total, then_total, nat_list_cmp_total}
 use Rattle.register.specs.Ranges.{is_office, is_reply}
 use Rattle.register.specs.Subjects.{is_office_subject}
-use Rattle.register.specs.Offices.{WardEntry, ReceiptEntry, OfficeState, ward_cmp, receipt_cmp, ward_at, receipt_at}
-use Rattle.register.specs.Items.{is_ward, is_begun, is_about, is_receipt, IsState}
-use Rattle.register.specs.Effects.{EffectEntry, ward_added, with_effect, with_receipt}
-use Rattle.register.proofs.MapLemmas.{put_all, put_rises}
+use Rattle.register.specs.declared.phase.Phase.{Phase}
+use Rattle.register.specs.declared.phase.Phase.TheVariants.{Nominations}
+use Rattle.register.specs.Nominations.{are_enough, is_reached}
+use Rattle.register.specs.Offices.{WardEntry, CandidateEntry, ReceiptEntry, OfficeState, ward_cmp, candidate_cmp, receipt_cmp, ward_compared, candidate_compared, ward_at, candidate_at, candidates_of, receipt_at}
+use Rattle.register.specs.Items.{is_ward, is_candidate, is_about, is_receipt, item2, are_reached, IsState}
+use Rattle.register.specs.Effects.{EffectEntry, ward_added, ward_moved, candidate_added, candidate_withdrawn, in_phase, with_effect, with_receipt}
+use Rattle.register.proofs.MapLemmas.{IsMap, Keeps, list_all_weaker, put_all, put_is_map, filter_put, found_put_too, without_all, without_is_map, filter_without, changed_is_map, found_changed, found_key, all_but_one}
 
 pub ward_total : IsTotalOrder ward_cmp
 ward_total = on_total (λ (w : WardEntry). w.number) nat_cmp_total
 
+pub candidate_total : IsTotalOrder candidate_cmp
+candidate_total = then_total (on_total (λ (c : CandidateEntry). c.ward) nat_cmp_total) (on_total (λ (c : CandidateEntry). c.number) nat_cmp_total)
+
 pub receipt_total : IsTotalOrder receipt_cmp
 receipt_total = then_total (on_total (λ (r : ReceiptEntry). r.actor) nat_cmp_total) (on_total (λ (r : ReceiptEntry). r.id) nat_list_cmp_total)
 
+-- the maps of an office, by name
+data MapName : Type 0 where
+  ward_map : MapName
+  candidate_map : MapName
+  receipt_map : MapName
+
+-- what a state says of each of its maps
+abbrev Holds : MapName → OfficeState → Type 0
+Holds ward_map s = IsMap is_ward ward_cmp s.wards
+Holds candidate_map s = IsMap is_candidate candidate_cmp s.candidates
+Holds receipt_map s = IsMap is_receipt receipt_cmp s.receipts
+
+maps_of : {s : OfficeState} → IsState s → (m : MapName) → Holds m s
+maps_of is ward_map = record { in_range = (and_parts _ _ is.in_range).0; rises = is.rise.wards }
+maps_of is candidate_map = record { in_range = (and_parts _ _ (and_parts _ _ is.in_range).1).0; rises = is.rise.candidates }
+maps_of is receipt_map = record { in_range = (and_parts _ _ (and_parts _ _ is.in_range).1).1; rises = is.rise.receipts }
+
+state_from : (s : OfficeState) → ((m : MapName) → Holds m s) → item2 s ≡ true → are_reached s ≡ true → IsState s
+state_from s maps nominated reached = record {
+  in_range = and_from _ _ (maps ward_map).in_range (and_from _ _ (maps candidate_map).in_range (maps receipt_map).in_range);
+  nominated = nominated;
+  reached = reached;
+  rise = record { wards = (maps ward_map).rises; candidates = (maps candidate_map).rises; receipts = (maps receipt_map).rises };
+}
+
+-- ---- wards and their candidates
+
+-- whether the candidates of a state belong to wards that are there, and whether each ward has those that its phase asks for
+abbrev are_placed : OfficeState → Bool
+are_placed s = list_all (λ c. is_some (ward_at s c.ward)) s.candidates
+
+-- what a test of a ward and its candidates says of each ward
+abbrev are_all : (WardEntry → List CandidateEntry → Bool) → OfficeState → Bool
+are_all test s = list_all (λ w. test w (candidates_of s w.number)) s.wards
+
+abbrev has_enough : WardEntry → List CandidateEntry → Bool
+has_enough w candidates = are_enough w.phase w candidates
+
+-- two numbers are equal where they are compared so
+same_number : (m n : ℕ) → is_eq (nat_cmp m n) ≡ true → m ≡ n
+same_number m n is = eqb-true m n (sym (unsigned_tied m n) ∙ is)
+
+other_number : (m n : ℕ) → is_eq (nat_cmp m n) ≡ false → (m == n) ≡ false
+other_number m n is = sym (unsigned_tied m n) ∙ is
+
+-- what holds of the ward of a number, and of each ward of another number, holds of each ward
+wards_but_one : (s : OfficeState) (n : ℕ) (w : WardEntry) (p q : WardEntry → Bool) → IsStrictlySortedBy ward_cmp s.wards → ward_at s n ≡ Some w → (n ≡ w.number → q w ≡ true)
+    → ((x : WardEntry) → (n == x.number) ≡ false → p x ≡ true → q x ≡ true) → list_all p s.wards ≡ true → list_all q s.wards ≡ true
+wards_but_one s n w p q up found good others all =
+    let same : n ≡ w.number = same_number n w.number (found_key (ward_compared n) w s.wards found) in
+    let own : ward_at s w.number ≡ Some w = ap (ward_at s) (sym same) ∙ found in
+    all_but_one ward_cmp p q w s.wards up own (good same) (λ x other. others x (ap (λ m. m == x.number) same ∙ other_number w.number x.number other)) all
+
 -- a ward in range, in its nominations, of a number that is new
-pub ward_stays : (s : OfficeState) (w : WardEntry) → is_ward w ≡ true → is_begun w ≡ true → ward_at s w.number ≡ None → IsState s → IsState (with_effect (ward_added w) s)
-ward_stays s w good begun new is =
-    let ranges = and_parts _ _ is.in_range in record {
-      in_range = and_from _ _ (put_all ward_cmp is_ward w s.wards good ranges.0) ranges.1;
-      begun = put_all ward_cmp is_begun w s.wards begun is.begun;
-      rise = record { wards = put_rises ward_total w s.wards new is.rise.wards; receipts = is.rise.receipts };
-    }
+pub ward_stays : (s : OfficeState) (w : WardEntry) → is_ward w ≡ true → w.phase ≡ Nominations → w.done ≡ 0 → ward_at s w.number ≡ None → IsState s → IsState (with_effect (ward_added w) s)
+ward_stays s w good phase done new is =
+    let placed = and_parts (are_placed s) (are_all has_enough s) is.nominated in
+    let enough : has_enough w (candidates_of s w.number) ≡ true = rw phase refl in
+    let reached : is_reached w (candidates_of s w.number) ≡ true = rw (phase, done) refl in
+    state_from
+      (with_effect (ward_added w) s)
+      maps
+      (and_from _ _ (still_placed s.candidates placed.0) (put_all ward_cmp (λ x. has_enough x (candidates_of s x.number)) w s.wards enough placed.1))
+      (put_all ward_cmp (λ x. is_reached x (candidates_of s x.number)) w s.wards reached is.reached)
+  where
+    maps : (m : MapName) → Holds m (with_effect (ward_added w) s)
+    maps ward_map = put_is_map ward_total w s.wards good new (maps_of is ward_map)
+    maps m = maps_of is m
+    still_placed : (cs : List CandidateEntry) → list_all (λ c. is_some (ward_at s c.ward)) cs ≡ true → list_all (λ c. is_some (ward_at (with_effect (ward_added w) s) c.ward)) cs ≡ true
+    still_placed cs placed = list_all_weaker _ _ cs (λ c there. found_put_too ward_cmp (ward_compared c.ward) w s.wards there) placed
 
 -- a receipt in range, of an actor and id that have none
 pub receipt_stays : (s : OfficeState) (r : ReceiptEntry) → is_receipt r ≡ true → receipt_at s r.actor r.id ≡ None → IsState s → IsState (with_receipt r s)
-receipt_stays s r good new is =
-    let ranges = and_parts _ _ is.in_range in record {
-      in_range = and_from _ _ ranges.0 (put_all receipt_cmp is_receipt r s.receipts good ranges.1);
-      begun = is.begun;
-      rise = record { wards = is.rise.wards; receipts = put_rises receipt_total r s.receipts new is.rise.receipts };
-    }
+receipt_stays s r good new is = state_from (with_receipt r s) maps is.nominated is.reached
+  where
+    maps : (m : MapName) → Holds m (with_receipt r s)
+    maps receipt_map = put_is_map receipt_total r s.receipts good new (maps_of is receipt_map)
+    maps m = maps_of is m
 
 -- An effect that leads to a state again, with a subject and a reply that its actor's receipt may have: what each command
 -- comes to where nothing stands against it.
@@ -46,6 +118,9 @@ pub record IsFit (s : OfficeState) (actor : ℕ) (effect : EffectEntry) (subject
 -- no effect changes the receipts
 pub same_receipts : (effect : EffectEntry) (s : OfficeState) → (with_effect effect s).receipts ≡ s.receipts
 same_receipts (ward_added w) s = refl
+same_receipts (ward_moved ward phase) s = refl
+same_receipts (candidate_added c) s = refl
+same_receipts (candidate_withdrawn ward candidate) s = refl
 
 -- what a receipt of the office may be about
 pub office_about : (actor : ℕ) (subject : List ℕ) → is_office actor ≡ true → is_office_subject subject ≡ true → is_about actor subject ≡ true

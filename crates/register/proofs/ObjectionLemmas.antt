@@ -10,17 +10,12 @@ none_objects [] none = tt
 none_objects (None ∷ os) none = (refl, none_objects os none)
 none_objects (Some why ∷ os) none = absurd (cc)
 
--- an objection that is none: its condition fails
-pub unmet : (b : Bool) (why : Reason) → objection b why ≡ None → b ≡ false
-unmet true why none = absurd (cc)
-unmet false why none = refl
-
--- so what it asked for is so
+-- what a command asks for is so, where its lack doesn't object
 pub asked : (b : Bool) (why : Reason) → objection (not b) why ≡ None → b ≡ true
 asked true why none = refl
 asked false why none = absurd (cc)
 
--- and what was not to be there isn't
+-- what is not to be there isn't, where its presence doesn't object
 pub absent : {X : Type 0} (o : Option X) (why : Reason) → objection (is_some o) why ≡ None → o ≡ None
 absent (Some x) why none = absurd (cc)
 absent None why none = refl

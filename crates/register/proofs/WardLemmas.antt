@@ -6,7 +6,7 @@ use Rattle.register.specs.declared.refusal.Reason.TheVariants.{NumberOutOfRange,
 use Rattle.register.specs.declared.wards.WardCommand.{WardCommand}
 use Rattle.register.specs.declared.wards.WardCommand.TheVariants.{Add}
 use Rattle.register.specs.Reasons.{first_reason}
-use Rattle.register.specs.Ranges.{is_office, is_ward_number, is_seat_number, is_name}
+use Rattle.register.specs.Ranges.{last_ward, is_office, is_ward_number, is_seat_number, is_name}
 use Rattle.register.specs.Subjects.{is_office_subject}
 use Rattle.register.specs.Offices.{OfficeState, ward_at}
 use Rattle.register.specs.Items.{is_ward, is_begun, IsState}
@@ -17,7 +17,7 @@ use Rattle.register.proofs.ItemLemmas.{IsFit, ward_stays, office_about}
 
 -- the number of a ward, as a line of two digits at most
 ward_line : (n : ℕ) → is_ward_number n ≡ true → IsLine 2 (decimal n)
-ward_line n h = let most = upper 1 99 n h in line_decimal 2 n (omega arith) (omega (arith, most)) (omega (arith, most))
+ward_line n h = let most = upper 1 last_ward n h in line_decimal 2 n (omega arith) (omega (arith, most)) (omega (arith, most))
 
 front : IsLine 5 (codes "ward ")
 front = record { ascii = search rules; short = omega arith; plain = refl }
@@ -27,13 +27,13 @@ back = record { ascii = search rules; short = omega arith; plain = refl }
 
 ward_about : (n : ℕ) → is_ward_number n ≡ true → is_office_subject (codes "ward " ++ decimal n) ≡ true
 unfolding is_office_subject
-ward_about n h = rw (is_plain-decimal 99 n (omega arith) h) refl
+ward_about n h = rw (is_plain-decimal last_ward n (omega arith) h) refl
 
-pub ward_fits : (s : OfficeState) (actor : ℕ) (command : WardCommand) → IsState s → first_reason (objections actor command (part_of s command)) ≡ None
-    → IsFit s actor (effect_of command (part_of s command)) (subject_of command) (reply_to command (part_of s command))
+pub ward_fits : (s : OfficeState) (actor : ℕ) (command : WardCommand) → IsState s → first_reason (objections actor command (part_of s actor command)) ≡ None
+    → IsFit s actor (effect_of command (part_of s actor command)) (subject_of command) (reply_to command (part_of s actor command))
 unfolding subject_of reply_to is_ward is_begun
 ward_fits s actor (Add ward seats name) is none =
-    let each = none_objects (objections actor (Add ward seats name) (part_of s (Add ward seats name))) none in
+    let each = none_objects (objections actor (Add ward seats name) (part_of s actor (Add ward seats name))) none in
     let others = each.1 in
     let range = and_parts (is_office actor) (is_ward_number ward && is_seat_number seats) (asked (is_in_range actor (Add ward seats name)) NumberOutOfRange each.0) in
     let numbers = and_parts (is_ward_number ward) (is_seat_number seats) range.1 in

@@ -13,9 +13,9 @@ use Rattle.register.specs.Effects.{EffectEntry, candidate_added, candidate_withd
 use Rattle.register.specs.Parts.{PartEntries, empty_part, phase_objections}
 
 -- the part of the state that each needs
-abbrev pub part_of : OfficeState → CandidateCommand → PartEntries
-part_of s (Add ward candidate name) = record empty_part { ward = ward_at s ward; candidate = candidate_at s ward candidate }
-part_of s (Withdraw ward candidate) = record empty_part { ward = ward_at s ward; candidate = candidate_at s ward candidate }
+abbrev pub part_of : OfficeState → ℕ → CandidateCommand → PartEntries
+part_of s actor (Add ward candidate name) = record empty_part { ward = ward_at s ward; candidate = candidate_at s ward candidate }
+part_of s actor (Withdraw ward candidate) = record empty_part { ward = ward_at s ward; candidate = candidate_at s ward candidate }
 
 -- the numbers are in range, and the actor is one who may send it
 abbrev pub is_in_range : ℕ → CandidateCommand → Bool

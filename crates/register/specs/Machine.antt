@@ -16,10 +16,10 @@ use Rattle.register.specs.Candidates as candidates
 
 -- ---- the commands, by subject
 
--- the part of the state that a command needs
-abbrev pub part_of : OfficeState → Command → PartEntries
-part_of s (Ward command) = wards.part_of s command
-part_of s (Candidate command) = candidates.part_of s command
+-- the part of the state that an actor's command needs
+abbrev pub part_of : OfficeState → ℕ → Command → PartEntries
+part_of s actor (Ward command) = wards.part_of s actor command
+part_of s actor (Candidate command) = candidates.part_of s actor command
 
 -- what stands against it, in the order of the reasons' numbers
 abbrev pub objections : ℕ → Command → PartEntries → List (Option Reason)
@@ -84,7 +84,7 @@ outcome_at s (refuses why) = refused why
 -- A step sees of the state the receipt of its actor and id, and the part that its command needs, and nothing else; the
 -- state itself is there only for the change to be made in it.
 unfoldable pub step : OfficeState → ℕ → List ℕ → Command → Outcome
-step s actor id command = outcome_at s (decided actor id command (receipt_at s actor id) (part_of s command))
+step s actor id command = outcome_at s (decided actor id command (receipt_at s actor id) (part_of s actor command))
 
 -- the state after an outcome, from the one before it
 abbrev pub state_after : OfficeState → Outcome → OfficeState

@@ -7,25 +7,66 @@ use Rattle.std.specs.Str.{is_utf8}
 abbrev pub is_between : ℕ → ℕ → ℕ → Bool
 is_between low high n = nat_le low n && nat_le n high
 
+-- ---- limits
+
+-- the highest number of a clerk
+abbrev pub last_clerk : ℕ
+last_clerk = 999
+
+-- the highest number of a ward
+abbrev pub last_ward : ℕ
+last_ward = 99
+
+-- the most seats of a ward
+abbrev pub most_seats : ℕ
+most_seats = 15
+
+-- the highest number of a candidate in a ward
+abbrev pub last_candidate : ℕ
+last_candidate = 30
+
+-- the highest number of a batch, over all wards
+abbrev pub last_batch : ℕ
+last_batch = 9999
+
+-- the most papers in a batch
+abbrev pub most_papers : ℕ
+most_papers = 500
+
+-- the highest round in which a batch is keyed
+abbrev pub last_round : ℕ
+last_round = 99
+
+-- the first stage of a count at which a lot may be drawn, and the last one
+abbrev pub first_lot_stage : ℕ
+first_lot_stage = 2
+
+abbrev pub last_lot_stage : ℕ
+last_lot_stage = 31
+
+-- ---- numbers
+
 -- the office itself, as an actor
 abbrev pub is_office : ℕ → Bool
 is_office actor = actor == 0
 
 -- a clerk, as an actor
 abbrev pub is_clerk : ℕ → Bool
-is_clerk = is_between 1 999
+is_clerk = is_between 1 last_clerk
 
 -- a ward's number
 abbrev pub is_ward_number : ℕ → Bool
-is_ward_number = is_between 1 99
+is_ward_number = is_between 1 last_ward
 
 -- a ward's number of seats
 abbrev pub is_seat_number : ℕ → Bool
-is_seat_number = is_between 1 15
+is_seat_number = is_between 1 most_seats
 
 -- a candidate's number in its ward
 abbrev pub is_candidate_number : ℕ → Bool
-is_candidate_number = is_between 1 30
+is_candidate_number = is_between 1 last_candidate
+
+-- ---- texts
 
 -- a byte of no control character: not below a space, and not DEL
 abbrev pub is_name_byte : ℕ → Bool

@@ -3,12 +3,13 @@ use Rattle.std.specs.Prelude.{ℕ, Bool, not, ◌&&◌, ◌||◌, ◌==◌, List
 use Rattle.std.specs.List.{list_any, before_first, after_first}
 use Rattle.std.specs.Str.{all_ascii_digits, bytes_eq}
 use Rattle.std.specs.Str.Parse.{digits_value}
-use Rattle.register.specs.Ranges.{is_between}
+use Rattle.register.specs.Ranges.{is_between, last_ward, last_candidate, last_batch, most_papers, last_round, first_lot_stage, last_lot_stage}
 
 -- a number as it is written plainly: digits, the first not 0
 unfoldable pub is_plain_number : ℕ → ℕ → List ℕ → Bool
 is_plain_number low high t = not (slice_index t 0 == 48) && (all_ascii_digits t && is_between low high (digits_value 10 t))
 
+-- the byte between words
 abbrev pub is_space : ℕ → Bool
 is_space b = b == 32
 
@@ -22,27 +23,27 @@ is_about words numbers t = list_any (bytes_eq (before_first is_space t)) words &
 
 -- a ward added, closed, sealed, advanced or declared
 abbrev pub is_about_ward : List ℕ → Bool
-is_about_ward = is_about (codes "ward" ∷ codes "close" ∷ codes "seal" ∷ codes "advance" ∷ codes "declare" ∷ []) (is_plain_number 1 99)
+is_about_ward = is_about (codes "ward" ∷ codes "close" ∷ codes "seal" ∷ codes "advance" ∷ codes "declare" ∷ []) (is_plain_number 1 last_ward)
 
 -- a candidate of a ward, added or withdrawn
 abbrev pub is_about_candidate : List ℕ → Bool
-is_about_candidate = is_about (codes "candidate" ∷ codes "withdraw" ∷ []) (are_plain_numbers 1 99 1 30)
+is_about_candidate = is_about (codes "candidate" ∷ codes "withdraw" ∷ []) (are_plain_numbers 1 last_ward 1 last_candidate)
 
 -- the lot of a ward at a stage
 abbrev pub is_about_lot : List ℕ → Bool
-is_about_lot = is_about (codes "lot" ∷ []) (are_plain_numbers 1 99 2 31)
+is_about_lot = is_about (codes "lot" ∷ []) (are_plain_numbers 1 last_ward first_lot_stage last_lot_stage)
 
 -- a batch, added or keyed again
 abbrev pub is_about_batch : List ℕ → Bool
-is_about_batch = is_about (codes "batch" ∷ codes "again" ∷ []) (is_plain_number 1 9999)
+is_about_batch = is_about (codes "batch" ∷ codes "again" ∷ []) (is_plain_number 1 last_batch)
 
 -- a paper of a batch, judged
 abbrev pub is_about_paper : List ℕ → Bool
-is_about_paper = is_about (codes "judge" ∷ []) (are_plain_numbers 1 9999 1 500)
+is_about_paper = is_about (codes "judge" ∷ []) (are_plain_numbers 1 last_batch 1 most_papers)
 
 -- the keying of a batch in a round
 abbrev pub is_about_keying : List ℕ → Bool
-is_about_keying = is_about (codes "key" ∷ []) (are_plain_numbers 1 9999 1 99)
+is_about_keying = is_about (codes "key" ∷ []) (are_plain_numbers 1 last_batch 1 last_round)
 
 -- a subject of the office's own commands
 unfoldable pub is_office_subject : List ℕ → Bool

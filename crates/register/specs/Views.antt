@@ -12,7 +12,7 @@ use Rattle.register.specs.Machine.{Ruling, accepts, keeps, refuses, Outcome, out
 -- the view shows what the state has for this command
 pub record IsViewOf (s : OfficeState) (command : Command) (view : View) : Type 0 where
   pub receipt : option_map receipt_entry view.receipt ≡ receipt_at s view.actor view.id.now
-  pub part : part_entries view.part ≡ part_of s command
+  pub part : part_entries view.part ≡ part_of s view.actor command
 
 -- what is decided on a view
 abbrev pub decided_on : View → Command → Ruling

@@ -15,9 +15,9 @@ use Rattle.register.specs.Effects.{EffectEntry, ward_added, ward_moved}
 use Rattle.register.specs.Parts.{PartEntries, empty_part, phase_objections}
 
 -- the part of the state that each needs
-abbrev pub part_of : OfficeState → WardCommand → PartEntries
-part_of s (Add ward seats name) = record empty_part { ward = ward_at s ward }
-part_of s (Close ward) = record empty_part { ward = ward_at s ward; candidates = candidates_of s ward }
+abbrev pub part_of : OfficeState → ℕ → WardCommand → PartEntries
+part_of s actor (Add ward seats name) = record empty_part { ward = ward_at s ward }
+part_of s actor (Close ward) = record empty_part { ward = ward_at s ward; candidates = candidates_of s ward }
 
 -- the numbers are in range, and the actor is one who may send it
 abbrev pub is_in_range : ℕ → WardCommand → Bool

@@ -18,15 +18,18 @@ pub mod command;
 // What the state holds.
 pub mod phase;
 pub mod receipt;
-// What the machine sees and answers.
+// What the machine sees of it,
+pub mod view;
+// and what it answers.
 pub mod decision;
 pub mod refusal;
-pub mod view;
-// The rules: ranges, the commands by subject, and the machine.
-mod machine;
-pub mod candidates;
+// Which numbers and texts are in range.
 pub mod ranges;
+// The commands, by subject.
+pub mod candidates;
 pub mod wards;
+// The machine, which chooses among the subjects.
+mod machine;
 
 pub use candidates::{Candidate, CandidateCommand};
 pub use command::{Command, Request};

@@ -4,13 +4,32 @@ ghost use Rattle.std.specs.Prelude.{◌≡◌};
 ghost use Rattle.std.specs.List.{list_all};
 ghost use Rattle.register.specs.Ranges.{is_between, is_clerk, is_ward_number, is_seat_number, is_candidate_number, is_name_byte, is_id_byte, is_line_byte, is_name, is_id, is_reply};
 
-const MOST_CLERKS: u32 = 999;
+/// The highest number of a clerk.
+pub const LAST_CLERK: u32 = 999;
 
-const MOST_WARDS: u32 = 99;
+/// The highest number of a ward.
+pub const LAST_WARD: u32 = 99;
 
-const MOST_SEATS: u32 = 15;
+/// The most seats of a ward.
+pub const MOST_SEATS: u32 = 15;
 
-const MOST_CANDIDATES: u32 = 30;
+/// The highest number of a candidate in a ward.
+pub const LAST_CANDIDATE: u32 = 30;
+
+/// The highest number of a batch, over all wards.
+pub const LAST_BATCH: u32 = 9999;
+
+/// The most papers in a batch.
+pub const MOST_PAPERS: u32 = 500;
+
+/// The highest round in which a batch is keyed.
+pub const LAST_ROUND: u32 = 99;
+
+/// The first stage of a count at which a lot may be drawn.
+pub const FIRST_LOT_STAGE: u32 = 2;
+
+/// The last stage of a count at which a lot may be drawn.
+pub const LAST_LOT_STAGE: u32 = 31;
 
 const SPACE: u8 = 32;
 
@@ -35,14 +54,14 @@ pub fn is_between(low: u32, high: u32, n: u32) -> bool
 pub fn is_clerk(actor: u32) -> bool
     ensures { result ≡ is_clerk actor }
 {
-    is_between(1, MOST_CLERKS, actor)
+    is_between(1, LAST_CLERK, actor)
 }
 
 /// Whether a number is that of a ward: 1 to 99.
 pub fn is_ward_number(n: u32) -> bool
     ensures { result ≡ is_ward_number n }
 {
-    is_between(1, MOST_WARDS, n)
+    is_between(1, LAST_WARD, n)
 }
 
 /// Whether a ward may have so many seats: 1 to 15.
@@ -56,7 +75,7 @@ pub fn is_seat_number(n: u32) -> bool
 pub fn is_candidate_number(n: u32) -> bool
     ensures { result ≡ is_candidate_number n }
 {
-    is_between(1, MOST_CANDIDATES, n)
+    is_between(1, LAST_CANDIDATE, n)
 }
 
 fn is_length(most: usize, n: usize) -> bool

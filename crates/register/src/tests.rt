@@ -4,6 +4,7 @@ use crate::command::Command;
 use crate::decision::Decision;
 use crate::machine::decide;
 use crate::phase::Phase;
+use crate::ranges::{is_clerk, is_reply, is_seat_number};
 use crate::receipt::Receipt;
 use crate::view::{Part, View};
 use crate::wards::{Ward, WardCommand};
@@ -18,22 +19,30 @@ fn add(alloc: Global, ward: u32, seats: u32, name: &str) -> Result<Command, Allo
     }))
 }
 
-fn receipt(alloc: Global) -> Result<Receipt, AllocError> {
-    Ok(Receipt {
+/// What the office holds once ward 7 is added under the id `w1`.
+fn view_of<'a>(alloc: Global, actor: u32, id: &'a str, ward: u32) -> Result<View<'a>, AllocError> {
+    let receipt = Receipt {
         actor: 0,
         id: String::from_str(alloc, "w1")?,
         subject: String::from_str(alloc, "ward 7")?,
         reply: String::from_str(alloc, "ward 7 added")?,
-    })
-}
-
-fn harbour(alloc: Global) -> Result<Ward, AllocError> {
-    Ok(Ward {
+    };
+    let harbour = Ward {
         number: 7,
         seats: 2,
         phase: Phase::Nominations,
         done: 0,
         name: String::from_str(alloc, "Harbour")?,
+    };
+    Ok(View {
+        actor,
+        id,
+        receipt: if id == "w1" { Some(receipt) } else { None },
+        part: Part {
+            ward: if ward == 7 { Some(harbour) } else { None },
+            candidate: None,
+            candidates: Vec::new(alloc),
+        },
     })
 }
 
@@ -49,53 +58,21 @@ fn told(alloc: Global, decision: &Decision) -> Result<String, AllocError> {
     }
 }
 
-fn told_of(
-    alloc: Global,
-    actor: u32,
-    id: &str,
-    kept: Option<Receipt>,
-    ward: Option<Ward>,
-    command: &Command,
-) -> Result<String, AllocError> {
-    let view = View {
-        actor,
-        id,
-        receipt: kept,
-        part: Part {
-            ward,
-            candidate: None,
-            candidates: Vec::new(alloc),
-        },
-    };
-    told(alloc, &decide(alloc, &view, command)?)
-}
-
 #[test]
-fn a_ward_is_added_once(rt: HostRuntime) -> Result<(), Fail> {
-    let alloc = rt.alloc();
-    let first = add(alloc, 7, 2, "Harbour")?;
-    let new = told_of(alloc, 0, "w1", None, None, &first)?;
-    assert_eq!(rt; new.as_str(), "accepted: ward 7 added (w1, ward 7)");
-    let again = told_of(
-        alloc,
-        0,
-        "w1",
-        Some(receipt(alloc)?),
-        Some(harbour(alloc)?),
-        &first,
-    )?;
-    assert_eq!(rt; again.as_str(), "kept: ward 7 added");
-    let quay = add(alloc, 8, 2, "Quay")?;
-    let used = told_of(alloc, 0, "w1", Some(receipt(alloc)?), None, &quay)?;
-    assert_eq!(rt; used.as_str(), "refused 2: id used for another subject");
-    Ok(())
-}
-
-#[test]
-fn the_lowest_reason_is_told(rt: HostRuntime) -> Result<(), Fail> {
+fn each_request_has_its_answer(rt: HostRuntime) -> Result<(), Fail> {
     let alloc = rt.alloc();
     let cases = [
+        (0, "w2", 8, 2, "Quay", "accepted: ward 8 added (w2, ward 8)"),
+        (0, "w1", 7, 2, "Harbour", "kept: ward 7 added"),
         (0, "W1", 8, 2, "Quay", "refused 1: bad id"),
+        (
+            0,
+            "w1",
+            8,
+            2,
+            "Quay",
+            "refused 2: id used for another subject",
+        ),
         (0, "w3", 0, 2, "", "refused 3: number out of range"),
         (0, "w3", 8, 16, "Quay", "refused 3: number out of range"),
         (4, "w3", 8, 2, "Quay", "refused 3: number out of range"),
@@ -103,9 +80,26 @@ fn the_lowest_reason_is_told(rt: HostRuntime) -> Result<(), Fail> {
         (0, "w2", 7, 3, "Pier", "refused 6: ward exists"),
     ];
     for (actor, id, ward, seats, name, wanted) in cases {
-        let command = add(alloc, ward, seats, name)?;
-        let found = told_of(alloc, actor, id, None, Some(harbour(alloc)?), &command)?;
-        assert_eq!(rt; found.as_str(), wanted);
+        let view = view_of(alloc, actor, id, ward)?;
+        let decision = decide(alloc, &view, &add(alloc, ward, seats, name)?)?;
+        assert_eq!(rt; told(alloc, &decision)?.as_str(), wanted);
     }
     Ok(())
+}
+
+#[test]
+fn numbers_in_range(rt: HostRuntime) {
+    let phases = [
+        (0, None),
+        (1, Some(Phase::Nominations)),
+        (4, Some(Phase::Declared)),
+        (5, None),
+    ];
+    for (number, wanted) in phases {
+        assert_eq!(rt; Phase::from_number(number), wanted);
+    }
+    assert_eq!(rt; Phase::Sealed.number(), 3);
+    assert_eq!(rt; (is_clerk(999), is_clerk(1000)), (true, false));
+    assert_eq!(rt; (is_seat_number(15), is_seat_number(16)), (true, false));
+    assert_eq!(rt; (is_reply("ward 7 added"), is_reply("\n")), (true, false));
 }

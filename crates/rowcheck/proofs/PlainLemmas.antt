@@ -1,5 +1,5 @@
 -- Digits, and the number that they write.
-use Rattle.std.proofs.Common.{◌≡◌, ℕ, ◌+◌, ◌*◌, ◌-◌, ◌<◌, ◌≤◌, Bool, true, false, ◌&&◌, cond, nat_le, List, [], ◌∷◌, length, get_or, Option, Some, None, refl, sym, arith, inl, inr}
+use Rattle.std.proofs.Common.{◌≡◌, ℕ, ◌+◌, ◌*◌, ◌-◌, ◌<◌, ◌≤◌, Bool, true, false, ◌&&◌, cond, nat_le, List, [], ◌∷◌, length, get_or, Some, None, refl, arith, inl, inr}
 use Rattle.std.specs.Char.{digit_value, is_ascii_digit}
 use Rattle.std.specs.Str.{all_ascii_digits}
 use Rattle.std.specs.Str.Parse.{digits_value_after}
@@ -25,8 +25,8 @@ pub too_big_from : (most n : ℕ) (ds : List ℕ) → 1 ≤ length ds → is_asc
     → None ≡ cond (all_ascii_digits ds && nat_le (digits_value_after 10 n ds) most) (Some (digits_value_after 10 n ds)) None
 too_big_from most n [] some digit past = absurd (omega (arith, some))
 too_big_from most n (d ∷ ds) some digit past =
-    let low = leb-true 48 d (and_parts _ _ digit).0 in
-    let high = leb-true d 57 (and_parts _ _ digit).1 in
+    let low = leb-true 48 d (and_parts (nat_le 48 d) (nat_le d 57) digit).0 in
+    let high = leb-true d 57 (and_parts (nat_le 48 d) (nat_le d 57) digit).1 in
     let value = digit_value_digit d (omega (arith, low), omega (arith, high)) in
     too_big most (n * 10 + digit_value d) ds (is_ascii_digit d && all_ascii_digits ds) (omega (arith, value, past))
 

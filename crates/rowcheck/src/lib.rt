@@ -2,15 +2,22 @@
 //!
 //! When an office is opened, its tables are read into `Rows`, and each call here answers yes exactly
 //! where the rows meet one condition. An office opens only where all of them are met.
+//!
+//! A condition is a definition on the state, `item1` and those after it in `register`'s
+//! `specs/Items.antt`; here `item1(&rows)` answers it for `state_of rows`. Later ones have that form
+//! too, and walk down lists in the order of their keys side by side, never searching one for each row of
+//! another.
 #![tactic(auto)]
 
+// The rows.
+pub mod rows;
+// The conditions, and what they read: subjects of receipts, and numbers in them.
 mod plain;
 mod ranges;
-pub mod rows;
 mod subjects;
 
 pub use ranges::{are_begun, item1};
-pub use rows::{Rows, WardRow};
+pub use rows::Rows;
 
 #[cfg(test)]
 mod tests;

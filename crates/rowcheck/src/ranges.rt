@@ -1,28 +1,29 @@
 //! Rows in range.
 
-ghost use Rattle.std.specs.Prelude.{◌≡◌, ◌&&◌};
+ghost use Rattle.std.specs.Prelude.{◌≡◌};
 ghost use Rattle.std.specs.List.{list_all};
-ghost use Rattle.rowcheck.specs.Items.{is_ward_row, is_receipt_row, is_begun_row, are_in_range, are_begun_rows};
+ghost use Rattle.register.specs.Offices.{ward_entry, receipt_entry};
+ghost use Rattle.register.specs.Items.{is_ward, is_receipt, is_begun, item1, are_begun};
+ghost use Rattle.rowcheck.specs.States.{state_of};
 
-use crate::rows::{Rows, WardRow};
+use crate::rows::Rows;
 use crate::subjects::{is_clerk_subject, is_office_subject};
-use register::Receipt;
-use register::ranges::{is_between, is_id, is_name, is_reply};
+use register::ranges::{is_clerk, is_id, is_name, is_reply, is_seat_number, is_ward_number};
+use register::{Receipt, Ward};
 
-fn is_ward_row(row: &WardRow) -> bool
-    ensures { result ≡ is_ward_row row.now }
+fn is_ward(ward: &Ward) -> bool
+    ensures { result ≡ is_ward (ward_entry ward.now) }
 {
-    let number = is_between(1, 99, row.ward);
-    let seats = is_between(1, 15, row.seats);
-    let phase = is_between(1, 4, row.phase);
-    number & (seats & (phase & is_name(row.name.as_str())))
+    let number = is_ward_number(ward.number);
+    let seats = is_seat_number(ward.seats);
+    number & (seats & is_name(ward.name.as_str()))
 }
 
-fn is_receipt_row(receipt: &Receipt) -> bool
-    ensures { result ≡ is_receipt_row receipt.now }
+fn is_receipt(receipt: &Receipt) -> bool
+    ensures { result ≡ is_receipt (receipt_entry receipt.now) }
 {
     let office = receipt.actor == 0;
-    let clerk = is_between(1, 999, receipt.actor);
+    let clerk = is_clerk(receipt.actor);
     let about_office = is_office_subject(receipt.subject.as_str());
     let about_clerk = is_clerk_subject(receipt.subject.as_str());
     let id = is_id(receipt.id.as_str());
@@ -30,38 +31,45 @@ fn is_receipt_row(receipt: &Receipt) -> bool
     ((office & about_office) | (clerk & about_clerk)) & (id & reply)
 }
 
-fn is_begun_row(row: &WardRow) -> bool
-    ensures { result ≡ is_begun_row row.now }
+#[tactic(auto, unfolding(register::specs::Items::is_begun))]
+fn is_begun(ward: &Ward) -> bool
+    ensures { result ≡ is_begun (ward_entry ward.now) }
 {
-    row.phase == 1 && row.done == 0
+    ward.phase.number() == 1 && ward.done == 0
 }
 
-fn are_ward_rows(rows: &[WardRow]) -> bool
-    ensures { result ≡ list_all is_ward_row rows.now }
+fn are_wards(wards: &[Ward]) -> bool
+    ensures { result ≡ list_all (λ w. is_ward (ward_entry w)) wards.now }
 {
-    rows.iter().all(|row| is_ward_row(row))
+    wards.iter().all(|ward| is_ward(ward))
 }
 
-fn are_receipt_rows(receipts: &[Receipt]) -> bool
-    ensures { result ≡ list_all is_receipt_row receipts.now }
+fn are_receipts(receipts: &[Receipt]) -> bool
+    ensures { result ≡ list_all (λ r. is_receipt (receipt_entry r)) receipts.now }
 {
-    receipts.iter().all(|receipt| is_receipt_row(receipt))
+    receipts.iter().all(|receipt| is_receipt(receipt))
 }
 
 /// Whether numbers, names, ids, phases, subjects and replies are in range: the first condition on the
 /// rows of an office.
 pub fn item1(rows: &Rows) -> bool
-    ensures { result ≡ are_in_range rows.now }
+    ensures { result ≡ item1 (state_of rows.now) }
 {
-    let wards = are_ward_rows(&rows.wards);
-    let receipts = are_receipt_rows(&rows.receipts);
+    let wards = are_wards(&rows.wards);
+    let receipts = are_receipts(&rows.receipts);
     wards & receipts
+}
+
+fn are_begun_wards(wards: &[Ward]) -> bool
+    ensures { result ≡ list_all (λ w. is_begun (ward_entry w)) wards.now }
+{
+    wards.iter().all(|ward| is_begun(ward))
 }
 
 /// Whether each ward is in its nominations with no stage done. No command moves a ward further yet, so
 /// rows of which this isn't so are those of no office.
 pub fn are_begun(rows: &Rows) -> bool
-    ensures { result ≡ are_begun_rows rows.now }
+    ensures { result ≡ are_begun (state_of rows.now) }
 {
-    rows.wards.iter().all(|row| is_begun_row(row))
+    are_begun_wards(&rows.wards)
 }

@@ -1,26 +1,27 @@
 //! Rows of an office, and rows of none.
 
 use crate::ranges::{are_begun, item1};
-use crate::rows::{Rows, WardRow};
-use register::Receipt;
+use crate::rows::Rows;
+use register::{Phase, Receipt, Ward};
 use std::alloc::{AllocError, Global};
 use std::test::Fail;
 
-fn ward_row(alloc: Global, numbers: [u32; 4], name: &str) -> Result<WardRow, AllocError> {
-    let [ward, seats, phase, done] = numbers;
-    Ok(WardRow {
-        ward,
+fn only_ward(
+    alloc: Global,
+    numbers: [u32; 3],
+    phase: Phase,
+    name: &str,
+) -> Result<Rows, AllocError> {
+    let [number, seats, done] = numbers;
+    let ward = Ward {
+        number,
         seats,
         phase,
         done,
         name: String::from_str(alloc, name)?,
-    })
-}
-
-fn only_ward(alloc: Global, numbers: [u32; 4], name: &str) -> Result<Rows, AllocError> {
-    let wards = vec![in alloc; ward_row(alloc, numbers, name)?]?;
+    };
     Ok(Rows {
-        wards,
+        wards: vec![in alloc; ward]?,
         receipts: Vec::new(alloc),
     })
 }
@@ -42,16 +43,15 @@ fn only_receipt(alloc: Global, actor: u32, subject: &str) -> Result<Rows, AllocE
 fn wards_in_range(rt: HostRuntime) -> Result<(), Fail> {
     let alloc = rt.alloc();
     let cases = [
-        ([7, 2, 1, 0], "Harbour", true, true),
-        ([99, 15, 4, 0], "Quay", true, false),
-        ([7, 2, 1, 1], "Harbour", true, false),
-        ([0, 2, 1, 0], "Harbour", false, true),
-        ([7, 16, 1, 0], "Harbour", false, true),
-        ([7, 2, 5, 0], "Harbour", false, false),
-        ([7, 2, 1, 0], "", false, true),
+        ([7, 2, 0], Phase::Nominations, "Harbour", true, true),
+        ([99, 15, 0], Phase::Declared, "Quay", true, false),
+        ([7, 2, 1], Phase::Nominations, "Harbour", true, false),
+        ([0, 2, 0], Phase::Nominations, "Harbour", false, true),
+        ([7, 16, 0], Phase::Keying, "Harbour", false, false),
+        ([7, 2, 0], Phase::Nominations, "", false, true),
     ];
-    for (numbers, name, in_range, begun) in cases {
-        let rows = only_ward(alloc, numbers, name)?;
+    for (numbers, phase, name, in_range, begun) in cases {
+        let rows = only_ward(alloc, numbers, phase, name)?;
         assert_eq!(rt; item1(&rows), in_range);
         assert_eq!(rt; are_begun(&rows), begun);
     }

@@ -1,4 +1,4 @@
-use Rattle.std.proofs.Common.{◌≡◌, ◌<◌, ◌*◌, ◌+◌, ◌-◌, true, get_or, arith, sym, ◌∙◌}
+use Rattle.std.proofs.Common.{◌≡◌, true, get_or, arith, sym, ◌∙◌}
 use Rattle.std.specs.Char.{is_ascii_digit}
 use Rattle.rowcheck.proofs.PlainLemmas.{too_big_from}
 use Rattle.rowcheck.proofs.plain.+number_after.Goals as goal
