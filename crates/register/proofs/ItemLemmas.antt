@@ -16,8 +16,8 @@ use Rattle.register.specs.declared.phase.Phase.TheVariants.{Nominations}
 use Rattle.register.specs.Nominations.{are_enough, is_reached}
 use Rattle.register.specs.Offices.{WardEntry, CandidateEntry, ReceiptEntry, OfficeState, ward_cmp, candidate_cmp, receipt_cmp, ward_compared, candidate_compared, ward_at, candidate_at, candidates_of, receipt_at}
 use Rattle.register.specs.Items.{is_ward, is_candidate, is_about, is_receipt, item2, are_reached, IsState}
-use Rattle.register.specs.Effects.{EffectEntry, ward_added, ward_moved, candidate_added, candidate_withdrawn, in_phase, with_effect, with_receipt}
-use Rattle.register.proofs.MapLemmas.{IsMap, Keeps, list_all_weaker, put_all, put_is_map, filter_put, found_put_too, without_all, without_is_map, filter_without, changed_is_map, found_changed, found_key, all_but_one}
+use Rattle.register.specs.Effects.{EffectEntry, ward_added, ward_moved, candidate_added, candidate_withdrawn, with_effect, with_receipt}
+use Rattle.register.proofs.MapLemmas.{IsMap, list_all_weaker, put_all, put_is_map, found_put_too}
 
 pub ward_total : IsTotalOrder ward_cmp
 ward_total = on_total (λ (w : WardEntry). w.number) nat_cmp_total
@@ -29,23 +29,23 @@ pub receipt_total : IsTotalOrder receipt_cmp
 receipt_total = then_total (on_total (λ (r : ReceiptEntry). r.actor) nat_cmp_total) (on_total (λ (r : ReceiptEntry). r.id) nat_list_cmp_total)
 
 -- the maps of an office, by name
-data MapName : Type 0 where
+pub data MapName : Type 0 where
   ward_map : MapName
   candidate_map : MapName
   receipt_map : MapName
 
 -- what a state says of each of its maps
-abbrev Holds : MapName → OfficeState → Type 0
+abbrev pub Holds : MapName → OfficeState → Type 0
 Holds ward_map s = IsMap is_ward ward_cmp s.wards
 Holds candidate_map s = IsMap is_candidate candidate_cmp s.candidates
 Holds receipt_map s = IsMap is_receipt receipt_cmp s.receipts
 
-maps_of : {s : OfficeState} → IsState s → (m : MapName) → Holds m s
+pub maps_of : {s : OfficeState} → IsState s → (m : MapName) → Holds m s
 maps_of is ward_map = record { in_range = (and_parts _ _ is.in_range).0; rises = is.rise.wards }
 maps_of is candidate_map = record { in_range = (and_parts _ _ (and_parts _ _ is.in_range).1).0; rises = is.rise.candidates }
 maps_of is receipt_map = record { in_range = (and_parts _ _ (and_parts _ _ is.in_range).1).1; rises = is.rise.receipts }
 
-state_from : (s : OfficeState) → ((m : MapName) → Holds m s) → item2 s ≡ true → are_reached s ≡ true → IsState s
+pub state_from : (s : OfficeState) → ((m : MapName) → Holds m s) → item2 s ≡ true → are_reached s ≡ true → IsState s
 state_from s maps nominated reached = record {
   in_range = and_from _ _ (maps ward_map).in_range (and_from _ _ (maps candidate_map).in_range (maps receipt_map).in_range);
   nominated = nominated;
@@ -55,31 +55,17 @@ state_from s maps nominated reached = record {
 
 -- ---- wards and their candidates
 
--- whether the candidates of a state belong to wards that are there, and whether each ward has those that its phase asks for
-abbrev are_placed : OfficeState → Bool
+-- whether the candidates of a state belong to wards that are there
+abbrev pub are_placed : OfficeState → Bool
 are_placed s = list_all (λ c. is_some (ward_at s c.ward)) s.candidates
 
 -- what a test of a ward and its candidates says of each ward
-abbrev are_all : (WardEntry → List CandidateEntry → Bool) → OfficeState → Bool
+abbrev pub are_all : (WardEntry → List CandidateEntry → Bool) → OfficeState → Bool
 are_all test s = list_all (λ w. test w (candidates_of s w.number)) s.wards
 
-abbrev has_enough : WardEntry → List CandidateEntry → Bool
+-- whether a ward has the candidates that its phase asks for
+abbrev pub has_enough : WardEntry → List CandidateEntry → Bool
 has_enough w candidates = are_enough w.phase w candidates
-
--- two numbers are equal where they are compared so
-same_number : (m n : ℕ) → is_eq (nat_cmp m n) ≡ true → m ≡ n
-same_number m n is = eqb-true m n (sym (unsigned_tied m n) ∙ is)
-
-other_number : (m n : ℕ) → is_eq (nat_cmp m n) ≡ false → (m == n) ≡ false
-other_number m n is = sym (unsigned_tied m n) ∙ is
-
--- what holds of the ward of a number, and of each ward of another number, holds of each ward
-wards_but_one : (s : OfficeState) (n : ℕ) (w : WardEntry) (p q : WardEntry → Bool) → IsStrictlySortedBy ward_cmp s.wards → ward_at s n ≡ Some w → (n ≡ w.number → q w ≡ true)
-    → ((x : WardEntry) → (n == x.number) ≡ false → p x ≡ true → q x ≡ true) → list_all p s.wards ≡ true → list_all q s.wards ≡ true
-wards_but_one s n w p q up found good others all =
-    let same : n ≡ w.number = same_number n w.number (found_key (ward_compared n) w s.wards found) in
-    let own : ward_at s w.number ≡ Some w = ap (ward_at s) (sym same) ∙ found in
-    all_but_one ward_cmp p q w s.wards up own (good same) (λ x other. others x (ap (λ m. m == x.number) same ∙ other_number w.number x.number other)) all
 
 -- a ward in range, in its nominations, of a number that is new
 pub ward_stays : (s : OfficeState) (w : WardEntry) → is_ward w ≡ true → w.phase ≡ Nominations → w.done ≡ 0 → ward_at s w.number ≡ None → IsState s → IsState (with_effect (ward_added w) s)
@@ -88,14 +74,15 @@ ward_stays s w good phase done new is =
     let enough : has_enough w (candidates_of s w.number) ≡ true = rw phase refl in
     let reached : is_reached w (candidates_of s w.number) ≡ true = rw (phase, done) refl in
     state_from
-      (with_effect (ward_added w) s)
-      maps
-      (and_from _ _ (still_placed s.candidates placed.0) (put_all ward_cmp (λ x. has_enough x (candidates_of s x.number)) w s.wards enough placed.1))
-      (put_all ward_cmp (λ x. is_reached x (candidates_of s x.number)) w s.wards reached is.reached)
+    (with_effect (ward_added w) s)
+    maps
+    (and_from _ _ (still_placed s.candidates placed.0) (put_all ward_cmp (λ x. has_enough x (candidates_of s x.number)) w s.wards enough placed.1))
+    (put_all ward_cmp (λ x. is_reached x (candidates_of s x.number)) w s.wards reached is.reached)
   where
     maps : (m : MapName) → Holds m (with_effect (ward_added w) s)
     maps ward_map = put_is_map ward_total w s.wards good new (maps_of is ward_map)
     maps m = maps_of is m
+
     still_placed : (cs : List CandidateEntry) → list_all (λ c. is_some (ward_at s c.ward)) cs ≡ true → list_all (λ c. is_some (ward_at (with_effect (ward_added w) s) c.ward)) cs ≡ true
     still_placed cs placed = list_all_weaker _ _ cs (λ c there. found_put_too ward_cmp (ward_compared c.ward) w s.wards there) placed
 

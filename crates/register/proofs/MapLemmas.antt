@@ -107,6 +107,7 @@ found_put_too {X} cmp compared x (y ∷ ys) found = elim (is_lt (cmp x y)) as (�
     first : (b : Bool) → is_some (cond b (Some x) (entry_at compared (y ∷ ys))) ≡ true
     first true = refl
     first false = found
+
     here : (b : Bool) → is_eq (compared y) ≡ b → (is_some (entry_at compared ys) ≡ true → is_some (entry_at compared (put cmp x ys)) ≡ true) → is_some (cond b (Some y) (entry_at compared (put cmp x ys))) ≡ true
     here true is later = refl
     here false is later = later (rw is at found)
@@ -160,6 +161,7 @@ changed_is_map {X} {test} {cmp} compared change keeps xs is = record { in_range 
   where
     next : X → X
     next x = cond (is_eq (compared x)) (change x) x
+
     passing : (ys : List X) → list_all test ys ≡ true → list_all (λ y. test (next y)) ys ≡ true
     passing [] all = refl
     passing (y ∷ ys) all = and_from _ _ (go (is_eq (compared y))) (passing ys (and_parts _ _ all).1)
@@ -167,6 +169,7 @@ changed_is_map {X} {test} {cmp} compared change keeps xs is = record { in_range 
         go : (b : Bool) → test (cond b (change y) y) ≡ true
         go true = keeps.passes y ∙ (and_parts _ _ all).0
         go false = (and_parts _ _ all).0
+
     same : (x y : X) → cmp (next x) (next y) ≡ cmp x y
     same x y = go (is_eq (compared x)) (is_eq (compared y))
       where
@@ -185,6 +188,7 @@ found_changed {X} compared other change same (x ∷ xs) = go (is_eq (compared x)
         → is_some (cond b (Some y) (entry_at other (changed compared change xs))) ≡ is_some (cond b (Some x) (entry_at other xs))
     both true y later = refl
     both false y later = later
+
     go : (b : Bool) → is_some (entry_at other (changed compared change xs)) ≡ is_some (entry_at other xs)
         → is_some (entry_at other (cond b (change x) x ∷ changed compared change xs)) ≡ is_some (entry_at other (x ∷ xs))
     go true later = rw (same x) (both (is_eq (other x)) (change x) later)
@@ -201,6 +205,15 @@ found_key {X} compared x (y ∷ ys) found = go (is_eq (compared y)) refl (λ lat
     go true is later = let first : Some y ≡ Some x = rw is at found in let same : y ≡ x = cc in ap (λ (z : X). is_eq (compared z)) (sym same) ∙ is
     go false is later = later (rw is at found)
 
+-- what holds of all holds of what is found
+pub found_passes : {X : Type 0} (compared : X → Ordering) (p : X → Bool) (x : X) (ys : List X) → list_all p ys ≡ true → entry_at compared ys ≡ Some x → p x ≡ true
+found_passes compared p x [] all found = absurd (cc)
+found_passes {X} compared p x (y ∷ ys) all found = go (is_eq (compared y)) refl (λ later. found_passes compared p x ys (and_parts _ _ all).1 later)
+  where
+    go : (b : Bool) → is_eq (compared y) ≡ b → (entry_at compared ys ≡ Some x → p x ≡ true) → p x ≡ true
+    go true is later = let first : Some y ≡ Some x = rw is at found in let same : y ≡ x = cc in ap p (sym same) ∙ (and_parts _ _ all).0
+    go false is later = later (rw is at found)
+
 -- What holds of the entry that is found, and of each other one, holds of all: no two have one key.
 pub all_but_one : {X : Type 0} (cmp : X → X → Ordering) (p q : X → Bool) (e : X) (xs : List X) → IsStrictlySortedBy cmp xs → entry_at (cmp e) xs ≡ Some e → q e ≡ true
     → ((x : X) → is_eq (cmp e x) ≡ false → p x ≡ true → q x ≡ true) → list_all p xs ≡ true → list_all q xs ≡ true
@@ -211,6 +224,7 @@ all_but_one {X} cmp p q e (y ∷ ys) up found good others all = go (is_eq (cmp e
     above : (zs : List X) → AllByRecursion (λ z. cmp e z ≡ Less) zs → list_all p zs ≡ true → list_all q zs ≡ true
     above [] less each = refl
     above (z ∷ zs) less each = and_from _ _ (others z (ap is_eq less.0) (and_parts _ _ each).0) (above zs less.1 (and_parts _ _ each).1)
+
     go : (b : Bool) → is_eq (cmp e y) ≡ b → (entry_at (cmp e) ys ≡ Some e → list_all q ys ≡ true) → list_all q (y ∷ ys) ≡ true
     go true is later =
         let first : Some y ≡ Some e = rw is at found in

@@ -110,7 +110,7 @@ module _ (name : String Global) (is : string_bytes name ≡ codes "Eve") (good :
 
   -- Eve withdraws, and her number is free; but her old id gets its old reply for ever, and only a new one makes her stand again
   withdraws : step (with_quay Nominations (dee ∷ eve ∷ []) (eve_stands ∷ [])) 0 (codes "x1") (Candidate (Withdraw 8 2))
-    ≡ accepted (with_quay Nominations (dee ∷ []) (eve_stands ∷ eve_withdrew ∷ [])) (codes "candidate 2 of ward 8 withdrawn")
+      ≡ accepted (with_quay Nominations (dee ∷ []) (eve_stands ∷ eve_withdrew ∷ [])) (codes "candidate 2 of ward 8 withdrawn")
   unfolding step decided is_id candidates.subject_of candidates.reply_to digits dee eve eve_stands eve_withdrew
   withdraws = refl
 
@@ -119,7 +119,7 @@ module _ (name : String Global) (is : string_bytes name ≡ codes "Eve") (good :
   kept_for_ever = refl
 
   stands_again : step (with_quay Nominations (dee ∷ []) (eve_stands ∷ eve_withdrew ∷ [])) 0 (codes "c9") (Candidate (Add 8 2 name))
-    ≡ accepted (with_quay Nominations (dee ∷ eve ∷ []) (eve_stands ∷ office_receipt (codes "c9") (codes "candidate 8 2") (codes "candidate 2 of ward 8 added") ∷ eve_withdrew ∷ [])) (codes "candidate 2 of ward 8 added")
+      ≡ accepted (with_quay Nominations (dee ∷ eve ∷ []) (eve_stands ∷ office_receipt (codes "c9") (codes "candidate 8 2") (codes "candidate 2 of ward 8 added") ∷ eve_withdrew ∷ [])) (codes "candidate 2 of ward 8 added")
   unfolding step decided is_id candidates.subject_of candidates.reply_to digits dee eve eve_stands eve_withdrew
   stands_again = simp (is, good) refl
 

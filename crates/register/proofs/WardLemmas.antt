@@ -1,37 +1,82 @@
 -- The commands about wards, where nothing stands against them, lead from a state to a state, and leave a receipt in range.
-use Rattle.std.proofs.Common.{rules, ◌≡◌, ℕ, true, ◌&&◌, ◌++◌, codes, None, string_bytes, refl, arith}
+use Rattle.std.proofs.Common.{rules, ◌≡◌, ℕ, Bool, true, false, cond, ◌&&◌, ◌==◌, ◌++◌, not, codes, List, Some, None, string_bytes, refl, sym, ap, ◌∙◌, arith}
 use Rattle.std.specs.Fmt.{decimal}
 use Rattle.std.proofs.lemmas.Bool.{and_parts, and_from}
-use Rattle.register.specs.declared.refusal.Reason.TheVariants.{NumberOutOfRange, BadName, WardExists}
+use Rattle.register.specs.declared.phase.Phase.{Phase}
+use Rattle.register.specs.declared.phase.Phase.TheVariants.{Nominations, Keying, Sealed}
+use Rattle.register.specs.declared.refusal.Reason.TheVariants.{NumberOutOfRange, BadName, WardExists, WrongPhase, NoCandidates}
 use Rattle.register.specs.declared.wards.WardCommand.{WardCommand}
-use Rattle.register.specs.declared.wards.WardCommand.TheVariants.{Add}
+use Rattle.register.specs.declared.wards.WardCommand.TheVariants.{Add, Close}
 use Rattle.register.specs.Reasons.{first_reason}
 use Rattle.register.specs.Ranges.{last_ward, is_office, is_ward_number, is_seat_number, is_name}
 use Rattle.register.specs.Subjects.{is_office_subject}
-use Rattle.register.specs.Offices.{OfficeState, ward_at}
-use Rattle.register.specs.Items.{is_ward, is_begun, IsState}
-use Rattle.register.specs.Wards.{part_of, is_in_range, objections, subject_of, reply_to, effect_of}
-use Rattle.register.proofs.LineLemmas.{upper, is_plain-decimal, IsLine, line_append, line_decimal, line_reply, line_text}
-use Rattle.register.proofs.ObjectionLemmas.{none_objects, asked, absent}
-use Rattle.register.proofs.ItemLemmas.{IsFit, ward_stays, office_about}
+use Rattle.register.specs.Offices.{WardEntry, CandidateEntry, OfficeState, ward_compared, ward_at, candidates_of}
+use Rattle.register.specs.Nominations.{is_contested, is_stood_in, is_led_to, is_reached}
+use Rattle.register.specs.Items.{is_ward, IsState}
+use Rattle.register.specs.Effects.{in_phase, with_effect}
+use Rattle.register.specs.Parts.{PartEntries}
+use Rattle.register.specs.Wards.{part_of, is_in_range, objections, is_polled, closed_word, subject_of, reply_to, effect_of}
+use Rattle.register.proofs.LineLemmas.{is_plain-decimal, IsLine, line_append, line_two_digits, line_reply, line_text}
+use Rattle.register.proofs.ObjectionLemmas.{none_objects, asked, absent, there}
+use Rattle.register.proofs.MapLemmas.{found_passes}
+use Rattle.register.proofs.ItemLemmas.{IsFit, ward_stays, office_about, has_enough}
+use Rattle.register.proofs.NominationLemmas.{moved_stays}
 
--- the number of a ward, as a line of two digits at most
-ward_line : (n : ℕ) → is_ward_number n ≡ true → IsLine 2 (decimal n)
-ward_line n h = let most = upper 1 last_ward n h in line_decimal 2 n (omega arith) (omega (arith, most)) (omega (arith, most))
+-- ---- the words of subjects and replies
 
-front : IsLine 5 (codes "ward ")
-front = record { ascii = search rules; short = omega arith; plain = refl }
+ward_word : IsLine 5 (codes "ward ")
+ward_word = record { ascii = search rules; short = omega arith; plain = refl }
 
-back : IsLine 6 (codes " added")
-back = record { ascii = search rules; short = omega arith; plain = refl }
+close_word : IsLine 6 (codes "close ")
+close_word = record { ascii = search rules; short = omega arith; plain = refl }
+
+added_word : IsLine 6 (codes " added")
+added_word = record { ascii = search rules; short = omega arith; plain = refl }
+
+polled_word : IsLine 12 (codes " polled")
+polled_word = record { ascii = search rules; short = omega arith; plain = refl }
+
+uncontested_word : IsLine 12 (codes " uncontested")
+uncontested_word = record { ascii = search rules; short = omega arith; plain = refl }
 
 ward_about : (n : ℕ) → is_ward_number n ≡ true → is_office_subject (codes "ward " ++ decimal n) ≡ true
 unfolding is_office_subject
 ward_about n h = rw (is_plain-decimal last_ward n (omega arith) h) refl
 
+close_about : (n : ℕ) → is_ward_number n ≡ true → is_office_subject (codes "close " ++ decimal n) ≡ true
+unfolding is_office_subject
+close_about n h = rw (is_plain-decimal last_ward n (omega arith) h) refl
+
+-- ---- a ward closed
+
+-- what is told is a line
+told : (part : PartEntries) → IsLine 12 (closed_word part)
+told part = elim (is_polled part.ward part.candidates) as (λ b. IsLine 12 (cond b (codes " polled") (codes " uncontested"))) [ true ↦ polled_word | false ↦ uncontested_word ]
+
+-- a ward that is contested or not comes to a phase for which it has enough candidates, and to which commands lead
+closed_enough : (w : WardEntry) (candidates : List CandidateEntry) → is_stood_in candidates ≡ true → (b : Bool) → is_contested w candidates ≡ b → has_enough (in_phase (cond b Keying Sealed) w) candidates ≡ true
+closed_enough w candidates stood true is = is
+closed_enough w candidates stood false is = stood
+
+closed_led_to : (w : WardEntry) (candidates : List CandidateEntry) → (w.done == 0) ≡ true → (b : Bool) → is_contested w candidates ≡ b → is_reached (in_phase (cond b Keying Sealed) w) candidates ≡ true
+closed_led_to w candidates none true is = and_from _ _ none refl
+closed_led_to w candidates none false is = and_from _ _ none (ap not is)
+
+closed_stays : (s : OfficeState) (actor ward : ℕ) (w : WardEntry) → ward_at s ward ≡ Some w → is_stood_in (candidates_of s ward) ≡ true → IsState s
+    → IsState (with_effect (effect_of (Close ward) (part_of s actor (Close ward))) s)
+closed_stays s actor ward w found stood is =
+    let candidates = candidates_of s ward in
+    let own = found_passes (ward_compared ward) (λ x. is_reached x (candidates_of s x.number)) w s.wards is.reached found in
+    let none : (w.done == 0) ≡ true = (and_parts (w.done == 0) (is_led_to w.phase w (candidates_of s w.number)) own).0 in
+    rw
+    found
+    (moved_stays s ward w (cond (is_contested w candidates) Keying Sealed) found (closed_enough w candidates stood (is_contested w candidates) refl) (closed_led_to w candidates none (is_contested w candidates) refl) is)
+
+-- ---- each command
+
 pub ward_fits : (s : OfficeState) (actor : ℕ) (command : WardCommand) → IsState s → first_reason (objections actor command (part_of s actor command)) ≡ None
     → IsFit s actor (effect_of command (part_of s actor command)) (subject_of command) (reply_to command (part_of s actor command))
-unfolding subject_of reply_to is_ward is_begun
+unfolding subject_of reply_to is_ward
 ward_fits s actor (Add ward seats name) is none =
     let each = none_objects (objections actor (Add ward seats name) (part_of s actor (Add ward seats name))) none in
     let others = each.1 in
@@ -39,11 +84,25 @@ ward_fits s actor (Add ward seats name) is none =
     let numbers = and_parts (is_ward_number ward) (is_seat_number seats) range.1 in
     let good = asked (is_name (string_bytes name)) BadName others.0 in
     let new = absent (ward_at s ward) WardExists (others.1).0 in
-    let digits = ward_line ward numbers.0 in
-    let text = line_append 5 2 (codes "ward ") (decimal ward) front digits in
+    let digits = line_two_digits last_ward ward (omega arith) numbers.0 in
+    let text = line_append 5 2 (codes "ward ") (decimal ward) ward_word digits in
     record {
-      state = ward_stays s _ (and_from _ _ numbers.0 (and_from _ _ numbers.1 good)) refl new is;
+      state = ward_stays s _ (and_from _ _ numbers.0 (and_from _ _ numbers.1 good)) refl refl new is;
       about = office_about actor _ range.0 (ward_about ward numbers.0);
       text = line_text 7 _ text;
-      line = line_reply 13 _ (omega arith) (line_append 7 6 _ (codes " added") text back);
+      line = line_reply 13 _ (omega arith) (line_append 7 6 _ (codes " added") text added_word);
+    }
+ward_fits s actor (Close ward) is none =
+    let each = none_objects (objections actor (Close ward) (part_of s actor (Close ward))) none in
+    let others = each.1 in
+    let range = and_parts (is_office actor) (is_ward_number ward) (asked (is_in_range actor (Close ward)) NumberOutOfRange each.0) in
+    let found = there Nominations (ward_at s ward) WrongPhase (others.1).0 in
+    let stood = asked (is_stood_in (candidates_of s ward)) NoCandidates ((others.1).1).0 in
+    let digits = line_two_digits last_ward ward (omega arith) range.1 in
+    let part = part_of s actor (Close ward) in
+    record {
+      state = closed_stays s actor ward found.ward found.is stood is;
+      about = office_about actor _ range.0 (close_about ward range.1);
+      text = line_text 8 _ (line_append 6 2 (codes "close ") (decimal ward) close_word digits);
+      line = line_reply 19 _ (omega arith) (line_append 7 12 _ (closed_word part) (line_append 5 2 (codes "ward ") (decimal ward) ward_word digits) (told part));
     }

@@ -26,13 +26,13 @@ is_in_range actor (Withdraw ward candidate) = is_office actor && (is_ward_number
 abbrev pub objections : ℕ → CandidateCommand → PartEntries → List (Option Reason)
 objections actor (Add ward candidate name) part =
     objection (not (is_in_range actor (Add ward candidate name))) NumberOutOfRange
-      ∷ objection (not (is_name (string_bytes name))) BadName
-      ∷ phase_objections Nominations part.ward
-      ++ (objection (is_some part.candidate) CandidateExists ∷ [])
+    ∷ objection (not (is_name (string_bytes name))) BadName
+    ∷ phase_objections Nominations part.ward
+    ++ (objection (is_some part.candidate) CandidateExists ∷ [])
 objections actor (Withdraw ward candidate) part =
     objection (not (is_in_range actor (Withdraw ward candidate))) NumberOutOfRange
-      ∷ phase_objections Nominations part.ward
-      ++ (objection (is_none part.candidate) NoSuchCandidate ∷ [])
+    ∷ phase_objections Nominations part.ward
+    ++ (objection (is_none part.candidate) NoSuchCandidate ∷ [])
 
 -- what the receipt is about: the same for two commands that an id may stand for only once
 unfoldable pub subject_of : CandidateCommand → List ℕ

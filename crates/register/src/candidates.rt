@@ -27,9 +27,16 @@ pub struct Candidate {
 #[derive(Debug, Drop)]
 pub enum CandidateCommand {
     /// A candidate with this number and name stands in this ward.
-    Add { ward: u32, candidate: u32, name: String },
+    Add {
+        ward: u32,
+        candidate: u32,
+        name: String,
+    },
     /// The candidate with this number stands no longer in this ward, and the number is free.
-    Withdraw { ward: u32, candidate: u32 },
+    Withdraw {
+        ward: u32,
+        candidate: u32,
+    },
 }
 
 /// Whether the office sends it, with a ward's and a candidate's number in range.
@@ -46,7 +53,11 @@ fn is_in_range(actor: u32, command: &CandidateCommand) -> bool
     ensures { result ≡ is_in_range actor command.now }
 {
     match command {
-        CandidateCommand::Add { ward, candidate, .. } => is_office_on(actor, *ward, *candidate),
+        CandidateCommand::Add {
+            ward,
+            candidate,
+            ..
+        } => is_office_on(actor, *ward, *candidate),
         CandidateCommand::Withdraw { ward, candidate } => is_office_on(actor, *ward, *candidate),
     }
 }
@@ -90,7 +101,9 @@ pub(crate) fn subject_of(alloc: Global, command: &CandidateCommand) -> Result<St
 {
     match command {
         CandidateCommand::Add {
-            ward, candidate, ..
+            ward,
+            candidate,
+            ..
         } => format!(in alloc; "candidate {ward} {candidate}"),
         CandidateCommand::Withdraw { ward, candidate } => {
             format!(in alloc; "withdraw {ward} {candidate}")
@@ -109,7 +122,9 @@ pub(crate) fn reply_to(
 {
     match command {
         CandidateCommand::Add {
-            ward, candidate, ..
+            ward,
+            candidate,
+            ..
         } => format!(in alloc; "candidate {candidate} of ward {ward} added"),
         CandidateCommand::Withdraw { ward, candidate } => {
             format!(in alloc; "candidate {candidate} of ward {ward} withdrawn")

@@ -9,14 +9,13 @@ ghost use Rattle.register.specs.Parts.{part_entries};
 ghost use Rattle.register.specs.Machine.{objections, subject_of, reply_to, effect_of, judged, step, state_after, IsKeptAgain};
 ghost use Rattle.register.specs.Views.{IsViewOf, decided_on, ruling_of, outcome_of};
 
-use crate::candidates;
 use crate::command::Command;
 use crate::decision::{Change, Decision, Effect};
 use crate::ranges::is_id;
 use crate::receipt::Receipt;
 use crate::refusal::{Reason, Refusal};
 use crate::view::{Part, View};
-use crate::wards;
+use crate::{candidates, wards};
 use std::alloc::{AllocError, Global};
 
 /// What stands against a command: of several reasons the one with the lowest number.

@@ -8,8 +8,8 @@ ghost use Rattle.register.specs.Effects.{effect_entry};
 ghost use Rattle.register.specs.Nominations.{is_contested};
 ghost use Rattle.register.specs.Wards.{is_in_range, is_polled, objections, subject_of, reply_to, effect_of};
 
-use crate::decision::Effect;
 use crate::candidates::Candidate;
+use crate::decision::Effect;
 use crate::phase::Phase;
 use crate::ranges::{is_name, is_seat_number, is_ward_number};
 use crate::refusal::Reason;
