@@ -66,9 +66,13 @@ pub record IsLine (k : ℕ) (t : List ℕ) : Type 0 where
   pub short : length t ≤ k
   pub plain : list_all is_line_byte t ≡ true
 
+-- given words are a line
+pub words : (t : List ℕ) → IsAscii t → list_all is_line_byte t ≡ true → IsLine (length t) t
+words t ascii plain = record { ascii = ascii; short = omega arith; plain = plain }
+
 -- two lines, one after the other
-pub line_append : (j k : ℕ) (s t : List ℕ) → IsLine j s → IsLine k t → IsLine (j + k) (s ++ t)
-line_append j k s t first second = record {
+pub line_append : {j k : ℕ} {s t : List ℕ} → IsLine j s → IsLine k t → IsLine (j + k) (s ++ t)
+line_append {j} {k} {s} {t} first second = record {
   ascii = IsAscii-append s t first.ascii second.ascii;
   short = let a = first.short in let b = second.short in omega (arith, length-append s t, a, b);
   plain = list_all-append is_line_byte s t ∙ and_from _ _ first.plain second.plain;
@@ -80,21 +84,24 @@ digits_plain (d ∷ ds) h =
     let low = lower 48 57 d (and_parts (is_between 48 57 d) (all_ascii_digits ds) h).0 in
     and_from _ _ (ap not (not_equal d 10 (omega (arith, low)))) (digits_plain ds (and_parts (is_between 48 57 d) (all_ascii_digits ds) h).1)
 
--- a number of up to so many digits
-pub line_decimal : (k n : ℕ) → 0 < k → n < 10 ^ k → n < 2 ^ 64 → IsLine k (decimal n)
-line_decimal k n some low fits = record { ascii = IsAscii-decimal n fits; short = length-decimal-le k n some low fits; plain = digits_plain (decimal n) (digits_decimal own n fits) }
-
--- a number in a range from 1 to less than a hundred
-pub line_two_digits : (high n : ℕ) → high < 100 → is_between 1 high n ≡ true → IsLine 2 (decimal n)
-line_two_digits high n low h = let most = upper 1 high n h in line_decimal 2 n (omega arith) (omega (arith, most, low)) (omega (arith, most, low))
-
--- a line of up to 200 bytes is a reply
-pub line_reply : (k : ℕ) (t : List ℕ) → k ≤ 200 → IsLine k t → is_reply t ≡ true
-unfolding is_reply
-line_reply k t low line =
-    let short = line.short in
-    and_from _ _ (is_utf8-from_IsUtf8 t (IsUtf8-from_ascii t line.ascii)) (and_from _ _ (le-leb (length t) 200 (omega (arith, short, low))) line.plain)
+-- a number in a range has at most ten digits
+pub line_number : (high n : ℕ) → high < 2 ^ 32 → is_between 1 high n ≡ true → IsLine 10 (decimal n)
+line_number high n below h =
+    let most = upper 1 high n h in
+    let fits : n < 2 ^ 64 = omega (arith, most, below) in
+    record {
+      ascii = IsAscii-decimal n fits;
+      short = length-decimal-le 10 n (omega arith) (omega (arith, most, below)) fits;
+      plain = digits_plain (decimal n) (digits_decimal own n fits);
+    }
 
 -- a line is text
-pub line_text : (k : ℕ) (t : List ℕ) → IsLine k t → is_utf8 t ≡ true
-line_text k t line = is_utf8-from_IsUtf8 t (IsUtf8-from_ascii t line.ascii)
+pub line_text : {k : ℕ} {t : List ℕ} → IsLine k t → is_utf8 t ≡ true
+line_text {k} {t} line = is_utf8-from_IsUtf8 t (IsUtf8-from_ascii t line.ascii)
+
+-- a line of up to 200 bytes is a reply
+pub line_reply : {k : ℕ} {t : List ℕ} → IsLine k t → k ≤ 200 → is_reply t ≡ true
+unfolding is_reply
+line_reply {k} {t} line low =
+    let short = line.short in
+    and_from _ _ (line_text line) (and_from _ _ (le-leb (length t) 200 (omega (arith, short, low))) line.plain)

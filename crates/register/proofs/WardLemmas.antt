@@ -16,29 +16,13 @@ use Rattle.register.specs.Items.{is_ward, IsState}
 use Rattle.register.specs.Effects.{in_phase, with_effect}
 use Rattle.register.specs.Parts.{PartEntries}
 use Rattle.register.specs.Wards.{part_of, is_in_range, objections, is_polled, closed_word, subject_of, reply_to, effect_of}
-use Rattle.register.proofs.LineLemmas.{is_plain-decimal, IsLine, line_append, line_two_digits, line_reply, line_text}
+use Rattle.register.proofs.LineLemmas.{is_plain-decimal, IsLine, words, line_append, line_number, line_reply, line_text}
 use Rattle.register.proofs.ObjectionLemmas.{none_objects, asked, absent, there}
 use Rattle.register.proofs.MapLemmas.{found_passes}
 use Rattle.register.proofs.ItemLemmas.{IsFit, ward_stays, office_about, has_enough}
 use Rattle.register.proofs.NominationLemmas.{moved_stays}
 
--- ---- the words of subjects and replies
-
-ward_word : IsLine 5 (codes "ward ")
-ward_word = record { ascii = search rules; short = omega arith; plain = refl }
-
-close_word : IsLine 6 (codes "close ")
-close_word = record { ascii = search rules; short = omega arith; plain = refl }
-
-added_word : IsLine 6 (codes " added")
-added_word = record { ascii = search rules; short = omega arith; plain = refl }
-
-polled_word : IsLine 12 (codes " polled")
-polled_word = record { ascii = search rules; short = omega arith; plain = refl }
-
-uncontested_word : IsLine 12 (codes " uncontested")
-uncontested_word = record { ascii = search rules; short = omega arith; plain = refl }
-
+-- what the receipt of a ward's command may be about
 ward_about : (n : ℕ) → is_ward_number n ≡ true → is_office_subject (codes "ward " ++ decimal n) ≡ true
 unfolding is_office_subject
 ward_about n h = rw (is_plain-decimal last_ward n (omega arith) h) refl
@@ -50,8 +34,9 @@ close_about n h = rw (is_plain-decimal last_ward n (omega arith) h) refl
 -- ---- a ward closed
 
 -- what is told is a line
-told : (part : PartEntries) → IsLine 12 (closed_word part)
-told part = elim (is_polled part.ward part.candidates) as (λ b. IsLine 12 (cond b (codes " polled") (codes " uncontested"))) [ true ↦ polled_word | false ↦ uncontested_word ]
+told : (b : Bool) → IsLine 12 (cond b (codes " polled") (codes " uncontested"))
+told true = record { ascii = search rules; short = omega arith; plain = refl }
+told false = record { ascii = search rules; short = omega arith; plain = refl }
 
 -- a ward that is contested or not comes to a phase for which it has enough candidates, and to which commands lead
 closed_enough : (w : WardEntry) (candidates : List CandidateEntry) → is_stood_in candidates ≡ true → (b : Bool) → is_contested w candidates ≡ b → has_enough (in_phase (cond b Keying Sealed) w) candidates ≡ true
@@ -69,8 +54,8 @@ closed_stays s actor ward w found stood is =
     let own = found_passes (ward_compared ward) (λ x. is_reached x (candidates_of s x.number)) w s.wards is.reached found in
     let none : (w.done == 0) ≡ true = (and_parts (w.done == 0) (is_led_to w.phase w (candidates_of s w.number)) own).0 in
     rw
-    found
-    (moved_stays s ward w (cond (is_contested w candidates) Keying Sealed) found (closed_enough w candidates stood (is_contested w candidates) refl) (closed_led_to w candidates none (is_contested w candidates) refl) is)
+      found
+      (moved_stays s ward w (cond (is_contested w candidates) Keying Sealed) found (closed_enough w candidates stood (is_contested w candidates) refl) (closed_led_to w candidates none (is_contested w candidates) refl) is)
 
 -- ---- each command
 
@@ -84,13 +69,13 @@ ward_fits s actor (Add ward seats name) is none =
     let numbers = and_parts (is_ward_number ward) (is_seat_number seats) range.1 in
     let good = asked (is_name (string_bytes name)) BadName others.0 in
     let new = absent (ward_at s ward) WardExists (others.1).0 in
-    let digits = line_two_digits last_ward ward (omega arith) numbers.0 in
-    let text = line_append 5 2 (codes "ward ") (decimal ward) ward_word digits in
+    let front = words (codes "ward ") (search rules) refl in
+    let digits = line_number last_ward ward (omega arith) numbers.0 in
     record {
       state = ward_stays s _ (and_from _ _ numbers.0 (and_from _ _ numbers.1 good)) refl refl new is;
       about = office_about actor _ range.0 (ward_about ward numbers.0);
-      text = line_text 7 _ text;
-      line = line_reply 13 _ (omega arith) (line_append 7 6 _ (codes " added") text added_word);
+      text = line_text (line_append front digits);
+      line = line_reply (line_append front (line_append digits (words (codes " added") (search rules) refl))) (omega arith);
     }
 ward_fits s actor (Close ward) is none =
     let each = none_objects (objections actor (Close ward) (part_of s actor (Close ward))) none in
@@ -98,11 +83,11 @@ ward_fits s actor (Close ward) is none =
     let range = and_parts (is_office actor) (is_ward_number ward) (asked (is_in_range actor (Close ward)) NumberOutOfRange each.0) in
     let found = there Nominations (ward_at s ward) WrongPhase (others.1).0 in
     let stood = asked (is_stood_in (candidates_of s ward)) NoCandidates ((others.1).1).0 in
-    let digits = line_two_digits last_ward ward (omega arith) range.1 in
+    let digits = line_number last_ward ward (omega arith) range.1 in
     let part = part_of s actor (Close ward) in
     record {
       state = closed_stays s actor ward found.ward found.is stood is;
       about = office_about actor _ range.0 (close_about ward range.1);
-      text = line_text 8 _ (line_append 6 2 (codes "close ") (decimal ward) close_word digits);
-      line = line_reply 19 _ (omega arith) (line_append 7 12 _ (closed_word part) (line_append 5 2 (codes "ward ") (decimal ward) ward_word digits) (told part));
+      text = line_text (line_append (words (codes "close ") (search rules) refl) digits);
+      line = line_reply (line_append (words (codes "ward ") (search rules) refl) (line_append digits (told (is_polled part.ward part.candidates)))) (omega arith);
     }

@@ -49,10 +49,10 @@ unfoldable pub subject_of : WardCommand → List ℕ
 subject_of (Add ward seats name) = codes "ward " ++ decimal ward
 subject_of (Close ward) = codes "close " ++ decimal ward
 
--- what is replied where it is accepted
+-- what is replied where it is accepted (texts are grouped to the right, as they are written)
 unfoldable pub reply_to : WardCommand → PartEntries → List ℕ
-reply_to (Add ward seats name) part = codes "ward " ++ decimal ward ++ codes " added"
-reply_to (Close ward) part = codes "ward " ++ decimal ward ++ closed_word part
+reply_to (Add ward seats name) part = codes "ward " ++ (decimal ward ++ codes " added")
+reply_to (Close ward) part = codes "ward " ++ (decimal ward ++ closed_word part)
 
 -- what it does where it is accepted
 abbrev pub effect_of : WardCommand → PartEntries → EffectEntry

@@ -126,7 +126,7 @@ pub(crate) fn subject_of(alloc: Global, command: &WardCommand) -> Result<String,
 }
 
 #[tactic(auto, unfolding(crate::specs::Wards::reply_to))]
-/// What is replied where the command is accepted.
+/// What is replied where the command is accepted. No ward command needs the part for it yet.
 pub(crate) fn reply_to(
     alloc: Global,
     command: &WardCommand,
@@ -145,7 +145,7 @@ pub(crate) fn reply_to(
     }
 }
 
-/// What the command does to the state.
+/// What the command does to the state. No ward command needs the part for it yet.
 pub(crate) fn effect_of(command: &WardCommand, part: &Part) -> Result<Effect, AllocError>
     ensures { IfOk result (λ effect. effect_entry effect ≡ effect_of command.now (part_entries part.now)) }
 {
