@@ -40,7 +40,7 @@ pub list_all_weaker : {X : Type 0} (p q : X → Bool) (xs : List X) → ((x : X)
 list_all_weaker p q [] weaker all = refl
 list_all_weaker p q (x ∷ xs) weaker all = and_from _ _ (weaker x (and_parts _ _ all).0) (list_all_weaker p q xs weaker (and_parts _ _ all).1)
 
-each_weaker : {X : Type 0} (P Q : X → Type 0) (ys : List X) → ((y : X) → P y → Q y) → AllByRecursion P ys → AllByRecursion Q ys
+pub each_weaker : {X : Type 0} (P Q : X → Type 0) (ys : List X) → ((y : X) → P y → Q y) → AllByRecursion P ys → AllByRecursion Q ys
 each_weaker P Q [] f all = tt
 each_weaker P Q (y ∷ ys) f all = (f y all.0, each_weaker P Q ys f all.1)
 

@@ -1,6 +1,7 @@
 //! Rows of an office, and rows of none.
 
-use crate::ranges::{are_begun, item1};
+use crate::nominations::{are_reached, item2};
+use crate::ranges::item1;
 use crate::rows::Rows;
 use register::{Phase, Receipt, Ward};
 use std::alloc::{AllocError, Global};
@@ -22,6 +23,7 @@ fn only_ward(
     };
     Ok(Rows {
         wards: vec![in alloc; ward]?,
+        candidates: Vec::new(alloc),
         receipts: Vec::new(alloc),
     })
 }
@@ -35,6 +37,7 @@ fn only_receipt(alloc: Global, actor: u32, subject: &str) -> Result<Rows, AllocE
     };
     Ok(Rows {
         wards: Vec::new(alloc),
+        candidates: Vec::new(alloc),
         receipts: vec![in alloc; receipt]?,
     })
 }
@@ -53,7 +56,7 @@ fn wards_in_range(rt: HostRuntime) -> Result<(), Fail> {
     for (numbers, phase, name, in_range, begun) in cases {
         let rows = only_ward(alloc, numbers, phase, name)?;
         assert_eq!(rt; item1(&rows), in_range);
-        assert_eq!(rt; are_begun(&rows), begun);
+        assert_eq!(rt; are_reached(&rows), begun);
     }
     Ok(())
 }
