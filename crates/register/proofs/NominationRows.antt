@@ -4,13 +4,14 @@ use Rattle.std.specs.Fmt.{digits}
 use Rattle.std.specs.declared.string.String.{String}
 use Rattle.std.specs.declared.alloc.Global.{Global}
 use Rattle.register.specs.declared.phase.Phase.{Phase}
-use Rattle.register.specs.declared.phase.Phase.TheVariants.{Nominations, Keying, Sealed}
+use Rattle.register.specs.declared.phase.Phase.TheVariants.{Nominations, Keying, Sealed, Declared}
 use Rattle.register.specs.declared.command.Command.TheVariants.{Ward, Candidate}
 use Rattle.register.specs.declared.wards.WardCommand.TheVariants.{Close}
 use Rattle.register.specs.declared.candidates.CandidateCommand.TheVariants.{Add, Withdraw}
 use Rattle.register.specs.declared.refusal.Reason.TheVariants.{NumberOutOfRange, BadName, NoSuchWard, WrongPhase, CandidateExists, NoSuchCandidate, NoCandidates}
 use Rattle.register.specs.Ranges.{is_name, is_id}
 use Rattle.register.specs.Offices.{CandidateEntry, ReceiptEntry, OfficeState}
+use Rattle.register.specs.Items.{item2, are_reached}
 use Rattle.register.specs.Wards as wards
 use Rattle.register.specs.Candidates as candidates
 use Rattle.register.specs.Machine.{accepted, kept, refused, step, decided}
@@ -84,6 +85,35 @@ no_ward_to_withdraw = refl
 too_late_to_withdraw : step (with_quay Sealed (dee ∷ []) []) 0 (codes "x1") (Candidate (Withdraw 8 1)) ≡ refused WrongPhase
 unfolding step decided is_id candidates.subject_of candidates.reply_to digits dee
 too_late_to_withdraw = refl
+
+-- ---- which are states
+
+contested_in_keying : item2 (with_quay Keying (dee ∷ eve ∷ fay ∷ []) []) ≡ true
+unfolding dee eve fay
+contested_in_keying = refl
+
+uncontested_in_keying : item2 (with_quay Keying (dee ∷ eve ∷ []) []) ≡ false
+unfolding dee eve
+uncontested_in_keying = refl
+
+sealed_with_none : item2 (with_quay Sealed [] []) ≡ false
+sealed_with_none = refl
+
+candidate_of_no_ward : item2 (with_quay Nominations (dee ∷ record { ward = 9; number = 1; name = codes "Gil" } ∷ []) []) ≡ false
+unfolding dee
+candidate_of_no_ward = refl
+
+contested_and_sealed : are_reached (with_quay Sealed (dee ∷ eve ∷ fay ∷ []) []) ≡ false
+unfolding dee eve fay
+contested_and_sealed = refl
+
+uncontested_and_sealed : are_reached (with_quay Sealed (dee ∷ eve ∷ []) []) ≡ true
+unfolding dee eve
+uncontested_and_sealed = refl
+
+declared : are_reached (with_quay Declared (dee ∷ eve ∷ []) []) ≡ false
+unfolding dee eve
+declared = refl
 
 -- ---- names, each good or not
 

@@ -14,7 +14,7 @@ use Rattle.rowcheck.specs.declared.rows.Rows.{Rows}
 use Rattle.rowcheck.specs.declared.nominations.Asked.{Asked}
 use Rattle.rowcheck.specs.declared.nominations.Asked.TheVariants.{Enough, Reached}
 use Rattle.rowcheck.specs.States.{state_of}
-use Rattle.rowcheck.specs.Nominations.{meet_by_run}
+use Rattle.rowcheck.specs.Nominations.{meets, meet_by_run}
 use Rattle.rowcheck.proofs.RunLemmas.{by_run_map, below_from, equal_from, walk_tells}
 
 -- candidates in the order of their keys are in the order of their wards
@@ -26,21 +26,13 @@ ward_order c d less = go (nat_cmp c.ward d.ward) refl less
     go Equal is told = let e = equal_from c.ward d.ward is in omega (arith, e)
     go Greater is told = absurd (cc)
 
--- what is asked of an entry
-abbrev asked_of : Asked → WardEntry → List CandidateEntry → Bool
-asked_of Enough w candidates = are_enough w.phase w candidates
-asked_of Reached w candidates = is_reached w candidates
-
 -- the walk tells whether each candidate has its ward, and each ward meets what is asked
 walked : (asked : Asked) (rows : Rows) → MapsRise (state_of rows)
     → meet_by_run asked rows.wards.items rows.candidates.items
-    ≡ (list_all (λ c. is_some (ward_at (state_of rows) c.ward)) (state_of rows).candidates && list_all (λ w. asked_of asked w (candidates_of (state_of rows) w.number)) (state_of rows).wards)
-walked Enough rows rise =
-    by_run_map ward_entry candidate_entry (λ (w : WardEntry). w.number) (λ (c : CandidateEntry). c.ward) (asked_of Enough) rows.wards.items rows.candidates.items
-    ∙ walk_tells (λ (w : WardEntry). w.number) (λ (c : CandidateEntry). c.ward) candidate_cmp ward_order (asked_of Enough) (map ward_entry rows.wards.items) (map candidate_entry rows.candidates.items) rise.wards rise.candidates
-walked Reached rows rise =
-    by_run_map ward_entry candidate_entry (λ (w : WardEntry). w.number) (λ (c : CandidateEntry). c.ward) (asked_of Reached) rows.wards.items rows.candidates.items
-    ∙ walk_tells (λ (w : WardEntry). w.number) (λ (c : CandidateEntry). c.ward) candidate_cmp ward_order (asked_of Reached) (map ward_entry rows.wards.items) (map candidate_entry rows.candidates.items) rise.wards rise.candidates
+    ≡ (list_all (λ c. is_some (ward_at (state_of rows) c.ward)) (state_of rows).candidates && list_all (λ w. meets asked w (candidates_of (state_of rows) w.number)) (state_of rows).wards)
+walked asked rows rise =
+    by_run_map ward_entry candidate_entry (λ (w : WardEntry). w.number) (λ (c : CandidateEntry). c.ward) (meets asked) rows.wards.items rows.candidates.items
+      ∙ walk_tells (λ (w : WardEntry). w.number) (λ (c : CandidateEntry). c.ward) candidate_cmp ward_order (meets asked) (map ward_entry rows.wards.items) (map candidate_entry rows.candidates.items) rise.wards rise.candidates
 
 pub walked_enough : (rows : Rows) → MapsRise (state_of rows) → meet_by_run Enough rows.wards.items rows.candidates.items ≡ item2 (state_of rows)
 walked_enough rows rise = walked Enough rows rise

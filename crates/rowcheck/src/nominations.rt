@@ -49,7 +49,7 @@ fn is_reached(ward: &Ward, candidates: &[Candidate]) -> bool
 }
 
 fn meets(asked: Asked, ward: &Ward, candidates: &[Candidate]) -> bool
-    ensures { result ≡ meets asked ward.now candidates.now }
+    ensures { result ≡ meets asked (ward_entry ward.now) (map candidate_entry candidates.now) }
 {
     match asked {
         Asked::Enough => are_enough(ward, candidates),
