@@ -54,8 +54,8 @@ closed_stays s actor ward w found stood is =
     let own = found_passes (ward_compared ward) (λ x. is_reached x (candidates_of s x.number)) w s.wards is.reached found in
     let none : (w.done == 0) ≡ true = (and_parts (w.done == 0) (is_led_to w.phase w (candidates_of s w.number)) own).0 in
     rw
-      found
-      (moved_stays s ward w (cond (is_contested w candidates) Keying Sealed) found (closed_enough w candidates stood (is_contested w candidates) refl) (closed_led_to w candidates none (is_contested w candidates) refl) is)
+    found
+    (moved_stays s ward w (cond (is_contested w candidates) Keying Sealed) found (closed_enough w candidates stood (is_contested w candidates) refl) (closed_led_to w candidates none (is_contested w candidates) refl) is)
 
 -- ---- each command
 

@@ -1,10 +1,11 @@
 //! The first morning of an office, request by request.
 
+use crate::candidates::{Candidate, CandidateCommand};
 use crate::command::Command;
 use crate::decision::Decision;
 use crate::machine::decide;
 use crate::phase::Phase;
-use crate::ranges::{is_clerk, is_reply, is_seat_number};
+use crate::ranges::{is_candidate_number, is_clerk, is_reply, is_seat_number};
 use crate::receipt::Receipt;
 use crate::view::{Part, View};
 use crate::wards::{Ward, WardCommand};
@@ -87,6 +88,149 @@ fn each_request_has_its_answer(rt: HostRuntime) -> Result<(), Fail> {
     Ok(())
 }
 
+/// What the office holds of ward 8, of two seats: its phase, and candidates 1 to `standing`.
+fn quay<'a>(
+    alloc: Global,
+    id: &'a str,
+    phase: Phase,
+    standing: u32,
+    candidate: u32,
+) -> Result<View<'a>, AllocError> {
+    let mut candidates = Vec::new(alloc);
+    for number in 1..=standing {
+        let name = String::from_str(alloc, "Dee")?;
+        candidates.push(Candidate {
+            ward: 8,
+            number,
+            name,
+        })?;
+    }
+    let named = Candidate {
+        ward: 8,
+        number: candidate,
+        name: String::from_str(alloc, "Dee")?,
+    };
+    Ok(View {
+        actor: 0,
+        id,
+        receipt: None,
+        part: Part {
+            ward: Some(Ward {
+                number: 8,
+                seats: 2,
+                phase,
+                done: 0,
+                name: String::from_str(alloc, "Quay")?,
+            }),
+            candidate: if candidate <= standing {
+                Some(named)
+            } else {
+                None
+            },
+            candidates,
+        },
+    })
+}
+
+#[test]
+fn nominations_have_their_answers(rt: HostRuntime) -> Result<(), Fail> {
+    let alloc = rt.alloc();
+    let open = Phase::Nominations;
+    let cases = [
+        (
+            8,
+            3,
+            "Fay",
+            open,
+            "accepted: candidate 3 of ward 8 added (c3, candidate 8 3)",
+        ),
+        (8, 31, "Fay", open, "refused 3: number out of range"),
+        (100, 3, "Fay", open, "refused 3: number out of range"),
+        (8, 3, "", open, "refused 4: bad name"),
+        (8, 3, "Fay", Phase::Keying, "refused 9: wrong phase"),
+        (8, 2, "Fay", open, "refused 10: candidate exists"),
+    ];
+    for (ward, candidate, name, phase, wanted) in cases {
+        let command = Command::Candidate(CandidateCommand::Add {
+            ward,
+            candidate,
+            name: String::from_str(alloc, name)?,
+        });
+        let view = quay(alloc, "c3", phase, 2, candidate)?;
+        assert_eq!(rt;
+            told(alloc, &decide(alloc, &view, &command)?)?.as_str(),
+            wanted
+        );
+    }
+    Ok(())
+}
+
+#[test]
+fn withdrawals_have_their_answers(rt: HostRuntime) -> Result<(), Fail> {
+    let alloc = rt.alloc();
+    let open = Phase::Nominations;
+    let cases = [
+        (
+            2,
+            open,
+            "accepted: candidate 2 of ward 8 withdrawn (x2, withdraw 8 2)",
+        ),
+        (0, open, "refused 3: number out of range"),
+        (2, Phase::Sealed, "refused 9: wrong phase"),
+        (3, open, "refused 11: no such candidate"),
+    ];
+    for (candidate, phase, wanted) in cases {
+        let command = Command::Candidate(CandidateCommand::Withdraw { ward: 8, candidate });
+        let view = quay(alloc, "x2", phase, 2, candidate)?;
+        assert_eq!(rt;
+            told(alloc, &decide(alloc, &view, &command)?)?.as_str(),
+            wanted
+        );
+    }
+    Ok(())
+}
+
+#[test]
+fn closings_have_their_answers(rt: HostRuntime) -> Result<(), Fail> {
+    let alloc = rt.alloc();
+    let open = Phase::Nominations;
+    let cases = [
+        (8, 3, open, "accepted: ward 8 polled (k8, close 8)"),
+        (8, 2, open, "accepted: ward 8 uncontested (k8, close 8)"),
+        (0, 3, open, "refused 3: number out of range"),
+        (8, 3, Phase::Keying, "refused 9: wrong phase"),
+        (8, 0, open, "refused 12: no candidates"),
+    ];
+    for (ward, standing, phase, wanted) in cases {
+        let command = Command::Ward(WardCommand::Close { ward });
+        let view = quay(alloc, "k8", phase, standing, 1)?;
+        assert_eq!(rt;
+            told(alloc, &decide(alloc, &view, &command)?)?.as_str(),
+            wanted
+        );
+    }
+    let nowhere = view_of(alloc, 0, "k9", 9)?;
+    let commands = [
+        Command::Ward(WardCommand::Close { ward: 9 }),
+        Command::Candidate(CandidateCommand::Withdraw {
+            ward: 9,
+            candidate: 1,
+        }),
+        Command::Candidate(CandidateCommand::Add {
+            ward: 9,
+            candidate: 1,
+            name: String::from_str(alloc, "Fay")?,
+        }),
+    ];
+    for command in &commands {
+        assert_eq!(rt;
+            told(alloc, &decide(alloc, &nowhere, command)?)?.as_str(),
+            "refused 5: no such ward"
+        );
+    }
+    Ok(())
+}
+
 #[test]
 fn numbers_in_range(rt: HostRuntime) {
     let phases = [
@@ -101,5 +245,9 @@ fn numbers_in_range(rt: HostRuntime) {
     assert_eq!(rt; Phase::Sealed.number(), 3);
     assert_eq!(rt; (is_clerk(999), is_clerk(1000)), (true, false));
     assert_eq!(rt; (is_seat_number(15), is_seat_number(16)), (true, false));
+    assert_eq!(rt;
+        (is_candidate_number(30), is_candidate_number(31)),
+        (true, false)
+    );
     assert_eq!(rt; (is_reply("ward 7 added"), is_reply("\n")), (true, false));
 }
