@@ -32,7 +32,7 @@ walked : (asked : Asked) (rows : Rows) → MapsRise (state_of rows)
     ≡ (list_all (λ c. is_some (ward_at (state_of rows) c.ward)) (state_of rows).candidates && list_all (λ w. meets asked w (candidates_of (state_of rows) w.number)) (state_of rows).wards)
 walked asked rows rise =
     by_run_map ward_entry candidate_entry (λ (w : WardEntry). w.number) (λ (c : CandidateEntry). c.ward) (meets asked) rows.wards.items rows.candidates.items
-      ∙ walk_tells (λ (w : WardEntry). w.number) (λ (c : CandidateEntry). c.ward) candidate_cmp ward_order (meets asked) (map ward_entry rows.wards.items) (map candidate_entry rows.candidates.items) rise.wards rise.candidates
+    ∙ walk_tells (λ (w : WardEntry). w.number) (λ (c : CandidateEntry). c.ward) candidate_cmp ward_order (meets asked) (map ward_entry rows.wards.items) (map candidate_entry rows.candidates.items) rise.wards rise.candidates
 
 pub walked_enough : (rows : Rows) → MapsRise (state_of rows) → meet_by_run Enough rows.wards.items rows.candidates.items ≡ item2 (state_of rows)
 walked_enough rows rise = walked Enough rows rise
