@@ -88,48 +88,55 @@ fn each_request_has_its_answer(rt: HostRuntime) -> Result<(), Fail> {
     Ok(())
 }
 
-/// What the office holds of ward 8, of two seats: its phase, and candidates 1 to `standing`.
-fn quay<'a>(
+/// What the office holds of a ward: of 8, two seats, a phase and candidates 1 to `standing`.
+fn quay(
     alloc: Global,
-    id: &'a str,
+    ward: u32,
     phase: Phase,
     standing: u32,
     candidate: u32,
-) -> Result<View<'a>, AllocError> {
+) -> Result<Part, AllocError> {
     let mut candidates = Vec::new(alloc);
     for number in 1..=standing {
         let name = String::from_str(alloc, "Dee")?;
-        candidates.push(Candidate {
-            ward: 8,
-            number,
-            name,
-        })?;
+        candidates.push(Candidate { ward, number, name })?;
     }
     let named = Candidate {
-        ward: 8,
+        ward,
         number: candidate,
         name: String::from_str(alloc, "Dee")?,
     };
-    Ok(View {
-        actor: 0,
-        id,
-        receipt: None,
-        part: Part {
-            ward: Some(Ward {
-                number: 8,
-                seats: 2,
-                phase,
-                done: 0,
-                name: String::from_str(alloc, "Quay")?,
-            }),
-            candidate: if candidate <= standing {
-                Some(named)
-            } else {
-                None
-            },
-            candidates,
+    let quay = Ward {
+        number: 8,
+        seats: 2,
+        phase,
+        done: 0,
+        name: String::from_str(alloc, "Quay")?,
+    };
+    Ok(Part {
+        ward: if ward == 8 { Some(quay) } else { None },
+        candidate: if candidate <= standing {
+            Some(named)
+        } else {
+            None
         },
+        candidates,
     })
+}
+
+/// The command of this word; any other word is the name of a new candidate.
+fn ordered(alloc: Global, word: &str, ward: u32, candidate: u32) -> Result<Command, AllocError> {
+    if word == "close" {
+        return Ok(Command::Ward(WardCommand::Close { ward }));
+    }
+    if word == "withdraw" {
+        return Ok(Command::Candidate(CandidateCommand::Withdraw { ward, candidate }));
+    }
+    Ok(Command::Candidate(CandidateCommand::Add {
+        ward,
+        candidate,
+        name: String::from_str(alloc, word)?,
+    }))
 }
 
 #[test]
@@ -138,95 +145,67 @@ fn nominations_have_their_answers(rt: HostRuntime) -> Result<(), Fail> {
     let open = Phase::Nominations;
     let cases = [
         (
+            "Fay",
             8,
             3,
-            "Fay",
-            open,
-            "accepted: candidate 3 of ward 8 added (c3, candidate 8 3)",
-        ),
-        (8, 31, "Fay", open, "refused 3: number out of range"),
-        (100, 3, "Fay", open, "refused 3: number out of range"),
-        (8, 3, "", open, "refused 4: bad name"),
-        (8, 3, "Fay", Phase::Keying, "refused 9: wrong phase"),
-        (8, 2, "Fay", open, "refused 10: candidate exists"),
-    ];
-    for (ward, candidate, name, phase, wanted) in cases {
-        let command = Command::Candidate(CandidateCommand::Add {
-            ward,
-            candidate,
-            name: String::from_str(alloc, name)?,
-        });
-        let view = quay(alloc, "c3", phase, 2, candidate)?;
-        assert_eq!(rt;
-            told(alloc, &decide(alloc, &view, &command)?)?.as_str(),
-            wanted
-        );
-    }
-    Ok(())
-}
-
-#[test]
-fn withdrawals_have_their_answers(rt: HostRuntime) -> Result<(), Fail> {
-    let alloc = rt.alloc();
-    let open = Phase::Nominations;
-    let cases = [
-        (
             2,
             open,
-            "accepted: candidate 2 of ward 8 withdrawn (x2, withdraw 8 2)",
+            "accepted: candidate 3 of ward 8 added (n1, candidate 8 3)",
         ),
-        (0, open, "refused 3: number out of range"),
-        (2, Phase::Sealed, "refused 9: wrong phase"),
-        (3, open, "refused 11: no such candidate"),
+        ("Fay", 8, 31, 2, open, "refused 3: number out of range"),
+        ("", 9, 3, 2, open, "refused 4: bad name"),
+        ("Fay", 9, 3, 2, Phase::Keying, "refused 5: no such ward"),
+        ("Fay", 8, 2, 2, Phase::Keying, "refused 9: wrong phase"),
+        ("Fay", 8, 2, 2, open, "refused 10: candidate exists"),
+        (
+            "withdraw",
+            8,
+            2,
+            2,
+            open,
+            "accepted: candidate 2 of ward 8 withdrawn (n1, withdraw 8 2)",
+        ),
+        ("withdraw", 8, 0, 2, open, "refused 3: number out of range"),
+        (
+            "withdraw",
+            9,
+            3,
+            2,
+            Phase::Sealed,
+            "refused 5: no such ward",
+        ),
+        ("withdraw", 8, 3, 2, Phase::Sealed, "refused 9: wrong phase"),
+        ("withdraw", 8, 3, 2, open, "refused 11: no such candidate"),
+        (
+            "close",
+            8,
+            1,
+            3,
+            open,
+            "accepted: ward 8 polled (n1, close 8)",
+        ),
+        (
+            "close",
+            8,
+            1,
+            2,
+            open,
+            "accepted: ward 8 uncontested (n1, close 8)",
+        ),
+        ("close", 100, 1, 0, open, "refused 3: number out of range"),
+        ("close", 9, 1, 0, open, "refused 5: no such ward"),
+        ("close", 8, 1, 0, Phase::Declared, "refused 9: wrong phase"),
+        ("close", 8, 1, 0, open, "refused 12: no candidates"),
     ];
-    for (candidate, phase, wanted) in cases {
-        let command = Command::Candidate(CandidateCommand::Withdraw { ward: 8, candidate });
-        let view = quay(alloc, "x2", phase, 2, candidate)?;
-        assert_eq!(rt;
-            told(alloc, &decide(alloc, &view, &command)?)?.as_str(),
-            wanted
-        );
-    }
-    Ok(())
-}
-
-#[test]
-fn closings_have_their_answers(rt: HostRuntime) -> Result<(), Fail> {
-    let alloc = rt.alloc();
-    let open = Phase::Nominations;
-    let cases = [
-        (8, 3, open, "accepted: ward 8 polled (k8, close 8)"),
-        (8, 2, open, "accepted: ward 8 uncontested (k8, close 8)"),
-        (0, 3, open, "refused 3: number out of range"),
-        (8, 3, Phase::Keying, "refused 9: wrong phase"),
-        (8, 0, open, "refused 12: no candidates"),
-    ];
-    for (ward, standing, phase, wanted) in cases {
-        let command = Command::Ward(WardCommand::Close { ward });
-        let view = quay(alloc, "k8", phase, standing, 1)?;
-        assert_eq!(rt;
-            told(alloc, &decide(alloc, &view, &command)?)?.as_str(),
-            wanted
-        );
-    }
-    let nowhere = view_of(alloc, 0, "k9", 9)?;
-    let commands = [
-        Command::Ward(WardCommand::Close { ward: 9 }),
-        Command::Candidate(CandidateCommand::Withdraw {
-            ward: 9,
-            candidate: 1,
-        }),
-        Command::Candidate(CandidateCommand::Add {
-            ward: 9,
-            candidate: 1,
-            name: String::from_str(alloc, "Fay")?,
-        }),
-    ];
-    for command in &commands {
-        assert_eq!(rt;
-            told(alloc, &decide(alloc, &nowhere, command)?)?.as_str(),
-            "refused 5: no such ward"
-        );
+    for (word, ward, candidate, standing, phase, wanted) in cases {
+        let view = View {
+            actor: 0,
+            id: "n1",
+            receipt: None,
+            part: quay(alloc, ward, phase, standing, candidate)?,
+        };
+        let decision = decide(alloc, &view, &ordered(alloc, word, ward, candidate)?)?;
+        assert_eq!(rt; told(alloc, &decision)?.as_str(), wanted);
     }
     Ok(())
 }
