@@ -1,20 +1,15 @@
 -- What may be put into the maps of a state, so that there is a state again.
-use Rattle.std.proofs.Common.{◌≡◌, ℕ, ◌==◌, Bool, true, false, ◌&&◌, cond, List, filter, Some, None, is_some, refl, sym, ap, ◌∙◌}
+use Rattle.std.proofs.Common.{◌≡◌, ℕ, Bool, true, List, None, is_some, refl}
 use Rattle.std.specs.Str.{is_utf8}
 use Rattle.std.specs.List.{list_all}
-use Rattle.std.specs.List.Sorted.{IsStrictlySortedBy}
-use Rattle.std.specs.Ordering.{nat_cmp, is_eq}
-use Rattle.std.specs.Cmp.{unsigned_tied}
 use Rattle.std.specs.Cmp.{IsTotalOrder}
-use Rattle.std.proofs.lemmas.Bool.{and_parts, and_from, eqb-true}
-use Rattle.std.proofs.lemmas.List.Folds.{list_all-map}
+use Rattle.std.proofs.lemmas.Bool.{and_parts, and_from}
 use Rattle.std.proofs.lemmas.Cmp.{nat_cmp_total, on_total, then_total, nat_list_cmp_total}
 use Rattle.register.specs.Ranges.{is_office, is_reply}
 use Rattle.register.specs.Subjects.{is_office_subject}
-use Rattle.register.specs.declared.phase.Phase.{Phase}
 use Rattle.register.specs.declared.phase.Phase.TheVariants.{Nominations}
 use Rattle.register.specs.Nominations.{are_enough, is_reached}
-use Rattle.register.specs.Offices.{WardEntry, CandidateEntry, ReceiptEntry, OfficeState, ward_cmp, candidate_cmp, receipt_cmp, ward_compared, candidate_compared, ward_at, candidate_at, candidates_of, receipt_at}
+use Rattle.register.specs.Offices.{WardEntry, CandidateEntry, ReceiptEntry, OfficeState, ward_cmp, candidate_cmp, receipt_cmp, ward_compared, ward_at, candidates_of, receipt_at}
 use Rattle.register.specs.Items.{is_ward, is_candidate, is_about, is_receipt, item2, are_reached, IsState}
 use Rattle.register.specs.Effects.{EffectEntry, ward_added, ward_moved, candidate_added, candidate_withdrawn, with_effect, with_receipt}
 use Rattle.register.proofs.MapLemmas.{IsMap, list_all_weaker, put_all, put_is_map, found_put_too}

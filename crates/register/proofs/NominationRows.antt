@@ -1,5 +1,5 @@
 -- Nominations, computed: candidates stand and withdraw, and a ward is closed, contested or not.
-use Rattle.std.proofs.Common.{ℕ, true, false, ◌≡◌, List, [], ◌∷◌, ◌++◌, codes, refl, string_bytes}
+use Rattle.std.proofs.Common.{ℕ, true, false, ◌≡◌, List, [], ◌∷◌, codes, refl, string_bytes}
 use Rattle.std.specs.Fmt.{digits}
 use Rattle.std.specs.declared.string.String.{String}
 use Rattle.std.specs.declared.alloc.Global.{Global}

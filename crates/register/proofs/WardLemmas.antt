@@ -1,8 +1,7 @@
 -- The commands about wards, where nothing stands against them, lead from a state to a state, and leave a receipt in range.
-use Rattle.std.proofs.Common.{rules, ◌≡◌, ℕ, Bool, true, false, cond, ◌&&◌, ◌==◌, ◌++◌, not, codes, List, Some, None, string_bytes, refl, sym, ap, ◌∙◌, arith}
+use Rattle.std.proofs.Common.{rules, ◌≡◌, ℕ, Bool, true, false, cond, ◌&&◌, ◌==◌, ◌++◌, not, codes, List, Some, None, string_bytes, refl, ap, arith}
 use Rattle.std.specs.Fmt.{decimal}
 use Rattle.std.proofs.lemmas.Bool.{and_parts, and_from}
-use Rattle.register.specs.declared.phase.Phase.{Phase}
 use Rattle.register.specs.declared.phase.Phase.TheVariants.{Nominations, Keying, Sealed}
 use Rattle.register.specs.declared.refusal.Reason.TheVariants.{NumberOutOfRange, BadName, WardExists, WrongPhase, NoCandidates}
 use Rattle.register.specs.declared.wards.WardCommand.{WardCommand}
@@ -14,8 +13,7 @@ use Rattle.register.specs.Offices.{WardEntry, CandidateEntry, OfficeState, ward_
 use Rattle.register.specs.Nominations.{is_contested, is_stood_in, is_led_to, is_reached}
 use Rattle.register.specs.Items.{is_ward, IsState}
 use Rattle.register.specs.Effects.{in_phase, with_effect}
-use Rattle.register.specs.Parts.{PartEntries}
-use Rattle.register.specs.Wards.{part_of, is_in_range, objections, is_polled, closed_word, subject_of, reply_to, effect_of}
+use Rattle.register.specs.Wards.{part_of, is_in_range, objections, is_polled, subject_of, reply_to, effect_of}
 use Rattle.register.proofs.LineLemmas.{is_plain-decimal, IsLine, words, line_append, line_number, line_reply, line_text}
 use Rattle.register.proofs.ObjectionLemmas.{none_objects, asked, absent, there}
 use Rattle.register.proofs.MapLemmas.{found_passes}

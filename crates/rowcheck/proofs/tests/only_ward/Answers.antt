@@ -1,4 +1,3 @@
-use Rattle.std.proofs.Common.{refl}
 use Rattle.std.specs.List.Sorted.{IsStrictlySortedBy}
 use Rattle.rowcheck.proofs.tests.only_ward.Goals as goal
 
