@@ -78,6 +78,10 @@ no_candidate : step (with_quay Nominations (dee ∷ []) []) 0 (codes "x1") (Cand
 unfolding step decided is_id candidates.subject_of candidates.reply_to digits dee
 no_candidate = refl
 
+no_such_number : step (with_quay Nominations (dee ∷ []) []) 0 (codes "x1") (Candidate (Withdraw 8 0)) ≡ refused NumberOutOfRange
+unfolding step decided is_id candidates.subject_of candidates.reply_to digits dee
+no_such_number = refl
+
 no_ward_to_withdraw : step (with_quay Nominations (dee ∷ []) []) 0 (codes "x1") (Candidate (Withdraw 7 1)) ≡ refused NoSuchWard
 unfolding step decided is_id candidates.subject_of candidates.reply_to digits dee
 no_ward_to_withdraw = refl

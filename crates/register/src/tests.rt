@@ -142,7 +142,7 @@ fn ordered(alloc: Global, word: &str, ward: u32, candidate: u32) -> Result<Comma
 #[test]
 fn nominations_have_their_answers(rt: HostRuntime) -> Result<(), Fail> {
     let alloc = rt.alloc();
-    let open = Phase::Nominations;
+    let (open, late) = (Phase::Nominations, Phase::Sealed);
     let cases = [
         (
             "Fay",
@@ -154,8 +154,8 @@ fn nominations_have_their_answers(rt: HostRuntime) -> Result<(), Fail> {
         ),
         ("Fay", 8, 31, 2, open, "refused 3: number out of range"),
         ("", 9, 3, 2, open, "refused 4: bad name"),
-        ("Fay", 9, 3, 2, Phase::Keying, "refused 5: no such ward"),
-        ("Fay", 8, 2, 2, Phase::Keying, "refused 9: wrong phase"),
+        ("Fay", 9, 3, 2, late, "refused 5: no such ward"),
+        ("Fay", 8, 2, 2, late, "refused 9: wrong phase"),
         ("Fay", 8, 2, 2, open, "refused 10: candidate exists"),
         (
             "withdraw",
@@ -166,15 +166,8 @@ fn nominations_have_their_answers(rt: HostRuntime) -> Result<(), Fail> {
             "accepted: candidate 2 of ward 8 withdrawn (n1, withdraw 8 2)",
         ),
         ("withdraw", 8, 0, 2, open, "refused 3: number out of range"),
-        (
-            "withdraw",
-            9,
-            3,
-            2,
-            Phase::Sealed,
-            "refused 5: no such ward",
-        ),
-        ("withdraw", 8, 3, 2, Phase::Sealed, "refused 9: wrong phase"),
+        ("withdraw", 9, 3, 2, late, "refused 5: no such ward"),
+        ("withdraw", 8, 3, 2, late, "refused 9: wrong phase"),
         ("withdraw", 8, 3, 2, open, "refused 11: no such candidate"),
         (
             "close",
@@ -194,7 +187,7 @@ fn nominations_have_their_answers(rt: HostRuntime) -> Result<(), Fail> {
         ),
         ("close", 100, 1, 0, open, "refused 3: number out of range"),
         ("close", 9, 1, 0, open, "refused 5: no such ward"),
-        ("close", 8, 1, 0, Phase::Declared, "refused 9: wrong phase"),
+        ("close", 8, 1, 0, late, "refused 9: wrong phase"),
         ("close", 8, 1, 0, open, "refused 12: no candidates"),
     ];
     for (word, ward, candidate, standing, phase, wanted) in cases {
