@@ -102,24 +102,22 @@ fn words_are_read_to_orders(rt: HostRuntime) -> Result<(), Fail> {
     Ok(())
 }
 
-/// Right words of each order that takes any, and the place of a number among them, if one has.
-const RIGHT: [(&[&str], Option<usize>); 10] = [
-    (&["DB", "ward", "--id=a", "7", "2", "Harbour"], Some(4)),
-    (&["DB", "candidate", "--id=a", "7", "1", "Ann"], Some(4)),
-    (&["DB", "import-candidates", "--id=a", "a.csv"], None),
-    (&["DB", "withdraw", "--id=a", "7", "1"], Some(4)),
-    (&["DB", "close", "--id=a", "7"], Some(3)),
-    (
-        &["DB", "batch", "--id=a", "12", "7", "50", "4", "9"],
-        Some(7),
-    ),
+/// Right words of each order that takes any, and the place of a number among them, past the end
+/// where none is a number.
+const RIGHT: [(&[&str], usize); 10] = [
+    (&["DB", "ward", "--id=a", "7", "2", "Harbour"], 4),
+    (&["DB", "candidate", "--id=a", "7", "1", "Ann"], 4),
+    (&["DB", "import-candidates", "--id=a", "a.csv"], 9),
+    (&["DB", "withdraw", "--id=a", "7", "1"], 4),
+    (&["DB", "close", "--id=a", "7"], 3),
+    (&["DB", "batch", "--id=a", "12", "7", "50", "4", "9"], 7),
     (
         &["DB", "import-keying", "--id=a", "4", "12", "1", "a.csv"],
-        Some(5),
+        5,
     ),
-    (&["DB", "again", "--id=a", "12"], Some(3)),
-    (&["DB", "judge", "--id=a", "12", "31", "accept:"], Some(4)),
-    (&["DB", "status", "7"], Some(2)),
+    (&["DB", "again", "--id=a", "12"], 3),
+    (&["DB", "judge", "--id=a", "12", "31", "accept:"], 4),
+    (&["DB", "status", "7"], 2),
 ];
 
 /// Words that are no order are told with a text that holds this, and status 2.
@@ -138,15 +136,16 @@ fn a_word_too_few_too_many_or_wrong_is_told(rt: HostRuntime) -> Result<(), Fail>
             is_told(alloc, words.as_slice(), "unexpected argument 'more' found")?,
             "{words:?}"
         );
-        let fewer = &right[..right.len() - 1];
-        assert!(rt;
-            is_told(alloc, fewer, "required arguments were not provided")?,
-            "{fewer:?}"
-        );
-        if let Some(place) = place {
-            for (wrong, within) in WRONG_NUMBERS {
-                let mut words = Vec::from_slice(alloc, right)?;
-                words[place] = wrong;
+        if let Some((_, fewer)) = right.split_last() {
+            assert!(rt;
+                is_told(alloc, fewer, "required arguments were not provided")?,
+                "{fewer:?}"
+            );
+        }
+        for (wrong, within) in WRONG_NUMBERS {
+            let mut words = Vec::from_slice(alloc, right)?;
+            if let Some(number) = words.get_mut(place) {
+                *number = wrong;
                 assert!(rt; is_told(alloc, words.as_slice(), within)?, "{words:?}");
             }
         }
