@@ -13,18 +13,19 @@ use Rattle.clap.specs.declared.parser.matches.SubCommand.{SubCommand}
 use Rattle.clap.proofs.OnLiterals.{clap_on_literals}
 use Rattle.clap.proofs.CallerLemmas.{subcommand_required}
 use Rattle.clap.proofs.WalkLemmas.{both}
+use Rattle.desk.specs.Orders.{orders}
 use Rattle.desk.specs.Words.{is_order_name, names_order, office_words}
 
 office_is_simple : is_simple office_words ≡ true
-unfolding office_words clap_on_literals
+unfolding office_words orders clap_on_literals
 office_is_simple = refl
 
 subcommands_are_orders : list_all (λ (s : Shape). is_order_name s.name) (built office_words).subs ≡ true
-unfolding office_words clap_on_literals
+unfolding office_words orders clap_on_literals
 subcommands_are_orders = refl
 
 an_order_is_required : office_words.top.subcommand_required ≡ true
-unfolding office_words
+unfolding office_words orders
 an_order_is_required = refl
 
 -- of subcommands that are all orders, the one that is found is an order

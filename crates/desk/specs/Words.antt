@@ -1,14 +1,17 @@
--- The words that the program takes, and the order that they mean.
-use Rattle.std.specs.Prelude.{◌≡◌, ◌||◌, ℕ, Bool, true, false, List, [], Option, Some, None, pos, codes, if◌then◌else◌, unwrap_or}
+-- What `clap` takes for the words of an order, and the order that its matches mean, by the table of orders.
+use Rattle.std.specs.Prelude.{◌&&◌, eqb, ℕ, Bool, true, false, List, [], ◌∷◌, Option, Some, None, pos, codes, map, drop, length, find, if◌then◌else◌, option_and_then, option_map, unwrap_or}
 use Rattle.std.specs.Option.{option_map_or}
+use Rattle.std.specs.List.{list_all, list_any, starts_with}
+use Rattle.std.specs.Char.{is_ascii_digit}
 use Rattle.std.specs.Str.{bytes_eq}
 use Rattle.std.specs.Str.Parse.{digits_value, without_leading_plus}
 use Rattle.clap.specs.ValueTests.{accepts}
 use Rattle.clap.specs.Words.{App, Row, Rule, Text, first_of, new_app, new_rule, one_of, with_rule, with_subcommand}
 use Rattle.clap.specs.Simple.{on_top}
 use Rattle.clap.specs.declared.builder.value_parser.ValueParser.TheVariants as parser
-use Rattle.desk.specs.declared.orders.Order.{Order}
-use Rattle.desk.specs.declared.orders.Order.TheVariants as order
+use Rattle.desk.specs.declared.table.Kind.{Kind}
+use Rattle.desk.specs.declared.table.Kind.TheVariants as kind
+use Rattle.desk.specs.Orders.{OrderEntry, Value, Verdict, WordEntry, accepted, judged, numbered, orders, rejected, worded}
 
 -- a word that is a number of 0 to 4294967295
 abbrev pub number_rule : Text → Rule
@@ -18,18 +21,30 @@ number_rule name = record (new_rule name) { parser = Some (parser.Signed (pos 0)
 abbrev pub text_rule : Text → Rule
 text_rule name = record (new_rule name) { required = true }
 
--- the id, one value after `--id`
-abbrev pub id_rule : Rule
-id_rule = record (new_rule (codes "id")) { long = Some (codes "id"); value_names = 1; required = true }
+-- one value after `--` and the word's name
+abbrev pub id_rule : Text → Rule
+id_rule name = record (new_rule name) { long = Some name; value_names = 1; required = true }
 
--- `init`
-abbrev pub init_words : App
-init_words = new_app (codes "init")
+-- what `clap` is told of a word
+abbrev pub rule_of_kind : Kind → Text → Rule
+rule_of_kind kind.Number = number_rule
+rule_of_kind kind.Text = text_rule
+rule_of_kind kind.Verdict = text_rule
+rule_of_kind kind.Id = id_rule
 
--- `ward WARD SEATS NAME --id ID`
-abbrev pub ward_words : App
-ward_words = with_rule (with_rule (with_rule (with_rule (new_app (codes "ward"))
-    (number_rule (codes "WARD"))) (number_rule (codes "SEATS"))) (text_rule (codes "NAME"))) id_rule
+-- a command, and these words more
+abbrev pub with_words : App → List WordEntry → App
+with_words app [] = app
+with_words app (w ∷ ws) = with_words (with_rule app (rule_of_kind w.kind w.name)) ws
+
+-- the words of an order
+abbrev pub order_words : OrderEntry → App
+order_words e = with_words (new_app e.name) e.words
+
+-- a command, and these orders more
+abbrev pub with_orders : App → List OrderEntry → App
+with_orders app [] = app
+with_orders app (e ∷ es) = with_orders (with_subcommand app (order_words e).top) es
 
 -- DB, and then an order, which may not be left out
 abbrev pub start_words : App
@@ -38,7 +53,7 @@ start_words = on_top (λ s. record s { subcommand_required = true; arg_required_
 
 -- all orders of the program
 unfoldable pub office_words : App
-office_words = with_subcommand (with_subcommand start_words init_words.top) ward_words.top
+office_words = with_orders start_words orders
 
 -- the number that a text is, and 0 where it is none
 abbrev pub number_of : Text → ℕ
@@ -52,21 +67,55 @@ number_at name rows = option_map_or number_of (one_of name rows) 0
 abbrev pub text_at : Text → List Row → Text
 text_at name rows = unwrap_or (first_of name rows) []
 
--- what was matched after the order's name means this order, with these values
-abbrev pub IsOrder : Text → List Row → Order → Type 0
-IsOrder name rows order.Init = name ≡ codes "init"
-IsOrder name rows (order.Ward ward seats title id) = (name ≡ codes "ward")
-    × (ward ≡ number_at (codes "WARD") rows) × (seats ≡ number_at (codes "SEATS") rows)
-    × (title.now ≡ text_at (codes "NAME") rows) × (id.now ≡ text_at (codes "id") rows)
+-- what follows a text's beginning, if it is this one
+abbrev pub text_after : Text → Text → Option Text
+text_after beginning t = if starts_with eqb t beginning then Some (drop (length beginning) t) else None
 
--- the matches mean this order
-abbrev pub MeansOrder : Option (Text × List Row) → Order → Type 0
-MeansOrder None o = ⊥
-MeansOrder (Some found) o = IsOrder found.0 found.1 o
+-- the number that digits alone are, if it is at most 4294967295
+abbrev pub digits_number : Text → Option ℕ
+digits_number t = if list_all is_ascii_digit t && accepts false (parser.Unsigned 0 4294967295) t then Some (number_of t) else None
+
+-- the rejection that a text tells, `reject:` and its number
+abbrev pub rejection_of : Text → Option Verdict
+rejection_of t = option_map rejected (option_and_then digits_number (text_after (codes "reject:") t))
+
+-- the verdict that a text tells: `accept:` and a marks text, or a rejection
+abbrev pub verdict_of : Text → Option Verdict
+verdict_of t = option_map_or (λ marks. Some (accepted marks)) (text_after (codes "accept:") t) (rejection_of t)
+
+-- the value that the matches give a word
+abbrev pub value_of_kind : Kind → List Row → Text → Value
+value_of_kind kind.Number rows name = numbered (number_at name rows)
+value_of_kind kind.Text rows name = worded (text_at name rows)
+value_of_kind kind.Verdict rows name = judged (verdict_of (text_at name rows))
+value_of_kind kind.Id rows name = worded (text_at name rows)
+
+-- an order's name and the values that the matches give its words
+abbrev pub read_by : List Row → OrderEntry → Text × List Value
+read_by rows e = (e.name, map (λ w. value_of_kind w.kind rows w.name) e.words)
+
+-- the matches as a name and values, read by the table of orders
+abbrev pub meaning_of : Text → List Row → Option (Text × List Value)
+meaning_of name rows = option_map (read_by rows) (find (λ e. bytes_eq name e.name) orders)
+
+-- what the matches mean
+abbrev pub meaning : Option (Text × List Row) → Option (Text × List Value)
+meaning None = None
+meaning (Some found) = meaning_of found.0 found.1
+
+-- a verdict whose word has neither form
+abbrev pub is_bad : Value → Bool
+is_bad (judged None) = true
+is_bad _ = false
+
+-- what the words mean has a verdict whose word has neither form
+abbrev pub has_bad_verdict : Option (Text × List Value) → Bool
+has_bad_verdict None = false
+has_bad_verdict (Some order) = list_any is_bad order.1
 
 -- the name is that of an order
 abbrev pub is_order_name : Text → Bool
-is_order_name n = bytes_eq n (codes "init") || bytes_eq n (codes "ward")
+is_order_name name = list_any (λ e. bytes_eq name e.name) orders
 
 -- the matches name an order
 abbrev pub names_order : Option (Text × List Row) → Bool

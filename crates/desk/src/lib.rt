@@ -14,11 +14,12 @@
 
 // Words to an order.
 pub mod orders;
+mod table;
 pub mod words;
 // An order to its line and its status.
 pub mod lines;
 pub mod perform;
 
 pub use lines::{Failure, tell_failure, tell_words};
-pub use orders::Order;
+pub use orders::{Order, VerdictWord};
 pub use words::{WordsFault, order};

@@ -48,6 +48,11 @@ fn ward_command(alloc: Global, ward: u32, seats: u32, name: &str) -> Result<Comm
     }))
 }
 
+/// Stands for the orders that are read but not done yet; it goes with the last of them.
+fn not_yet<S: Alter>(conn: Connection<S>) -> (Outcome, Connection<S>) {
+    (Outcome::Failed(Fault::Store), conn)
+}
+
 /// Does an order over an opened connection, which it gives back, prints its line, and gives the status.
 ///
 /// The status is 0 where the reply, or `office ready`, went to `out`; 1 where the request was refused
@@ -74,6 +79,15 @@ pub fn perform<S: Alter, O: Sink, E: Sink>(
             Ok(command) => request(alloc, conn, id, &command),
             Err(AllocError) => (Outcome::Failed(Fault::Memory), conn),
         },
+        Order::Candidate { .. }
+        | Order::Withdraw { .. }
+        | Order::Close { .. }
+        | Order::Batch { .. }
+        | Order::ImportCandidates { .. }
+        | Order::ImportKeying { .. }
+        | Order::Again { .. }
+        | Order::Judge { .. }
+        | Order::Status { .. } => not_yet(conn),
     };
     (tell(&outcome, out, err), conn)
 }

@@ -1,11 +1,18 @@
 //! The words of the command line, read to one order.
 
-ghost use Rattle.std.specs.Prelude.{◌≡◌, ◌↔◌, true, false, None, map, pos, IfOk, IfErr, IfSome};
-ghost use Rattle.clap.specs.Words.{app_of, found_of, rows_of, subcommand_of, subcommand_rows_of, kind_of, takes, with_rule};
+ghost use Rattle.std.specs.Prelude.{◌≡◌, ◌⊎◌, true, false, None, Some, Ok, Err, map, IfOk, IfErr, option_map};
+ghost use Rattle.std.specs.Char.{is_ascii_digit};
+ghost use Rattle.std.specs.List.{list_all};
+ghost use Rattle.clap.specs.Words.{app_of, found_of, rows_of, subcommand_of, subcommand_rows_of, kind_of, takes, with_rule, with_subcommand};
 ghost use Rattle.clap.specs.declared.builder.command.Command.TheViews.{out-Command as fields_of};
-ghost use Rattle.desk.specs.Words.{IsOrder, MeansOrder, id_rule, init_words, is_order_name, names_order, number_at, number_rule, office_words, start_words, text_at, text_rule, ward_words};
+ghost use Rattle.desk.specs.Orders.{entry_of, told, verdict_told};
+ghost use Rattle.desk.specs.Words.{digits_number, has_bad_verdict, id_rule, is_order_name, meaning, meaning_of, names_order, number_at, number_rule, office_words, order_words, rule_of_kind, start_words, text_at, text_rule, verdict_of, with_orders};
 
-use crate::orders::Order;
+use crate::orders::{Order, VerdictWord};
+use crate::table::{
+    BATCH, CANDIDATE, CLERK, Entry, FILE, FIRST_CLERK, ID, Kind, NAME, PAPER, ROUND, SEATS,
+    SECOND_CLERK, SIZE, VERDICT, WARD, Word, entries,
+};
 use clap::error::ErrorKind;
 use clap::{Arg, ArgMatches, Command, Error, value_parser};
 use std::alloc::{AllocError, Global};
@@ -18,8 +25,7 @@ An office is one database file, DB. It keeps the wards of the election, and a re
 of each request that it accepted: the same request, sent again under the same id,
 prints the same reply and changes nothing.";
 
-const EXAMPLE: &str = "Example:
-  count-office town.db init
+const OUTCOMES: &str = "An example stands under each order. DB comes before it, as in
   count-office town.db ward 7 2 Harbour --id w1
 
 A reply goes to standard output, with status 0. What the office refuses goes to standard
@@ -30,13 +36,24 @@ error, with status 1; words that are not understood with 2, and faults with 3.";
 pub enum WordsFault {
     /// Memory was wanting.
     Memory,
+    /// VERDICT is neither `accept:` and a marks text nor `reject:` and a number.
+    Verdict,
     /// The text to print, and the status to end with: 0 where help was asked for, and 2 where the
     /// words are not understood.
     Words { text: String, status: u8 },
 }
 
+/// Why matches are no order.
+#[derive(Debug, Drop)]
+enum NoOrder {
+    /// No order has the name.
+    Name,
+    /// The verdict has neither form.
+    Verdict,
+}
+
 /// Adds a word that is a number of 0 to 4294967295.
-fn number<'a>(
+fn with_number<'a>(
     alloc: Global,
     command: Command<'a>,
     name: &'a str,
@@ -53,7 +70,7 @@ fn number<'a>(
 }
 
 /// Adds a word that is any text.
-fn text<'a>(
+fn with_text<'a>(
     alloc: Global,
     command: Command<'a>,
     name: &'a str,
@@ -67,34 +84,44 @@ fn text<'a>(
 }
 
 /// Adds the id under which a request is sent.
-fn identified<'a>(alloc: Global, command: Command<'a>) -> Result<Command<'a>, AllocError>
-    ensures app { IfOk result (λ c. app_of c ≡ with_rule (app_of command.entry) id_rule) }
+fn with_id<'a>(
+    alloc: Global,
+    command: Command<'a>,
+    name: &'a str,
+    help: &'a str,
+) -> Result<Command<'a>, AllocError>
+    ensures app { IfOk result (λ c. app_of c ≡ with_rule (app_of command.entry) (id_rule name.entry.now)) }
     ensures local { (fields_of command.entry).has_globals ≡ false → IfOk result (λ c. (fields_of c).has_globals ≡ false) }
 {
-    let arg = Arg::new(alloc, "id")
-        .long("id")
+    let arg = Arg::new(alloc, name)
+        .long(name)
         .value_name("ID")
-        .help("The request's id: 1 to 40 of a-z, 0-9 and -")
+        .help(help)
         .required(true);
     Ok(command.arg(arg)?)
 }
 
-fn init_command<'a>(alloc: Global) -> Command<'a>
-    ensures app { app_of result ≡ init_words }
-    ensures local { (fields_of result).has_globals ≡ false }
+fn with_word<'a>(alloc: Global, command: Command<'a>, word: Word) -> Result<Command<'a>, AllocError>
+    ensures app { IfOk result (λ c. app_of c ≡ with_rule (app_of command.entry) (rule_of_kind word.kind word.name.now)) }
+    ensures local { (fields_of command.entry).has_globals ≡ false → IfOk result (λ c. (fields_of c).has_globals ≡ false) }
 {
-    Command::new(alloc, "init").about("Makes an office in DB, a new file or an empty one")
+    match word.kind {
+        Kind::Number => with_number(alloc, command, word.name, word.help),
+        Kind::Text | Kind::Verdict => with_text(alloc, command, word.name, word.help),
+        Kind::Id => with_id(alloc, command, word.name, word.help),
+    }
 }
 
-fn ward_command<'a>(alloc: Global) -> Result<Command<'a>, AllocError>
-    ensures app { IfOk result (λ c. app_of c ≡ ward_words) }
+/// The command that reads the words of one order.
+fn order_command<'a>(alloc: Global, entry: Entry) -> Result<Command<'a>, AllocError>
+    ensures app { IfOk result (λ c. app_of c ≡ order_words (entry_of entry)) }
     ensures local { IfOk result (λ c. (fields_of c).has_globals ≡ false) }
 {
-    let command = Command::new(alloc, "ward").about("Adds a ward, its nominations open");
-    let command = number(alloc, command, "WARD", "The ward's number, 1 to 99")?;
-    let command = number(alloc, command, "SEATS", "How many it elects, 1 to 15")?;
-    let command = text(alloc, command, "NAME", "Its name, 1 to 120 bytes")?;
-    identified(alloc, command)
+    let mut command = Command::new(alloc, entry.name).about(entry.help);
+    for word in entry.words {
+        command = with_word(alloc, command, *word)?;
+    }
+    Ok(command)
 }
 
 fn start_command<'a>(alloc: Global) -> Command<'a>
@@ -103,7 +130,7 @@ fn start_command<'a>(alloc: Global) -> Command<'a>
 {
     Command::new(alloc, "count-office")
         .about(ABOUT)
-        .after_help(EXAMPLE)
+        .after_help(OUTCOMES)
         .subcommand_required(true)
         .arg_required_else_help(true)
         .disable_help_subcommand(true)
@@ -117,61 +144,166 @@ fn named<'a>(command: Command<'a>) -> Result<Command<'a>, AllocError>
     command.bin_name(USAGE_NAME)
 }
 
+fn with_order<'a>(
+    alloc: Global,
+    command: Command<'a>,
+    entry: Entry,
+) -> Result<Command<'a>, AllocError>
+    ensures app { IfOk result (λ c. app_of c ≡ with_subcommand (app_of command.entry) (order_words (entry_of entry)).top) }
+    ensures local { (fields_of command.entry).has_globals ≡ false → IfOk result (λ c. (fields_of c).has_globals ≡ false) }
+{
+    command.subcommand(order_command(alloc, entry)?)
+}
+
+/// Adds the orders of a table.
+fn with_orders<'a>(
+    alloc: Global,
+    mut command: Command<'a>,
+    entries: &[Entry],
+) -> Result<Command<'a>, AllocError>
+    ensures app { IfOk result (λ c. app_of c ≡ with_orders (app_of command.entry) (map entry_of entries.now)) }
+    ensures local { (fields_of command.entry).has_globals ≡ false → IfOk result (λ c. (fields_of c).has_globals ≡ false) }
+{
+    for entry in entries {
+        command = with_order(alloc, command, *entry)?;
+    }
+    Ok(command)
+}
+
 #[tactic(auto, unfolding(crate::specs::Words::office_words))]
 /// The command that reads the words.
 fn office_command<'a>(alloc: Global) -> Result<Command<'a>, AllocError>
     ensures app { IfOk result (λ c. app_of c ≡ office_words) }
     ensures local { IfOk result (λ c. (fields_of c).has_globals ≡ false) }
 {
-    named(start_command(alloc))?
-        .subcommand(init_command(alloc))?
-        .subcommand(ward_command(alloc)?)
+    with_orders(alloc, named(start_command(alloc))?, entries())
 }
 
-fn number_in(matches: &ArgMatches<'_>, name: &str) -> u32
-    ensures { result ≡ number_at name.now (rows_of (found_of matches.now)) }
+fn number_in(matches: &ArgMatches<'_>, word: Word) -> u32
+    ensures { result ≡ number_at word.name.now (rows_of (found_of matches.now)) }
 {
-    matches.get_one::<u32>(name).unwrap_or(0)
+    matches.get_one::<u32>(word.name).unwrap_or(0)
 }
 
-fn text_in<'a>(matches: &ArgMatches<'a>, name: &str) -> &'a str
-    ensures { result.now ≡ text_at name.now (rows_of (found_of matches.now)) }
+fn text_in<'a>(matches: &ArgMatches<'a>, word: Word) -> &'a str
+    ensures { result.now ≡ text_at word.name.now (rows_of (found_of matches.now)) }
 {
-    match matches.get_str(name) {
+    match matches.get_str(word.name) {
         Some(text) => text,
         None => "",
     }
 }
 
-/// The order of this name, if there is one, with the values that were matched.
-fn order_of_name<'a>(name: &str, matches: &ArgMatches<'a>) -> Option<Order<'a>>
-    ensures some { IfSome result (IsOrder name.now (rows_of (found_of matches.now))) }
-    ensures none { result ≡ None → is_order_name name.now ≡ false }
+fn all_digits(text: &[u8]) -> bool
+    ensures { result ≡ list_all is_ascii_digit text.now }
 {
-    if name == "init" {
-        Some(Order::Init)
-    } else if name == "ward" {
-        Some(Order::Ward {
-            ward: number_in(matches, "WARD"),
-            seats: number_in(matches, "SEATS"),
-            name: text_in(matches, "NAME"),
-            id: text_in(matches, "id"),
-        })
+    text.iter().all(|b| b.is_ascii_digit())
+}
+
+/// The number that digits alone are, if it fits.
+fn digits_number(text: &str) -> Option<u32>
+    ensures { result ≡ digits_number text.now }
+{
+    if all_digits(text.as_bytes()) {
+        text.parse().ok()
     } else {
         None
     }
 }
 
-fn order_in<'a>(matches: &ArgMatches<'a>) -> Option<Order<'a>>
-    ensures some { IfSome result (MeansOrder (subcommand_rows_of matches.now)) }
-    ensures none { result ≡ None → names_order (subcommand_rows_of matches.now) ≡ false }
+fn verdict_of<'a>(text: &'a str) -> Option<VerdictWord<'a>>
+    ensures { option_map verdict_told result ≡ verdict_of text.now }
 {
-    let (name, inner) = matches.subcommand()?;
-    order_of_name(name, inner)
+    if let Some(marks) = text.strip_prefix("accept:") {
+        return Some(VerdictWord::Accept(marks));
+    }
+    let number = digits_number(text.strip_prefix("reject:")?)?;
+    Some(VerdictWord::Reject(number))
+}
+
+#[tactic(auto, unfolding(crate::specs::Orders::orders))]
+/// The order of this name, with the values that were matched.
+fn order_named<'a>(name: &str, matches: &ArgMatches<'a>) -> Result<Order<'a>, NoOrder>
+    ensures ok { IfOk result (λ o. meaning_of name.now (rows_of (found_of matches.now)) ≡ Some (told o)) }
+    ensures verdict { result ≡ Err NoOrder.Verdict → has_bad_verdict (meaning_of name.now (rows_of (found_of matches.now))) ≡ true }
+    ensures name { result ≡ Err NoOrder.Name → is_order_name name.now ≡ false }
+{
+    match name {
+        "init" => Ok(Order::Init),
+        "ward" => Ok(Order::Ward {
+            ward: number_in(matches, WARD),
+            seats: number_in(matches, SEATS),
+            name: text_in(matches, NAME),
+            id: text_in(matches, ID),
+        }),
+        "candidate" => Ok(Order::Candidate {
+            ward: number_in(matches, WARD),
+            candidate: number_in(matches, CANDIDATE),
+            name: text_in(matches, NAME),
+            id: text_in(matches, ID),
+        }),
+        "import-candidates" => Ok(Order::ImportCandidates {
+            file: text_in(matches, FILE),
+            id: text_in(matches, ID),
+        }),
+        "withdraw" => Ok(Order::Withdraw {
+            ward: number_in(matches, WARD),
+            candidate: number_in(matches, CANDIDATE),
+            id: text_in(matches, ID),
+        }),
+        "close" => Ok(Order::Close {
+            ward: number_in(matches, WARD),
+            id: text_in(matches, ID),
+        }),
+        "batch" => Ok(Order::Batch {
+            batch: number_in(matches, BATCH),
+            ward: number_in(matches, WARD),
+            size: number_in(matches, SIZE),
+            first_clerk: number_in(matches, FIRST_CLERK),
+            second_clerk: number_in(matches, SECOND_CLERK),
+            id: text_in(matches, ID),
+        }),
+        "import-keying" => Ok(Order::ImportKeying {
+            clerk: number_in(matches, CLERK),
+            batch: number_in(matches, BATCH),
+            round: number_in(matches, ROUND),
+            file: text_in(matches, FILE),
+            id: text_in(matches, ID),
+        }),
+        "again" => Ok(Order::Again {
+            batch: number_in(matches, BATCH),
+            id: text_in(matches, ID),
+        }),
+        "judge" => match verdict_of(text_in(matches, VERDICT)) {
+            Some(verdict) => Ok(Order::Judge {
+                batch: number_in(matches, BATCH),
+                paper: number_in(matches, PAPER),
+                verdict,
+                id: text_in(matches, ID),
+            }),
+            None => Err(NoOrder::Verdict),
+        },
+        "status" => Ok(Order::Status {
+            ward: number_in(matches, WARD),
+        }),
+        _ => Err(NoOrder::Name),
+    }
+}
+
+fn order_in<'a>(matches: &ArgMatches<'a>) -> Result<Order<'a>, NoOrder>
+    ensures ok { IfOk result (λ o. meaning (subcommand_rows_of matches.now) ≡ Some (told o)) }
+    ensures verdict { result ≡ Err NoOrder.Verdict → has_bad_verdict (meaning (subcommand_rows_of matches.now)) ≡ true }
+    ensures name { result ≡ Err NoOrder.Name → names_order (subcommand_rows_of matches.now) ≡ false }
+{
+    match matches.subcommand() {
+        Some((name, inner)) => order_named(name, inner),
+        None => Err(NoOrder::Name),
+    }
 }
 
 fn refused(alloc: Global, error: &Error) -> WordsFault
-    ensures { kind_of error.now ≡ ErrorKind.OutOfMemory → result ≡ WordsFault.Memory }
+    ensures memory { kind_of error.now ≡ ErrorKind.OutOfMemory → result ≡ WordsFault.Memory }
+    ensures told { (result ≡ WordsFault.Verdict) → ⊥ }
 {
     if error.kind() == ErrorKind::OutOfMemory {
         return WordsFault::Memory;
@@ -189,24 +321,27 @@ fn refused(alloc: Global, error: &Error) -> WordsFault
 
 /// Reads the words, of which the first is DB, to one order.
 ///
-/// The order and its values are those that `clap` matches in the words. Words that `clap` takes are
-/// refused for want of memory alone.
+/// The order and its values are those that `clap` matches in the words, read by the table of orders.
+/// Words that `clap` takes are refused for want of memory alone, or for a VERDICT of neither form.
 pub fn order<'a>(alloc: Global, words: &'a [&'a str]) -> Result<Order<'a>, WordsFault>
-    ensures ok { IfOk result (MeansOrder (subcommand_of office_words (map (λ s. s.now) words.entry.now))) }
-    ensures err { takes office_words (map (λ s. s.now) words.entry.now) ≡ true → IfErr result (λ e. e ≡ WordsFault.Memory) }
+    ensures ok { IfOk result (λ o. meaning (subcommand_of office_words (map (λ s. s.now) words.entry.now)) ≡ Some (told o)) }
+    ensures verdict { result ≡ Err WordsFault.Verdict → has_bad_verdict (meaning (subcommand_of office_words (map (λ s. s.now) words.entry.now))) ≡ true }
+    ensures err { takes office_words (map (λ s. s.now) words.entry.now) ≡ true → IfErr result (λ e. (e ≡ WordsFault.Memory) ⊎ (e ≡ WordsFault.Verdict)) }
 {
     let command = match office_command(alloc) {
         Ok(command) => command,
         Err(_) => return Err(WordsFault::Memory),
     };
-    match command.try_get_matches_from(words) {
-        Ok(matches) => match order_in(&matches) {
-            Some(order) => Ok(order),
-            None => Err(WordsFault::Words {
-                text: String::new(alloc),
-                status: 2,
-            }),
-        },
-        Err(error) => Err(refused(alloc, &error)),
+    let matches = match command.try_get_matches_from(words) {
+        Ok(matches) => matches,
+        Err(error) => return Err(refused(alloc, &error)),
+    };
+    match order_in(&matches) {
+        Ok(order) => Ok(order),
+        Err(NoOrder::Verdict) => Err(WordsFault::Verdict),
+        Err(NoOrder::Name) => Err(WordsFault::Words {
+            text: String::new(alloc),
+            status: 2,
+        }),
     }
 }

@@ -9,11 +9,11 @@ use Rattle.desk.proofs.NumbersRead.{read_number}
 use Rattle.desk.proofs.words.number_in.Goals as goal
 
 pub returns : goal.returns
-returns c = c.unwrap_or.ensures ∙ (by (one_text (found_of c.args.matches.now) c.args.name.now) refl
-    ∙ ap (λ o. option_map_or number_of o 0) (one_text-rows (found_of c.args.matches.now) c.args.name.now))
+returns c = c.unwrap_or.ensures ∙ (by (one_text (found_of c.args.matches.now) c.args.word.name.now) refl
+    ∙ ap (λ o. option_map_or number_of o 0) (one_text-rows (found_of c.args.matches.now) c.args.word.name.now))
   where
-    by : (o : Option (List ℕ)) → one_text (found_of c.args.matches.now) c.args.name.now ≡ o
-        → unwrap_or c.get_one.result 0 ≡ option_map_or number_of (one_text (found_of c.args.matches.now) c.args.name.now) 0
+    by : (o : Option (List ℕ)) → one_text (found_of c.args.matches.now) c.args.word.name.now ≡ o
+        → unwrap_or c.get_one.result 0 ≡ option_map_or number_of (one_text (found_of c.args.matches.now) c.args.word.name.now) 0
     by None e = rw (e, c.get_one.ensures.none e) refl
     by (Some t) e = rw e (read_number _ (λ bs r. ParsesUnsigned 32 10 bs r × ExplainsUnsignedError 10 bs r × HasUnsignedDigitsIfOk bs r)
         t c.get_one.result (λ u x g. g.0) (c.get_one.ensures.value t e))

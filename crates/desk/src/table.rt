@@ -1,0 +1,188 @@
+//! The table of orders: the name of each, its words, and its help.
+//!
+//! One order more is a variant of [`Order`](crate::orders::Order), an entry of [`ORDERS`], which says its
+//! words, and an arm of `order_named`, which says what each word is to the order. In specs/Orders.antt it
+//! is an entry of `orders` and a line of `told`.
+
+ghost use Rattle.std.specs.Prelude.{◌≡◌, map};
+ghost use Rattle.desk.specs.Orders.{entry_of, orders};
+
+/// What a word of an order holds.
+#[derive(Clone, Copy)]
+pub(crate) enum Kind {
+    /// A number of 0 to 4294967295.
+    Number,
+    /// Any text.
+    Text,
+    /// A text that tells a verdict.
+    Verdict,
+    /// Any text, after `--id`.
+    Id,
+}
+
+/// A word that an order takes, and its line of help.
+#[derive(Clone, Copy)]
+pub(crate) struct Word {
+    pub(crate) name: &'static str,
+    pub(crate) kind: Kind,
+    pub(crate) help: &'static str,
+}
+
+/// An order's name and words, and its help, which ends with an example.
+#[derive(Clone, Copy)]
+pub(crate) struct Entry {
+    pub(crate) name: &'static str,
+    pub(crate) words: &'static [Word],
+    pub(crate) help: &'static str,
+}
+
+pub(crate) const WARD: Word = Word {
+    name: "WARD",
+    kind: Kind::Number,
+    help: "The ward's number, 1 to 99",
+};
+
+pub(crate) const SEATS: Word = Word {
+    name: "SEATS",
+    kind: Kind::Number,
+    help: "How many it elects, 1 to 15",
+};
+
+pub(crate) const NAME: Word = Word {
+    name: "NAME",
+    kind: Kind::Text,
+    help: "The name, 1 to 120 bytes",
+};
+
+pub(crate) const CANDIDATE: Word = Word {
+    name: "CANDIDATE",
+    kind: Kind::Number,
+    help: "The candidate's number in the ward, 1 to 30",
+};
+
+pub(crate) const BATCH: Word = Word {
+    name: "BATCH",
+    kind: Kind::Number,
+    help: "The batch's number, 1 to 9999",
+};
+
+pub(crate) const SIZE: Word = Word {
+    name: "SIZE",
+    kind: Kind::Number,
+    help: "How many ballot papers it has, 1 to 500",
+};
+
+pub(crate) const FIRST_CLERK: Word = Word {
+    name: "FIRST_CLERK",
+    kind: Kind::Number,
+    help: "One of the clerks who key it, 1 to 999",
+};
+
+pub(crate) const SECOND_CLERK: Word = Word {
+    name: "SECOND_CLERK",
+    kind: Kind::Number,
+    help: "The other clerk, 1 to 999",
+};
+
+pub(crate) const CLERK: Word = Word {
+    name: "CLERK",
+    kind: Kind::Number,
+    help: "The clerk who keyed it, 1 to 999",
+};
+
+pub(crate) const ROUND: Word = Word {
+    name: "ROUND",
+    kind: Kind::Number,
+    help: "The round of the batch, 1 to 99",
+};
+
+pub(crate) const PAPER: Word = Word {
+    name: "PAPER",
+    kind: Kind::Number,
+    help: "The paper's number in the batch, 1 to 500",
+};
+
+pub(crate) const FILE: Word = Word {
+    name: "FILE",
+    kind: Kind::Text,
+    help: "The file to read, comma-separated",
+};
+
+pub(crate) const VERDICT: Word = Word {
+    name: "VERDICT",
+    kind: Kind::Verdict,
+    help: "accept: and the paper's marks, or reject: and the reason, 3 to 5",
+};
+
+pub(crate) const ID: Word = Word {
+    name: "id",
+    kind: Kind::Id,
+    help: "The request's id: 1 to 40 of a-z, 0-9 and -",
+};
+
+/// All orders, in the sequence of an election.
+const ORDERS: [Entry; 11] = [
+    Entry {
+        name: "init",
+        words: &[],
+        help: "Makes an office in DB, a new file or an empty one:\ninit",
+    },
+    Entry {
+        name: "ward",
+        words: &[WARD, SEATS, NAME, ID],
+        help: "Adds a ward, its nominations open:\nward 7 2 Harbour --id w1",
+    },
+    Entry {
+        name: "candidate",
+        words: &[WARD, CANDIDATE, NAME, ID],
+        help: "Adds a candidate to a ward:\ncandidate 7 1 Ann --id c1",
+    },
+    Entry {
+        name: "import-candidates",
+        words: &[FILE, ID],
+        help: "Adds each candidate of a file, under the ids ID-1, ID-2 and so on:\nimport-candidates harbour.csv --id c2",
+    },
+    Entry {
+        name: "withdraw",
+        words: &[WARD, CANDIDATE, ID],
+        help: "Takes a candidate off a ward:\nwithdraw 7 1 --id c3",
+    },
+    Entry {
+        name: "close",
+        words: &[WARD, ID],
+        help: "Closes the nominations of a ward:\nclose 7 --id w2",
+    },
+    Entry {
+        name: "batch",
+        words: &[BATCH, WARD, SIZE, FIRST_CLERK, SECOND_CLERK, ID],
+        help: "Gives a batch of a ward's ballot papers out to two clerks:\nbatch 12 7 50 4 9 --id b1",
+    },
+    Entry {
+        name: "import-keying",
+        words: &[CLERK, BATCH, ROUND, FILE, ID],
+        help: "Takes a clerk's keying of a batch from a file:\nimport-keying 4 12 1 batch12.csv --id k1",
+    },
+    Entry {
+        name: "again",
+        words: &[BATCH, ID],
+        help: "Has a batch keyed once more, where its two keyings differ:\nagain 12 --id b2",
+    },
+    Entry {
+        name: "judge",
+        words: &[BATCH, PAPER, VERDICT, ID],
+        help: "Judges a doubtful paper of a batch:\njudge 12 31 accept:1,,2 --id v1",
+    },
+    Entry {
+        name: "status",
+        words: &[WARD],
+        help: "Tells where a ward stands:\nstatus 7",
+    },
+];
+
+#[tactic(auto, unfolding(crate::specs::Orders::orders))]
+/// The table of orders.
+pub(crate) fn entries() -> &'static [Entry]
+    ensures { map entry_of result.now ≡ orders }
+{
+    &ORDERS
+}
