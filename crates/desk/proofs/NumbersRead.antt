@@ -6,10 +6,7 @@ use Rattle.clap.specs.Matches.{ReadsOne}
 use Rattle.clap.specs.ValueTests.{accepts}
 use Rattle.clap.specs.declared.builder.value_parser.ValueParser.TheVariants as parser
 use Rattle.clap.proofs.ValueTestLemmas.{accepts-Accepts, Accepts-accepts}
-use Rattle.std.specs.Char.{is_ascii_digit}
-use Rattle.std.specs.List.{list_all}
-use Rattle.std.specs.Result.{result_ok}
-use Rattle.desk.specs.Words.{digits_number, number_of}
+use Rattle.desk.specs.Words.{number_of}
 
 -- `G` is what the getter says of the text and of its own result
 pub read_number : (E : Type 0) (G : List ℕ → Result ℕ E → Type 0) (t : List ℕ) (r : Option ℕ)
@@ -27,18 +24,3 @@ read_number E G t None parses reads = by (accepts false (parser.Unsigned 0 42949
     by true e =
         let number = accepts-Accepts false (parser.Unsigned 0 4294967295) t e in
         absurd (parses t (Err reads.0) reads.1 (number.0, omega arith))
-
--- what `parse` reads of digits alone is the number that they are
-pub read_digits : {E : Type 0} (t : List ℕ) (r : Result ℕ E) → list_all is_ascii_digit t ≡ true
-    → ParsesUnsigned 32 10 t r → result_ok r ≡ digits_number t
-read_digits t (Ok v) digits parsed =
-    let yes : accepts false (parser.Unsigned 0 4294967295) t ≡ true =
-    Accepts-accepts false (parser.Unsigned 0 4294967295) t (parsed.0.0, omega arith, omega arith, omega arith) in
-    rw (digits, yes, parsed.1) refl
-read_digits t (Err e) digits parsed = by (accepts false (parser.Unsigned 0 4294967295) t) refl
-  where
-    by : (b : Bool) → accepts false (parser.Unsigned 0 4294967295) t ≡ b → None ≡ digits_number t
-    by false e = rw (digits, e) refl
-    by true e =
-        let number = accepts-Accepts false (parser.Unsigned 0 4294967295) t e in
-        absurd (parsed (number.0, omega arith))

@@ -1,12 +1,10 @@
 -- The orders of the program: the name and the words of each, and the values that an order has.
-use Rattle.std.specs.Prelude.{ℕ, List, [], ◌∷◌, Option, Some, codes, map}
+use Rattle.std.specs.Prelude.{ℕ, List, [], ◌∷◌, codes, map}
 use Rattle.clap.specs.Words.{Text}
 use Rattle.desk.specs.declared.table.Kind.{Kind}
 use Rattle.desk.specs.declared.table.Kind.TheVariants as kind
 use Rattle.desk.specs.declared.table.Word.{Word}
 use Rattle.desk.specs.declared.table.Entry.{Entry}
-use Rattle.desk.specs.declared.orders.VerdictWord.{VerdictWord}
-use Rattle.desk.specs.declared.orders.VerdictWord.TheVariants as said
 use Rattle.desk.specs.declared.orders.Order.{Order}
 use Rattle.desk.specs.declared.orders.Order.TheVariants as order
 
@@ -36,10 +34,6 @@ number name = record { name = name; kind = kind.Number }
 abbrev pub text : Text → WordEntry
 text name = record { name = name; kind = kind.Text }
 
--- a word that tells a verdict
-abbrev pub verdict : WordEntry
-verdict = record { name = codes "VERDICT"; kind = kind.Verdict }
-
 -- the id, any text after `--id`
 abbrev pub id : WordEntry
 id = record { name = codes "id"; kind = kind.Id }
@@ -54,42 +48,19 @@ orders =
     takes (codes "init") []
     ∷ takes (codes "ward") (number (codes "WARD") ∷ number (codes "SEATS") ∷ text (codes "NAME") ∷ id ∷ [])
     ∷ takes (codes "candidate") (number (codes "WARD") ∷ number (codes "CANDIDATE") ∷ text (codes "NAME") ∷ id ∷ [])
-    ∷ takes (codes "import-candidates") (text (codes "FILE") ∷ id ∷ [])
     ∷ takes (codes "withdraw") (number (codes "WARD") ∷ number (codes "CANDIDATE") ∷ id ∷ [])
     ∷ takes (codes "close") (number (codes "WARD") ∷ id ∷ [])
-    ∷ takes (codes "batch") (number (codes "BATCH") ∷ number (codes "WARD") ∷ number (codes "SIZE") ∷ number (codes "FIRST_CLERK") ∷ number (codes "SECOND_CLERK") ∷ id ∷ [])
-    ∷ takes (codes "import-keying") (number (codes "CLERK") ∷ number (codes "BATCH") ∷ number (codes "ROUND") ∷ text (codes "FILE") ∷ id ∷ [])
-    ∷ takes (codes "again") (number (codes "BATCH") ∷ id ∷ [])
-    ∷ takes (codes "judge") (number (codes "BATCH") ∷ number (codes "PAPER") ∷ verdict ∷ id ∷ [])
-    ∷ takes (codes "status") (number (codes "WARD") ∷ [])
     ∷ []
 
--- what a verdict says of a paper
-pub data Verdict : Type 0 where
-  accepted : Text → Verdict
-  rejected : ℕ → Verdict
-
--- a value of an order; of a verdict none where its word has neither form
+-- a value of an order
 pub data Value : Type 0 where
   numbered : ℕ → Value
   worded : Text → Value
-  judged : Option Verdict → Value
-
--- what an order's verdict says
-abbrev pub verdict_told : VerdictWord → Verdict
-verdict_told (said.Accept marks) = accepted marks.now
-verdict_told (said.Reject code) = rejected code
 
 -- an order's name, and its values in the sequence of its words
 abbrev pub told : Order → Text × List Value
 told order.Init = (codes "init", [])
 told (order.Ward ward seats name id) = (codes "ward", numbered ward ∷ numbered seats ∷ worded name.now ∷ worded id.now ∷ [])
 told (order.Candidate ward candidate name id) = (codes "candidate", numbered ward ∷ numbered candidate ∷ worded name.now ∷ worded id.now ∷ [])
-told (order.ImportCandidates file id) = (codes "import-candidates", worded file.now ∷ worded id.now ∷ [])
 told (order.Withdraw ward candidate id) = (codes "withdraw", numbered ward ∷ numbered candidate ∷ worded id.now ∷ [])
 told (order.Close ward id) = (codes "close", numbered ward ∷ worded id.now ∷ [])
-told (order.Batch batch ward size first second id) = (codes "batch", numbered batch ∷ numbered ward ∷ numbered size ∷ numbered first ∷ numbered second ∷ worded id.now ∷ [])
-told (order.ImportKeying clerk batch round file id) = (codes "import-keying", numbered clerk ∷ numbered batch ∷ numbered round ∷ worded file.now ∷ worded id.now ∷ [])
-told (order.Again batch id) = (codes "again", numbered batch ∷ worded id.now ∷ [])
-told (order.Judge batch paper v id) = (codes "judge", numbered batch ∷ numbered paper ∷ judged (Some (verdict_told v)) ∷ worded id.now ∷ [])
-told (order.Status ward) = (codes "status", numbered ward ∷ [])

@@ -1,8 +1,7 @@
 -- What `clap` takes for the words of an order, and the order that its matches mean, by the table of orders.
-use Rattle.std.specs.Prelude.{◌&&◌, eqb, ℕ, Bool, true, false, List, [], ◌∷◌, Option, Some, None, pos, codes, map, drop, length, find, if◌then◌else◌, option_and_then, option_map, unwrap_or}
+use Rattle.std.specs.Prelude.{ℕ, Bool, true, false, List, [], ◌∷◌, Option, Some, None, pos, codes, map, find, if◌then◌else◌, option_map, unwrap_or}
 use Rattle.std.specs.Option.{option_map_or}
-use Rattle.std.specs.List.{list_all, list_any, starts_with}
-use Rattle.std.specs.Char.{is_ascii_digit}
+use Rattle.std.specs.List.{list_any}
 use Rattle.std.specs.Str.{bytes_eq}
 use Rattle.std.specs.Str.Parse.{digits_value, without_leading_plus}
 use Rattle.clap.specs.ValueTests.{accepts}
@@ -11,7 +10,7 @@ use Rattle.clap.specs.Simple.{on_top}
 use Rattle.clap.specs.declared.builder.value_parser.ValueParser.TheVariants as parser
 use Rattle.desk.specs.declared.table.Kind.{Kind}
 use Rattle.desk.specs.declared.table.Kind.TheVariants as kind
-use Rattle.desk.specs.Orders.{OrderEntry, Value, Verdict, WordEntry, accepted, judged, numbered, orders, rejected, worded}
+use Rattle.desk.specs.Orders.{OrderEntry, Value, WordEntry, numbered, orders, worded}
 
 -- a word that is a number of 0 to 4294967295
 abbrev pub number_rule : Text → Rule
@@ -29,7 +28,6 @@ id_rule name = record (new_rule name) { long = Some name; value_names = 1; requi
 abbrev pub rule_of_kind : Kind → Text → Rule
 rule_of_kind kind.Number = number_rule
 rule_of_kind kind.Text = text_rule
-rule_of_kind kind.Verdict = text_rule
 rule_of_kind kind.Id = id_rule
 
 -- a command, and these words more
@@ -67,27 +65,10 @@ number_at name rows = option_map_or number_of (one_of name rows) 0
 abbrev pub text_at : Text → List Row → Text
 text_at name rows = unwrap_or (first_of name rows) []
 
--- what follows a text's beginning, if it is this one
-abbrev pub text_after : Text → Text → Option Text
-text_after beginning t = if starts_with eqb t beginning then Some (drop (length beginning) t) else None
-
--- the number that digits alone are, if it is at most 4294967295
-abbrev pub digits_number : Text → Option ℕ
-digits_number t = if list_all is_ascii_digit t && accepts false (parser.Unsigned 0 4294967295) t then Some (number_of t) else None
-
--- the rejection that a text tells, `reject:` and its number
-abbrev pub rejection_of : Text → Option Verdict
-rejection_of t = option_map rejected (option_and_then digits_number (text_after (codes "reject:") t))
-
--- the verdict that a text tells: `accept:` and a marks text, or a rejection
-abbrev pub verdict_of : Text → Option Verdict
-verdict_of t = option_map_or (λ marks. Some (accepted marks)) (text_after (codes "accept:") t) (rejection_of t)
-
 -- the value that the matches give a word
 abbrev pub value_of_kind : Kind → List Row → Text → Value
 value_of_kind kind.Number rows name = numbered (number_at name rows)
 value_of_kind kind.Text rows name = worded (text_at name rows)
-value_of_kind kind.Verdict rows name = judged (verdict_of (text_at name rows))
 value_of_kind kind.Id rows name = worded (text_at name rows)
 
 -- an order's name and the values that the matches give its words
@@ -102,16 +83,6 @@ meaning_of name rows = option_map (read_by rows) (find (λ e. bytes_eq name e.na
 abbrev pub meaning : Option (Text × List Row) → Option (Text × List Value)
 meaning None = None
 meaning (Some found) = meaning_of found.0 found.1
-
--- a verdict whose word has neither form
-abbrev pub is_bad : Value → Bool
-is_bad (judged None) = true
-is_bad _ = false
-
--- what the words mean has a verdict whose word has neither form
-abbrev pub has_bad_verdict : Option (Text × List Value) → Bool
-has_bad_verdict None = false
-has_bad_verdict (Some order) = list_any is_bad order.1
 
 -- the name is that of an order
 abbrev pub is_order_name : Text → Bool

@@ -21,5 +21,5 @@ pub mod lines;
 pub mod perform;
 
 pub use lines::{Failure, tell_failure, tell_words};
-pub use orders::{Order, VerdictWord};
+pub use orders::Order;
 pub use words::{WordsFault, order};

@@ -99,9 +99,8 @@ pub(crate) fn tell<O: Sink, E: Sink>(outcome: &Outcome, out: &mut O, err: &mut E
     }
 }
 
-/// Tells why the words are no order, and gives the status: 0 with help on the output; 2 with a text on
-/// the error output, `bad verdict word` for a VERDICT of neither form; and 3 for want of memory or where
-/// one of the two fails.
+/// Tells why the words are no order, and gives the status: 0 with help on the output, 2 with a text on
+/// the error output, and 3 for want of memory or where one of the two fails.
 pub fn tell_words<O: Sink, E: Sink>(fault: &WordsFault, out: &mut O, err: &mut E) -> u8
     requires out { O.failed out.old < 2 ^ 64 - 1 }
     requires err { E.failed err.old < 2 ^ 64 - 1 }
@@ -109,10 +108,6 @@ pub fn tell_words<O: Sink, E: Sink>(fault: &WordsFault, out: &mut O, err: &mut E
 {
     match fault {
         WordsFault::Memory => tell_failure(Failure::Office(Fault::Memory), err),
-        WordsFault::Verdict => match tell_text("bad verdict word", err) {
-            Ok(()) => 2,
-            Err(Broken) => 3,
-        },
         WordsFault::Words { text, status: 0 } => match put_all(out, text.as_bytes()) {
             Ok(()) => 0,
             Err(Broken) => tell_failure(Failure::Output, err),

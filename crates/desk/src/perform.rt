@@ -5,7 +5,7 @@ ghost use Rattle.std.specs.Prelude.{◌≡◌, ◌⊎◌, ◌+◌, ◌-◌, ◌^
 use crate::lines::{Outcome, tell};
 use crate::orders::Order;
 use office::{Answer, Office};
-use register::{Command, WardCommand};
+use register::{CandidateCommand, Command, WardCommand};
 use sqlite::{Alter, Connection};
 use std::alloc::{AllocError, Global};
 use store::Fault;
@@ -40,17 +40,51 @@ fn request<S: Alter>(
     (outcome, office.into_connection())
 }
 
-fn ward_command(alloc: Global, ward: u32, seats: u32, name: &str) -> Result<Command, AllocError> {
-    Ok(Command::Ward(WardCommand::Add {
-        ward,
-        seats,
-        name: String::from_str(alloc, name)?,
-    }))
-}
-
-/// Stands for the orders that are read but not done yet; it goes with the last of them.
-fn not_yet<S: Alter>(conn: Connection<S>) -> (Outcome, Connection<S>) {
-    (Outcome::Failed(Fault::Store), conn)
+/// The id and the command of the request that an order sends; None where it sends none.
+fn request_of<'a>(
+    alloc: Global,
+    order: &Order<'a>,
+) -> Result<Option<(&'a str, Command)>, AllocError> {
+    match order {
+        Order::Init => Ok(None),
+        Order::Ward {
+            ward,
+            seats,
+            name,
+            id,
+        } => {
+            let (ward, seats, name) = (*ward, *seats, String::from_str(alloc, name)?);
+            let command = WardCommand::Add { ward, seats, name };
+            Ok(Some((id, Command::Ward(command))))
+        }
+        Order::Candidate {
+            ward,
+            candidate,
+            name,
+            id,
+        } => {
+            let (ward, candidate, name) = (*ward, *candidate, String::from_str(alloc, name)?);
+            let command = CandidateCommand::Add {
+                ward,
+                candidate,
+                name,
+            };
+            Ok(Some((id, Command::Candidate(command))))
+        }
+        Order::Withdraw {
+            ward,
+            candidate,
+            id,
+        } => {
+            let (ward, candidate) = (*ward, *candidate);
+            let command = CandidateCommand::Withdraw { ward, candidate };
+            Ok(Some((id, Command::Candidate(command))))
+        }
+        Order::Close { ward, id } => {
+            let command = WardCommand::Close { ward: *ward };
+            Ok(Some((id, Command::Ward(command))))
+        }
+    }
 }
 
 /// Does an order over an opened connection, which it gives back, prints its line, and gives the status.
@@ -68,26 +102,10 @@ pub fn perform<S: Alter, O: Sink, E: Sink>(
     requires err { E.failed err.old < 2 ^ 64 - 1 }
     ensures broken { (result.0 ≡ 3) ⊎ ((O.failed out.new ≡ O.failed out.old) × (E.failed err.new ≡ E.failed err.old)) }
 {
-    let (outcome, conn) = match order {
-        Order::Init => make_office(alloc, conn),
-        Order::Ward {
-            ward,
-            seats,
-            name,
-            id,
-        } => match ward_command(alloc, *ward, *seats, name) {
-            Ok(command) => request(alloc, conn, id, &command),
-            Err(AllocError) => (Outcome::Failed(Fault::Memory), conn),
-        },
-        Order::Candidate { .. }
-        | Order::Withdraw { .. }
-        | Order::Close { .. }
-        | Order::Batch { .. }
-        | Order::ImportCandidates { .. }
-        | Order::ImportKeying { .. }
-        | Order::Again { .. }
-        | Order::Judge { .. }
-        | Order::Status { .. } => not_yet(conn),
+    let (outcome, conn) = match request_of(alloc, order) {
+        Ok(None) => make_office(alloc, conn),
+        Ok(Some((id, command))) => request(alloc, conn, id, &command),
+        Err(AllocError) => (Outcome::Failed(Fault::Memory), conn),
     };
     (tell(&outcome, out, err), conn)
 }

@@ -14,8 +14,6 @@ pub(crate) enum Kind {
     Number,
     /// Any text.
     Text,
-    /// A text that tells a verdict.
-    Verdict,
     /// Any text, after `--id`.
     Id,
 }
@@ -60,60 +58,6 @@ pub(crate) const CANDIDATE: Word = Word {
     help: "The candidate's number in the ward, 1 to 30",
 };
 
-pub(crate) const BATCH: Word = Word {
-    name: "BATCH",
-    kind: Kind::Number,
-    help: "The batch's number, 1 to 9999",
-};
-
-pub(crate) const SIZE: Word = Word {
-    name: "SIZE",
-    kind: Kind::Number,
-    help: "How many ballot papers it has, 1 to 500",
-};
-
-pub(crate) const FIRST_CLERK: Word = Word {
-    name: "FIRST_CLERK",
-    kind: Kind::Number,
-    help: "One of the clerks who key it, 1 to 999",
-};
-
-pub(crate) const SECOND_CLERK: Word = Word {
-    name: "SECOND_CLERK",
-    kind: Kind::Number,
-    help: "The other clerk, 1 to 999",
-};
-
-pub(crate) const CLERK: Word = Word {
-    name: "CLERK",
-    kind: Kind::Number,
-    help: "The clerk who keyed it, 1 to 999",
-};
-
-pub(crate) const ROUND: Word = Word {
-    name: "ROUND",
-    kind: Kind::Number,
-    help: "The round of the batch, 1 to 99",
-};
-
-pub(crate) const PAPER: Word = Word {
-    name: "PAPER",
-    kind: Kind::Number,
-    help: "The paper's number in the batch, 1 to 500",
-};
-
-pub(crate) const FILE: Word = Word {
-    name: "FILE",
-    kind: Kind::Text,
-    help: "The file to read, comma-separated",
-};
-
-pub(crate) const VERDICT: Word = Word {
-    name: "VERDICT",
-    kind: Kind::Verdict,
-    help: "accept: and the paper's marks, or reject: and the reason, 3 to 5",
-};
-
 pub(crate) const ID: Word = Word {
     name: "id",
     kind: Kind::Id,
@@ -121,7 +65,7 @@ pub(crate) const ID: Word = Word {
 };
 
 /// All orders, in the sequence of an election.
-const ORDERS: [Entry; 11] = [
+const ORDERS: [Entry; 5] = [
     Entry {
         name: "init",
         words: &[],
@@ -138,11 +82,6 @@ const ORDERS: [Entry; 11] = [
         help: "Adds a candidate to a ward:\ncandidate 7 1 Ann --id c1",
     },
     Entry {
-        name: "import-candidates",
-        words: &[FILE, ID],
-        help: "Adds each candidate of a file, under the ids ID-1, ID-2 and so on:\nimport-candidates harbour.csv --id c2",
-    },
-    Entry {
         name: "withdraw",
         words: &[WARD, CANDIDATE, ID],
         help: "Takes a candidate off a ward:\nwithdraw 7 1 --id c3",
@@ -151,31 +90,6 @@ const ORDERS: [Entry; 11] = [
         name: "close",
         words: &[WARD, ID],
         help: "Closes the nominations of a ward:\nclose 7 --id w2",
-    },
-    Entry {
-        name: "batch",
-        words: &[BATCH, WARD, SIZE, FIRST_CLERK, SECOND_CLERK, ID],
-        help: "Gives a batch of a ward's ballot papers out to two clerks:\nbatch 12 7 50 4 9 --id b1",
-    },
-    Entry {
-        name: "import-keying",
-        words: &[CLERK, BATCH, ROUND, FILE, ID],
-        help: "Takes a clerk's keying of a batch from a file:\nimport-keying 4 12 1 batch12.csv --id k1",
-    },
-    Entry {
-        name: "again",
-        words: &[BATCH, ID],
-        help: "Has a batch keyed once more, where its two keyings differ:\nagain 12 --id b2",
-    },
-    Entry {
-        name: "judge",
-        words: &[BATCH, PAPER, VERDICT, ID],
-        help: "Judges a doubtful paper of a batch:\njudge 12 31 accept:1,,2 --id v1",
-    },
-    Entry {
-        name: "status",
-        words: &[WARD],
-        help: "Tells where a ward stands:\nstatus 7",
     },
 ];
 

@@ -1,18 +1,13 @@
 //! The words of the command line, read to one order.
 
-ghost use Rattle.std.specs.Prelude.{◌≡◌, ◌⊎◌, true, false, None, Some, Ok, Err, map, IfOk, IfErr, option_map};
-ghost use Rattle.std.specs.Char.{is_ascii_digit};
-ghost use Rattle.std.specs.List.{list_all};
+ghost use Rattle.std.specs.Prelude.{◌≡◌, true, false, None, Some, map, IfOk, IfErr, IfSome};
 ghost use Rattle.clap.specs.Words.{app_of, found_of, rows_of, subcommand_of, subcommand_rows_of, kind_of, takes, with_rule, with_subcommand};
 ghost use Rattle.clap.specs.declared.builder.command.Command.TheViews.{out-Command as fields_of};
-ghost use Rattle.desk.specs.Orders.{entry_of, told, verdict_told};
-ghost use Rattle.desk.specs.Words.{digits_number, has_bad_verdict, id_rule, is_order_name, meaning, meaning_of, names_order, number_at, number_rule, office_words, order_words, rule_of_kind, start_words, text_at, text_rule, verdict_of, with_orders};
+ghost use Rattle.desk.specs.Orders.{entry_of, told};
+ghost use Rattle.desk.specs.Words.{id_rule, is_order_name, meaning, meaning_of, names_order, number_at, number_rule, office_words, order_words, rule_of_kind, start_words, text_at, text_rule, with_orders};
 
-use crate::orders::{Order, VerdictWord};
-use crate::table::{
-    BATCH, CANDIDATE, CLERK, Entry, FILE, FIRST_CLERK, ID, Kind, NAME, PAPER, ROUND, SEATS,
-    SECOND_CLERK, SIZE, VERDICT, WARD, Word, entries,
-};
+use crate::orders::Order;
+use crate::table::{CANDIDATE, Entry, ID, Kind, NAME, SEATS, WARD, Word, entries};
 use clap::error::ErrorKind;
 use clap::{Arg, ArgMatches, Command, Error, value_parser};
 use std::alloc::{AllocError, Global};
@@ -21,9 +16,9 @@ const USAGE_NAME: &str = "count-office DB";
 
 const ABOUT: &str = "Runs the office of an election by the single transferable vote of Scotland.
 
-An office is one database file, DB. It keeps the wards of the election, and a receipt
-of each request that it accepted: the same request, sent again under the same id,
-prints the same reply and changes nothing.";
+An office is one database file, DB. It keeps the wards of the election with their
+candidates, and a receipt of each request that it accepted: the same request, sent again
+under the same id, prints the same reply and changes nothing.";
 
 const OUTCOMES: &str = "An example stands under each order. DB comes before it, as in
   count-office town.db ward 7 2 Harbour --id w1
@@ -36,20 +31,9 @@ error, with status 1; words that are not understood with 2, and faults with 3.";
 pub enum WordsFault {
     /// Memory was wanting.
     Memory,
-    /// VERDICT is neither `accept:` and a marks text nor `reject:` and a number.
-    Verdict,
     /// The text to print, and the status to end with: 0 where help was asked for, and 2 where the
     /// words are not understood.
     Words { text: String, status: u8 },
-}
-
-/// Why matches are no order.
-#[derive(Debug, Drop)]
-enum NoOrder {
-    /// No order has the name.
-    Name,
-    /// The verdict has neither form.
-    Verdict,
 }
 
 /// Adds a word that is a number of 0 to 4294967295.
@@ -107,7 +91,7 @@ fn with_word<'a>(alloc: Global, command: Command<'a>, word: Word) -> Result<Comm
 {
     match word.kind {
         Kind::Number => with_number(alloc, command, word.name, word.help),
-        Kind::Text | Kind::Verdict => with_text(alloc, command, word.name, word.help),
+        Kind::Text => with_text(alloc, command, word.name, word.help),
         Kind::Id => with_id(alloc, command, word.name, word.help),
     }
 }
@@ -194,116 +178,49 @@ fn text_in<'a>(matches: &ArgMatches<'a>, word: Word) -> &'a str
     }
 }
 
-fn all_digits(text: &[u8]) -> bool
-    ensures { result ≡ list_all is_ascii_digit text.now }
-{
-    text.iter().all(|b| b.is_ascii_digit())
-}
-
-/// The number that digits alone are, if it fits.
-fn digits_number(text: &str) -> Option<u32>
-    ensures { result ≡ digits_number text.now }
-{
-    if all_digits(text.as_bytes()) {
-        text.parse().ok()
-    } else {
-        None
-    }
-}
-
-fn verdict_of<'a>(text: &'a str) -> Option<VerdictWord<'a>>
-    ensures { option_map verdict_told result ≡ verdict_of text.now }
-{
-    if let Some(marks) = text.strip_prefix("accept:") {
-        return Some(VerdictWord::Accept(marks));
-    }
-    let number = digits_number(text.strip_prefix("reject:")?)?;
-    Some(VerdictWord::Reject(number))
-}
-
 #[tactic(auto, unfolding(crate::specs::Orders::orders))]
-/// The order of this name, with the values that were matched.
-fn order_named<'a>(name: &str, matches: &ArgMatches<'a>) -> Result<Order<'a>, NoOrder>
-    ensures ok { IfOk result (λ o. meaning_of name.now (rows_of (found_of matches.now)) ≡ Some (told o)) }
-    ensures verdict { result ≡ Err NoOrder.Verdict → has_bad_verdict (meaning_of name.now (rows_of (found_of matches.now))) ≡ true }
-    ensures name { result ≡ Err NoOrder.Name → is_order_name name.now ≡ false }
+/// The order of this name, if there is one, with the values that were matched.
+fn order_named<'a>(name: &str, matches: &ArgMatches<'a>) -> Option<Order<'a>>
+    ensures some { IfSome result (λ o. meaning_of name.now (rows_of (found_of matches.now)) ≡ Some (told o)) }
+    ensures none { result ≡ None → is_order_name name.now ≡ false }
 {
     match name {
-        "init" => Ok(Order::Init),
-        "ward" => Ok(Order::Ward {
+        "init" => Some(Order::Init),
+        "ward" => Some(Order::Ward {
             ward: number_in(matches, WARD),
             seats: number_in(matches, SEATS),
             name: text_in(matches, NAME),
             id: text_in(matches, ID),
         }),
-        "candidate" => Ok(Order::Candidate {
+        "candidate" => Some(Order::Candidate {
             ward: number_in(matches, WARD),
             candidate: number_in(matches, CANDIDATE),
             name: text_in(matches, NAME),
             id: text_in(matches, ID),
         }),
-        "import-candidates" => Ok(Order::ImportCandidates {
-            file: text_in(matches, FILE),
-            id: text_in(matches, ID),
-        }),
-        "withdraw" => Ok(Order::Withdraw {
+        "withdraw" => Some(Order::Withdraw {
             ward: number_in(matches, WARD),
             candidate: number_in(matches, CANDIDATE),
             id: text_in(matches, ID),
         }),
-        "close" => Ok(Order::Close {
+        "close" => Some(Order::Close {
             ward: number_in(matches, WARD),
             id: text_in(matches, ID),
         }),
-        "batch" => Ok(Order::Batch {
-            batch: number_in(matches, BATCH),
-            ward: number_in(matches, WARD),
-            size: number_in(matches, SIZE),
-            first_clerk: number_in(matches, FIRST_CLERK),
-            second_clerk: number_in(matches, SECOND_CLERK),
-            id: text_in(matches, ID),
-        }),
-        "import-keying" => Ok(Order::ImportKeying {
-            clerk: number_in(matches, CLERK),
-            batch: number_in(matches, BATCH),
-            round: number_in(matches, ROUND),
-            file: text_in(matches, FILE),
-            id: text_in(matches, ID),
-        }),
-        "again" => Ok(Order::Again {
-            batch: number_in(matches, BATCH),
-            id: text_in(matches, ID),
-        }),
-        "judge" => match verdict_of(text_in(matches, VERDICT)) {
-            Some(verdict) => Ok(Order::Judge {
-                batch: number_in(matches, BATCH),
-                paper: number_in(matches, PAPER),
-                verdict,
-                id: text_in(matches, ID),
-            }),
-            None => Err(NoOrder::Verdict),
-        },
-        "status" => Ok(Order::Status {
-            ward: number_in(matches, WARD),
-        }),
-        _ => Err(NoOrder::Name),
+        _ => None,
     }
 }
 
-fn order_in<'a>(matches: &ArgMatches<'a>) -> Result<Order<'a>, NoOrder>
-    ensures ok { IfOk result (λ o. meaning (subcommand_rows_of matches.now) ≡ Some (told o)) }
-    ensures verdict { result ≡ Err NoOrder.Verdict → has_bad_verdict (meaning (subcommand_rows_of matches.now)) ≡ true }
-    ensures name { result ≡ Err NoOrder.Name → names_order (subcommand_rows_of matches.now) ≡ false }
+fn order_in<'a>(matches: &ArgMatches<'a>) -> Option<Order<'a>>
+    ensures some { IfSome result (λ o. meaning (subcommand_rows_of matches.now) ≡ Some (told o)) }
+    ensures none { result ≡ None → names_order (subcommand_rows_of matches.now) ≡ false }
 {
-    match matches.subcommand() {
-        Some((name, inner)) => order_named(name, inner),
-        None => Err(NoOrder::Name),
-    }
+    let (name, inner) = matches.subcommand()?;
+    order_named(name, inner)
 }
 
 fn refused(alloc: Global, error: &Error) -> WordsFault
-    ensures memory { kind_of error.now ≡ ErrorKind.OutOfMemory → result ≡ WordsFault.Memory }
-    ensures told { (result ≡ WordsFault.Verdict) → ⊥ }
+    ensures { kind_of error.now ≡ ErrorKind.OutOfMemory → result ≡ WordsFault.Memory }
 {
     if error.kind() == ErrorKind::OutOfMemory {
         return WordsFault::Memory;
@@ -322,11 +239,10 @@ fn refused(alloc: Global, error: &Error) -> WordsFault
 /// Reads the words, of which the first is DB, to one order.
 ///
 /// The order and its values are those that `clap` matches in the words, read by the table of orders.
-/// Words that `clap` takes are refused for want of memory alone, or for a VERDICT of neither form.
+/// Words that `clap` takes are refused for want of memory alone.
 pub fn order<'a>(alloc: Global, words: &'a [&'a str]) -> Result<Order<'a>, WordsFault>
     ensures ok { IfOk result (λ o. meaning (subcommand_of office_words (map (λ s. s.now) words.entry.now)) ≡ Some (told o)) }
-    ensures verdict { result ≡ Err WordsFault.Verdict → has_bad_verdict (meaning (subcommand_of office_words (map (λ s. s.now) words.entry.now))) ≡ true }
-    ensures err { takes office_words (map (λ s. s.now) words.entry.now) ≡ true → IfErr result (λ e. (e ≡ WordsFault.Memory) ⊎ (e ≡ WordsFault.Verdict)) }
+    ensures err { takes office_words (map (λ s. s.now) words.entry.now) ≡ true → IfErr result (λ e. e ≡ WordsFault.Memory) }
 {
     let command = match office_command(alloc) {
         Ok(command) => command,
@@ -337,9 +253,8 @@ pub fn order<'a>(alloc: Global, words: &'a [&'a str]) -> Result<Order<'a>, Words
         Err(error) => return Err(refused(alloc, &error)),
     };
     match order_in(&matches) {
-        Ok(order) => Ok(order),
-        Err(NoOrder::Verdict) => Err(WordsFault::Verdict),
-        Err(NoOrder::Name) => Err(WordsFault::Words {
+        Some(order) => Ok(order),
+        None => Err(WordsFault::Words {
             text: String::new(alloc),
             status: 2,
         }),
