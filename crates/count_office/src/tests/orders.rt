@@ -2,6 +2,7 @@
 //! later program, or hold what no office holds.
 
 use super::disks::Disks;
+use super::nominations::ANN_ADDED;
 use super::steps::{Said, Step, Told};
 use register::{Command, Request, WardCommand};
 use std::alloc::{AllocError, Global};
@@ -11,11 +12,13 @@ pub const INIT: Step<'static> = Step::Order(&["DB", "init"]);
 
 pub const HARBOUR: Step<'static> = Step::Order(&["DB", "ward", "7", "2", "Harbour", "--id", "w1"]);
 
-const QUAY: Step<'static> = Step::Order(&["DB", "ward", "8", "2", "Quay", "--id", "w2"]);
+pub const QUAY: Step<'static> = Step::Order(&["DB", "ward", "8", "2", "Quay", "--id", "w2"]);
 
 pub const READY: Told<'static> = (0, "office ready\n", "");
 
 pub const ADDED: Told<'static> = (0, "ward 7 added\n", "");
+
+pub const QUAY_ADDED: Told<'static> = (0, "ward 8 added\n", "");
 
 const CHANGED: Told<'static> = (0, "", "");
 
@@ -25,8 +28,38 @@ const DAMAGED: Told<'static> = (3, "", "fault 103: damaged\n");
 
 const NEWER: Told<'static> = (3, "", "fault 106: newer schema\n");
 
-/// What an office that has the ward Harbour says to more orders, which change nothing.
-const ANSWERS: [(&[&str], Told<'static>); 8] = [
+const NO_WARD: Told<'static> = (1, "", "refused 5: no such ward\n");
+
+const WRONG_PHASE: Told<'static> = (1, "", "refused 9: wrong phase\n");
+
+/// An office with three wards: Harbour, where Ann stands; Quay, which is closed; and Moor, where nobody
+/// stands.
+const BEGUN: [(&[&str], Told<'static>); 6] = [
+    (&["DB", "ward", "8", "1", "Quay", "--id", "w2"], QUAY_ADDED),
+    (
+        &["DB", "ward", "9", "1", "Moor", "--id", "w3"],
+        (0, "ward 9 added\n", ""),
+    ),
+    (
+        &["DB", "candidate", "7", "1", "Ann", "--id", "c1"],
+        ANN_ADDED,
+    ),
+    (
+        &["DB", "candidate", "8", "1", "Dee", "--id", "c2"],
+        (0, "candidate 1 of ward 8 added\n", ""),
+    ),
+    (
+        &["DB", "candidate", "8", "2", "Eve", "--id", "c3"],
+        (0, "candidate 2 of ward 8 added\n", ""),
+    ),
+    (
+        &["DB", "close", "8", "--id", "n1"],
+        (0, "ward 8 polled\n", ""),
+    ),
+];
+
+/// What that office says to more orders, which change nothing.
+const ANSWERS: [(&[&str], Told<'static>); 21] = [
     (&["DB", "ward", "7", "2", "Harbour", "--id", "w1"], ADDED),
     (
         &["DB", "ward", "8", "2", "Quay", "--id", "w1"],
@@ -37,26 +70,67 @@ const ANSWERS: [(&[&str], Told<'static>); 8] = [
         (1, "", "refused 1: bad id\n"),
     ),
     (
-        &["DB", "ward", "7", "3", "Pier", "--id", "w2"],
+        &["DB", "ward", "7", "3", "Pier", "--id", "w4"],
         (1, "", "refused 6: ward exists\n"),
     ),
     (
-        &["DB", "ward", "0", "2", "Pier", "--id", "w3"],
+        &["DB", "ward", "0", "2", "Pier", "--id", "w4"],
         (1, "", "refused 3: number out of range\n"),
     ),
     (
-        &["DB", "ward", "9", "16", "Pier", "--id", "w3"],
+        &["DB", "ward", "9", "16", "Pier", "--id", "w4"],
         (1, "", "refused 3: number out of range\n"),
     ),
     (
-        &["DB", "ward", "9", "2", "", "--id", "w3"],
+        &["DB", "ward", "9", "2", "", "--id", "w4"],
         (1, "", "refused 4: bad name\n"),
     ),
     (&["DB", "init"], FOREIGN),
+    (
+        &["DB", "candidate", "7", "1", "Bob", "--id", "c1"],
+        ANN_ADDED,
+    ),
+    (
+        &["DB", "candidate", "7", "31", "Zed", "--id", "c4"],
+        (1, "", "refused 3: number out of range\n"),
+    ),
+    (
+        &["DB", "candidate", "7", "2", "", "--id", "c4"],
+        (1, "", "refused 4: bad name\n"),
+    ),
+    (&["DB", "candidate", "6", "1", "Zed", "--id", "c4"], NO_WARD),
+    (
+        &["DB", "candidate", "8", "3", "Zed", "--id", "c4"],
+        WRONG_PHASE,
+    ),
+    (
+        &["DB", "candidate", "7", "1", "Zed", "--id", "c4"],
+        (1, "", "refused 10: candidate exists\n"),
+    ),
+    (&["DB", "withdraw", "6", "1", "--id", "x1"], NO_WARD),
+    (&["DB", "withdraw", "8", "1", "--id", "x1"], WRONG_PHASE),
+    (
+        &["DB", "withdraw", "7", "2", "--id", "x1"],
+        (1, "", "refused 11: no such candidate\n"),
+    ),
+    (
+        &["DB", "close", "8", "--id", "n1"],
+        (0, "ward 8 polled\n", ""),
+    ),
+    (&["DB", "close", "6", "--id", "n2"], NO_WARD),
+    (&["DB", "close", "8", "--id", "n2"], WRONG_PHASE),
+    (
+        &["DB", "close", "9", "--id", "n2"],
+        (1, "", "refused 12: no candidates\n"),
+    ),
 ];
 
-/// What is done to an office with one ward, and what it then says to another.
-const CHANGES: [(&str, Told<'static>); 20] = [
+/// Ann and Bob stand in Harbour, which has two seats.
+const CANDIDATES: &str =
+    "INSERT INTO candidate VALUES (7, 1, 'Ann'); INSERT INTO candidate VALUES (7, 2, 'Bob')";
+
+/// What is done to an office with Harbour and its candidates, and what it then says to another ward.
+const CHANGES: [(&str, Told<'static>); 27] = [
     ("DROP TABLE office", FOREIGN),
     ("DELETE FROM office", FOREIGN),
     ("UPDATE office SET version = 3", NEWER),
@@ -65,18 +139,31 @@ const CHANGES: [(&str, Told<'static>); 20] = [
     ("UPDATE office SET one = 2", DAMAGED),
     ("INSERT INTO office VALUES (2, 3)", DAMAGED),
     ("DROP TABLE lot", DAMAGED),
-    ("INSERT INTO candidate VALUES (7, 1, 'Ann')", DAMAGED),
+    ("INSERT INTO candidate VALUES (7, 3, 'Cy')", QUAY_ADDED),
+    ("INSERT INTO candidate VALUES (7, 3, '')", DAMAGED),
+    ("INSERT INTO candidate VALUES (8, 1, 'Dee')", DAMAGED),
     ("INSERT INTO batch VALUES (12, 7, 2, 4, 9, 1)", DAMAGED),
     ("INSERT INTO keying VALUES (12, 1, 4, 1, 'D')", DAMAGED),
     ("INSERT INTO verdict VALUES (12, 1, 3, '')", DAMAGED),
     ("INSERT INTO lot VALUES (7, 2, 1)", DAMAGED),
     ("UPDATE ward SET phase = 2", DAMAGED),
+    (
+        "UPDATE ward SET phase = 2; INSERT INTO candidate VALUES (7, 3, 'Cy')",
+        QUAY_ADDED,
+    ),
+    ("UPDATE ward SET phase = 3", QUAY_ADDED),
+    (
+        "UPDATE ward SET phase = 3; INSERT INTO candidate VALUES (7, 3, 'Cy')",
+        DAMAGED,
+    ),
+    ("UPDATE ward SET phase = 3; DELETE FROM candidate", DAMAGED),
+    ("UPDATE ward SET phase = 4", DAMAGED),
     ("UPDATE ward SET done = 1", DAMAGED),
     ("UPDATE ward SET name = ''", DAMAGED),
     ("UPDATE receipt SET id = 'W1'", DAMAGED),
     ("UPDATE receipt SET subject = 'ward 07'", DAMAGED),
     ("UPDATE receipt SET actor = 4", DAMAGED),
-    ("CREATE TABLE note (text TEXT)", (0, "ward 8 added\n", "")),
+    ("CREATE TABLE note (text TEXT)", QUAY_ADDED),
 ];
 
 /// The order was told so, and the database holds these contents.
@@ -107,8 +194,15 @@ fn orders_are_told(rt: HostRuntime) -> Result<(), Fail> {
         Disks::lasting(rt.alloc()).hear(&rt, script, wanted)?;
     }
     for (change, wanted) in CHANGES {
-        let script = [INIT, HARBOUR, Step::Change(change), QUAY];
-        Disks::lasting(rt.alloc()).hear(&rt, &script, &[READY, ADDED, CHANGED, wanted])?;
+        let script = [
+            INIT,
+            HARBOUR,
+            Step::Change(CANDIDATES),
+            Step::Change(change),
+            QUAY,
+        ];
+        let told = [READY, ADDED, CHANGED, CHANGED, wanted];
+        Disks::lasting(rt.alloc()).hear(&rt, &script, &told)?;
     }
     Ok(())
 }
@@ -116,8 +210,11 @@ fn orders_are_told(rt: HostRuntime) -> Result<(), Fail> {
 #[test]
 fn what_is_refused_changes_nothing(rt: HostRuntime) -> Result<(), Fail> {
     let alloc = rt.alloc();
-    let disks = Disks::lasting(alloc).hear(&rt, &[INIT, HARBOUR], &[READY, ADDED])?;
-    let (kept, mut disks) = disks.play(alloc, &[Step::Contents])?;
+    let mut begun = Disks::lasting(alloc).hear(&rt, &[INIT, HARBOUR], &[READY, ADDED])?;
+    for (words, wanted) in BEGUN {
+        begun = begun.hear(&rt, &[Step::Order(words)], &[wanted])?;
+    }
+    let (kept, mut disks) = begun.play(alloc, &[Step::Contents])?;
     let contents = match kept.first() {
         Some(said) => said.told().1,
         None => return Err(Fail::from("nothing was said")),

@@ -1,22 +1,20 @@
 //! Words that are an order, and words that are none.
 
-use desk::{WordsFault, order, tell_words};
+use desk::{WordsFault, order};
 use std::alloc::{AllocError, Global};
 use std::test::Fail;
-use votes::Counted;
 
 /// What the words are: an order, or the status and the text of a fault.
 fn read(alloc: Global, words: &[&str]) -> Result<String, AllocError> {
     match order(alloc, words) {
         Ok(order) => format!(in alloc; "{order:?}"),
         Err(WordsFault::Memory) => Err(AllocError),
-        Err(WordsFault::Verdict) => format!(in alloc; "bad verdict word"),
         Err(WordsFault::Words { text, status }) => format!(in alloc; "{status} {text}"),
     }
 }
 
 /// Each order once, and what else its words may look like.
-const TAKEN: [(&[&str], &str); 20] = [
+const TAKEN: [(&[&str], &str); 8] = [
     (&["DB", "init"], "Init"),
     (
         &["DB", "ward", "7", "2", "Harbour", "--id", "w1"],
@@ -39,10 +37,6 @@ const TAKEN: [(&[&str], &str); 20] = [
         "Candidate { ward: 7, candidate: 1, name: \"Ann\", id: \"c1\" }",
     ),
     (
-        &["DB", "import-candidates", "a.csv", "--id", "c2"],
-        "ImportCandidates { file: \"a.csv\", id: \"c2\" }",
-    ),
-    (
         &["DB", "withdraw", "7", "1", "--id", "c3"],
         "Withdraw { ward: 7, candidate: 1, id: \"c3\" }",
     ),
@@ -50,47 +44,6 @@ const TAKEN: [(&[&str], &str); 20] = [
         &["DB", "close", "7", "--id", "w2"],
         "Close { ward: 7, id: \"w2\" }",
     ),
-    (
-        &["DB", "batch", "12", "7", "50", "4", "9", "--id", "b1"],
-        "Batch { batch: 12, ward: 7, size: 50, first_clerk: 4, second_clerk: 9, id: \"b1\" }",
-    ),
-    (
-        &["DB", "import-keying", "4", "12", "1", "a.csv", "--id", "k1"],
-        "ImportKeying { clerk: 4, batch: 12, round: 1, file: \"a.csv\", id: \"k1\" }",
-    ),
-    (
-        &["DB", "again", "12", "--id", "b2"],
-        "Again { batch: 12, id: \"b2\" }",
-    ),
-    (
-        &["DB", "judge", "12", "31", "accept:1,,2", "--id", "v1"],
-        "Judge { batch: 12, paper: 31, verdict: Accept(\"1,,2\"), id: \"v1\" }",
-    ),
-    (
-        &["DB", "judge", "12", "31", "accept:", "--id", "v1"],
-        "Judge { batch: 12, paper: 31, verdict: Accept(\"\"), id: \"v1\" }",
-    ),
-    (
-        &["DB", "judge", "12", "31", "reject:3", "--id", "v1"],
-        "Judge { batch: 12, paper: 31, verdict: Reject(3), id: \"v1\" }",
-    ),
-    (
-        &["DB", "judge", "12", "31", "reject:4294967295", "--id", "v1"],
-        "Judge { batch: 12, paper: 31, verdict: Reject(4294967295), id: \"v1\" }",
-    ),
-    (
-        &["DB", "judge", "12", "31", "reject:4294967296", "--id", "v1"],
-        "bad verdict word",
-    ),
-    (
-        &["DB", "judge", "12", "31", "reject:+3", "--id", "v1"],
-        "bad verdict word",
-    ),
-    (
-        &["DB", "judge", "12", "31", "Accept:1", "--id", "v1"],
-        "bad verdict word",
-    ),
-    (&["DB", "status", "7"], "Status { ward: 7 }"),
 ];
 
 #[test]
@@ -102,22 +55,12 @@ fn words_are_read_to_orders(rt: HostRuntime) -> Result<(), Fail> {
     Ok(())
 }
 
-/// Right words of each order that takes any, and the place of a number among them, past the end
-/// where none is a number.
-const RIGHT: [(&[&str], usize); 10] = [
+/// Right words of each order that takes any, and the place of a number among them.
+const RIGHT: [(&[&str], usize); 4] = [
     (&["DB", "ward", "--id=a", "7", "2", "Harbour"], 4),
     (&["DB", "candidate", "--id=a", "7", "1", "Ann"], 4),
-    (&["DB", "import-candidates", "--id=a", "a.csv"], 9),
     (&["DB", "withdraw", "--id=a", "7", "1"], 4),
     (&["DB", "close", "--id=a", "7"], 3),
-    (&["DB", "batch", "--id=a", "12", "7", "50", "4", "9"], 7),
-    (
-        &["DB", "import-keying", "--id=a", "4", "12", "1", "a.csv"],
-        5,
-    ),
-    (&["DB", "again", "--id=a", "12"], 3),
-    (&["DB", "judge", "--id=a", "12", "31", "accept:"], 4),
-    (&["DB", "status", "7"], 2),
 ];
 
 /// Words that are no order are told with a text that holds this, and status 2.
@@ -161,26 +104,9 @@ const WRONG_NUMBERS: [(&str, &str); 3] = [
 ];
 
 #[test]
-fn a_bad_verdict_word_is_told(rt: HostRuntime) -> Result<(), Fail> {
-    let alloc = rt.alloc();
-    let mut out = Vec::new(alloc);
-    let mut err = Vec::new(alloc);
-    let status = tell_words(
-        &WordsFault::Verdict,
-        &mut Counted::new(&mut out),
-        &mut Counted::new(&mut err),
-    );
-    assert_eq!(rt;
-        (status, out.as_slice(), err.as_slice()),
-        (2, &b""[..], &b"bad verdict word\n"[..])
-    );
-    Ok(())
-}
-
-#[test]
 fn words_that_are_no_order_get_help(rt: HostRuntime) -> Result<(), Fail> {
     let alloc = rt.alloc();
-    let cases: [(&[&str], &str, &str); 15] = [
+    let cases: [(&[&str], &str, &str); 16] = [
         (&[], "2 Runs the office", "Usage: count-office DB <COMMAND>"),
         (
             &["DB"],
@@ -201,11 +127,8 @@ fn words_that_are_no_order_get_help(rt: HostRuntime) -> Result<(), Fail> {
         (&["DB", "init", "now"], "2 error: ", "'now'"),
         (&["DB", "close", "7"], "2 error: ", "--id <ID>"),
         (&["DB", "wrad", "7"], "2 error: ", "'ward'"),
-        (
-            &["DB", "judge", "--help"],
-            "0 Judges",
-            "reject: and the reason",
-        ),
+        (&["DB", "status", "7"], "2 error: ", "'status'"),
+        (&["DB", "close", "--help"], "0 Closes", "<WARD>"),
         (
             &["DB", "help"],
             "2 error: ",
