@@ -1,24 +1,6 @@
 #!/usr/bin/env bash
-# Plays the first orders of an office over a new database, and compares what each writes to standard
-# output and to standard error, and its status, with first-ward.expected beside this file.
-set -euo pipefail
-
-here=$(dirname "$(readlink -f "${BASH_SOURCE[0]}")")
-office=$here/../count-office
-folder=$(mktemp -d)
-trap 'rm -rf "$folder"' EXIT
-
-# The program is built before the first order, so that only orders are played.
-"$office" --help >/dev/null
-
-play() {
-    local status=0
-    echo "\$ count-office $*"
-    (cd "$folder" && "$office" "$@" >output 2>errors) || status=$?
-    sed 's/^/output: /' "$folder/output"
-    sed 's/^/error: /' "$folder/errors"
-    echo "status $status"
-}
+# Plays the first orders of an office over a new database.
+source "$(dirname "$(readlink -f "${BASH_SOURCE[0]}")")/play.bash"
 
 {
     play town.db ward 7 2 Harbour --id w1
@@ -34,5 +16,4 @@ play() {
     play missing/town.db init
 } >"$folder/played"
 
-diff "$here/first-ward.expected" "$folder/played"
-echo "first-ward: all orders printed what they should"
+compare first-ward

@@ -1,0 +1,26 @@
+# What the examples share: each sources this file, plays orders, and compares what each writes to standard
+# output and to standard error, and its status, with the text beside it.
+set -euo pipefail
+
+here=$(dirname "$(readlink -f "${BASH_SOURCE[0]}")")
+office=$here/../count-office
+folder=$(mktemp -d)
+trap 'rm -rf "$folder"' EXIT
+
+# The program is built before the first order, so that only orders are played.
+"$office" --help >/dev/null
+
+play() {
+    local status=0
+    echo "\$ count-office $*"
+    (cd "$folder" && "$office" "$@" >output 2>errors) || status=$?
+    sed 's/^/output: /' "$folder/output"
+    sed 's/^/error: /' "$folder/errors"
+    echo "status $status"
+}
+
+# Compares what the orders of an example printed with NAME.expected.
+compare() {
+    diff "$here/$1.expected" "$folder/played"
+    echo "$1: all orders printed what they should"
+}
