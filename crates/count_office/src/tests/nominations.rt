@@ -5,23 +5,18 @@ use super::orders::{ADDED, HARBOUR, INIT, QUAY, QUAY_ADDED, READY};
 use super::steps::{Step, Told};
 use std::test::Fail;
 
-pub const ANN: Step<'static> = Step::Order(&["DB", "candidate", "7", "1", "Ann", "--id", "c1"]);
+const ANN: Step<'static> = Step::Order(&["DB", "candidate", "7", "1", "Ann", "--id", "c1"]);
 
 pub const ANN_ADDED: Told<'static> = (0, "candidate 1 of ward 7 added\n", "");
 
-pub const BOB: Step<'static> = Step::Order(&["DB", "candidate", "7", "2", "Bob", "--id", "c2"]);
+const BOB: Step<'static> = Step::Order(&["DB", "candidate", "7", "2", "Bob", "--id", "c2"]);
 
-pub const BOB_ADDED: Told<'static> = (0, "candidate 2 of ward 7 added\n", "");
+const BOB_ADDED: Told<'static> = (0, "candidate 2 of ward 7 added\n", "");
 
 /// Ann withdraws.
-pub const ANN_LEAVES: Step<'static> = Step::Order(&["DB", "withdraw", "7", "1", "--id", "x1"]);
+const ANN_LEAVES: Step<'static> = Step::Order(&["DB", "withdraw", "7", "1", "--id", "x1"]);
 
-pub const ANN_LEFT: Told<'static> = (0, "candidate 1 of ward 7 withdrawn\n", "");
-
-/// Nominations for Harbour are closed.
-pub const HARBOUR_CLOSES: Step<'static> = Step::Order(&["DB", "close", "7", "--id", "n1"]);
-
-pub const UNCONTESTED: Told<'static> = (0, "ward 7 uncontested\n", "");
+const ANN_LEFT: Told<'static> = (0, "candidate 1 of ward 7 withdrawn\n", "");
 
 /// Harbour, with as many candidates more as make it contested; and Quay, with as many as it has seats.
 const CLOSINGS: [(&[&str], Told<'static>); 9] = [

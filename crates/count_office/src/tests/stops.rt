@@ -1,143 +1,103 @@
-//! A store that stops at each of its calls in turn, while an office is made and nominations are taken.
+//! A store that stops at each of its calls in turn, while an office is made and a ward is added.
 
 use super::disks::Disks;
-use super::nominations::{
-    ANN, ANN_ADDED, ANN_LEAVES, ANN_LEFT, BOB, BOB_ADDED, HARBOUR_CLOSES, UNCONTESTED,
-};
 use super::orders::{ADDED, FOREIGN, HARBOUR, INIT, READY};
-use super::steps::{STOPPED, Said, Step, Told};
+use super::steps::{STOPPED, Said, Step};
 use std::alloc::Global;
 use std::process::Abort;
 use std::test::Fail;
 
-/// The orders that are given, each with its answer.
-const ORDERS: [(Step<'static>, Told<'static>); 6] = [
-    (INIT, READY),
-    (HARBOUR, ADDED),
-    (ANN, ANN_ADDED),
-    (BOB, BOB_ADDED),
-    (ANN_LEAVES, ANN_LEFT),
-    (HARBOUR_CLOSES, UNCONTESTED),
-];
-
-/// What a database holds before the first order, and after each.
-fn unstopped(alloc: Global) -> Result<Vec<String>, Fail> {
-    let mut contents = Vec::new(alloc);
-    let (said, mut disks) = Disks::lasting(alloc).play(alloc, &[Step::Contents])?;
-    push_last(alloc, &mut contents, &said)?;
-    for (order, _) in ORDERS {
-        let (said, left) = disks.play(alloc, &[order, Step::Contents])?;
-        push_last(alloc, &mut contents, &said)?;
-        disks = left;
-    }
-    Ok(contents)
+/// What a database holds before `init`, after it, and after `ward`.
+#[derive(Debug, Drop)]
+struct Contents {
+    nothing: String,
+    office: String,
+    ward: String,
 }
 
-fn push_last(alloc: Global, contents: &mut Vec<String>, said: &[Said]) -> Result<(), Fail> {
-    match said.last() {
-        Some(found) => Ok(contents.push(String::from_str(alloc, found.told().1)?)?),
+fn text_of(alloc: Global, said: Option<&Said>) -> Result<String, Fail> {
+    match said {
+        Some(said) => Ok(String::from_str(alloc, said.told().1)?),
         None => Err(Fail::from("a step is missing")),
     }
 }
 
-/// How far a run came: so many orders were answered, and the store stopped within the next one, or
-/// before it as the database was opened.
-#[derive(Clone, Copy, Debug, PartialEq, Eq)]
-struct Reached {
-    answered: usize,
-    within: bool,
-}
-
-const END: Reached = Reached {
-    answered: ORDERS.len(),
-    within: false,
-};
-
-/// None where an order was told anything but its answer or the stop.
-fn how_far(said: &[Said]) -> Option<Reached> {
-    for (answered, (said, (_, wanted))) in said.iter().zip(&ORDERS).enumerate() {
-        if said.told() == STOPPED {
-            return Some(Reached {
-                answered,
-                within: true,
-            });
-        }
-        if said.told() != *wanted {
-            return None;
-        }
-    }
-    Some(Reached {
-        answered: said.len(),
-        within: false,
+fn unstopped(alloc: Global) -> Result<Contents, Fail> {
+    let script = [
+        Step::Contents,
+        INIT,
+        Step::Contents,
+        HARBOUR,
+        Step::Contents,
+    ];
+    let (said, _) = Disks::lasting(alloc).play(alloc, &script)?;
+    Ok(Contents {
+        nothing: text_of(alloc, said.first())?,
+        office: text_of(alloc, said.get(2))?,
+        ward: text_of(alloc, said.get(4))?,
     })
 }
 
+/// How far a run came before the store stopped.
+#[derive(Clone, Copy, Debug, PartialEq, Eq)]
+enum Reached {
+    Opening,
+    Init,
+    Ward,
+    End,
+}
+
+/// None where an order was told anything but its answer or the stop.
+fn how_far(said: &[Said]) -> Option<Reached> {
+    match said {
+        [] => Some(Reached::Opening),
+        [init] if init.told() == STOPPED => Some(Reached::Init),
+        [init, ward] if init.told() == READY && ward.told() == STOPPED => Some(Reached::Ward),
+        [init, ward] if init.told() == READY && ward.told() == ADDED => Some(Reached::End),
+        _ => None,
+    }
+}
+
 /// What was answered stands, and of what was not answered there is all or nothing.
-fn stands(reached: Reached, found: &str, contents: &[String]) -> bool {
-    let may_be = if reached.within { 2 } else { 1 };
-    contents
-        .iter()
-        .skip(reached.answered)
-        .take(may_be)
-        .any(|text| text.as_str() == found)
+fn stands(reached: Reached, found: &str, contents: &Contents) -> bool {
+    match reached {
+        Reached::Opening => found == contents.nothing.as_str(),
+        Reached::Init => found == contents.nothing.as_str() || found == contents.office.as_str(),
+        Reached::Ward => found == contents.office.as_str() || found == contents.ward.as_str(),
+        Reached::End => found == contents.ward.as_str(),
+    }
 }
 
-/// The orders were answered as before, but that an office which is there isn't made again.
-fn are_answered(is_there: bool, said: &[Said]) -> bool {
-    for (said, (_, wanted)) in said.iter().zip(&ORDERS) {
-        let wanted = if is_there && *wanted == READY {
-            FOREIGN
-        } else {
-            *wanted
-        };
-        if said.told() != wanted {
-            return false;
+/// What is found stands, and the same orders, given again, end with the same reply and tables.
+fn stood(reached: Reached, said: &[Said], contents: &Contents) -> bool {
+    match said {
+        [found, init, ward, end] => {
+            let found = found.told().1;
+            let wanted = if found == contents.nothing.as_str() {
+                READY
+            } else {
+                FOREIGN
+            };
+            stands(reached, found, contents)
+                && init.told() == wanted
+                && ward.told() == ADDED
+                && end.told().1 == contents.ward.as_str()
         }
+        _ => false,
     }
-    said.len() == ORDERS.len()
-}
-
-/// What is found stands, and the same orders, given again, end with the same replies and tables.
-fn stood(reached: Reached, said: &[Said], contents: &[String]) -> bool {
-    let Some((found, rest)) = said.split_first() else {
-        return false;
-    };
-    let Some((end, answers)) = rest.split_last() else {
-        return false;
-    };
-    let (Some(nothing), Some(whole)) = (contents.first(), contents.last()) else {
-        return false;
-    };
-    let found = found.told().1;
-    stands(reached, found, contents)
-        && are_answered(found != nothing.as_str(), answers)
-        && end.told().1 == whole.as_str()
-}
-
-/// The orders, and between what is found before and after them.
-fn script(alloc: Global) -> Result<(Vec<Step<'static>>, Vec<Step<'static>>), Fail> {
-    let mut orders = Vec::new(alloc);
-    let mut again = Vec::new(alloc);
-    again.push(Step::Contents)?;
-    for (order, _) in ORDERS {
-        orders.push(order)?;
-        again.push(order)?;
-    }
-    again.push(Step::Contents)?;
-    Ok((orders, again))
 }
 
 /// Runs over disks that stop, restarts, and judges what is found.
 fn stop(
     rt: &(impl Abort + AllocGlobal),
     disks: Disks,
-    contents: &[String],
+    contents: &Contents,
 ) -> Result<Reached, Fail> {
-    let (orders, again) = script(rt.alloc())?;
-    let (said, left) = disks.play(rt.alloc(), &orders)?;
+    let (said, left) = disks.play(rt.alloc(), &[INIT, HARBOUR])?;
     let Some(reached) = how_far(said.as_slice()) else {
         return Err(Fail::from("an order was told something else"));
     };
+    let again = [Step::Contents, INIT, HARBOUR, Step::Contents];
     let (said, _) = left.restarted().play(rt.alloc(), &again)?;
     assert!(rt;
         stood(reached, said.as_slice(), contents),
@@ -147,7 +107,7 @@ fn stop(
 }
 
 /// More calls than a run makes of either file.
-const CALLS: u64 = 600;
+const CALLS: u64 = 200;
 
 /// Which of the two files stops.
 #[derive(Clone, Copy)]
@@ -167,15 +127,14 @@ fn stopping(alloc: Global, file: File, calls: u64) -> Disks {
 fn a_stop_leaves_old_or_new(rt: HostRuntime) -> Result<(), Fail> {
     let contents = unstopped(rt.alloc())?;
     for file in [File::Log, File::Database] {
-        let mut reached = None;
+        let mut last = Reached::Opening;
         for calls in 0..CALLS {
-            let last = stop(&rt, stopping(rt.alloc(), file, calls), &contents)?;
-            reached = Some(last);
-            if last == END {
+            last = stop(&rt, stopping(rt.alloc(), file, calls), &contents)?;
+            if last == Reached::End {
                 break;
             }
         }
-        assert!(&rt; reached == Some(END), "no run was long enough");
+        assert!(&rt; last == Reached::End, "no run was long enough");
     }
     Ok(())
 }
