@@ -1,9 +1,10 @@
 -- Plain numbers and lines, as receipts have them.
-use Rattle.std.proofs.Common.{rules, ◌==◌, inl, inr, ◌≡◌, ℕ, ◌<◌, ◌≤◌, ◌+◌, ◌^◌, nat_le, true, false, not, List, [], ◌∷◌, ◌++◌, length, ap, ◌∙◌, arith, length-append, get_or, refl}
-use Rattle.std.specs.List.{list_all}
+use Rattle.std.proofs.Common.{rules, ◌==◌, inl, inr, ◌≡◌, ℕ, ◌<◌, ◌≤◌, ◌+◌, ◌^◌, nat_le, true, false, not, List, [], ◌∷◌, ◌++◌, length, take, drop, ap, ◌∙◌, arith, length-append, get_or, refl}
+use Rattle.std.specs.List.{list_all, position_or_len}
 use Rattle.std.specs.Fmt.{decimal}
 use Rattle.std.specs.Str.{IsAscii, all_ascii_digits, is_utf8}
 use Rattle.std.specs.Str.Parse.{digits_value}
+use Rattle.std.proofs.Math.Seq.{take-append_seam, drop-append-add}
 use Rattle.std.proofs.lemmas.Bool.{and_parts, and_from, leb-true, le-leb}
 use Rattle.std.proofs.lemmas.Bool.Decides.{eqb_tells}
 use Rattle.std.proofs.lemmas.Fmt.{decimal_is_IsNumeral, digits_decimal, first_decimal, length-decimal-le, IsAscii-decimal}
@@ -11,7 +12,7 @@ use Rattle.std.proofs.lemmas.List.Folds.{list_all-append}
 use Rattle.std.proofs.lemmas.Str.{IsAscii-append, IsUtf8-from_ascii, is_utf8-from_IsUtf8}
 use Rattle.std.proofs.lemmas.Str.Parse.{IsNumeralModel, numerals_by_value}
 use Rattle.register.specs.Ranges.{is_between, is_line_byte, is_reply}
-use Rattle.register.specs.Subjects.{is_plain_number}
+use Rattle.register.specs.Subjects.{is_space, is_plain_number, are_plain_numbers}
 
 own : IsNumeralModel (λ ds. all_ascii_digits ds ≡ true) (digits_value 10)
 own = numerals_by_value _ (search rules)
@@ -39,6 +40,23 @@ is_plain-decimal high n below h =
     let first = first_decimal n (omega (arith, least)) fits in
     let differs = not_equal (get_or (decimal n) 0 0) 48 first in
     and_from _ _ (ap not differs) (and_from _ _ (digits_decimal own n fits) (rw value h))
+
+-- the first space is the one after the digits
+first_space : (ds t : List ℕ) → all_ascii_digits ds ≡ true → position_or_len is_space (ds ++ (32 ∷ t)) ≡ length ds
+first_space [] t h = refl
+first_space (d ∷ ds) t h =
+    let low = lower 48 57 d (and_parts (is_between 48 57 d) (all_ascii_digits ds) h).0 in
+    let later = first_space ds t (and_parts (is_between 48 57 d) (all_ascii_digits ds) h).1 in
+    rw (not_equal d 32 (omega (arith, low))) (omega (arith, later))
+
+-- two numbers in ranges from 1 on, parted by a space, are written plainly
+pub are_plain-decimals : (high most m n : ℕ) → high < 2 ^ 64 → most < 2 ^ 64 → is_between 1 high m ≡ true → is_between 1 most n ≡ true
+    → are_plain_numbers 1 high 1 most (decimal m ++ (32 ∷ decimal n)) ≡ true
+are_plain-decimals high most m n below low first second =
+    let place = first_space (decimal m) (decimal n) (digits_decimal own m (small 1 high m below first)) in
+    let before : take (position_or_len is_space (decimal m ++ (32 ∷ decimal n))) (decimal m ++ (32 ∷ decimal n)) ≡ decimal m = rw place (take-append_seam (decimal m) (32 ∷ decimal n)) in
+    let after : drop (position_or_len is_space (decimal m ++ (32 ∷ decimal n)) + 1) (decimal m ++ (32 ∷ decimal n)) ≡ decimal n = rw place (drop-append-add (decimal m) (32 ∷ decimal n) 1) in
+    and_from _ _ (ap (is_plain_number 1 high) before ∙ is_plain-decimal high m below first) (ap (is_plain_number 1 most) after ∙ is_plain-decimal most n low second)
 
 -- ---- lines
 

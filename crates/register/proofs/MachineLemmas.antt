@@ -8,7 +8,7 @@ use Rattle.std.proofs.lemmas.Slice.Eq.{bytes_eq-Decides}
 use Rattle.register.specs.declared.refusal.Reason.{Reason}
 use Rattle.register.specs.declared.refusal.Reason.TheVariants.{BadId, IdUsed}
 use Rattle.register.specs.declared.command.Command.{Command}
-use Rattle.register.specs.declared.command.Command.TheVariants.{Ward}
+use Rattle.register.specs.declared.command.Command.TheVariants.{Ward, Candidate}
 use Rattle.register.specs.Reasons.{first_reason}
 use Rattle.register.specs.Ranges.{is_id}
 use Rattle.register.specs.Offices.{OfficeState, ReceiptEntry, receipt_at, entry_at}
@@ -19,12 +19,14 @@ use Rattle.register.specs.Machine.{keeps, refuses, part_of, objections, subject_
 use Rattle.register.proofs.MapLemmas.{found_put}
 use Rattle.register.proofs.ItemLemmas.{IsFit, receipt_total, receipt_stays, same_receipts}
 use Rattle.register.proofs.WardLemmas.{ward_fits}
+use Rattle.register.proofs.CandidateLemmas.{candidate_fits}
 
 -- ---- the commands, by subject
 
 fits : (s : OfficeState) (actor : ℕ) (command : Command) → IsState s → first_reason (objections actor command (part_of s actor command)) ≡ None
     → IsFit s actor (effect_of command (part_of s actor command)) (subject_of command) (reply_to command (part_of s actor command))
 fits s actor (Ward command) is none = ward_fits s actor command is none
+fits s actor (Candidate command) is none = candidate_fits s actor command is none
 
 -- ---- a request at a state
 

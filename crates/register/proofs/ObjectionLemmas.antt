@@ -1,8 +1,13 @@
 -- Where nothing stands against a command, each of its conditions is met.
-use Rattle.std.proofs.Common.{◌≡◌, Bool, true, false, not, List, [], ◌∷◌, Option, Some, None, is_some, refl}
+use Rattle.std.proofs.Common.{◌≡◌, ◌==◌, Bool, true, false, not, List, [], ◌∷◌, Option, Some, None, is_some, refl}
 use Rattle.std.specs.List.{AllByRecursion}
+use Rattle.register.specs.declared.phase.Phase.{Phase}
+use Rattle.register.specs.declared.phase.Phase.TheVariants.{Nominations, Keying, Sealed, Declared}
 use Rattle.register.specs.declared.refusal.Reason.{Reason}
+use Rattle.register.specs.Phases.{phase_number}
 use Rattle.register.specs.Reasons.{objection, first_reason}
+use Rattle.register.specs.Offices.{WardEntry}
+use Rattle.register.specs.Parts.{is_in_phase}
 
 -- where no reason is told, none of the objections is one
 pub none_objects : (os : List (Option Reason)) → first_reason os ≡ None → AllByRecursion (λ o. o ≡ None) os
@@ -19,3 +24,22 @@ asked false why none = absurd (cc)
 pub absent : {X : Type 0} (o : Option X) (why : Reason) → objection (is_some o) why ≡ None → o ≡ None
 absent (Some x) why none = absurd (cc)
 absent None why none = refl
+
+-- two phases of one number are one
+one_phase : (p q : Phase) → (phase_number p == phase_number q) ≡ true → p ≡ q
+one_phase Nominations Nominations same = refl
+one_phase Keying Keying same = refl
+one_phase Sealed Sealed same = refl
+one_phase Declared Declared same = refl
+one_phase p q same = absurd (cc)
+
+-- a ward that is there, in a phase
+pub record IsThere (phase : Phase) (found : Option WardEntry) : Type 0 where
+  pub ward : WardEntry
+  pub is : found ≡ Some ward
+  pub phased : ward.phase ≡ phase
+
+-- the ward that a command needs in a phase is there, where neither its lack nor its phase objects
+pub there : (phase : Phase) (found : Option WardEntry) (why : Reason) → objection (not (is_in_phase phase found)) why ≡ None → IsThere phase found
+there phase None why none = absurd (cc)
+there phase (Some w) why none = record { ward = w; is = refl; phased = one_phase w.phase phase (asked (is_in_phase phase (Some w)) why none) }

@@ -16,6 +16,7 @@ use Rattle.register.specs.Machine.{accepted, kept, refused, step, decided}
 with_harbour : OfficeState
 with_harbour = record {
   wards = record { number = 7; seats = 2; phase = Nominations; done = 0; name = codes "Harbour" } ∷ [];
+  candidates = [];
   receipts = record { actor = 0; id = codes "w1"; subject = codes "ward 7"; reply = codes "ward 7 added" } ∷ [];
 }
 

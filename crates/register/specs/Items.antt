@@ -1,15 +1,19 @@
 -- Which maps are a state: the conditions that are judged when an office is opened, one by one, and that each step keeps.
-use Rattle.std.specs.Prelude.{◌≡◌, Bool, true, ◌&&◌, ◌||◌, ◌==◌, List, ℕ}
+use Rattle.std.specs.Prelude.{◌≡◌, Bool, true, ◌&&◌, ◌||◌, List, ℕ, is_some}
 use Rattle.std.specs.List.{list_all}
 use Rattle.std.specs.Str.{is_utf8}
-use Rattle.register.specs.Phases.{phase_number}
-use Rattle.register.specs.Ranges.{is_office, is_clerk, is_ward_number, is_seat_number, is_name, is_id, is_reply}
+use Rattle.register.specs.Ranges.{is_office, is_clerk, is_ward_number, is_seat_number, is_candidate_number, is_name, is_id, is_reply}
 use Rattle.register.specs.Subjects.{is_office_subject, is_clerk_subject}
-use Rattle.register.specs.Offices.{WardEntry, ReceiptEntry, OfficeState, MapsRise}
+use Rattle.register.specs.Offices.{WardEntry, CandidateEntry, ReceiptEntry, OfficeState, ward_at, candidates_of, MapsRise}
+use Rattle.register.specs.Nominations.{are_enough, is_reached}
 
 -- a ward whose number, seats and name are in range
 unfoldable pub is_ward : WardEntry → Bool
 is_ward w = is_ward_number w.number && (is_seat_number w.seats && is_name w.name)
+
+-- a candidate whose ward, number and name are in range
+unfoldable pub is_candidate : CandidateEntry → Bool
+is_candidate c = is_ward_number c.ward && (is_candidate_number c.number && is_name c.name)
 
 -- what the office, or a clerk, may ask for
 abbrev pub is_about : ℕ → List ℕ → Bool
@@ -21,18 +25,19 @@ is_receipt r = is_about r.actor r.subject && (is_utf8 r.subject && (is_id r.id &
 
 -- the first condition: numbers, names, ids, phases, subjects and replies are in range
 abbrev pub item1 : OfficeState → Bool
-item1 s = list_all is_ward s.wards && list_all is_receipt s.receipts
+item1 s = list_all is_ward s.wards && (list_all is_candidate s.candidates && list_all is_receipt s.receipts)
 
--- a ward in its nominations, with no stage done
-unfoldable pub is_begun : WardEntry → Bool
-is_begun w = (phase_number w.phase == 1) && (w.done == 0)
+-- the second condition: candidates belong to wards that are there, and each ward has those that its phase asks for
+abbrev pub item2 : OfficeState → Bool
+item2 s = list_all (λ c. is_some (ward_at s c.ward)) s.candidates && list_all (λ w. are_enough w.phase w (candidates_of s w.number)) s.wards
 
--- no command moves a ward past its nominations yet
-abbrev pub are_begun : OfficeState → Bool
-are_begun s = list_all is_begun s.wards
+-- what later commands bring: until then no contested ward is past keying, none is declared, and no stage is done
+abbrev pub are_reached : OfficeState → Bool
+are_reached s = list_all (λ w. is_reached w (candidates_of s w.number)) s.wards
 
 -- the maps of an office: their entries meet each condition, and stand in the order of their keys
 pub record IsState (s : OfficeState) : Type 0 where
   pub in_range : item1 s ≡ true
-  pub begun : are_begun s ≡ true
+  pub nominated : item2 s ≡ true
+  pub reached : are_reached s ≡ true
   pub rise : MapsRise s

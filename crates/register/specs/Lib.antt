@@ -3,9 +3,11 @@ pub mod Reasons
 pub mod Ranges
 pub mod Subjects
 pub mod Offices
+pub mod Nominations
 pub mod Items
 pub mod Effects
 pub mod Parts
 pub mod Wards
+pub mod Candidates
 pub mod Machine
 pub mod Views

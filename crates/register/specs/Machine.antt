@@ -4,7 +4,7 @@ use Rattle.std.specs.Str.{bytes_eq}
 use Rattle.register.specs.declared.refusal.Reason.{Reason}
 use Rattle.register.specs.declared.refusal.Reason.TheVariants.{BadId, IdUsed}
 use Rattle.register.specs.declared.command.Command.{Command}
-use Rattle.register.specs.declared.command.Command.TheVariants.{Ward}
+use Rattle.register.specs.declared.command.Command.TheVariants.{Ward, Candidate}
 use Rattle.register.specs.declared.command.Request.{Request}
 use Rattle.register.specs.Reasons.{first_reason}
 use Rattle.register.specs.Ranges.{is_id}
@@ -12,28 +12,34 @@ use Rattle.register.specs.Offices.{ReceiptEntry, OfficeState, receipt_at}
 use Rattle.register.specs.Effects.{EffectEntry, ChangeEntry, with_change}
 use Rattle.register.specs.Parts.{PartEntries}
 use Rattle.register.specs.Wards as wards
+use Rattle.register.specs.Candidates as candidates
 
 -- ---- the commands, by subject
 
 -- the part of the state that an actor's command needs
 abbrev pub part_of : OfficeState → ℕ → Command → PartEntries
 part_of s actor (Ward command) = wards.part_of s actor command
+part_of s actor (Candidate command) = candidates.part_of s actor command
 
 -- what stands against it, in the order of the reasons' numbers
 abbrev pub objections : ℕ → Command → PartEntries → List (Option Reason)
 objections actor (Ward command) part = wards.objections actor command part
+objections actor (Candidate command) part = candidates.objections actor command part
 
 -- what its receipt is about
 abbrev pub subject_of : Command → List ℕ
 subject_of (Ward command) = wards.subject_of command
+subject_of (Candidate command) = candidates.subject_of command
 
 -- what is replied where it is accepted
 abbrev pub reply_to : Command → PartEntries → List ℕ
 reply_to (Ward command) part = wards.reply_to command part
+reply_to (Candidate command) part = candidates.reply_to command part
 
 -- what it does where it is accepted
 abbrev pub effect_of : Command → PartEntries → EffectEntry
 effect_of (Ward command) part = wards.effect_of command part
+effect_of (Candidate command) part = candidates.effect_of command part
 
 -- ---- what is decided on a view: actor, id, command, receipt, and the part of the state
 

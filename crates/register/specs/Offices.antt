@@ -1,11 +1,13 @@
 -- The state of an office: maps of entries, each in the order of its keys.
-use Rattle.std.specs.Prelude.{ℕ, if◌then◌else◌, List, [], ◌∷◌, find, Option, string_bytes}
+use Rattle.std.specs.Prelude.{ℕ, not, ◌==◌, if◌then◌else◌, List, [], ◌∷◌, map, find, Option, string_bytes}
+use Rattle.std.specs.List.{filter}
 use Rattle.std.specs.List.Sorted.{IsStrictlySortedBy}
 use Rattle.std.specs.declared.cmp.Ordering.{Ordering}
 use Rattle.std.specs.Ordering.{nat_cmp, on, then_cmp, ordering_then, is_lt, is_eq}
 use Rattle.std.specs.Cmp.Lexicographic.{slice_cmp}
 use Rattle.register.specs.declared.phase.Phase.{Phase}
 use Rattle.register.specs.declared.wards.Ward.{Ward}
+use Rattle.register.specs.declared.candidates.Candidate.{Candidate}
 use Rattle.register.specs.declared.receipt.Receipt.{Receipt}
 
 -- ---- entries
@@ -18,6 +20,12 @@ pub record WardEntry : Type 0 where
   pub done : ℕ
   pub name : List ℕ
 
+-- a candidate: of which ward, its number there, its name
+pub record CandidateEntry : Type 0 where
+  pub ward : ℕ
+  pub number : ℕ
+  pub name : List ℕ
+
 -- what an accepted request left: who sent it under which id, what it was about, and what was replied
 pub record ReceiptEntry : Type 0 where
   pub actor : ℕ
@@ -28,6 +36,10 @@ pub record ReceiptEntry : Type 0 where
 -- the entry that a ward stands for
 abbrev pub ward_entry : Ward → WardEntry
 ward_entry w = record { number = w.number; seats = w.seats; phase = w.phase; done = w.done; name = string_bytes w.name }
+
+-- the entry that a candidate stands for
+abbrev pub candidate_entry : Candidate → CandidateEntry
+candidate_entry c = record { ward = c.ward; number = c.number; name = string_bytes c.name }
 
 -- the entry that a receipt stands for
 abbrev pub receipt_entry : Receipt → ReceiptEntry
@@ -44,28 +56,57 @@ put cmp x (y ∷ ys) = if is_lt (cmp x y) then x ∷ y ∷ ys else y ∷ put cmp
 abbrev pub entry_at : {X : Type 0} → (X → Ordering) → List X → Option X
 entry_at compared xs = find (λ x. is_eq (compared x)) xs
 
+-- the entries without the one whose key is the one that is compared with
+abbrev pub without : {X : Type 0} → (X → Ordering) → List X → List X
+without compared xs = filter (λ x. not (is_eq (compared x))) xs
+
+-- the entries with a change made in the one whose key is the one that is compared with
+abbrev pub changed : {X : Type 0} → (X → Ordering) → (X → X) → List X → List X
+changed compared change xs = map (λ x. if is_eq (compared x) then change x else x) xs
+
 -- ---- the state
 
--- the wards by number, the receipts by actor and id
+-- the wards by number, the candidates by ward and number, the receipts by actor and id
 pub record OfficeState : Type 0 where
   pub wards : List WardEntry
+  pub candidates : List CandidateEntry
   pub receipts : List ReceiptEntry
 
 -- an office where nothing has happened yet
 abbrev pub empty_office : OfficeState
-empty_office = record { wards = []; receipts = [] }
+empty_office = record { wards = []; candidates = []; receipts = [] }
 
 -- the order of wards: by number
 abbrev pub ward_cmp : WardEntry → WardEntry → Ordering
 ward_cmp = on (λ (w : WardEntry). w.number) nat_cmp
 
+-- the order of candidates: by ward, and then by number
+abbrev pub candidate_cmp : CandidateEntry → CandidateEntry → Ordering
+candidate_cmp = then_cmp (on (λ (c : CandidateEntry). c.ward) nat_cmp) (on (λ (c : CandidateEntry). c.number) nat_cmp)
+
 -- the order of receipts: by actor, and then by id
 abbrev pub receipt_cmp : ReceiptEntry → ReceiptEntry → Ordering
 receipt_cmp = then_cmp (on (λ (r : ReceiptEntry). r.actor) nat_cmp) (on (λ (r : ReceiptEntry). r.id) (slice_cmp nat_cmp))
 
+-- a ward, compared with a number
+abbrev pub ward_compared : ℕ → WardEntry → Ordering
+ward_compared number w = nat_cmp number w.number
+
 -- the ward with this number
 abbrev pub ward_at : OfficeState → ℕ → Option WardEntry
-ward_at s number = entry_at (λ w. nat_cmp number w.number) s.wards
+ward_at s number = entry_at (ward_compared number) s.wards
+
+-- a candidate, compared with a ward and a number
+abbrev pub candidate_compared : ℕ → ℕ → CandidateEntry → Ordering
+candidate_compared ward number c = ordering_then (nat_cmp ward c.ward) (nat_cmp number c.number)
+
+-- the candidate with this number in this ward
+abbrev pub candidate_at : OfficeState → ℕ → ℕ → Option CandidateEntry
+candidate_at s ward number = entry_at (candidate_compared ward number) s.candidates
+
+-- the candidates of a ward, in the order of their numbers
+abbrev pub candidates_of : OfficeState → ℕ → List CandidateEntry
+candidates_of s ward = filter (λ (c : CandidateEntry). c.ward == ward) s.candidates
 
 -- the receipt of this actor and id
 abbrev pub receipt_at : OfficeState → ℕ → List ℕ → Option ReceiptEntry
@@ -74,4 +115,5 @@ receipt_at s actor id = entry_at (λ r. ordering_then (nat_cmp actor r.actor) (s
 -- each map in the order of its keys, no key twice
 pub record MapsRise (s : OfficeState) : Type 0 where
   pub wards : IsStrictlySortedBy ward_cmp s.wards
+  pub candidates : IsStrictlySortedBy candidate_cmp s.candidates
   pub receipts : IsStrictlySortedBy receipt_cmp s.receipts

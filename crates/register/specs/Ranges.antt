@@ -62,6 +62,10 @@ is_ward_number = is_between 1 last_ward
 abbrev pub is_seat_number : ℕ → Bool
 is_seat_number = is_between 1 most_seats
 
+-- a candidate's number in its ward
+abbrev pub is_candidate_number : ℕ → Bool
+is_candidate_number = is_between 1 last_candidate
+
 -- ---- texts
 
 -- a byte of no control character: not below a space, and not DEL

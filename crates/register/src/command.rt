@@ -1,5 +1,6 @@
 //! Commands, and the requests that carry them.
 
+use crate::candidates::CandidateCommand;
 use crate::wards::WardCommand;
 
 /// What an actor asks of the office, by subject. The numbers are as the actor sent them, in range or not.
@@ -7,6 +8,8 @@ use crate::wards::WardCommand;
 pub enum Command {
     /// About a ward.
     Ward(WardCommand),
+    /// About a candidate.
+    Candidate(CandidateCommand),
 }
 
 /// A command, with who sends it (0 is the office, 1 to 999 a clerk) and under which id.

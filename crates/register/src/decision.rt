@@ -1,5 +1,7 @@
 //! What the machine decides.
 
+use crate::candidates::Candidate;
+use crate::phase::Phase;
 use crate::receipt::Receipt;
 use crate::refusal::Refusal;
 use crate::wards::Ward;
@@ -12,6 +14,12 @@ pub type Reply = String;
 pub enum Effect {
     /// This ward is new.
     WardAdded(Ward),
+    /// The ward of this number comes to this phase.
+    WardMoved { ward: u32, phase: Phase },
+    /// This candidate is new.
+    CandidateAdded(Candidate),
+    /// The candidate of this number in this ward stands no longer, and the number is free.
+    CandidateWithdrawn { ward: u32, candidate: u32 },
 }
 
 /// All that an accepted request changes. It is kept whole or not at all.

@@ -26,10 +26,12 @@ pub mod refusal;
 // Which numbers and texts are in range.
 pub mod ranges;
 // The commands, by subject.
+pub mod candidates;
 pub mod wards;
 // The machine, which chooses among the subjects.
 mod machine;
 
+pub use candidates::{Candidate, CandidateCommand};
 pub use command::{Command, Request};
 pub use decision::{Change, Decision, Effect, Reply};
 pub use machine::decide;

@@ -15,7 +15,7 @@ use crate::ranges::is_id;
 use crate::receipt::Receipt;
 use crate::refusal::{Reason, Refusal};
 use crate::view::{Part, View};
-use crate::wards;
+use crate::{candidates, wards};
 use std::alloc::{AllocError, Global};
 
 /// What stands against a command: of several reasons the one with the lowest number.
@@ -24,6 +24,7 @@ fn objection_to(actor: u32, command: &Command, part: &Part) -> Option<Reason>
 {
     match command {
         Command::Ward(command) => wards::objection_to(actor, command, part),
+        Command::Candidate(command) => candidates::objection_to(actor, command, part),
     }
 }
 
@@ -33,6 +34,7 @@ fn subject_of(alloc: Global, command: &Command) -> Result<String, AllocError>
 {
     match command {
         Command::Ward(command) => wards::subject_of(alloc, command),
+        Command::Candidate(command) => candidates::subject_of(alloc, command),
     }
 }
 
@@ -42,6 +44,7 @@ fn reply_to(alloc: Global, command: &Command, part: &Part) -> Result<String, All
 {
     match command {
         Command::Ward(command) => wards::reply_to(alloc, command, part),
+        Command::Candidate(command) => candidates::reply_to(alloc, command, part),
     }
 }
 
@@ -51,6 +54,7 @@ fn effect_of(command: &Command, part: &Part) -> Result<Effect, AllocError>
 {
     match command {
         Command::Ward(command) => wards::effect_of(command, part),
+        Command::Candidate(command) => candidates::effect_of(command, part),
     }
 }
 

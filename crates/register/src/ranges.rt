@@ -2,7 +2,7 @@
 
 ghost use Rattle.std.specs.Prelude.{◌≡◌};
 ghost use Rattle.std.specs.List.{list_all};
-ghost use Rattle.register.specs.Ranges.{is_between, is_clerk, is_ward_number, is_seat_number, is_name_byte, is_id_byte, is_line_byte, is_name, is_id, is_reply};
+ghost use Rattle.register.specs.Ranges.{is_between, is_clerk, is_ward_number, is_seat_number, is_candidate_number, is_name_byte, is_id_byte, is_line_byte, is_name, is_id, is_reply};
 
 /// The highest number of a clerk.
 pub const LAST_CLERK: u32 = 999;
@@ -69,6 +69,13 @@ pub fn is_seat_number(n: u32) -> bool
     ensures { result ≡ is_seat_number n }
 {
     is_between(1, MOST_SEATS, n)
+}
+
+/// Whether a number is that of a candidate in a ward: 1 to 30.
+pub fn is_candidate_number(n: u32) -> bool
+    ensures { result ≡ is_candidate_number n }
+{
+    is_between(1, LAST_CANDIDATE, n)
 }
 
 fn is_length(most: usize, n: usize) -> bool

@@ -17,8 +17,18 @@ pub enum Reason {
     NumberOutOfRange,
     /// The name isn't 1 to 120 bytes, or has a control character.
     BadName,
+    /// There is no ward of this number.
+    NoSuchWard,
     /// A ward of this number is there already.
     WardExists,
+    /// The ward isn't in the phase in which this may be asked.
+    WrongPhase,
+    /// A candidate of this number in this ward is there already.
+    CandidateExists,
+    /// There is no candidate of this number in this ward.
+    NoSuchCandidate,
+    /// The ward has no candidates.
+    NoCandidates,
 }
 
 impl Reason {
@@ -32,7 +42,12 @@ impl Reason {
             Reason::IdUsed => (2, "id used for another subject"),
             Reason::NumberOutOfRange => (3, "number out of range"),
             Reason::BadName => (4, "bad name"),
+            Reason::NoSuchWard => (5, "no such ward"),
             Reason::WardExists => (6, "ward exists"),
+            Reason::WrongPhase => (9, "wrong phase"),
+            Reason::CandidateExists => (10, "candidate exists"),
+            Reason::NoSuchCandidate => (11, "no such candidate"),
+            Reason::NoCandidates => (12, "no candidates"),
         }
     }
 }

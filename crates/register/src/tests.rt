@@ -1,10 +1,11 @@
 //! The first morning of an office, request by request.
 
+use crate::candidates::{Candidate, CandidateCommand};
 use crate::command::Command;
 use crate::decision::Decision;
 use crate::machine::decide;
 use crate::phase::Phase;
-use crate::ranges::{is_clerk, is_reply, is_seat_number};
+use crate::ranges::{is_candidate_number, is_clerk, is_reply, is_seat_number};
 use crate::receipt::Receipt;
 use crate::view::{Part, View};
 use crate::wards::{Ward, WardCommand};
@@ -40,6 +41,8 @@ fn view_of<'a>(alloc: Global, actor: u32, id: &'a str, ward: u32) -> Result<View
         receipt: if id == "w1" { Some(receipt) } else { None },
         part: Part {
             ward: if ward == 7 { Some(harbour) } else { None },
+            candidate: None,
+            candidates: Vec::new(alloc),
         },
     })
 }
@@ -85,6 +88,121 @@ fn each_request_has_its_answer(rt: HostRuntime) -> Result<(), Fail> {
     Ok(())
 }
 
+/// What the office holds of a ward: of 8, two seats, a phase and candidates 1 to `standing`.
+fn quay(
+    alloc: Global,
+    ward: u32,
+    phase: Phase,
+    standing: u32,
+    candidate: u32,
+) -> Result<Part, AllocError> {
+    let mut candidates = Vec::new(alloc);
+    for number in 1..=standing {
+        let name = String::from_str(alloc, "Dee")?;
+        candidates.push(Candidate { ward, number, name })?;
+    }
+    let named = Candidate {
+        ward,
+        number: candidate,
+        name: String::from_str(alloc, "Dee")?,
+    };
+    let quay = Ward {
+        number: 8,
+        seats: 2,
+        phase,
+        done: 0,
+        name: String::from_str(alloc, "Quay")?,
+    };
+    Ok(Part {
+        ward: if ward == 8 { Some(quay) } else { None },
+        candidate: if candidate <= standing {
+            Some(named)
+        } else {
+            None
+        },
+        candidates,
+    })
+}
+
+/// The command of this word; any other word is the name of a new candidate.
+fn ordered(alloc: Global, word: &str, ward: u32, candidate: u32) -> Result<Command, AllocError> {
+    if word == "close" {
+        return Ok(Command::Ward(WardCommand::Close { ward }));
+    }
+    if word == "withdraw" {
+        return Ok(Command::Candidate(CandidateCommand::Withdraw { ward, candidate }));
+    }
+    Ok(Command::Candidate(CandidateCommand::Add {
+        ward,
+        candidate,
+        name: String::from_str(alloc, word)?,
+    }))
+}
+
+#[test]
+fn nominations_have_their_answers(rt: HostRuntime) -> Result<(), Fail> {
+    let alloc = rt.alloc();
+    let (open, late) = (Phase::Nominations, Phase::Sealed);
+    let cases = [
+        (
+            "Fay",
+            8,
+            3,
+            2,
+            open,
+            "accepted: candidate 3 of ward 8 added (n1, candidate 8 3)",
+        ),
+        ("Fay", 8, 31, 2, open, "refused 3: number out of range"),
+        ("", 9, 3, 2, open, "refused 4: bad name"),
+        ("Fay", 9, 3, 2, late, "refused 5: no such ward"),
+        ("Fay", 8, 2, 2, late, "refused 9: wrong phase"),
+        ("Fay", 8, 2, 2, open, "refused 10: candidate exists"),
+        (
+            "withdraw",
+            8,
+            2,
+            2,
+            open,
+            "accepted: candidate 2 of ward 8 withdrawn (n1, withdraw 8 2)",
+        ),
+        ("withdraw", 8, 0, 2, open, "refused 3: number out of range"),
+        ("withdraw", 9, 3, 2, late, "refused 5: no such ward"),
+        ("withdraw", 8, 3, 2, late, "refused 9: wrong phase"),
+        ("withdraw", 8, 3, 2, open, "refused 11: no such candidate"),
+        (
+            "close",
+            8,
+            1,
+            3,
+            open,
+            "accepted: ward 8 polled (n1, close 8)",
+        ),
+        (
+            "close",
+            8,
+            1,
+            2,
+            open,
+            "accepted: ward 8 uncontested (n1, close 8)",
+        ),
+        ("close", 100, 1, 0, open, "refused 3: number out of range"),
+        ("close", 9, 1, 0, open, "refused 5: no such ward"),
+        ("close", 8, 1, 0, late, "refused 9: wrong phase"),
+        ("close", 8, 1, 0, open, "refused 12: no candidates"),
+    ];
+    for (word, ward, candidate, standing, phase, wanted) in cases {
+        let view = View {
+            actor: 0,
+            id: "n1",
+            receipt: None,
+            part: quay(alloc, ward, phase, standing, candidate)?,
+        };
+        let decision = decide(alloc, &view, &ordered(alloc, word, ward, candidate)?)?;
+        assert_eq!(rt; told(alloc, &decision)?.as_str(), wanted);
+    }
+    Ok(())
+}
+
 #[test]
 fn numbers_in_range(rt: HostRuntime) {
     let phases = [
@@ -99,5 +217,9 @@ fn numbers_in_range(rt: HostRuntime) {
     assert_eq!(rt; Phase::Sealed.number(), 3);
     assert_eq!(rt; (is_clerk(999), is_clerk(1000)), (true, false));
     assert_eq!(rt; (is_seat_number(15), is_seat_number(16)), (true, false));
+    assert_eq!(rt;
+        (is_candidate_number(30), is_candidate_number(31)),
+        (true, false)
+    );
     assert_eq!(rt; (is_reply("ward 7 added"), is_reply("\n")), (true, false));
 }

@@ -1,11 +1,14 @@
 //! Wards, and the commands about them.
 
-ghost use Rattle.std.specs.Prelude.{◌≡◌, IfOk, string_bytes};
+ghost use Rattle.std.specs.Prelude.{◌≡◌, IfOk, map, option_map, string_bytes};
 ghost use Rattle.register.specs.Reasons.{first_reason};
-ghost use Rattle.register.specs.Parts.{part_entries};
+ghost use Rattle.register.specs.Offices.{ward_entry, candidate_entry};
+ghost use Rattle.register.specs.Parts.{part_entries, phase_objections};
 ghost use Rattle.register.specs.Effects.{effect_entry};
-ghost use Rattle.register.specs.Wards.{is_in_range, objections, subject_of, reply_to, effect_of};
+ghost use Rattle.register.specs.Nominations.{is_contested};
+ghost use Rattle.register.specs.Wards.{is_in_range, is_polled, objections, subject_of, reply_to, effect_of};
 
+use crate::candidates::Candidate;
 use crate::decision::Effect;
 use crate::phase::Phase;
 use crate::ranges::{is_name, is_seat_number, is_ward_number};
@@ -29,6 +32,8 @@ pub struct Ward {
 pub enum WardCommand {
     /// A ward with this number, so many seats and this name, its nominations open.
     Add { ward: u32, seats: u32, name: String },
+    /// No more nominations for this ward: it is polled where it has more candidates than seats.
+    Close { ward: u32 },
 }
 
 /// Whether the command's numbers are in range, and the actor is one who may send it.
@@ -41,6 +46,42 @@ fn is_in_range(actor: u32, command: &WardCommand) -> bool
             let number = is_ward_number(*ward);
             office & (number & is_seat_number(*seats))
         }
+        WardCommand::Close { ward } => {
+            let office = actor == 0;
+            office & is_ward_number(*ward)
+        }
+    }
+}
+
+/// What stands against a command that needs a ward in a phase: there is none, or it is in another one.
+pub(crate) fn phase_objection(phase: Phase, ward: &Option<Ward>) -> Option<Reason>
+    ensures { result ≡ first_reason (phase_objections phase (option_map ward_entry ward.now)) }
+{
+    match ward {
+        None => Some(Reason::NoSuchWard),
+        Some(ward) => {
+            if ward.phase.number() != phase.number() {
+                return Some(Reason::WrongPhase);
+            }
+            None
+        }
+    }
+}
+
+/// Whether a ward has more candidates than seats.
+pub fn is_contested(ward: &Ward, candidates: &[Candidate]) -> bool
+    ensures { result ≡ is_contested (ward_entry ward.now) (map candidate_entry candidates.now) }
+{
+    (ward.seats as usize) < candidates.len()
+}
+
+/// Whether the ward is to be polled: it is there, and contested.
+fn is_polled(ward: &Option<Ward>, candidates: &[Candidate]) -> bool
+    ensures { result ≡ is_polled (option_map ward_entry ward.now) (map candidate_entry candidates.now) }
+{
+    match ward {
+        Some(ward) => is_contested(ward, candidates),
+        None => false,
     }
 }
 
@@ -61,6 +102,15 @@ pub(crate) fn objection_to(actor: u32, command: &WardCommand, part: &Part) -> Op
             }
             None
         }
+        WardCommand::Close { .. } => {
+            if let Some(reason) = phase_objection(Phase::Nominations, &part.ward) {
+                return Some(reason);
+            }
+            if part.candidates.is_empty() {
+                return Some(Reason::NoCandidates);
+            }
+            None
+        }
     }
 }
 
@@ -71,6 +121,7 @@ pub(crate) fn subject_of(alloc: Global, command: &WardCommand) -> Result<String,
 {
     match command {
         WardCommand::Add { ward, .. } => format!(in alloc; "ward {ward}"),
+        WardCommand::Close { ward } => format!(in alloc; "close {ward}"),
     }
 }
 
@@ -85,6 +136,12 @@ pub(crate) fn reply_to(
 {
     match command {
         WardCommand::Add { ward, .. } => format!(in alloc; "ward {ward} added"),
+        WardCommand::Close { ward } => {
+            if is_polled(&part.ward, &part.candidates) {
+                return format!(in alloc; "ward {ward} polled");
+            }
+            format!(in alloc; "ward {ward} uncontested")
+        }
     }
 }
 
@@ -100,5 +157,12 @@ pub(crate) fn effect_of(command: &WardCommand, part: &Part) -> Result<Effect, Al
             done: 0,
             name: name.clone()?,
         })),
+        WardCommand::Close { ward } => {
+            let polled = is_polled(&part.ward, &part.candidates);
+            Ok(Effect::WardMoved {
+                ward: *ward,
+                phase: if polled { Phase::Keying } else { Phase::Sealed },
+            })
+        }
     }
 }

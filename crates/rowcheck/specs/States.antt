@@ -1,8 +1,8 @@
 -- The maps that rows stand for.
 use Rattle.std.specs.Prelude.{map}
-use Rattle.register.specs.Offices.{OfficeState, ward_entry, receipt_entry}
+use Rattle.register.specs.Offices.{OfficeState, ward_entry, candidate_entry, receipt_entry}
 use Rattle.rowcheck.specs.declared.rows.Rows.{Rows}
 
 -- the maps of the rows, entry by entry: a state only where they meet each condition
 abbrev pub state_of : Rows → OfficeState
-state_of rows = record { wards = map ward_entry rows.wards.items; receipts = map receipt_entry rows.receipts.items }
+state_of rows = record { wards = map ward_entry rows.wards.items; candidates = map candidate_entry rows.candidates.items; receipts = map receipt_entry rows.receipts.items }

@@ -12,11 +12,13 @@
 // The rows.
 pub mod rows;
 // The conditions, and what they read: subjects of receipts, and numbers in them.
+mod nominations;
 mod plain;
 mod ranges;
 mod subjects;
 
-pub use ranges::{are_begun, item1};
+pub use nominations::{are_reached, item2};
+pub use ranges::item1;
 pub use rows::Rows;
 
 #[cfg(test)]

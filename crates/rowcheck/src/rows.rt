@@ -1,11 +1,12 @@
 //! Rows, as the values that they hold.
 
-use register::{Receipt, Ward};
+use register::{Candidate, Receipt, Ward};
 
 /// The rows of an office, each table's in the order of its keys. Their numbers and texts are in range
 /// only where `item1` says so.
 #[derive(Debug, Drop)]
 pub struct Rows {
     pub wards: Vec<Ward>,
+    pub candidates: Vec<Candidate>,
     pub receipts: Vec<Receipt>,
 }

@@ -1,17 +1,19 @@
 //! Rows of an office, and rows of none.
 
-use crate::ranges::{are_begun, item1};
+ghost use Rattle.std.specs.Prelude.{◌≡◌, IfOk};
+ghost use Rattle.register.specs.Offices.{MapsRise};
+ghost use Rattle.rowcheck.specs.States.{state_of};
+
+use crate::nominations::{are_reached, item2};
+use crate::ranges::item1;
 use crate::rows::Rows;
-use register::{Phase, Receipt, Ward};
+use register::{Candidate, Phase, Receipt, Ward};
 use std::alloc::{AllocError, Global};
 use std::test::Fail;
 
-fn only_ward(
-    alloc: Global,
-    numbers: [u32; 3],
-    phase: Phase,
-    name: &str,
-) -> Result<Rows, AllocError> {
+fn only_ward(alloc: Global, numbers: [u32; 3], phase: Phase, name: &str) -> Result<Rows, AllocError>
+    ensures { IfOk result (λ rows. MapsRise (state_of rows)) }
+{
     let [number, seats, done] = numbers;
     let ward = Ward {
         number,
@@ -22,7 +24,19 @@ fn only_ward(
     };
     Ok(Rows {
         wards: vec![in alloc; ward]?,
+        candidates: Vec::new(alloc),
         receipts: Vec::new(alloc),
+    })
+}
+
+fn candidate(alloc: Global, ward: u32, number: u32) -> Result<Candidate, AllocError>
+    ensures ward { IfOk result (λ c. c.ward ≡ ward) }
+    ensures number { IfOk result (λ c. c.number ≡ number) }
+{
+    Ok(Candidate {
+        ward,
+        number,
+        name: String::from_str(alloc, "Ann")?,
     })
 }
 
@@ -35,6 +49,7 @@ fn only_receipt(alloc: Global, actor: u32, subject: &str) -> Result<Rows, AllocE
     };
     Ok(Rows {
         wards: Vec::new(alloc),
+        candidates: Vec::new(alloc),
         receipts: vec![in alloc; receipt]?,
     })
 }
@@ -43,17 +58,51 @@ fn only_receipt(alloc: Global, actor: u32, subject: &str) -> Result<Rows, AllocE
 fn wards_in_range(rt: HostRuntime) -> Result<(), Fail> {
     let alloc = rt.alloc();
     let cases = [
-        ([7, 2, 0], Phase::Nominations, "Harbour", true, true),
-        ([99, 15, 0], Phase::Declared, "Quay", true, false),
-        ([7, 2, 1], Phase::Nominations, "Harbour", true, false),
-        ([0, 2, 0], Phase::Nominations, "Harbour", false, true),
-        ([7, 16, 0], Phase::Keying, "Harbour", false, false),
-        ([7, 2, 0], Phase::Nominations, "", false, true),
+        ([7, 2, 0], Phase::Nominations, "Harbour", true),
+        ([99, 15, 31], Phase::Declared, "Quay", true),
+        ([0, 2, 0], Phase::Nominations, "Harbour", false),
+        ([7, 16, 0], Phase::Keying, "Harbour", false),
+        ([7, 2, 0], Phase::Nominations, "", false),
     ];
-    for (numbers, phase, name, in_range, begun) in cases {
-        let rows = only_ward(alloc, numbers, phase, name)?;
-        assert_eq!(rt; item1(&rows), in_range);
-        assert_eq!(rt; are_begun(&rows), begun);
+    for (numbers, phase, name, in_range) in cases {
+        assert_eq!(rt; item1(&only_ward(alloc, numbers, phase, name)?), in_range);
+    }
+    Ok(())
+}
+
+/// Ward 7, of one seat, in a phase, and the candidates 1 and 2 of a ward.
+fn nominated(alloc: Global, phase: Phase, done: u32, ward: u32) -> Result<Rows, AllocError>
+    ensures { IfOk result (λ rows. MapsRise (state_of rows)) }
+{
+    let first = candidate(alloc, ward, 1)?;
+    let second = candidate(alloc, ward, 2)?;
+    let rows = only_ward(alloc, [7, 1, done], phase, "Harbour")?;
+    Ok(Rows {
+        wards: rows.wards,
+        candidates: vec![in alloc; first, second]?,
+        receipts: rows.receipts,
+    })
+}
+
+#[test]
+fn candidates_of_wards(rt: HostRuntime) -> Result<(), Fail> {
+    let alloc = rt.alloc();
+    let cases = [
+        (Phase::Nominations, 0, 7, true, true),
+        (Phase::Nominations, 1, 7, true, false),
+        (Phase::Keying, 0, 7, true, true),
+        (Phase::Sealed, 0, 7, true, false),
+        (Phase::Declared, 0, 7, true, false),
+        (Phase::Nominations, 0, 8, false, false),
+        (Phase::Keying, 0, 6, false, false),
+    ];
+    for (phase, done, ward, enough, reached) in cases {
+        let rows = nominated(alloc, phase, done, ward)?;
+        let found = item2(&rows);
+        assert_eq!(rt; found, enough);
+        if found {
+            assert_eq!(rt; are_reached(&rows), reached);
+        }
     }
     Ok(())
 }

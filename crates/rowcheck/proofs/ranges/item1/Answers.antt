@@ -1,15 +1,18 @@
 use Rattle.std.proofs.lemmas.List.Folds.{list_all-map}
-use Rattle.register.specs.Offices.{ward_entry, receipt_entry}
-use Rattle.register.specs.Items.{is_ward, is_receipt}
+use Rattle.register.specs.Offices.{ward_entry, candidate_entry, receipt_entry}
+use Rattle.register.specs.Items.{is_ward, is_candidate, is_receipt}
 use Rattle.rowcheck.proofs.ranges.item1.Goals as goal
 
 pub returns : goal.returns
 returns c =
     rw (
       c.are_wards-wards.ensures,
-      c.are_receipts-receipts.ensures,
+      c.are_candidates-candidates.ensures,
+      c.are_receipts.ensures,
       c.deref.ensures.value,
       c.deref-2.ensures.value,
+      c.deref-3.ensures.value,
       list_all-map is_ward ward_entry c.args.rows.now.wards.items,
+      list_all-map is_candidate candidate_entry c.args.rows.now.candidates.items,
       list_all-map is_receipt receipt_entry c.args.rows.now.receipts.items,
     )

@@ -1,0 +1,42 @@
+-- What a walk over wards and their candidates tells of the state of the rows.
+use Rattle.std.proofs.Common.{◌≡◌, ◌≤◌, true, ◌&&◌, map, is_some, refl, ◌∙◌, arith}
+use Rattle.std.specs.List.{list_all}
+use Rattle.std.specs.declared.cmp.Ordering.{Ordering}
+use Rattle.std.specs.declared.cmp.Ordering.TheVariants.{Less, Equal, Greater}
+use Rattle.std.specs.Ordering.{nat_cmp, ordering_then}
+use Rattle.std.proofs.lemmas.Bool.{and_parts}
+use Rattle.register.specs.Offices.{WardEntry, CandidateEntry, MapsRise, ward_entry, candidate_entry, candidate_cmp, ward_at, candidates_of}
+use Rattle.register.specs.Nominations.{are_enough}
+use Rattle.register.specs.Items.{item2, are_reached}
+use Rattle.rowcheck.specs.declared.rows.Rows.{Rows}
+use Rattle.rowcheck.specs.declared.nominations.Asked.{Asked}
+use Rattle.rowcheck.specs.declared.nominations.Asked.TheVariants.{Enough, Reached}
+use Rattle.rowcheck.specs.States.{state_of}
+use Rattle.rowcheck.specs.Nominations.{meets, meet_by_run}
+use Rattle.rowcheck.proofs.RunLemmas.{by_run_map, below_from, equal_from, walk_tells}
+
+-- candidates in the order of their keys are in the order of their wards
+ward_order : (c d : CandidateEntry) → candidate_cmp c d ≡ Less → c.ward ≤ d.ward
+ward_order c d less = go (nat_cmp c.ward d.ward) refl less
+  where
+    go : (o : Ordering) → nat_cmp c.ward d.ward ≡ o → ordering_then o (nat_cmp c.number d.number) ≡ Less → c.ward ≤ d.ward
+    go Less is told = let e = below_from c.ward d.ward is in omega (arith, e)
+    go Equal is told = let e = equal_from c.ward d.ward is in omega (arith, e)
+    go Greater is told = absurd (cc)
+
+-- the walk tells whether each candidate has its ward, and each ward meets what is asked
+walked : (asked : Asked) (rows : Rows) → MapsRise (state_of rows)
+    → meet_by_run asked rows.wards.items rows.candidates.items
+    ≡ (list_all (λ c. is_some (ward_at (state_of rows) c.ward)) (state_of rows).candidates && list_all (λ w. meets asked w (candidates_of (state_of rows) w.number)) (state_of rows).wards)
+walked asked rows rise =
+    by_run_map ward_entry candidate_entry (λ (w : WardEntry). w.number) (λ (c : CandidateEntry). c.ward) (meets asked) rows.wards.items rows.candidates.items
+    ∙ walk_tells (λ (w : WardEntry). w.number) (λ (c : CandidateEntry). c.ward) candidate_cmp ward_order (meets asked) (map ward_entry rows.wards.items) (map candidate_entry rows.candidates.items) rise.wards rise.candidates
+
+pub walked_enough : (rows : Rows) → MapsRise (state_of rows) → meet_by_run Enough rows.wards.items rows.candidates.items ≡ item2 (state_of rows)
+walked_enough rows rise = walked Enough rows rise
+
+pub walked_reached : (rows : Rows) → MapsRise (state_of rows) → item2 (state_of rows) ≡ true → meet_by_run Reached rows.wards.items rows.candidates.items ≡ are_reached (state_of rows)
+walked_reached rows rise nominated =
+    let s = state_of rows in
+    let placed = (and_parts (list_all (λ c. is_some (ward_at s c.ward)) s.candidates) (list_all (λ w. are_enough w.phase w (candidates_of s w.number)) s.wards) nominated).0 in
+    walked Reached rows rise ∙ rw placed refl

@@ -1,0 +1,6 @@
+use Rattle.std.specs.List.Sorted.{IsStrictlySortedBy}
+use Rattle.rowcheck.proofs.tests.only_ward.Goals as goal
+
+pub returns : goal.returns
+unfolding IsStrictlySortedBy
+returns c = record { wards = rw c.in_ok-vec.ensures.items (tt, tt); candidates = rw c.new.ensures.items tt; receipts = rw c.new-2.ensures.items tt }
