@@ -17,16 +17,6 @@ use Rattle.tables.proofs.HoldLemmas.{rising_same}
 
 -- ---- the order of rows
 
-below : {X : Type 0} (row : X → Row) (by : Row → Row → Ordering) (cmp : X → X → Ordering) → ((x y : X) → by (row x) (row y) ≡ cmp x y) → (x : X) (xs : List X) → AllByRecursion (λ y. cmp x y ≡ Less) xs → AllByRecursion (λ r. by (row x) r ≡ Less) (map row xs)
-below row by cmp alike x [] all = tt
-below row by cmp alike x (y ∷ ys) all = (alike x y ∙ all.0, below row by cmp alike x ys all.1)
-
--- the rows of entries rise as the entries do
-pub rows_rise : {X : Type 0} (row : X → Row) (by : Row → Row → Ordering) (cmp : X → X → Ordering) → ((x y : X) → by (row x) (row y) ≡ cmp x y) → (xs : List X) → IsStrictlySortedBy cmp xs → IsStrictlySortedBy by (map row xs)
-unfolding IsStrictlySortedBy
-rows_rise row by cmp alike [] up = tt
-rows_rise row by cmp alike (x ∷ xs) up = (below row by cmp alike x xs up.0, rows_rise row by cmp alike xs up.1)
-
 above : {X : Type 0} (row : X → Row) (by : Row → Row → Ordering) (cmp : X → X → Ordering) → ((x y : X) → by (row x) (row y) ≡ cmp x y) → (x : X) (xs : List X) → AllByRecursion (λ r. by (row x) r ≡ Less) (map row xs) → AllByRecursion (λ y. cmp x y ≡ Less) xs
 above row by cmp alike x [] all = tt
 above row by cmp alike x (y ∷ ys) all = (sym (alike x y) ∙ all.0, above row by cmp alike x ys all.1)
