@@ -53,9 +53,17 @@ pub if_entry_told : {V X F : Type 0} (entry : V → X) (row : X → Row) (back :
 if_entry_told entry row back returns (Ok v) x told = entry_told entry row back returns v x told
 if_entry_told entry row back returns (Err f) x told = tt
 
+-- the same of a list of entries, whose rows a read tells
+pub if_entries_told : {V X W F : Type 0} (items : W → List V) (entry : V → X) (row : X → Row) (back : Row → X) → ((x : X) → back (row x) ≡ x) → (r : Result W F) (xs : List X) (P : List Row → Type 0) → ((rows : List Row) → P rows → rows ≡ map row xs)
+    → IfOk r (λ v. P (map (λ u. row (entry u)) (items v))) → IfOk r (λ v. map entry (items v) ≡ xs)
+if_entries_told items entry row back returns (Ok v) xs P are told =
+    sym (back_all row back returns (map entry (items v))) ∙ ap (map back) (mapped_twice entry row (items v) ∙ are (map (λ u. row (entry u)) (items v)) told) ∙ back_all row back returns xs
+if_entries_told items entry row back returns (Err f) xs P are told = tt
+
 -- ---- the one row with a key
 
-filter_alike : {X : Type 0} (p q : X → Bool) → ((x : X) → p x ≡ q x) → (xs : List X) → filter p xs ≡ filter q xs
+-- tests that say the same keep the same
+pub filter_alike : {X : Type 0} (p q : X → Bool) → ((x : X) → p x ≡ q x) → (xs : List X) → filter p xs ≡ filter q xs
 filter_alike p q alike [] = refl
 filter_alike p q alike (x ∷ xs) = ap (λ b. cond b (x ∷ filter p xs) (filter p xs)) (alike x) ∙ ap (λ l. cond (q x) (x ∷ l) l) (filter_alike p q alike xs)
 
