@@ -1,5 +1,5 @@
 -- A list of requests, answered one after the other.
-use Rattle.std.specs.Prelude.{◌≡◌, ◌⊎◌, ◌≤◌, ◌<◌, ◌+◌, ℕ, Bool, true, List, [], ◌∷◌, ◌++◌, length, map, take, Err}
+use Rattle.std.specs.Prelude.{◌≡◌, ◌⊎◌, ◌≤◌, ◌+◌, ℕ, Bool, List, [], ◌∷◌, ◌++◌, length, map, take, Err}
 use Rattle.sqlite.specs.State.{State}
 use Rattle.register.specs.declared.command.Request.{Request}
 use Rattle.register.specs.Offices.{OfficeState, empty_office}

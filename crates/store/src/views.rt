@@ -80,11 +80,7 @@ fn find_receipt<S: Alter>(
 }
 
 /// The part of a command that needs a ward.
-fn ward_part<S: Alter>(
-    alloc: Global,
-    conn: &mut Connection<S>,
-    ward: u32,
-) -> Result<Part, Fault>
+fn ward_part<S: Alter>(alloc: Global, conn: &mut Connection<S>, ward: u32) -> Result<Part, Fault>
     requires { conn.old.in_transaction ≡ false }
     ensures found { HasCleanDisk (state S.Store conn.new) → (s : OfficeState) → IsAt s (state S.Store conn.old) → IfOk result (λ part. part_entries part ≡ record empty_part { ward = ward_at s ward }) }
     ensures cause { HasCleanDisk (state S.Store conn.new) → (s : OfficeState) → IsAt s (state S.Store conn.old) → IfErr result (λ f. (f ≡ Fault.Memory) ⊎ (f ≡ Fault.Store)) }
@@ -162,11 +158,13 @@ fn find_part<S: Alter>(
     match command {
         Command::Ward(WardCommand::Add { ward, .. }) => ward_part(alloc, conn, *ward),
         Command::Ward(WardCommand::Close { ward }) => contest_part(alloc, conn, *ward),
-        Command::Candidate(CandidateCommand::Add {
-            ward,
-            candidate,
-            ..
-        }) => candidate_part(alloc, conn, *ward, *candidate),
+        Command::Candidate(
+            CandidateCommand::Add {
+                ward,
+                candidate,
+                ..
+            },
+        ) => candidate_part(alloc, conn, *ward, *candidate),
         Command::Candidate(CandidateCommand::Withdraw { ward, candidate }) => {
             candidate_part(alloc, conn, *ward, *candidate)
         }

@@ -43,11 +43,7 @@ fn write_ward<S: Alter>(
 }
 
 /// Sets the phase in the row of a ward.
-fn write_phase<S: Alter>(
-    tx: &mut Transaction<'_, S>,
-    ward: u32,
-    phase: Phase,
-) -> Result<(), Fault>
+fn write_phase<S: Alter>(tx: &mut Transaction<'_, S>, ward: u32, phase: Phase) -> Result<(), Fault>
     ensures same_reference { tx.new.conn.ghost_name ≡ tx.old.conn.ghost_name }
     ensures writes { HasCleanDisk (state S.Store tx.new.conn.now) → (s : OfficeState) → Sees (tables_of s) (state S.Store tx.old.conn.now)
         → OnOk result (Sees (tables_of (with_effect (effect_entry (Effect.WardMoved ward phase)) s)) (state S.Store tx.new.conn.now)) }
