@@ -1,19 +1,27 @@
 -- The row with a key is that of the state's entry with it.
-use Rattle.std.proofs.Common.{◌≡◌, ℕ, pos, List, [], ◌∷◌, filter, option_map, IfSome, refl, sym, ◌∙◌, nat_cmp, Ordering, Less, Equal, Greater}
+use Rattle.std.proofs.Common.{◌≡◌, ◌==◌, map, ap, ℕ, pos, List, [], ◌∷◌, filter, option_map, IfSome, refl, sym, ◌∙◌, nat_cmp, Ordering, Less, Equal, Greater}
 use Rattle.std.specs.Option.{option_to_list}
 use Rattle.std.specs.Ordering.{ordering_then}
 use Rattle.std.specs.Cmp.Lexicographic.{slice_cmp}
 use Rattle.std.proofs.lemmas.Cmp.{nat_cmp_total, nat_list_cmp_total}
+use Rattle.std.specs.Ordering.{is_eq, ordering_reverse}
+use Rattle.std.specs.Cmp.{unsigned_tied}
+use Rattle.std.proofs.lemmas.List.Kept.{IsStrictlySortedBy-filter}
+use Rattle.sqlite_trees.proofs.ListLemmas.{filter-map}
+use Rattle.sqlite.specs.Order.{Row}
 use Rattle.sqlite.specs.declared.types.Value.TheVariants.{Int, Text}
-use Rattle.register.specs.Offices.{OfficeState, ward_at, receipt_at}
+use Rattle.register.specs.Offices.{OfficeState, ward_at, candidate_compared, candidate_at, candidates_of, receipt_at}
 use Rattle.register.specs.Items.{IsState}
-use Rattle.tables.specs.declared.table.Table.TheVariants.{Ward, Receipt}
-use Rattle.tables.specs.Rows.{begins_with}
-use Rattle.store.specs.EntryRows.{row_of_ward, IsWardRow, row_of_receipt, IsReceiptRow}
+use Rattle.tables.specs.declared.table.Table.TheVariants.{Ward, Candidate, Receipt}
+use Rattle.tables.specs.Rows.{begins_with, row_cmp}
+use Rattle.tables.specs.Reading.{Finds}
+use Rattle.store.specs.EntryRows.{row_of_ward, IsWardRow, row_of_candidate, IsCandidateRow, row_of_receipt, IsReceiptRow}
 use Rattle.store.specs.Offices.{tables_of}
-use Rattle.tables.proofs.OrderLemmas.{key_of_number, key_of_number_and_text}
-use Rattle.store.proofs.FitLemmas.{wards_fit, receipts_fit}
-use Rattle.store.proofs.RowLemmas.{row_found, found_fits}
+use Rattle.tables.proofs.OrderLemmas.{key_of_number, key_of_two_numbers, key_of_number_and_text}
+use Rattle.tables.proofs.HoldLemmas.{found_same}
+use Rattle.store.proofs.StateLemmas.{tables_rise}
+use Rattle.store.proofs.FitLemmas.{wards_fit, candidates_fit, receipts_fit}
+use Rattle.store.proofs.RowLemmas.{filter_alike, row_found, found_fits}
 
 -- ---- keys
 
@@ -29,7 +37,7 @@ both_equal Equal b h = (refl, h)
 both_equal Less b h = absurd cc
 both_equal Greater b h = absurd cc
 
--- ---- wards and receipts
+-- ---- wards, candidates and receipts
 
 pub ward_found : (s : OfficeState) → IsState s → (number : ℕ) → filter (begins_with (Int (pos number) ∷ [])) (tables_of s Ward) ≡ option_to_list (option_map row_of_ward (ward_at s number))
 unfolding tables_of
@@ -39,6 +47,42 @@ ward_found s is number =
 pub ward_fits : (s : OfficeState) → IsState s → (number : ℕ) → IfSome (option_map row_of_ward (ward_at s number)) IsWardRow
 unfolding tables_of
 ward_fits s is number = found_fits IsWardRow row_of_ward _ s.wards (wards_fit s is)
+
+pub candidate_found : (s : OfficeState) → IsState s → (ward number : ℕ)
+    → filter (begins_with (Int (pos ward) ∷ Int (pos number) ∷ [])) (tables_of s Candidate) ≡ option_to_list (option_map row_of_candidate (candidate_at s ward number))
+unfolding tables_of
+candidate_found s is ward number =
+    row_found row_of_candidate (Int (pos ward) ∷ Int (pos number) ∷ []) (candidate_compared ward number) (λ c. key_of_two_numbers ward number c.ward c.number)
+    (λ a b first second.
+    let f = both_equal (nat_cmp ward a.ward) (nat_cmp number a.number) first in
+    let g = both_equal (nat_cmp ward b.ward) (nat_cmp number b.number) second in
+    rw (numbers_apart ward a.ward b.ward f.0 g.0) (numbers_apart number a.number b.number f.1 g.1))
+    s.candidates is.rise.candidates
+
+pub candidate_fits : (s : OfficeState) → IsState s → (ward number : ℕ) → IfSome (option_map row_of_candidate (candidate_at s ward number)) IsCandidateRow
+unfolding tables_of
+candidate_fits s is ward number = found_fits IsCandidateRow row_of_candidate _ s.candidates (candidates_fit s is)
+
+-- a row that begins with a ward's number is that of one of its candidates
+of_ward : (ward number : ℕ) → is_eq (nat_cmp ward number) ≡ (number == ward)
+of_ward ward number = ap is_eq (nat_cmp_total.antisymm ward number) ∙ turned (nat_cmp number ward) ∙ unsigned_tied number ward
+  where
+    turned : (o : Ordering) → is_eq (ordering_reverse o) ≡ is_eq o
+    turned Less = refl
+    turned Equal = refl
+    turned Greater = refl
+
+beginning : (s : OfficeState) (ward : ℕ) → filter (begins_with (Int (pos ward) ∷ [])) (tables_of s Candidate) ≡ map row_of_candidate (candidates_of s ward)
+unfolding tables_of
+beginning s ward =
+    filter-map (begins_with (Int (pos ward) ∷ [])) row_of_candidate s.candidates
+    ∙ ap (map row_of_candidate) (filter_alike (λ c. begins_with (Int (pos ward) ∷ []) (row_of_candidate c)) (λ c. c.ward == ward) (λ c. key_of_number ward c.ward ∙ of_ward ward c.ward) s.candidates)
+
+-- the rows that begin with a ward's number are those of its candidates, in the order of their numbers
+pub candidates_listed : (s : OfficeState) → IsState s → (ward : ℕ) (rows : List Row) → Finds Candidate (begins_with (Int (pos ward) ∷ [])) (tables_of s) rows → rows ≡ map row_of_candidate (candidates_of s ward)
+candidates_listed s is ward rows finds =
+    sym (found_same Candidate rows (filter (begins_with (Int (pos ward) ∷ [])) (tables_of s Candidate)) finds.sorted (IsStrictlySortedBy-filter (row_cmp Candidate) (begins_with (Int (pos ward) ∷ [])) (tables_of s Candidate) (tables_rise s is.rise Candidate refl)) finds.same)
+    ∙ beginning s ward
 
 pub receipt_found : (s : OfficeState) → IsState s → (actor : ℕ) (id : List ℕ)
     → filter (begins_with (Int (pos actor) ∷ Text id ∷ [])) (tables_of s Receipt) ≡ option_to_list (option_map row_of_receipt (receipt_at s actor id))

@@ -6,13 +6,14 @@ use Rattle.std.proofs.lemmas.Bool.{and_parts, and_from, leb-true}
 use Rattle.std.proofs.lemmas.Bool.Decides.{Decides-eqb, eqb_tells, nat_tests}
 use Rattle.std.proofs.lemmas.Str.{IsUtf8-from_is_utf8, IsUtf8-from_ascii}
 use Rattle.sqlite.specs.Order.{Row}
-use Rattle.register.specs.Ranges.{is_between, last_ward, most_seats, last_clerk, is_name, is_id, is_reply, is_id_byte}
-use Rattle.register.specs.Phases.{phase_number}
-use Rattle.register.specs.Offices.{WardEntry, ReceiptEntry, OfficeState}
-use Rattle.register.specs.Items.{is_ward, is_begun, is_receipt, is_about, IsState}
-use Rattle.tables.specs.declared.table.Table.TheVariants.{Ward, Receipt}
-use Rattle.store.specs.EntryRows.{row_of_ward, IsWardRow, row_of_receipt, IsReceiptRow}
+use Rattle.register.specs.Ranges.{is_between, last_ward, most_seats, last_candidate, last_clerk, is_name, is_id, is_reply, is_id_byte}
+use Rattle.register.specs.Offices.{WardEntry, CandidateEntry, ReceiptEntry, OfficeState, candidates_of}
+use Rattle.register.specs.Nominations.{is_led_to, is_reached}
+use Rattle.register.specs.Items.{is_ward, is_candidate, is_receipt, is_about, IsState}
+use Rattle.tables.specs.declared.table.Table.TheVariants.{Ward, Candidate, Receipt}
+use Rattle.store.specs.EntryRows.{row_of_ward, IsWardRow, row_of_candidate, IsCandidateRow, row_of_receipt, IsReceiptRow}
 use Rattle.store.specs.Offices.{tables_of}
+use Rattle.register.proofs.MapLemmas.{list_all_weaker}
 
 small : (low high n : ℕ) → high < 2 ^ 32 → is_between low high n ≡ true → n < 2 ^ 32
 small low high n below h = let upper = leb-true n high (and_parts (nat_le low n) (nat_le n high) h).1 in omega (arith, upper, below)
@@ -31,19 +32,35 @@ both_passed p q (x ∷ xs) first second =
 
 -- ---- wards
 
-ward_fits : (w : WardEntry) → (is_ward w && is_begun w) ≡ true → IsWardRow (row_of_ward w)
-unfolding is_ward is_begun is_name
+ward_fits : (w : WardEntry) → (is_ward w && (w.done == 0)) ≡ true → IsWardRow (row_of_ward w)
+unfolding is_ward is_name
 ward_fits w both =
-    let good = (and_parts (is_ward w) (is_begun w) both).0 in
-    let begun = (and_parts (is_ward w) (is_begun w) both).1 in
+    let good = (and_parts (is_ward w) (w.done == 0) both).0 in
     let a = and_parts _ _ good in
     let b = and_parts _ _ a.1 in
-    let none : w.done ≡ 0 = (Decides-eqb w.done 0).0 (and_parts (phase_number w.phase == 1) (w.done == 0) begun).1 in (
+    let none : w.done ≡ 0 = (Decides-eqb w.done 0).0 (and_parts (is_ward w) (w.done == 0) both).1 in (
       (w.number, small 1 last_ward w.number (omega arith) a.0, refl),
       (w.seats, small 1 most_seats w.seats (omega arith) b.0, refl),
       (w.phase, refl),
       (w.done, omega (arith, none), refl),
       (w.name, IsUtf8-from_is_utf8 w.name (and_parts _ _ b.1).0, refl),
+    )
+
+-- no stage of a count is done yet
+none_done : (s : OfficeState) → IsState s → list_all (λ (w : WardEntry). w.done == 0) s.wards ≡ true
+none_done s is =
+    list_all_weaker (λ w. is_reached w (candidates_of s w.number)) (λ w. w.done == 0) s.wards (λ w reached. (and_parts (w.done == 0) (is_led_to w.phase w (candidates_of s w.number)) reached).0) is.reached
+
+-- ---- candidates
+
+candidate_fits : (c : CandidateEntry) → is_candidate c ≡ true → IsCandidateRow (row_of_candidate c)
+unfolding is_candidate is_name
+candidate_fits c good =
+    let a = and_parts _ _ good in
+    let b = and_parts _ _ a.1 in (
+      (c.ward, small 1 last_ward c.ward (omega arith) a.0, refl),
+      (c.number, small 1 last_candidate c.number (omega arith) b.0, refl),
+      (c.name, IsUtf8-from_is_utf8 c.name (and_parts _ _ b.1).0, refl),
     )
 
 -- ---- receipts
@@ -78,8 +95,12 @@ receipt_fits r h =
 
 pub wards_fit : (s : OfficeState) → IsState s → AllByRecursion IsWardRow (tables_of s Ward)
 unfolding tables_of
-wards_fit s is = all_passed (λ w. is_ward w && is_begun w) IsWardRow row_of_ward ward_fits s.wards (both_passed is_ward is_begun s.wards (and_parts _ _ is.in_range).0 is.begun)
+wards_fit s is = all_passed (λ w. is_ward w && (w.done == 0)) IsWardRow row_of_ward ward_fits s.wards (both_passed is_ward (λ w. w.done == 0) s.wards (and_parts _ _ is.in_range).0 (none_done s is))
+
+pub candidates_fit : (s : OfficeState) → IsState s → AllByRecursion IsCandidateRow (tables_of s Candidate)
+unfolding tables_of
+candidates_fit s is = all_passed is_candidate IsCandidateRow row_of_candidate candidate_fits s.candidates (and_parts _ _ (and_parts _ _ is.in_range).1).0
 
 pub receipts_fit : (s : OfficeState) → IsState s → AllByRecursion IsReceiptRow (tables_of s Receipt)
 unfolding tables_of
-receipts_fit s is = all_passed is_receipt IsReceiptRow row_of_receipt receipt_fits s.receipts (and_parts _ _ is.in_range).1
+receipts_fit s is = all_passed is_receipt IsReceiptRow row_of_receipt receipt_fits s.receipts (and_parts _ _ (and_parts _ _ is.in_range).1).1

@@ -17,16 +17,6 @@ use Rattle.tables.proofs.HoldLemmas.{rising_same}
 
 -- ---- the order of rows
 
-below : {X : Type 0} (row : X → Row) (by : Row → Row → Ordering) (cmp : X → X → Ordering) → ((x y : X) → by (row x) (row y) ≡ cmp x y) → (x : X) (xs : List X) → AllByRecursion (λ y. cmp x y ≡ Less) xs → AllByRecursion (λ r. by (row x) r ≡ Less) (map row xs)
-below row by cmp alike x [] all = tt
-below row by cmp alike x (y ∷ ys) all = (alike x y ∙ all.0, below row by cmp alike x ys all.1)
-
--- the rows of entries rise as the entries do
-pub rows_rise : {X : Type 0} (row : X → Row) (by : Row → Row → Ordering) (cmp : X → X → Ordering) → ((x y : X) → by (row x) (row y) ≡ cmp x y) → (xs : List X) → IsStrictlySortedBy cmp xs → IsStrictlySortedBy by (map row xs)
-unfolding IsStrictlySortedBy
-rows_rise row by cmp alike [] up = tt
-rows_rise row by cmp alike (x ∷ xs) up = (below row by cmp alike x xs up.0, rows_rise row by cmp alike xs up.1)
-
 above : {X : Type 0} (row : X → Row) (by : Row → Row → Ordering) (cmp : X → X → Ordering) → ((x y : X) → by (row x) (row y) ≡ cmp x y) → (x : X) (xs : List X) → AllByRecursion (λ r. by (row x) r ≡ Less) (map row xs) → AllByRecursion (λ y. cmp x y ≡ Less) xs
 above row by cmp alike x [] all = tt
 above row by cmp alike x (y ∷ ys) all = (sym (alike x y) ∙ all.0, above row by cmp alike x ys all.1)
@@ -63,9 +53,17 @@ pub if_entry_told : {V X F : Type 0} (entry : V → X) (row : X → Row) (back :
 if_entry_told entry row back returns (Ok v) x told = entry_told entry row back returns v x told
 if_entry_told entry row back returns (Err f) x told = tt
 
+-- the same of a list of entries, whose rows a read tells
+pub if_entries_told : {V X W F : Type 0} (items : W → List V) (entry : V → X) (row : X → Row) (back : Row → X) → ((x : X) → back (row x) ≡ x) → (r : Result W F) (xs : List X) (P : List Row → Type 0) → ((rows : List Row) → P rows → rows ≡ map row xs)
+    → IfOk r (λ v. P (map (λ u. row (entry u)) (items v))) → IfOk r (λ v. map entry (items v) ≡ xs)
+if_entries_told items entry row back returns (Ok v) xs P are told =
+    sym (back_all row back returns (map entry (items v))) ∙ ap (map back) (mapped_twice entry row (items v) ∙ are (map (λ u. row (entry u)) (items v)) told) ∙ back_all row back returns xs
+if_entries_told items entry row back returns (Err f) xs P are told = tt
+
 -- ---- the one row with a key
 
-filter_alike : {X : Type 0} (p q : X → Bool) → ((x : X) → p x ≡ q x) → (xs : List X) → filter p xs ≡ filter q xs
+-- tests that say the same keep the same
+pub filter_alike : {X : Type 0} (p q : X → Bool) → ((x : X) → p x ≡ q x) → (xs : List X) → filter p xs ≡ filter q xs
 filter_alike p q alike [] = refl
 filter_alike p q alike (x ∷ xs) = ap (λ b. cond b (x ∷ filter p xs) (filter p xs)) (alike x) ∙ ap (λ l. cond (q x) (x ∷ l) l) (filter_alike p q alike xs)
 

@@ -39,8 +39,8 @@ use Rattle.store.proofs.StateLemmas.{tables_rise, maps_rise, equal_maps}
 which_kind : (t : Table) → (t ≡ Office) ⊎ ((has_entries t ≡ true) ⊎ (is_later t ≡ true))
 which_kind Office = inl refl
 which_kind Ward = inr (inl refl)
+which_kind Candidate = inr (inl refl)
 which_kind Receipt = inr (inl refl)
-which_kind Candidate = inr (inr refl)
 which_kind Batch = inr (inr refl)
 which_kind Keying = inr (inr refl)
 which_kind Verdict = inr (inr refl)
@@ -55,6 +55,7 @@ later_rows : (t : Table) → is_later t ≡ true → (s : OfficeState) → table
 unfolding tables_of
 later_rows Office later s = absurd (true≢false (sym later))
 later_rows Ward later s = absurd (true≢false (sym later))
+later_rows Candidate later s = absurd (true≢false (sym later))
 later_rows Receipt later s = absurd (true≢false (sym later))
 later_rows _ later s = refl
 

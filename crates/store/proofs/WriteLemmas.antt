@@ -1,39 +1,97 @@
--- A row more is the tables of a state with an entry more.
-use Rattle.std.proofs.Common.{List, [], ◌∷◌, map, Result, Ok, Err, OnOk, refl}
+-- What each write makes of the tables of a state.
+use Rattle.std.proofs.Common.{◌≡◌, ℕ, pos, List, [], ◌∷◌, map, not, cond, Result, Ok, Err, OnOk, refl, subst}
+use Rattle.std.specs.Ordering.{is_eq}
+use Rattle.std.specs.List.{filter}
+use Rattle.std.specs.List.Sorted.{IsPermutation}
 use Rattle.std.proofs.lemmas.List.Sorted.{IsPermutation-refl, IsPermutation-map}
+use Rattle.sqlite.specs.declared.types.Value.TheVariants.{Int}
 use Rattle.sqlite.specs.Order.{Row}
 use Rattle.sqlite.specs.State.{State}
-use Rattle.register.specs.Offices.{WardEntry, ReceiptEntry, OfficeState, empty_office, put, ward_cmp, receipt_cmp}
-use Rattle.register.specs.Effects.{ward_added, with_effect, with_receipt}
+use Rattle.register.specs.declared.phase.Phase.{Phase}
+use Rattle.register.specs.Phases.{phase_number}
+use Rattle.register.specs.Offices.{WardEntry, CandidateEntry, ReceiptEntry, OfficeState, empty_office, put, without, changed, ward_cmp, candidate_cmp, receipt_cmp, ward_compared, candidate_compared}
+use Rattle.register.specs.Effects.{ward_added, ward_moved, candidate_added, candidate_withdrawn, in_phase, with_effect, with_receipt}
 use Rattle.register.proofs.MapLemmas.{put_same}
 use Rattle.tables.specs.declared.table.Table.{Table}
-use Rattle.tables.specs.declared.table.Table.TheVariants.{Office, Ward, Receipt}
-use Rattle.tables.specs.Contents.{Contents, SameContents, added, Sees}
+use Rattle.tables.specs.declared.table.Table.TheVariants.{Office, Ward, Candidate, Receipt}
+use Rattle.tables.specs.declared.table.Setting.TheVariants.{PhaseOfWard}
+use Rattle.tables.specs.Rows.{has_key, value_set, with_value}
+use Rattle.tables.specs.Contents.{Contents, SameContents, added, value_put, removed, Sees}
 use Rattle.tables.specs.Making.{no_contents}
-use Rattle.store.specs.EntryRows.{office_row, row_of_ward, row_of_receipt}
+use Rattle.store.specs.EntryRows.{office_row, row_of_ward, row_of_candidate, row_of_receipt}
 use Rattle.store.specs.Offices.{tables_of}
+use Rattle.tables.proofs.OrderLemmas.{key_of_number, key_of_two_numbers}
+use Rattle.tables.proofs.ChangeLemmas.{rows_set, removed_rows}
 use Rattle.tables.proofs.SameLemmas.{sees_same, filled_changed}
+
+-- ---- the rows of each table
 
 abbrev office_rows : Table × List Row
 office_rows = (Office, office_row 1 ∷ [])
 
+abbrev ward_rows : OfficeState → Table × List Row
+ward_rows s = (Ward, map row_of_ward s.wards)
+
+abbrev candidate_rows : OfficeState → Table × List Row
+candidate_rows s = (Candidate, map row_of_candidate s.candidates)
+
+abbrev receipt_rows : OfficeState → Table × List Row
+receipt_rows s = (Receipt, map row_of_receipt s.receipts)
+
+equal_rows : (rows news : List Row) → rows ≡ news → IsPermutation rows news
+equal_rows rows news same = subst (IsPermutation rows) same (IsPermutation-refl rows)
+
+-- ---- wards
+
 -- a ward more
 pub ward_put : (s : OfficeState) (w : WardEntry) → SameContents (added Ward (row_of_ward w) (tables_of s)) (tables_of (with_effect (ward_added w) s))
 unfolding added tables_of
-ward_put s w = filled_changed (office_rows ∷ []) Ward (map row_of_ward s.wards) (map row_of_ward (put ward_cmp w s.wards)) ((Receipt, map row_of_receipt s.receipts) ∷ []) (λ rows. row_of_ward w ∷ rows) refl
+ward_put s w = filled_changed (office_rows ∷ []) Ward (map row_of_ward s.wards) (map row_of_ward (put ward_cmp w s.wards)) (candidate_rows s ∷ receipt_rows s ∷ []) (λ rows. row_of_ward w ∷ rows) refl
     (IsPermutation-map row_of_ward (w ∷ s.wards) (put ward_cmp w s.wards) (put_same ward_cmp w s.wards))
+
+-- a ward in another phase
+pub phase_put : (s : OfficeState) (number : ℕ) (phase : Phase)
+    → SameContents (value_put PhaseOfWard (Int (pos number) ∷ Int (pos (phase_number phase)) ∷ []) (tables_of s)) (tables_of (with_effect (ward_moved number phase) s))
+unfolding value_put tables_of
+phase_put s number phase =
+    let values : Row = Int (pos number) ∷ Int (pos (phase_number phase)) ∷ [] in
+    filled_changed (office_rows ∷ []) Ward (map row_of_ward s.wards) (map row_of_ward (changed (ward_compared number) (in_phase phase) s.wards)) (candidate_rows s ∷ receipt_rows s ∷ [])
+    (map (λ r. cond (has_key Ward values r) (with_value PhaseOfWard (value_set PhaseOfWard values) r) r)) refl
+    (equal_rows _ _ (rows_set PhaseOfWard values row_of_ward (λ w. is_eq (ward_compared number w)) (in_phase phase) (λ w. key_of_number number w.number) (λ w. refl) s.wards))
+
+-- ---- candidates
+
+-- a candidate more
+pub candidate_put : (s : OfficeState) (c : CandidateEntry) → SameContents (added Candidate (row_of_candidate c) (tables_of s)) (tables_of (with_effect (candidate_added c) s))
+unfolding added tables_of
+candidate_put s c = filled_changed (office_rows ∷ ward_rows s ∷ []) Candidate (map row_of_candidate s.candidates) (map row_of_candidate (put candidate_cmp c s.candidates)) (receipt_rows s ∷ []) (λ rows. row_of_candidate c ∷ rows) refl
+    (IsPermutation-map row_of_candidate (c ∷ s.candidates) (put candidate_cmp c s.candidates) (put_same candidate_cmp c s.candidates))
+
+-- a candidate less
+pub candidate_gone : (s : OfficeState) (ward number : ℕ) → SameContents (removed Candidate (Int (pos ward) ∷ Int (pos number) ∷ []) (tables_of s)) (tables_of (with_effect (candidate_withdrawn ward number) s))
+unfolding removed tables_of
+candidate_gone s ward number =
+    let key : Row = Int (pos ward) ∷ Int (pos number) ∷ [] in
+    filled_changed (office_rows ∷ ward_rows s ∷ []) Candidate (map row_of_candidate s.candidates) (map row_of_candidate (without (candidate_compared ward number) s.candidates)) (receipt_rows s ∷ [])
+    (filter (λ r. not (has_key Candidate key r))) refl
+    (equal_rows _ _ (removed_rows Candidate key row_of_candidate (λ c. is_eq (candidate_compared ward number c)) (λ c. key_of_two_numbers ward number c.ward c.number) s.candidates))
+
+-- ---- receipts
 
 -- a receipt more
 pub receipt_put : (s : OfficeState) (r : ReceiptEntry) → SameContents (added Receipt (row_of_receipt r) (tables_of s)) (tables_of (with_receipt r s))
 unfolding added tables_of
-receipt_put s r = filled_changed (office_rows ∷ (Ward, map row_of_ward s.wards) ∷ []) Receipt (map row_of_receipt s.receipts) (map row_of_receipt (put receipt_cmp r s.receipts)) [] (λ rows. row_of_receipt r ∷ rows) refl
+receipt_put s r = filled_changed (office_rows ∷ ward_rows s ∷ candidate_rows s ∷ []) Receipt (map row_of_receipt s.receipts) (map row_of_receipt (put receipt_cmp r s.receipts)) [] (λ rows. row_of_receipt r ∷ rows) refl
     (IsPermutation-map row_of_receipt (r ∷ s.receipts) (put receipt_cmp r s.receipts) (put_same receipt_cmp r s.receipts))
+
+-- ---- a new office
 
 -- the office row
 pub office_put : SameContents (added Office (office_row 1) no_contents) (tables_of empty_office)
 unfolding added no_contents tables_of
 office_put Office = IsPermutation-refl _
 office_put Ward = IsPermutation-refl _
+office_put Candidate = IsPermutation-refl _
 office_put Receipt = IsPermutation-refl _
 office_put _ = IsPermutation-refl _
 

@@ -5,7 +5,7 @@ use Rattle.sqlite.specs.declared.types.Value.TheVariants.{Int, Text}
 use Rattle.sqlite.specs.Order.{Row, column}
 use Rattle.register.specs.declared.phase.Phase.{Phase}
 use Rattle.register.specs.Phases.{phase_number}
-use Rattle.register.specs.Offices.{WardEntry, ReceiptEntry}
+use Rattle.register.specs.Offices.{WardEntry, CandidateEntry, ReceiptEntry}
 use Rattle.tables.specs.Cells.{IsNumber, IsText}
 
 -- the number of a phase
@@ -23,6 +23,14 @@ row_of_ward w = Int (pos w.number) ∷ Int (pos w.seats) ∷ Int (pos (phase_num
 -- a row that reads as a ward's
 abbrev pub IsWardRow : Row → Type 0
 IsWardRow r = IsNumber (column r 0) × IsNumber (column r 1) × IsPhase (column r 2) × IsNumber (column r 3) × IsText (column r 4)
+
+-- the row of a candidate
+abbrev pub row_of_candidate : CandidateEntry → Row
+row_of_candidate c = Int (pos c.ward) ∷ Int (pos c.number) ∷ Text c.name ∷ []
+
+-- a row that reads as a candidate's
+abbrev pub IsCandidateRow : Row → Type 0
+IsCandidateRow r = IsNumber (column r 0) × IsNumber (column r 1) × IsText (column r 2)
 
 -- the row of a receipt
 abbrev pub row_of_receipt : ReceiptEntry → Row

@@ -9,7 +9,7 @@ use Rattle.register.specs.Items.{IsState}
 use Rattle.tables.specs.declared.fault.Fault.{Fault}
 use Rattle.tables.specs.declared.fault.Fault.TheVariants.{Memory, Store, Damaged, Closed, WrongDatabase, NewerSchema}
 use Rattle.tables.specs.declared.table.Table.{Table}
-use Rattle.tables.specs.declared.table.Table.TheVariants.{Office, Ward, Receipt}
+use Rattle.tables.specs.declared.table.Table.TheVariants.{Office, Ward, Candidate, Receipt}
 use Rattle.tables.specs.Schema.{no_schema}
 use Rattle.tables.specs.Rows.{tuples, at, column_places}
 use Rattle.tables.specs.Contents.{HoldsTable, Stores}
@@ -108,6 +108,7 @@ TellsOffice db NewerSchema = IsNewer db
 -- the tables whose rows are the entries of a state
 abbrev pub has_entries : Table → Bool
 has_entries Ward = true
+has_entries Candidate = true
 has_entries Receipt = true
 has_entries _ = false
 

@@ -1,14 +1,14 @@
-//! Wards and receipts, as the rows of their tables.
+//! Wards, candidates and receipts, as the rows of their tables.
 
 ghost use Rattle.std.specs.Prelude.{◌≡◌, ◌⊎◌, pos, IfOk, IfErr, refl};
 ghost use Rattle.sqlite.specs.Order.{column};
 ghost use Rattle.sqlite.specs.declared.types.Value.TheVariants.{Int};
 ghost use Rattle.register.specs.Phases.{phase_number};
-ghost use Rattle.register.specs.Offices.{ward_entry, receipt_entry};
-ghost use Rattle.tables.specs.declared.table.Table.TheVariants.{Ward as WardTable, Receipt as ReceiptTable};
-ghost use Rattle.store.specs.EntryRows.{IsPhase, IsWardRow, IsReceiptRow, row_of_ward, row_of_receipt};
+ghost use Rattle.register.specs.Offices.{ward_entry, candidate_entry, receipt_entry};
+ghost use Rattle.tables.specs.declared.table.Table.TheVariants.{Ward as WardTable, Candidate as CandidateTable, Receipt as ReceiptTable};
+ghost use Rattle.store.specs.EntryRows.{IsPhase, IsWardRow, IsCandidateRow, IsReceiptRow, row_of_ward, row_of_candidate, row_of_receipt};
 
-use register::{Phase, Receipt, Ward};
+use register::{Candidate, Phase, Receipt, Ward};
 use sqlite::Row;
 use sqlite_value::value::ValueRef;
 use std::alloc::Global;
@@ -68,6 +68,39 @@ impl Entries for Wards {
     }
 
     ghost typed = { λ w. refl };
+}
+
+/// The candidates, by ward and number.
+pub(crate) struct Candidates;
+
+impl Entries for Candidates {
+    type Entry = Candidate;
+
+    ghost row_of = { λ c. row_of_candidate (candidate_entry c) };
+
+    ghost is_row = { IsCandidateRow };
+
+    ghost TABLE = { CandidateTable };
+
+    const TABLE: Table = Table::Candidate;
+
+    fn values<'a>(candidate: &'a Candidate, alloc: Global) -> Result<Vec<ValueRef<'a>>, Fault> {
+        let values = [
+            number(candidate.ward),
+            number(candidate.number),
+            text(candidate.name.as_str()),
+        ];
+        Vec::from_array(alloc, values).map_err(|_| Fault::Memory)
+    }
+
+    fn read(row: &Row) -> Result<Candidate, Fault> {
+        let ward = number_at(row, 0)?;
+        let number = number_at(row, 1)?;
+        let name = text_at(row, 2)?;
+        Ok(Candidate { ward, number, name })
+    }
+
+    ghost typed = { λ c. refl };
 }
 
 /// The receipts, by actor and id.

@@ -4,13 +4,14 @@ ghost use Rattle.std.specs.Prelude.{◌≡◌, false, IfOk, IfErr, OnOk, IsTrue}
 ghost use Rattle.sqlite.specs.Effect.{Database};
 ghost use Rattle.sqlite.specs.State.{HasCleanDisk};
 ghost use Rattle.sqlite.specs.Held.{state};
+ghost use Rattle.register.specs.Offices.{MapsRise};
 ghost use Rattle.rowcheck.specs.States.{state_of};
 ghost use Rattle.tables.specs.Schema.{IsOfficeSchema};
 ghost use Rattle.tables.specs.Contents.{RestsAt};
 ghost use Rattle.tables.specs.Reading.{OnlyReads};
 ghost use Rattle.store.specs.Openings.{TellsNoState, ListsMaps};
 
-use crate::entries::{Receipts, Wards};
+use crate::entries::{Candidates, Receipts, Wards};
 use rowcheck::Rows;
 use sqlite::{Alter, Connection};
 use std::alloc::Global;
@@ -25,11 +26,17 @@ pub(crate) fn all_rows<S: Alter>(alloc: Global, conn: &mut Connection<S>) -> Res
         → IfOk result (λ rows. ListsMaps db (state_of rows)) }
     ensures told { HasCleanDisk (state S.Store conn.new) → (db : Database) → IsOfficeSchema db.schema → RestsAt db (state S.Store conn.old)
         → IfErr result (TellsNoState db) }
+    ensures rise { IfOk result (λ rows. MapsRise (state_of rows)) }
     ensures opens { HasCleanDisk (state S.Store conn.new) → OnOk result (IsTrue (state S.Store conn.new).is_open) }
     ensures reads { OnlyReads (state S.Store conn.old) (state S.Store conn.new) }
     ensures outside { conn.new.in_transaction ≡ false }
 {
     let wards = all_entries::<Wards, S>(alloc, conn)?;
+    let candidates = all_entries::<Candidates, S>(alloc, conn)?;
     let receipts = all_entries::<Receipts, S>(alloc, conn)?;
-    Ok(Rows { wards, receipts })
+    Ok(Rows {
+        wards,
+        candidates,
+        receipts,
+    })
 }

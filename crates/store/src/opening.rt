@@ -15,7 +15,7 @@ ghost use Rattle.store.specs.Offices.{HoldsState};
 ghost use Rattle.store.specs.Openings.{IsToldBy, TellsNoState, IsVersion, TellsRow, TellsRows, HasVersion, TellsOffice, is_later, TellsRowsIn, AreEmpty, HoldsEntries};
 
 use crate::listing;
-use rowcheck::{Rows, are_begun, item1};
+use rowcheck::{Rows, are_reached, item1, item2};
 use sqlite::{Alter, Connection, Row};
 use std::alloc::Global;
 use tables::cells::integer_at;
@@ -99,8 +99,8 @@ fn is_later(table: Table) -> bool
     ensures { result ≡ is_later table }
 {
     match table {
-        Table::Office | Table::Ward | Table::Receipt => false,
-        Table::Candidate | Table::Batch | Table::Keying | Table::Verdict | Table::Lot => true,
+        Table::Office | Table::Ward | Table::Candidate | Table::Receipt => false,
+        Table::Batch | Table::Keying | Table::Verdict | Table::Lot => true,
     }
 }
 
@@ -141,13 +141,17 @@ fn check_later<S: Alter>(conn: &mut Connection<S>) -> Result<(), Fault>
 
 /// Whether maps in the order of their keys are a state.
 fn are_of_state(rows: &Rows) -> bool
-    ensures some { result ≡ true → MapsRise (state_of rows.now) → IsState (state_of rows.now) }
+    requires { MapsRise (state_of rows.now) }
+    ensures some { result ≡ true → IsState (state_of rows.now) }
     ensures none { result ≡ false → ¬ IsState (state_of rows.now) }
 {
     if !item1(rows) {
         return false;
     }
-    are_begun(rows)
+    if !item2(rows) {
+        return false;
+    }
+    are_reached(rows)
 }
 
 /// Sees that the entries are those of a state.

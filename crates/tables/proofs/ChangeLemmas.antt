@@ -1,25 +1,33 @@
--- What an UPDATE, a DELETE and many INSERTs make of the contents.
-use Rattle.std.proofs.Common.{◌≡◌, inl, inr, ℕ, suc, ◌+◌, ◌<◌, List, [], ◌∷◌, ◌++◌, map, filter, take, get_or, append_assoc, length, Bool, true, false, not, cond, Result, OnOk, IsTrue, refl, sym, ap, subst, ◌∙◌, arith}
+-- What UPDATEs, a DELETE and many INSERTs make of the contents.
+use Rattle.std.proofs.Common.{◌≡◌, inl, inr, ℕ, suc, ◌+◌, ◌==◌, drop, ◌<◌, List, [], ◌∷◌, ◌++◌, map, filter, take, get_or, append_assoc, length, Bool, true, false, not, cond, Result, OnOk, IsTrue, refl, sym, ap, subst, ◌∙◌, arith, true≢false}
 use Rattle.std.proofs.Math.Seq.{take-suc}
 use Rattle.std.specs.List.Sorted.{IsPermutation}
 use Rattle.std.proofs.lemmas.List.Sorted.{IsPermutation-refl, IsPermutation-trans, IsPermutation-map, IsPermutation-sym, IsPermutation-middle}
 use Rattle.sqlite_trees.proofs.ListLemmas.{IsPermutation-filter, filter-map}
 use Rattle.sqlite_rules.proofs.ListLemmas.{test_has, test_from, has_filtered}
 use Rattle.sqlite.specs.declared.error.Error.{Error}
-use Rattle.sqlite.specs.Order.{Row}
+use Rattle.sqlite.specs.declared.types.Value.{Value}
+use Rattle.sqlite.specs.Order.{Row, column}
+use Rattle.sqlite.specs.Term.{col, eval_all}
+use Rattle.sqlite.specs.Tree.{rowid}
+use Rattle.sqlite_schema.specs.declared.schema.Column.{Column}
+use Rattle.std.proofs.lemmas.Bool.{and_parts, and_from}
 use Rattle.sqlite.specs.State.{State, ExecutesInside}
 use Rattle.tables.specs.declared.table.Table.{Table}
-use Rattle.tables.specs.Texts.{update_text, delete_text}
-use Rattle.tables.specs.Schema.{schema_from, changes_rows}
-use Rattle.tables.specs.Rows.{tuples, has_key, is_row_of}
-use Rattle.tables.specs.Contents.{Contents, SameContents, added, added_all, replaced, removed, Sees}
+use Rattle.tables.specs.declared.table.Setting.{Setting}
+use Rattle.tables.specs.Texts.{update_text, set_text, delete_text}
+use Rattle.tables.specs.Schema.{schema_from, shape, columns_of, places_from, changes_rows, table_set, place_set}
+use Rattle.tables.specs.Rows.{tuples, at, has_key, is_of, are_of, is_row_of, takes_from, value_set, is_setting, with_value}
+use Rattle.tables.specs.Contents.{Contents, SameContents, added, added_all, replaced, value_put, removed, Sees}
 use Rattle.tables.proofs.ListLemmas.{filtered_same, has_mapped, permuted_all}
 use Rattle.tables.proofs.SameLemmas.{sees_same}
 use Rattle.tables.proofs.TableLemmas.{which_table}
-use Rattle.tables.proofs.Edits.{edits_row}
+use Rattle.tables.proofs.Edits.{beyond_key, updated, set_terms, setting_changes, edits_row, sets_value}
+use Rattle.tables.proofs.KeyLemmas.{updated_row}
+use Rattle.tables.proofs.SelectLemmas.{later}
 use Rattle.tables.proofs.ContentsLemmas.{table_changed}
 use Rattle.tables.proofs.RemoveLemmas.{removes}
-use Rattle.tables.proofs.ReplaceLemmas.{replaces}
+use Rattle.tables.proofs.ReplaceLemmas.{shows_updated, replaces}
 
 -- ---- a DELETE
 
@@ -49,11 +57,75 @@ pub row_replaced : (t : Table) → changes_rows t ≡ true → (row : Row) → i
 unfolding replaced
 row_replaced t changing row kinds old new r runs c sees =
     let put : Row → Row = λ x. cond (has_key t row x) row x in
+    let next : Row → Row = λ x. at (places_from 0 (shape t).key) x ++ at (places_from (shape t).key (beyond_key t)) row in
     let good : (x : Row) → is_row_of t x ≡ true → is_row_of t (put x) ≡ true = λ x typed. elim (has_key t row x) as (λ b. is_row_of t (cond b row x) ≡ true) [ true ↦ kinds | false ↦ typed ] in
     table_changed t (map put) (update_text t) row old new
     (λ rest others views free count has ran rows was.
     let it = edits_row rest others views t changing in
-    let change = replaces (schema_from 8 rest others views) t (it.alone free) it.place (update_text t) it.updates it.plain_update it.low row kinds old new count has (was.keyed changing)
+    let change = replaces (schema_from 8 rest others views) t (it.alone free) it.place (updated t) (update_text t) it.updates it.plain_update it.low row next (λ x. row) (shows_updated t row) (λ x typed same. updated_row t x row typed kinds same) (λ x typed. kinds) old new count has (was.keyed changing)
+    (permuted_all (is_row_of t) rows (tuples t old.now.trees) was.same was.typed) ran in (
+      change.changes,
+      record {
+        same = IsPermutation-trans _ _ _ (IsPermutation-map put rows (tuples t old.now.trees) was.same) change.rows;
+        keyed = λ _. change.keyed;
+        typed = test_from (is_row_of t) (map put rows) (λ y h.
+            let x = has_mapped put rows y h in
+            subst (λ z. is_row_of t z ≡ true) (sym x.2) (good x.0 (test_has (is_row_of t) rows x.0 was.typed x.1)));
+      },
+    ))
+    r runs c sees
+
+-- ---- an UPDATE of one column
+
+-- each column as it is, but the one that is set
+shows_set : (place key : ℕ) (params r : Row) (ps : List ℕ) → eval_all (map (λ p. cond (p == place) (col 0 key) (col 1 (suc p))) ps) (params ∷ r ∷ []) ≡ map (λ p. cond (p == place) (column params key) (column (drop 1 r) p)) ps
+shows_set place key params r [] = refl
+shows_set place key params r (p ∷ ps) = go (p == place) (shows_set place key params r ps)
+  where
+    go : (b : Bool) → eval_all (map (λ q. cond (q == place) (col 0 key) (col 1 (suc q))) ps) (params ∷ r ∷ []) ≡ map (λ q. cond (q == place) (column params key) (column (drop 1 r) q)) ps
+        → eval_all (cond b (col 0 key) (col 1 (suc p)) ∷ map (λ q. cond (q == place) (col 0 key) (col 1 (suc q))) ps) (params ∷ r ∷ []) ≡ cond b (column params key) (column (drop 1 r) p) ∷ map (λ q. cond (q == place) (column params key) (column (drop 1 r) q)) ps
+    go true more = ap (λ l. column params key ∷ l) more
+    go false more = ap (λ v. v ∷ eval_all (map (λ q. cond (q == place) (col 0 key) (col 1 (suc q))) ps) (params ∷ r ∷ [])) (later p r) ∙ ap (λ l. column (drop 1 r) p ∷ l) more
+
+-- a row of the right kinds has them still
+typed_set : (cs : List Column) (k place : ℕ) (value : Value) (xs : Row) (f : ℕ → Value) → ((i : ℕ) → f (k + i) ≡ column xs i) → are_of cs xs ≡ true → takes_from k place value cs ≡ true
+    → are_of cs (map (λ p. cond (p == place) value (f p)) (places_from k (length cs))) ≡ true
+typed_set [] k place value xs f same typed takes = refl
+typed_set (c ∷ cs) k place value [] f same typed takes = absurd (true≢false (sym typed))
+typed_set (c ∷ cs) k place value (x ∷ xs) f same typed takes =
+    let own = and_parts _ _ typed in
+    let here = and_parts _ _ takes in
+    and_from _ _ (go (k == place) here.0 own.0) (typed_set cs (suc k) place value xs f (λ i. ap f (over k i) ∙ same (suc i)) own.1 here.1)
+  where
+    over : (m n : ℕ) → suc m + n ≡ m + suc n
+    over m n = omega arith
+
+    plus : (m : ℕ) → m ≡ m + 0
+    plus m = omega arith
+
+    go : (b : Bool) → cond b (is_of c.kind value) true ≡ true → is_of c.kind x ≡ true → is_of c.kind (cond b value (f k)) ≡ true
+    go true takes_it was = takes_it
+    go false takes_it was = ap (is_of c.kind) (ap f (plus k) ∙ same 0) ∙ was
+
+none_past : (i : ℕ) → 0 + i ≡ i
+none_past i = omega arith
+
+-- it puts the value into the column of the row with the key
+pub value_set_there : (g : Setting) (values : Row) → is_setting g values ≡ true → (old new : State) (r : Result ℕ Error) → (IsTrue old.in_transaction → ExecutesInside 0 (set_text g) values old new r)
+    → (c : Contents) → Sees c old → OnOk r (Sees (value_put g values c) new)
+unfolding value_put
+value_set_there g values kind old new r runs c sees =
+    let t = table_set g in
+    let made : Row → Row = with_value g (value_set g values) in
+    let put : Row → Row = λ x. cond (has_key t values x) (made x) x in
+    let kinds : (x : Row) → is_row_of t x ≡ true → is_row_of t (made x) ≡ true = λ x typed. typed_set (columns_of t) 0 (place_set g) (value_set g values) x (column x) (λ i. ap (column x) (none_past i)) typed kind in
+    let good : (x : Row) → is_row_of t x ≡ true → is_row_of t (put x) ≡ true = λ x typed. elim (has_key t values x) as (λ b. is_row_of t (cond b (made x) x) ≡ true) [ true ↦ kinds x typed | false ↦ typed ] in
+    table_changed t (map put) (set_text g) values old new
+    (λ rest others views free count has ran rows was.
+    let it = edits_row rest others views t (setting_changes g) in
+    let text = sets_value rest others views g in
+    let change = replaces (schema_from 8 rest others views) t (it.alone free) it.place (set_terms g) (set_text g) text.sets text.plain it.low values made made
+    (λ x. ap (λ l. rowid x ∷ rowid x ∷ l) (shows_set (place_set g) (shape t).key values x (places_from 0 (length (columns_of t))))) (λ x typed same. refl) kinds old new count has (was.keyed (setting_changes g))
     (permuted_all (is_row_of t) rows (tuples t old.now.trees) was.same was.typed) ran in (
       change.changes,
       record {
@@ -104,6 +176,20 @@ replaced_rows t row same y alike (x ∷ xs) = ap (λ b. cond b (row y) (row x) �
         → cond b (row y) (row x) ∷ map (λ r. cond (has_key t (row y) r) (row y) r) (map row xs) ≡ row (cond b y x) ∷ map row (map (λ z. cond (same z) y z) xs)
     one true later = ap (λ l. row y ∷ l) later
     one false later = ap (λ l. row x ∷ l) later
+
+-- A value in the column of the row with a key is a change of the entry with it.
+pub rows_set : {X : Type 0} (g : Setting) (values : Row) (row : X → Row) (same : X → Bool) (change : X → X) → ((x : X) → has_key (table_set g) values (row x) ≡ same x) → ((x : X) → with_value g (value_set g values) (row x) ≡ row (change x))
+    → (xs : List X) → map (λ r. cond (has_key (table_set g) values r) (with_value g (value_set g values) r) r) (map row xs) ≡ map row (map (λ x. cond (same x) (change x) x) xs)
+rows_set g values row same change alike made [] = refl
+rows_set {X} g values row same change alike made (x ∷ xs) =
+    ap (λ b. cond b (with_value g (value_set g values) (row x)) (row x) ∷ map (λ r. cond (has_key (table_set g) values r) (with_value g (value_set g values) r) r) (map row xs)) (alike x)
+    ∙ one (same x) (rows_set g values row same change alike made xs)
+  where
+    one : (b : Bool) → map (λ r. cond (has_key (table_set g) values r) (with_value g (value_set g values) r) r) (map row xs) ≡ map row (map (λ z. cond (same z) (change z) z) xs)
+        → cond b (with_value g (value_set g values) (row x)) (row x) ∷ map (λ r. cond (has_key (table_set g) values r) (with_value g (value_set g values) r) r) (map row xs)
+        ≡ row (cond b (change x) x) ∷ map row (map (λ z. cond (same z) (change z) z) xs)
+    one true more = ap (λ r. r ∷ map (λ q. cond (has_key (table_set g) values q) (with_value g (value_set g values) q) q) (map row xs)) (made x) ∙ ap (λ l. row (change x) ∷ l) more
+    one false more = ap (λ l. row x ∷ l) more
 
 -- The rows without a key are those of the entries without it.
 pub removed_rows : {X : Type 0} (t : Table) (key : Row) (row : X → Row) (same : X → Bool) → ((x : X) → has_key t key (row x) ≡ same x) → (xs : List X)

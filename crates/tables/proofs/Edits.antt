@@ -1,5 +1,5 @@
 -- What each UPDATE and each DELETE is, under a schema that begins with the tables.
-use Rattle.std.proofs.Common.{◌≡◌, ℕ, ◌-◌, List, [], ◌∷◌, ◌++◌, length, true, refl, sym, true≢false, slice_get, Some}
+use Rattle.std.proofs.Common.{◌≡◌, ℕ, suc, map, cond, ◌==◌, ◌-◌, List, [], ◌∷◌, ◌++◌, length, true, refl, sym, true≢false, slice_get, Some}
 use Rattle.sqlite.specs.Order.{Row}
 use Rattle.sqlite.specs.Tree.{Trees}
 use Rattle.sqlite.specs.Term.{Term, col}
@@ -15,8 +15,10 @@ use Rattle.sqlite_rules.specs.Action.{works}
 use Rattle.sqlite_tied.specs.Compute.{everything}
 use Rattle.tables.specs.declared.table.Table.{Table}
 use Rattle.tables.specs.declared.table.Table.TheVariants.{Office, Ward, Candidate, Batch, Keying, Verdict, Lot, Receipt}
-use Rattle.tables.specs.Texts.{update_text, delete_text}
-use Rattle.tables.specs.Schema.{Definition, schema_from, definition, place_of, tree_of, shape, columns_of, places_from, changes_rows, AreFree}
+use Rattle.tables.specs.declared.table.Setting.{Setting}
+use Rattle.tables.specs.declared.table.Setting.TheVariants.{PhaseOfWard}
+use Rattle.tables.specs.Texts.{update_text, set_text, delete_text}
+use Rattle.tables.specs.Schema.{Definition, schema_from, definition, place_of, tree_of, shape, columns_of, places_from, changes_rows, table_set, place_set, AreFree}
 use Rattle.tables.proofs.SelectLemmas.{query, columns_from, tests_from}
 use Rattle.tables.proofs.Inserts.{given, none_from}
 
@@ -27,6 +29,13 @@ beyond_key t = length (columns_of t) - (shape t).key
 -- the rowid, twice, then the key as it is, then the parameters
 abbrev pub updated : Table → List Term
 updated t = col 1 0 ∷ col 1 0 ∷ (columns_from 0 (shape t).key ++ given (places_from (shape t).key (beyond_key t)))
+
+-- the rowid, twice, then each column as it is, but the one that is set, which is the parameter after the key
+abbrev pub set_terms : Setting → List Term
+set_terms g = col 1 0 ∷ col 1 0 ∷ map (λ p. cond (p == place_set g) (col 0 (shape (table_set g)).key) (col 1 (suc p))) (places_from 0 (length (columns_of (table_set g))))
+
+pub setting_changes : (g : Setting) → changes_rows (table_set g) ≡ true
+setting_changes PhaseOfWard = refl
 
 module _ (rest : List Definition) (others : List Index) (views : List View) where
   abbrev schema : Schema
@@ -52,3 +61,12 @@ module _ (rest : List Definition) (others : List Index) (views : List View) wher
   edits_row Verdict changes = absurd (true≢false (sym changes))
   edits_row Lot changes = absurd (true≢false (sym changes))
   edits_row Receipt changes = absurd (true≢false (sym changes))
+
+  -- what the statement has to be that sets one column
+  pub record SetsValue (g : Setting) : Type 0 where
+    pub sets : command_of (understood schema (set_text g)) ≡ Update (place_of (table_set g)) (record { lets = []; body = query (tree_of (table_set g)) (tests_from 0 (shape (table_set g)).key) (set_terms g) [] })
+    pub plain : IsPlain (understood schema (set_text g))
+
+  pub sets_value : (g : Setting) → SetsValue g
+  unfolding understood everything set_text
+  sets_value PhaseOfWard = record { sets = refl; plain = (refl, refl) }

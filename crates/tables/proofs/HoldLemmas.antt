@@ -1,5 +1,5 @@
 -- What a table holds, and what a query shows of it.
-use Rattle.std.proofs.Common.{◌≡◌, ◌⊎◌, inl, inr, ℕ, zero, suc, ◌+◌, ◌≤◌, List, [], ◌∷◌, map, filter, drop, length, get_or, Option, Bool, true, not, refl, sym, ap, subst, ◌∙◌, arith, Ordering, Less}
+use Rattle.std.proofs.Common.{◌≡◌, ◌⊎◌, inl, inr, ℕ, zero, suc, ◌+◌, ◌≤◌, ◌<◌, List, [], ◌∷◌, map, filter, drop, length, get_or, Option, Bool, true, not, refl, sym, ap, subst, ◌∙◌, arith, Ordering, Less, Equal, Greater}
 use Rattle.std.specs.List.{AllByRecursion, list_all}
 use Rattle.std.specs.Ordering.{is_eq, eq_by_cmp, ordering_reverse}
 use Rattle.std.specs.Cmp.{IsTotalOrder}
@@ -29,7 +29,7 @@ use Rattle.tables.specs.Contents.{HoldsTable}
 use Rattle.tables.specs.Reading.{Lists, ListsKeyed, HoldsNone, HasOther, FailsToRise}
 use Rattle.tables.proofs.ListLemmas.{mapped_has, has_mapped, permuted_has, mapped_same, mapped_itself, all_pass, has_at}
 use Rattle.tables.proofs.PlaceLemmas.{padded, pads, at_twice, typed_at}
-use Rattle.tables.proofs.OrderLemmas.{row_total, one_key}
+use Rattle.tables.proofs.OrderLemmas.{row_total, rise_all, one_key}
 
 -- ---- rows that obey a schema are no longer than its columns
 
@@ -165,3 +165,16 @@ rising_same {X} {cmp} total (x ∷ xs) (y ∷ ys) up above there back =
       | inr later ↦ later
     ] in
     ap (λ z. z ∷ xs) head ∙ ap (λ l. y ∷ l) (rising_same total xs ys (sorted_tail cmp x xs up) (sorted_tail cmp y ys above) first second)
+
+-- rows in the order of the key, which are those of a list that rises by it, are that list
+pub found_same : (t : Table) (rows held : List Row) → IsSorted (row_cmp t) rows → IsStrictlySortedBy (row_cmp t) held → IsPermutation held rows → held ≡ rows
+found_same t rows held sorted rise same =
+    rising_same (row_total t) held rows rise (rise_all t rows each) (λ r h. permuted_has r held rows same h) (λ r h. permuted_has r rows held (IsPermutation-sym _ _ same) h)
+  where
+    each : (k : ℕ) → k + 1 < length rows → row_cmp t (get_or rows k []) (get_or rows (k + 1) []) ≡ Less
+    each k low = go (row_cmp t (get_or rows k []) (get_or rows (k + 1) [])) refl
+      where
+        go : (o : Ordering) → row_cmp t (get_or rows k []) (get_or rows (k + 1) []) ≡ o → row_cmp t (get_or rows k []) (get_or rows (k + 1) []) ≡ Less
+        go Less is = is
+        go Equal is = absurd (no_repeat t rows sorted (k, low, λ less. let e : Less ≡ Equal = sym less ∙ is in cc) held rise same)
+        go Greater is = absurd (no_repeat t rows sorted (k, low, λ less. let e : Less ≡ Greater = sym less ∙ is in cc) held rise same)

@@ -60,6 +60,12 @@ keys_shown : (m n : ℕ) → m ≤ n → (a b : Row) → keys_cmp m (at (places_
 keys_shown m n low a b = same_keys 0 m (at (places_from 0 m) a) (at (places_from 0 m) b) (at (places_from 0 n) a) (at (places_from 0 n) b)
     (λ j h. column_shown m j a (omega (arith, h)) ∙ sym (column_shown n j a (omega (arith, h, low)))) (λ j h. column_shown m j b (omega (arith, h)) ∙ sym (column_shown n j b (omega (arith, h, low))))
 
+-- what is shown of rows has the order of the rows
+pub order_shown : (t : Table) (a b : Row) → row_cmp t (at (column_places t) a) (at (column_places t) b) ≡ row_cmp t a b
+order_shown t a b =
+    let within = key_within t in
+    same_keys 0 (shape t).key (at (column_places t) a) (at (column_places t) b) a b (λ j h. column_shown (length (columns_of t)) j a (omega (arith, h, within))) (λ j h. column_shown (length (columns_of t)) j b (omega (arith, h, within)))
+
 -- ---- rows that pass a test
 
 -- what a connection rests at

@@ -1,8 +1,9 @@
 -- Keys as SQL compares and orders them.
-use Rattle.std.proofs.Common.{◌≡◌, ◌≢◌, ℕ, ◌+◌, ◌-◌, ◌<◌, ◌≤◌, ◌==◌, ◌&&◌, ℤ, pos, List, [], ◌∷◌, length, get_or, true, false, refl, sym, ap, ◌∙◌, arith, Ordering, Less, Equal, Greater, int_cmp, nat_cmp, Bool, Some}
+use Rattle.std.proofs.Common.{◌≡◌, ◌≢◌, ℕ, ◌+◌, ◌-◌, ◌<◌, ◌≤◌, ◌==◌, ◌&&◌, ℤ, pos, List, [], ◌∷◌, map, length, get_or, true, false, refl, sym, ap, ◌∙◌, arith, Ordering, Less, Equal, Greater, int_cmp, nat_cmp, Bool, Some}
 use Rattle.std.specs.Ordering.{is_lt, is_eq, ordering_then, ordering_reverse}
 use Rattle.std.specs.Cmp.{IsTotalOrder}
 use Rattle.std.specs.Cmp.Lexicographic.{slice_cmp}
+use Rattle.std.specs.List.{AllByRecursion}
 use Rattle.std.specs.List.Sorted.{IsSorted, IsStrictlySortedBy}
 use Rattle.std.proofs.Math.Bool.{and-true}
 use Rattle.std.proofs.lemmas.Cmp.{nat_cmp_total, nat_list_cmp_total}
@@ -92,6 +93,11 @@ four_numbers a b c d k l m n =
 pub key_of_number : (n m : ℕ) → (equal Binary (Int (pos m)) (Int (pos n)) && true) ≡ is_eq (nat_cmp n m)
 key_of_number n m = and-true _ ∙ equal-Int (pos m) (pos n) ∙ ap is_eq (numbers m n) ∙ turned nat_cmp_total m n
 
+pub key_of_two_numbers : (a b m n : ℕ) → (equal Binary (Int (pos m)) (Int (pos a)) && (equal Binary (Int (pos n)) (Int (pos b)) && true)) ≡ is_eq (ordering_then (nat_cmp a m) (nat_cmp b n))
+key_of_two_numbers a b m n =
+    ap (λ x. x && (equal Binary (Int (pos n)) (Int (pos b)) && true)) (equal-Int (pos m) (pos a) ∙ ap is_eq (numbers m a) ∙ turned nat_cmp_total m a)
+    ∙ ap (λ x. is_eq (nat_cmp a m) && x) (key_of_number b n) ∙ then_equal (nat_cmp a m) (nat_cmp b n)
+
 pub key_of_number_and_text : (n m : ℕ) (s t : List ℕ) → (equal Binary (Int (pos m)) (Int (pos n)) && (equal Binary (Text t) (Text s) && true)) ≡ is_eq (ordering_then (nat_cmp n m) (slice_cmp nat_cmp s t))
 key_of_number_and_text n m s t =
     ap (λ b. b && (equal Binary (Text t) (Text s) && true)) (equal-Int (pos m) (pos n) ∙ ap is_eq (numbers m n) ∙ turned nat_cmp_total m n)
@@ -125,3 +131,15 @@ one_key t rows sorted fails = tie (row_cmp t (get_or rows fails.0 []) (get_or ro
     tie Less is = absurd (fails.2 is)
     tie Equal is = is
     tie Greater is = absurd (falls t (get_or rows fails.0 []) (get_or rows (fails.0 + 1) []) (sorted fails.0 [] (omega arith) fails.1) is)
+
+-- ---- rows of entries
+
+below : {X : Type 0} (row : X → Row) (by : Row → Row → Ordering) (cmp : X → X → Ordering) → ((x y : X) → by (row x) (row y) ≡ cmp x y) → (x : X) (xs : List X) → AllByRecursion (λ y. cmp x y ≡ Less) xs → AllByRecursion (λ r. by (row x) r ≡ Less) (map row xs)
+below row by cmp alike x [] all = tt
+below row by cmp alike x (y ∷ ys) all = (alike x y ∙ all.0, below row by cmp alike x ys all.1)
+
+-- the rows of entries rise as the entries do
+pub rows_rise : {X : Type 0} (row : X → Row) (by : Row → Row → Ordering) (cmp : X → X → Ordering) → ((x y : X) → by (row x) (row y) ≡ cmp x y) → (xs : List X) → IsStrictlySortedBy cmp xs → IsStrictlySortedBy by (map row xs)
+unfolding IsStrictlySortedBy
+rows_rise row by cmp alike [] up = tt
+rows_rise row by cmp alike (x ∷ xs) up = (below row by cmp alike x xs up.0, rows_rise row by cmp alike xs up.1)

@@ -13,7 +13,7 @@ use Rattle.sqlite_rules.proofs.ListLemmas.{test_has}
 use Rattle.sqlite_rules.proofs.TableLemmas.{int_is}
 use Rattle.sqlite.specs.declared.types.Value.TheVariants.{Null}
 use Rattle.sqlite.specs.Order.{Row}
-use Rattle.sqlite.specs.Term.{col, eval_all}
+use Rattle.sqlite.specs.Term.{Term, col, eval_all}
 use Rattle.sqlite.specs.Schema.{Schema}
 use Rattle.sqlite.specs.Command.TheVariants.{Update}
 use Rattle.sqlite.specs.Cast.{cast_row}
@@ -34,7 +34,6 @@ use Rattle.tables.specs.Schema.{Definition, definition, place_of, places_from, t
 use Rattle.tables.specs.Rows.{tuples, at, has_key, is_row_of, Keyed}
 use Rattle.tables.proofs.Edits.{beyond_key, updated}
 use Rattle.tables.proofs.InsertLemmas.{Changes, put_fresh, cast_int, cast_all_of}
-use Rattle.tables.proofs.KeyLemmas.{updated_row}
 use Rattle.tables.proofs.KeyedLemmas.{keyed_put_all}
 use Rattle.tables.proofs.ListLemmas.{mapped_has, mapped_same, mapped_twice, mapped_itself}
 use Rattle.tables.proofs.WentLemmas.{write_went, update_went}
@@ -64,7 +63,8 @@ parted p f (x ∷ xs) = go (p x) (parted p f xs)
     go true later = IsPermutation-cons (f x) _ _ later
     go false later = IsPermutation-trans _ _ _ (IsPermutation-middle (map f (filter p xs)) x _) (IsPermutation-cons x _ _ later)
 
-shows_updated : (t : Table) (params r : Row) → eval_all (updated t) (params ∷ r ∷ []) ≡ rowid r ∷ rowid r ∷ at (places_from 0 (shape t).key) (drop 1 r) ++ at (places_from (shape t).key (beyond_key t)) params
+-- what an UPDATE of all columns shows: the key as it was, and the parameters after it
+pub shows_updated : (t : Table) (params r : Row) → eval_all (updated t) (params ∷ r ∷ []) ≡ rowid r ∷ rowid r ∷ at (places_from 0 (shape t).key) (drop 1 r) ++ at (places_from (shape t).key (beyond_key t)) params
 shows_updated t params r =
     ap (λ l. rowid r ∷ rowid r ∷ l)
     (map-append _ (columns_from 0 (shape t).key) (map (col 0) (places_from (shape t).key (beyond_key t)))
@@ -73,32 +73,33 @@ shows_updated t params r =
 
 -- ---- the statement
 
--- one row stands in the place of each row with its key in a table
-pub record Replaces (schema : Schema) (t : Table) (row : Row) (old new : Database) : Type 0 where
+-- what is made of it stands in the place of each row with a key in a table
+pub record Replaces (schema : Schema) (t : Table) (key : Row) (made : Row → Row) (old new : Database) : Type 0 where
   pub changes : Changes schema (tree_of t) old new
-  pub rows : IsPermutation (map (λ r. cond (has_key t row r) row r) (tuples t old.trees)) (tuples t new.trees)
+  pub rows : IsPermutation (map (λ r. cond (has_key t key r) (made r) r) (tuples t old.trees)) (tuples t new.trees)
   pub keyed : Keyed (new.trees (tree_of t))
 
 module _ (schema : Schema) (t : Table) (alone : (olds news : List Row) → works schema Enforced 0 (tree_of t) olds news ≡ []) (place : slice_get schema.tables (place_of t) ≡ Some (definition t))
-    (sql : List ℕ) (is : command_of (understood schema sql) ≡ Update (place_of t) (record { lets = []; body = query (tree_of t) (tests_from 0 (shape t).key) (updated t) [] }))
-    (plain : IsPlain (understood schema sql)) (low : (db : Trees) → overlay db [] (tree_of t) ≡ db (tree_of t)) (params : Row) (kinds : is_row_of t params ≡ true)
+    (project : List Term) (sql : List ℕ) (is : command_of (understood schema sql) ≡ Update (place_of t) (record { lets = []; body = query (tree_of t) (tests_from 0 (shape t).key) project [] }))
+    (plain : IsPlain (understood schema sql)) (low : (db : Trees) → overlay db [] (tree_of t) ≡ db (tree_of t)) (params : Row) (next made : Row → Row)
+    (shows : (r : Row) → eval_all project (params ∷ r ∷ []) ≡ rowid r ∷ rowid r ∷ next (drop 1 r)) (makes : (x : Row) → is_row_of t x ≡ true → has_key t params x ≡ true → next x ≡ made x)
+    (kinds : (x : Row) → is_row_of t x ≡ true → is_row_of t (made x) ≡ true)
   where
     abbrev program : Program
-    program = record { lets = []; body = query (tree_of t) (tests_from 0 (shape t).key) (updated t) [] }
+    program = record { lets = []; body = query (tree_of t) (tests_from 0 (shape t).key) project [] }
 
-    -- the rows that the query picked go, and each comes back under its rowid with the parameters
+    -- the rows that the query picked go, and each comes back under its rowid as what is made of it
     finish : (old new : Database) → IsDatabase new → Keyed (old.trees (tree_of t)) → list_all (is_row_of t) (tuples t old.trees) ≡ true → (trees : Trees) → new ≡ record { schema = schema; trees = trees } → (found : List Row)
-        → Answers (record { schema = schema; trees = old.trees }) program params found → Edited schema Enforced old.trees (edit_of old.trees (definition t) (ids_of found) Given 1 found) (Ok trees) → Replaces schema t params old new
+        → Answers (record { schema = schema; trees = old.trees }) program params found → Edited schema Enforced old.trees (edit_of old.trees (definition t) (ids_of found) Given 1 found) (Ok trees) → Replaces schema t params made old new
     finish old new sound keyed typed trees now found answer edited =
         let db = old.trees in
         let rows = db (tree_of t) in
         let edit = edit_of db (definition t) (ids_of found) Given 1 found in
         let step = one_step schema _ db trees edit (alone (taken_by db edit) edit.news) edited in
         let passes : Row → Bool = λ r. has_key t params (drop 1 r) in
-        let next : Row → Row = λ x. at (places_from 0 (shape t).key) x ++ at (places_from (shape t).key (beyond_key t)) params in
         let shown : Row → Row = λ r. rowid r ∷ rowid r ∷ next (drop 1 r) in
-        let heir : Row → Row = λ r. rowid r ∷ params in
-        let pick = selects (λ r. r) (tree_of t) (tests_from 0 (shape t).key) (updated t) [] params passes (λ r. []) shown (tests_agree 0 (shape t).key params) (λ r. refl) (shows_updated t params) (overlay db []) found (answer.answer Null) in
+        let heir : Row → Row = λ r. rowid r ∷ made (drop 1 r) in
+        let pick = selects (λ r. r) (tree_of t) (tests_from 0 (shape t).key) project [] params passes (λ r. []) shown (tests_agree 0 (shape t).key params) (λ r. refl) shows (overlay db []) found (answer.answer Null) in
         let from : IsPermutation (filter passes rows) pick.ordered = subst (λ l. IsPermutation (filter passes l) pick.ordered) (mapped_itself (overlay db [] (tree_of t)) ∙ low db) pick.same in
         let kept = filter (λ r. not (passes r)) rows in
         let left : without_all rows (ids_of found) ≡ kept = picked_left passes shown (λ r. refl) rows keyed pick.ordered found from pick.shown in
@@ -106,33 +107,33 @@ module _ (schema : Schema) (t : Table) (alone : (olds news : List Row) → works
         λ r there.
         let was = picked passes shown (λ x. refl) rows keyed pick.ordered found from pick.shown r there in
         let tuple = test_has (is_row_of t) (tuples t db) (drop 1 r) typed (mapped_has (drop 1) rows r was.0) in
-        rw (updated_row t (drop 1 r) params tuple kinds was.1, int_is (rowid r) (keyed.ints r was.0), cast_int (id_in (rowid r)), cast_all_of (columns_of t) params kinds) refl in
+        rw (makes (drop 1 r) tuple was.1, int_is (rowid r) (keyed.ints r was.0), cast_int (id_in (rowid r)), cast_all_of (columns_of t) (made (drop 1 r)) (kinds (drop 1 r) tuple)) refl in
         let news : edit.news ≡ map heir pick.ordered =
         numbered_given _ _ ∙ ap (map (λ s. cast_row (definition t) (drop 1 s))) pick.shown ∙ mapped_twice shown (λ s. cast_row (definition t) (drop 1 s)) pick.ordered ∙ mapped_same _ heir pick.ordered casts in
         let same : new.trees ≡ trees = ap (λ (d : Database). d.trees) now in
         let after : new.trees (tree_of t) ≡ put_all kept edit.news = ap (λ (x : Trees). x (tree_of t)) same ∙ step.rows ∙ ap (λ l. put_all l edit.news) left in
         let fresh : are_fresh kept edit.news ≡ true = subst (λ l. are_fresh l edit.news ≡ true) left step.fresh in
         let whole : IsPermutation (edit.news ++ kept) (new.trees (tree_of t)) = subst (IsPermutation _) (sym after) (put_all_fresh edit.news kept fresh) in
-        let parts : map (drop 1) (edit.news ++ kept) ≡ map (λ _. params) pick.ordered ++ filter (λ x. not (has_key t params x)) (tuples t db) =
+        let parts : map (drop 1) (edit.news ++ kept) ≡ map (λ r. made (drop 1 r)) pick.ordered ++ filter (λ x. not (has_key t params x)) (tuples t db) =
         ap (λ l. map (drop 1) (l ++ kept)) news ∙ map-append (drop 1) (map heir pick.ordered) kept
         ∙ ap (λ l. l ++ map (drop 1) kept) (mapped_twice heir (drop 1) pick.ordered)
-        ∙ ap (λ l. map (λ _. params) pick.ordered ++ l) (sym (filter-map (λ x. not (has_key t params x)) (drop 1) rows)) in
-        let chosen : IsPermutation (map (λ _. params) (filter (has_key t params) (tuples t db))) (map (λ _. params) pick.ordered) =
-        subst (λ l. IsPermutation l (map (λ _. params) pick.ordered)) (sym (mapped_twice (drop 1) (λ _. params) (filter passes rows)) ∙ ap (map (λ _. params)) (sym (filter-map (has_key t params) (drop 1) rows)))
-        (IsPermutation-map (λ _. params) (filter passes rows) pick.ordered from) in
+        ∙ ap (λ l. map (λ r. made (drop 1 r)) pick.ordered ++ l) (sym (filter-map (λ x. not (has_key t params x)) (drop 1) rows)) in
+        let chosen : IsPermutation (map made (filter (has_key t params) (tuples t db))) (map (λ r. made (drop 1 r)) pick.ordered) =
+        subst (λ l. IsPermutation l (map (λ r. made (drop 1 r)) pick.ordered)) (sym (mapped_twice (drop 1) made (filter passes rows)) ∙ ap (map made) (sym (filter-map (has_key t params) (drop 1) rows)))
+        (IsPermutation-map (λ r. made (drop 1 r)) (filter passes rows) pick.ordered from) in
         record {
           changes = record {
             is = ap (λ (d : Database). d.schema) now;
             sound = sound;
             others = subst (λ (x : Trees). AllByRecursion (λ d. d.tree ≢ tree_of t → x d.tree ≡ db d.tree) schema.tables) (sym same) step.tables;
           };
-          rows = IsPermutation-trans _ _ _ (IsPermutation-sym _ _ (parted (has_key t params) (λ _. params) (tuples t db)))
+          rows = IsPermutation-trans _ _ _ (IsPermutation-sym _ _ (parted (has_key t params) made (tuples t db)))
               (IsPermutation-trans _ _ _ (IsPermutation-append_left (filter (λ x. not (has_key t params x)) (tuples t db)) _ _ chosen) (subst (λ l. IsPermutation l (tuples t new.trees)) parts (IsPermutation-map (drop 1) _ _ whole)));
           keyed = subst Keyed (sym after) (keyed_put_all edit.news kept (keyed_filtered (λ r. not (passes r)) rows keyed) step.keyed fresh);
         }
 
     pub replaces : (old new : State) (count : ℕ) → old.now.schema ≡ schema → Keyed (old.now.trees (tree_of t)) → list_all (is_row_of t) (tuples t old.now.trees) ≡ true → Executes sql params old new (Ok count)
-        → Replaces schema t params old.now new.now
+        → Replaces schema t params made old.now new.now
     replaces old new count has keyed typed h =
         let db = old.now.trees in
         let command = Update (place_of t) program in

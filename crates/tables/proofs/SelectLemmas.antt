@@ -112,7 +112,7 @@ module _ (schema : Schema) (sql : List ℕ) (tree : ℕ) (tests project : List T
 -- ---- columns of a row that has its rowid in front
 
 -- a column of the row, and one of its values without the rowid
-later : (k : ℕ) (r : Row) → column r (suc k) ≡ column (drop 1 r) k
+pub later : (k : ℕ) (r : Row) → column r (suc k) ≡ column (drop 1 r) k
 later k [] = refl
 later k (x ∷ xs) = refl
 

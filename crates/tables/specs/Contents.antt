@@ -7,8 +7,9 @@ use Rattle.sqlite.specs.Tree.{Trees}
 use Rattle.sqlite.specs.Effect.{Database, IsDatabase}
 use Rattle.sqlite.specs.State.{State}
 use Rattle.tables.specs.declared.table.Table.{Table}
-use Rattle.tables.specs.Schema.{place_of, tree_of, changes_rows, IsOfficeSchema}
-use Rattle.tables.specs.Rows.{tuples, is_row_of, has_key, Keyed}
+use Rattle.tables.specs.declared.table.Setting.{Setting}
+use Rattle.tables.specs.Schema.{place_of, tree_of, table_set, changes_rows, IsOfficeSchema}
+use Rattle.tables.specs.Rows.{tuples, is_row_of, has_key, value_set, with_value, Keyed}
 
 -- for each table its rows, in some order
 abbrev pub Contents : Type 0
@@ -40,6 +41,10 @@ added_all t news = changed t (λ rows. news ++ rows)
 -- this row in the place of the one with its key
 unfoldable pub replaced : Table → Row → Contents → Contents
 replaced t row = changed t (map (λ r. if has_key t row r then row else r))
+
+-- a value in one column of the row with a key; the key and the value in turn
+unfoldable pub value_put : Setting → Row → Contents → Contents
+value_put g values = changed (table_set g) (map (λ r. if has_key (table_set g) values r then with_value g (value_set g values) r else r))
 
 -- without the row with this key
 unfoldable pub removed : Table → Row → Contents → Contents

@@ -1,5 +1,5 @@
 -- Rows of the tables.
-use Rattle.std.specs.Prelude.{◌≡◌, ◌<◌, ◌+◌, ℕ, zero, suc, List, [], ◌∷◌, map, drop, length, slice_index_or, Bool, true, false, ◌&&◌}
+use Rattle.std.specs.Prelude.{◌≡◌, ◌<◌, ◌+◌, ℕ, zero, suc, List, [], ◌∷◌, map, drop, length, slice_index_or, Bool, true, false, ◌&&◌, ◌==◌, if◌then◌else◌}
 use Rattle.std.specs.declared.cmp.Ordering.{Ordering}
 use Rattle.std.specs.List.Sorted.{IsPermutation}
 use Rattle.sqlite_rules.specs.Lists.{Has}
@@ -18,7 +18,8 @@ use Rattle.sqlite.specs.View.{is_int}
 use Rattle.sqlite.specs.Tree.{Trees, rowid}
 use Rattle.tables.specs.declared.table.Table.{Table}
 use Rattle.tables.specs.declared.table.Reference.{Reference}
-use Rattle.tables.specs.Schema.{shape, columns_of, places_from, place_sought, tree_of}
+use Rattle.tables.specs.declared.table.Setting.{Setting}
+use Rattle.tables.specs.Schema.{shape, columns_of, places_from, place_sought, table_set, place_set, tree_of}
 
 -- the columns of the table's rows, without the rowid
 abbrev pub tuples : Table → Trees → List Row
@@ -69,6 +70,23 @@ begins_with key row = agree_at (places_from 0 (length key)) row key
 -- the row has this value in a column outside the key
 abbrev pub refers_to : Reference → Value → Row → Bool
 refers_to r value row = equal Binary (column row (place_sought r)) value
+
+-- a value of the kind of the column at this place, where the columns' places begin at another one
+abbrev pub takes_from : ℕ → ℕ → Value → List Column → Bool
+takes_from k place value [] = true
+takes_from k place value (c ∷ cs) = (if k == place then is_of c.kind value else true) && takes_from (suc k) place value cs
+
+-- the value that is set, which stands after those of the key
+abbrev pub value_set : Setting → Row → Value
+value_set g values = column values (shape (table_set g)).key
+
+-- a value of the kind of the column that is set
+abbrev pub is_setting : Setting → Row → Bool
+is_setting g values = takes_from 0 (place_set g) (value_set g values) (columns_of (table_set g))
+
+-- the row with this value in the column that is set
+abbrev pub with_value : Setting → Value → Row → Row
+with_value g value row = map (λ p. if p == place_set g then value else column row p) (column_places (table_set g))
 
 -- so many keys, each by SQL's order of values
 abbrev pub ascending_keys : ℕ → List Key

@@ -4,7 +4,8 @@ use Rattle.sqlite.specs.Kind.{Kind}
 use Rattle.sqlite.specs.Kind.TheVariants.{Text}
 use Rattle.tables.specs.declared.table.Table.{Table}
 use Rattle.tables.specs.declared.table.Reference.{Reference}
-use Rattle.tables.specs.Schema.{Field, shape, places_from, table_sought, place_sought}
+use Rattle.tables.specs.declared.table.Setting.{Setting}
+use Rattle.tables.specs.Schema.{Field, shape, places_from, table_sought, place_sought, table_set, place_set}
 
 -- ---- parts
 
@@ -93,6 +94,12 @@ select_rowids_text t = codes "SELECT rowid FROM " ++ (shape t).name ++ codes " O
 -- the row with a key gets these values; the values of all columns in turn
 unfoldable pub update_text : Table → List ℕ
 update_text t = codes "UPDATE " ++ (shape t).name ++ codes " SET " ++ joined comma (matched (shape t).key (drop (shape t).key (names_of t))) ++ where_text (matched 0 (key_names t))
+
+-- the row with a key gets a value in one column; the key and the value in turn
+unfoldable pub set_text : Setting → List ℕ
+set_text g =
+    let t = table_set g in
+    codes "UPDATE " ++ (shape t).name ++ codes " SET " ++ joined comma (matched (shape t).key (slice_index_or (names_of t) (place_set g) [] ∷ [])) ++ where_text (matched 0 (key_names t))
 
 -- the row with a key goes
 unfoldable pub delete_text : Table → List ℕ

@@ -37,4 +37,4 @@ pub mod writing;
 
 pub use entry::Entries;
 pub use fault::Fault;
-pub use table::{Reference, Table};
+pub use table::{Reference, Setting, Table};

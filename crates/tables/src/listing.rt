@@ -5,7 +5,8 @@ ghost use Rattle.sqlite.specs.Effect.{Database};
 ghost use Rattle.sqlite.specs.State.{HasCleanDisk};
 ghost use Rattle.sqlite.specs.Held.{state};
 ghost use Rattle.tables.specs.Schema.{BeginsTo};
-ghost use Rattle.tables.specs.Rows.{at, column_places};
+ghost use Rattle.std.specs.List.Sorted.{IsStrictlySortedBy};
+ghost use Rattle.tables.specs.Rows.{at, column_places, row_cmp};
 ghost use Rattle.tables.specs.Contents.{RestsAt};
 ghost use Rattle.tables.specs.Reading.{OnlyReads, ListsKeyed, ListsEntries, HasOther, HoldsNone};
 
@@ -64,6 +65,7 @@ pub fn all_entries<E: Entries, S: Alter>(
         → IfOk result (λ found. ListsEntries E.TABLE db (map E.row_of found.items)) }
     ensures cause { HasCleanDisk (state S.Store conn.new) → (db : Database) → BeginsTo E.TABLE db.schema → RestsAt db (state S.Store conn.old)
         → IfErr result (λ f. (f ≡ Fault.Memory) ⊎ ((f ≡ Fault.Store) ⊎ ((f ≡ Fault.Damaged) × HoldsNone E.TABLE E.is_row db))) }
+    ensures rise { IfOk result (λ found. IsStrictlySortedBy (row_cmp E.TABLE) (map E.row_of found.items)) }
     ensures opens { HasCleanDisk (state S.Store conn.new) → OnOk result (IsTrue (state S.Store conn.new).is_open) }
     ensures reads { OnlyReads (state S.Store conn.old) (state S.Store conn.new) }
     ensures outside { conn.new.in_transaction ≡ false }

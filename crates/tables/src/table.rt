@@ -1,7 +1,7 @@
 //! The tables of an office.
 
 ghost use Rattle.std.specs.Prelude.{◌≡◌, length};
-ghost use Rattle.tables.specs.Schema.{shape, changes_rows, table_sought};
+ghost use Rattle.tables.specs.Schema.{shape, changes_rows, table_sought, table_set};
 
 /// The tables, in the order of making.
 #[derive(Clone, Copy, Debug, PartialEq, Eq)]
@@ -81,6 +81,24 @@ impl Reference {
     {
         match self {
             Reference::WardOfBatch => Table::Batch,
+        }
+    }
+}
+
+/// The columns outside a key that are set alone, while the others stay.
+#[derive(Clone, Copy, Debug, PartialEq, Eq)]
+pub enum Setting {
+    /// The phase of a ward.
+    PhaseOfWard,
+}
+
+impl Setting {
+    /// The table of the column.
+    pub fn table(self) -> Table
+        ensures { result ≡ table_set self }
+    {
+        match self {
+            Setting::PhaseOfWard => Table::Ward,
         }
     }
 }

@@ -2,9 +2,9 @@
 
 ghost use Rattle.std.specs.Prelude.{◌≡◌, ◌≤◌, true};
 ghost use Rattle.tables.specs.Schema.{shape, changes_rows};
-ghost use Rattle.tables.specs.Texts.{create_text, insert_text, select_text, select_by_reference_text, select_rowids_text, update_text, delete_text};
+ghost use Rattle.tables.specs.Texts.{create_text, insert_text, select_text, select_by_reference_text, select_rowids_text, update_text, set_text, delete_text};
 
-use crate::table::{Reference, Table};
+use crate::table::{Reference, Setting, Table};
 
 #[tactic(auto, unfolding(crate::specs::Texts::create_text))]
 /// The text that makes the table.
@@ -142,6 +142,16 @@ pub fn update_text(table: Table) -> &'static str
         Table::Batch =>
             "UPDATE batch SET ward = ?2, size = ?3, clerk_a = ?4, clerk_b = ?5, round = ?6 WHERE batch = ?1",
         _ => unreachable!(),
+    }
+}
+
+#[tactic(auto, unfolding(crate::specs::Texts::set_text))]
+/// The text that sets one column of the row with a key, with the key and the value as its parameters.
+pub fn set_text(setting: Setting) -> &'static str
+    ensures { result.now ≡ set_text setting }
+{
+    match setting {
+        Setting::PhaseOfWard => "UPDATE ward SET phase = ?2 WHERE ward = ?1",
     }
 }
 

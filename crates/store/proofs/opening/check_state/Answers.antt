@@ -3,7 +3,7 @@ use Rattle.std.proofs.lemmas.Result.{err_from_is_err_and}
 use Rattle.register.specs.Offices.{OfficeState}
 use Rattle.register.specs.Items.{IsState}
 use Rattle.rowcheck.specs.States.{state_of}
-use Rattle.store.proofs.TellLemmas.{lists_rise, maps_are, entries_held}
+use Rattle.store.proofs.TellLemmas.{maps_are, entries_held}
 use Rattle.store.proofs.opening.check_state.Goals as goal
 
 pub returns-then-are_of_state-clause-holds : goal.returns-then-are_of_state-clause-holds
@@ -11,7 +11,7 @@ returns-then-are_of_state-clause-holds g c clean db has sound rests =
     let of : c.are_of_state.result ≡ true = search rules in
     let s = state_of c.in_ok-rows.rows in
     let lists = c.in_ok-rows.ensures.lists clean db has rests in
-    (s, entries_held db has sound s (c.are_of_state.ensures.some of (lists_rise db s lists)) lists)
+    (s, entries_held db has sound s (c.are_of_state.ensures.some of) lists)
 
 pub returns-clause-told : goal.returns-clause-told
 returns-clause-told g c clean db has rests =

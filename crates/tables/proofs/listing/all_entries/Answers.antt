@@ -1,10 +1,12 @@
 use Rattle.std.proofs.Common.{◌≡◌, inl, inr, [], map, refl, sym, subst, ◌∙◌}
 use Rattle.std.proofs.lemmas.Result.{err_from_is_err_and}
 use Rattle.std.specs.List.Sorted.{IsStrictlySortedBy}
-use Rattle.tables.specs.Rows.{begins_with, is_row_of, row_cmp}
+use Rattle.tables.specs.Rows.{at, column_places, begins_with, is_row_of, row_cmp}
 use Rattle.tables.specs.Reading.{ListsKeyed}
 use Rattle.tables.proofs.ListLemmas.{all_mapped}
 use Rattle.tables.proofs.HoldLemmas.{shown_rows, none_held}
+use Rattle.tables.proofs.OrderLemmas.{rows_rise}
+use Rattle.tables.proofs.ListingLemmas.{order_shown}
 use Rattle.tables.proofs.listing.all_entries.Goals as goal
 
 pub returns-clause-lists : goal.returns-clause-lists
@@ -18,6 +20,13 @@ returns-clause-lists g c clean db begins rests =
       typed = all_mapped (is_row_of t) g.E.Entries.row_of (g.met.E.Entries.typed) c.in_ok-entries.entries.items;
       rise = subst (IsStrictlySortedBy (row_cmp t)) shown (rw (c.TABLE-2.ensures, c.deref.ensures.value) at (c.keys_rise.ensures.rise c.if-not-keys_rise.false));
     }
+
+pub returns-clause-rise : goal.returns-clause-rise
+returns-clause-rise g c =
+    let t = g.E.Entries.TABLE in
+    let rows = c.in_ok-rows.rows.items in
+    let up : IsStrictlySortedBy (row_cmp t) rows = rw (c.TABLE-2.ensures, c.deref.ensures.value) at (c.keys_rise.ensures.rise c.if-not-keys_rise.false) in
+    subst (IsStrictlySortedBy (row_cmp t)) (rw c.deref-2.ensures.value at c.in_ok-entries.ensures.reads) (rows_rise (at (column_places t)) (row_cmp t) (row_cmp t) (order_shown t) rows up)
 
 pub returns-in_err-rows-clause-cause : goal.returns-in_err-rows-clause-cause
 returns-in_err-rows-clause-cause g c clean db begins rests =
