@@ -1,3 +1,4 @@
+-- Why `all_rows` keeps its promise.
 use Rattle.std.proofs.Common.{refl}
 use Rattle.std.proofs.lemmas.Result.{err_from_is_err_and}
 use Rattle.tables.specs.declared.table.Table.TheVariants.{Ward, Candidate, Receipt}

@@ -1,3 +1,4 @@
+-- Why `check_empty` keeps its promise.
 use Rattle.std.proofs.Common.{◌≡◌, length, ◌<◌, ap, arith}
 use Rattle.tables.proofs.ListingLemmas.{begins_to}
 use Rattle.store.proofs.TellLemmas.{none_long, empty_held, empty_listed}

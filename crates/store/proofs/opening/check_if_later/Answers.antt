@@ -1,3 +1,4 @@
+-- Why `check_if_later` keeps its promise.
 use Rattle.std.proofs.Common.{◌≡◌, true, sym, ◌∙◌}
 use Rattle.store.specs.Openings.{is_later}
 use Rattle.store.proofs.TellLemmas.{if_told_later, if_held_later}

@@ -1,3 +1,4 @@
+-- Why `check_later` keeps its promise.
 use Rattle.std.proofs.Common.{arith}
 use Rattle.std.proofs.lemmas.Result.{err_from_is_err_and}
 use Rattle.tables.proofs.TableLemmas.{place_there, place_below}

@@ -1,3 +1,4 @@
+-- What the loop of `check_later` keeps.
 use Rattle.std.proofs.Common.{◌≡◌, ◌<◌, [], true, false, IsTrue}
 use Rattle.sqlite.specs.Effect.{Database}
 use Rattle.sqlite.specs.State.{HasCleanDisk}

@@ -1,3 +1,4 @@
+-- Why `check_office` keeps its promise.
 use Rattle.std.proofs.lemmas.Result.{err_from_is_err_and}
 use Rattle.store.proofs.TellLemmas.{store_office, version_held, office_told}
 use Rattle.store.proofs.opening.check_office.Goals as goal

@@ -1,3 +1,4 @@
+-- Why `check_row` keeps its promise.
 use Rattle.std.proofs.Common.{◌≡◌, pos, ◌<ℤ◌, arith, rules, FitsSigned, w64}
 use Rattle.std.proofs.lemmas.Int.{ints}
 use Rattle.store.proofs.TellLemmas.{above_one, version_shown}

@@ -1,3 +1,4 @@
+-- Why `check_state` keeps its promise.
 use Rattle.std.proofs.Common.{◌≡◌, true, false, subst, rules}
 use Rattle.std.proofs.lemmas.Result.{err_from_is_err_and}
 use Rattle.register.specs.Offices.{OfficeState}

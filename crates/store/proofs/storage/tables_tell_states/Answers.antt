@@ -1,3 +1,4 @@
+-- Why `tables_tell_states` keeps its promise.
 use Rattle.store.proofs.StateLemmas.{equal_states, one_state}
 use Rattle.store.proofs.storage.tables_tell_states.Goals as goal
 

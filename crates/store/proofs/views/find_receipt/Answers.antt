@@ -1,3 +1,4 @@
+-- Why `find_receipt` keeps its promise.
 use Rattle.std.proofs.Common.{option_map}
 use Rattle.register.specs.Offices.{receipt_entry, receipt_at}
 use Rattle.store.specs.EntryRows.{row_of_receipt}

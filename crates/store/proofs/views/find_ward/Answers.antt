@@ -1,3 +1,4 @@
+-- Why `find_ward` keeps its promise.
 use Rattle.std.proofs.Common.{option_map}
 use Rattle.register.specs.Offices.{ward_entry, ward_at}
 use Rattle.store.specs.EntryRows.{row_of_ward}

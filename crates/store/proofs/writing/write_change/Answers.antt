@@ -1,3 +1,4 @@
+-- Why `write_change` keeps its promise.
 use Rattle.std.proofs.Common.{arith, sym, subst}
 use Rattle.sqlite.specs.Held.{state}
 use Rattle.register.specs.Effects.{with_effect, effect_entry}

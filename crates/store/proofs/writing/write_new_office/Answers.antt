@@ -1,3 +1,4 @@
+-- Why `write_new_office` keeps its promise.
 use Rattle.std.proofs.Common.{arith}
 use Rattle.store.proofs.writing.write_new_office.Goals as goal
 

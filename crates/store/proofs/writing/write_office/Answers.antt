@@ -1,3 +1,4 @@
+-- Why `write_office` keeps its promise.
 use Rattle.sqlite.specs.Held.{state}
 use Rattle.tables.specs.Making.{no_contents}
 use Rattle.store.proofs.WriteLemmas.{office_put, seen}

@@ -1,3 +1,4 @@
+-- Why `entries_beginning` keeps its promise.
 use Rattle.std.proofs.lemmas.Result.{err_from_is_err_and}
 use Rattle.sqlite.specs.Held.{state}
 use Rattle.sqlite.specs.Values.{bound}

@@ -1,3 +1,4 @@
+-- Why `insert_all` keeps its promise.
 use Rattle.std.proofs.Common.{[], true, map, length, get_or, sym, ap, subst, ◌≡◌, ◌∙◌, ◌<◌, arith, rules}
 use Rattle.std.proofs.lemmas.Result.{err_from_is_err_and}
 use Rattle.sqlite.specs.Held.{state}

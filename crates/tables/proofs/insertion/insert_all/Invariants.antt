@@ -1,3 +1,4 @@
+-- What the loop of `insert_all` keeps.
 use Rattle.std.proofs.Common.{◌≡◌, map, take}
 use Rattle.sqlite.specs.Values.{bound}
 use Rattle.sqlite.specs.State.{HasCleanDisk, KeepsCommit, Survives}

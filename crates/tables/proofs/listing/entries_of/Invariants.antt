@@ -1,3 +1,4 @@
+-- What the loop of `entries_of` keeps.
 use Rattle.std.proofs.Common.{◌≡◌, map, take}
 use Rattle.tables.specs.Rows.{at, column_places}
 use Rattle.tables.proofs.listing.entries_of.Given as goal

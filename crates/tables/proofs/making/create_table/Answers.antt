@@ -1,3 +1,4 @@
+-- Why `create_table` keeps its promise.
 use Rattle.std.proofs.Common.{Ok, Err, ap}
 use Rattle.sqlite.specs.Held.{state}
 use Rattle.tables.proofs.ContentsLemmas.{keeps}

@@ -1,3 +1,4 @@
+-- Why `create_tables` keeps its promise.
 use Rattle.std.proofs.Common.{◌≡◌, ◌+◌, ℕ, sym, subst, arith, rules}
 use Rattle.sqlite.specs.Held.{state}
 use Rattle.tables.specs.Making.{SeesMade}

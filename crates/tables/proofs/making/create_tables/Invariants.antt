@@ -1,3 +1,4 @@
+-- What the loop of `create_tables` keeps.
 use Rattle.std.proofs.Common.{◌≡◌}
 use Rattle.sqlite.specs.State.{HasCleanDisk, KeepsCommit, Survives}
 use Rattle.sqlite.specs.Held.{state}

@@ -1,3 +1,4 @@
+-- Why `all_rows` keeps its promise.
 use Rattle.std.proofs.Common.{[], refl, arith}
 use Rattle.sqlite.specs.Held.{state}
 use Rattle.tables.specs.Texts.{select_text}

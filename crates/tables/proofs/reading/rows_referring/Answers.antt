@@ -1,3 +1,4 @@
+-- Why `rows_referring` keeps its promise.
 use Rattle.std.proofs.Common.{[], ◌∷◌}
 use Rattle.sqlite.specs.Held.{state}
 use Rattle.sqlite.specs.Value.{owned}

@@ -1,3 +1,4 @@
+-- Why `remove` keeps its promise.
 use Rattle.std.proofs.Common.{Ok, Err, ap}
 use Rattle.sqlite.specs.Values.{bound}
 use Rattle.sqlite.specs.Held.{state}

@@ -1,3 +1,4 @@
+-- Why `check_rowids` keeps its promise.
 use Rattle.std.proofs.Common.{inl, inr}
 use Rattle.std.proofs.lemmas.Result.{err_from_is_err_and}
 use Rattle.tables.proofs.RowidLemmas.{keyed_from, repeated}

@@ -1,3 +1,4 @@
+-- Why `create_text` keeps its promise.
 use Rattle.std.proofs.Common.{refl}
 use Rattle.tables.specs.Texts.{create_text}
 use Rattle.tables.proofs.texts.create_text.Goals as goal

@@ -1,3 +1,4 @@
+-- Why `add_entries` keeps its promise.
 use Rattle.std.proofs.Common.{◌≡◌, [], map, get_or, sym, ap, ◌∙◌, arith, rules}
 use Rattle.sqlite.specs.Held.{state}
 use Rattle.tables.proofs.ListLemmas.{get_mapped, mapped_length}

@@ -1,3 +1,4 @@
+-- Why `commit` keeps its promise.
 use Rattle.std.proofs.Common.{IsTrue, sym, subst}
 use Rattle.sqlite.specs.Held.{Held, state}
 use Rattle.register.specs.Effects.{change_entry, with_change}
