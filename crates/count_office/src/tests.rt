@@ -5,6 +5,7 @@ mod steps;
 // The one store of these tests.
 mod disks;
 // The tests.
+mod imports;
 mod nominations;
 mod orders;
 mod statements;

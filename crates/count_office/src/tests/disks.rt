@@ -3,7 +3,7 @@
 
 ghost use Rattle.std.specs.Prelude.{⊤};
 
-use super::steps::{Said, Step, Told, play};
+use super::steps::{Case, Said, Step, play};
 use sqlite::{Connection, Error, ErrorCode, FileStore, Files, Options};
 use sqlite_disk::{Crash, Fuse, Memory};
 use std::alloc::Global;
@@ -79,18 +79,35 @@ impl Disks {
         }
     }
 
-    /// Does the steps, which must be told so.
-    pub fn hear(
+    /// Does the steps, each of which must be told so.
+    pub fn hear(self, rt: &(impl Abort + AllocGlobal), cases: &[Case<'_>]) -> Result<Disks, Fail> {
+        let script: Vec<Step<'_>> = cases.iter().map(|case| case.0).collect(rt.alloc())?;
+        let (said, disks) = self.play(rt.alloc(), &script)?;
+        assert!(rt; said.len() == cases.len(), "{script:?}: {said:?}");
+        for (said, (step, wanted)) in said.iter().zip(cases) {
+            assert_eq!(rt; said.told(), *wanted, "{step:?}");
+        }
+        Ok(disks)
+    }
+
+    /// Every row of every table.
+    fn rows(self, alloc: Global) -> Result<(String, Disks), Fail> {
+        let (said, disks) = self.play(alloc, &[Step::Contents])?;
+        match said.first() {
+            Some(said) => Ok((String::from_str(alloc, said.told().1)?, disks)),
+            None => Err(Fail::from("nothing was said")),
+        }
+    }
+
+    /// Does the steps, each of which must be told so, and none of which may change a row.
+    pub fn hear_unchanged(
         self,
         rt: &(impl Abort + AllocGlobal),
-        script: &[Step<'_>],
-        wanted: &[Told<'_>],
+        cases: &[Case<'_>],
     ) -> Result<Disks, Fail> {
-        let (said, disks) = self.play(rt.alloc(), script)?;
-        assert!(rt; said.len() == wanted.len(), "{script:?}: {said:?}");
-        for (said, wanted) in said.iter().zip(wanted) {
-            assert_eq!(rt; said.told(), *wanted, "{script:?}");
-        }
+        let (before, disks) = self.rows(rt.alloc())?;
+        let (after, disks) = disks.hear(rt, cases)?.rows(rt.alloc())?;
+        assert_eq!(rt; before.as_str(), after.as_str());
         Ok(disks)
     }
 }
