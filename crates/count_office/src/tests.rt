@@ -6,7 +6,9 @@ mod steps;
 mod disks;
 // The tests.
 mod imports;
+mod keyings;
 mod nominations;
+mod order_stops;
 mod orders;
 mod statements;
 mod stops;
