@@ -1,7 +1,7 @@
 //! The program `count-office`: it reads its words to one order and does it over the database DB.
 //!
-//! The crate `desk` reads the words and does the order. Here it gets the file that DB names and the two
-//! standard outputs.
+//! The crate `desk` reads the words and does the order. Here it gets the file that DB names, the one that
+//! the order names, and the two standard outputs.
 //!
 //! ```text
 //! count-office town.db init
@@ -15,9 +15,11 @@ ghost use Rattle.std.specs.Prelude.{◌≡◌, ◌+◌, ◌-◌, ◌^◌, ◌<�
 mod tests;
 
 use desk::perform::perform;
-use desk::{Failure, Order, WordsFault, order, tell_failure, tell_words};
-use sqlite::{Connection, Wary};
+use desk::{Failure, Order, Progress, WordsFault, order, tell_failure, tell_words};
+use sqlite::{Alter, Connection, Wary};
 use std::alloc::Global;
+use std::fs::File;
+use std::io::IsTerminal;
 use std::process::ExitCode;
 use std::{env, io};
 use store::Fault;
@@ -44,7 +46,31 @@ fn not_text(alloc: Global) -> WordsFault {
     }
 }
 
-/// Does an order over the file at a path, which is made if it is missing: an empty file is no office
+/// Whether somebody sees the error output and not the replies of a file's records.
+fn wants_progress(rt: &HostRuntime, order: &Order<'_>) -> bool {
+    order.file().is_some() && rt.stderr().is_terminal() && !rt.stdout().is_terminal()
+}
+
+/// Does an order over an opened connection, with the file that it names.
+fn perform_on<S: Alter, O: Sink, E: Sink>(
+    rt: &HostRuntime,
+    order: &Order<'_>,
+    conn: Connection<S>,
+    out: &mut O,
+    err: &mut E,
+) -> (u8, Connection<S>)
+    requires out { O.failed out.old < 2 ^ 64 - 1 }
+    requires err { E.failed err.old < 2 ^ 64 - 1 }
+{
+    let file = order.file().and_then(|path| File::open(rt, path).ok());
+    if wants_progress(rt, order) {
+        let mut watched = Progress::new(out, rt.stderr());
+        return perform(rt.alloc(), order, conn, file, &mut watched, err);
+    }
+    perform(rt.alloc(), order, conn, file, out, err)
+}
+
+/// Does an order over the database at a path, which is made if it is missing: an empty file is no office
 /// yet, and `init` makes one of it.
 fn perform_at<O: Sink, E: Sink>(
     rt: &HostRuntime,
@@ -58,7 +84,7 @@ fn perform_at<O: Sink, E: Sink>(
 {
     match Connection::open_from(rt, path, false, Wary) {
         Ok(conn) => {
-            let (status, conn) = perform(rt.alloc(), order, conn, out, err);
+            let (status, conn) = perform_on(rt, order, conn, out, err);
             // The log is copied into the file, so that DB alone is the office. Where that fails, what was
             // answered still stands in the log.
             let _ = conn.close();

@@ -5,7 +5,10 @@ mod steps;
 // The one store of these tests.
 mod disks;
 // The tests.
+mod imports;
+mod keyings;
 mod nominations;
+mod order_stops;
 mod orders;
 mod statements;
 mod stops;

@@ -48,6 +48,7 @@ orders =
     takes (codes "init") []
     ∷ takes (codes "ward") (number (codes "WARD") ∷ number (codes "SEATS") ∷ text (codes "NAME") ∷ id ∷ [])
     ∷ takes (codes "candidate") (number (codes "WARD") ∷ number (codes "CANDIDATE") ∷ text (codes "NAME") ∷ id ∷ [])
+    ∷ takes (codes "import-candidates") (text (codes "FILE") ∷ id ∷ [])
     ∷ takes (codes "withdraw") (number (codes "WARD") ∷ number (codes "CANDIDATE") ∷ id ∷ [])
     ∷ takes (codes "close") (number (codes "WARD") ∷ id ∷ [])
     ∷ []
@@ -62,5 +63,6 @@ abbrev pub told : Order → Text × List Value
 told order.Init = (codes "init", [])
 told (order.Ward ward seats name id) = (codes "ward", numbered ward ∷ numbered seats ∷ worded name.now ∷ worded id.now ∷ [])
 told (order.Candidate ward candidate name id) = (codes "candidate", numbered ward ∷ numbered candidate ∷ worded name.now ∷ worded id.now ∷ [])
+told (order.ImportCandidates file id) = (codes "import-candidates", worded file.now ∷ worded id.now ∷ [])
 told (order.Withdraw ward candidate id) = (codes "withdraw", numbered ward ∷ numbered candidate ∷ worded id.now ∷ [])
 told (order.Close ward id) = (codes "close", numbered ward ∷ worded id.now ∷ [])

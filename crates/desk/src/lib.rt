@@ -1,12 +1,13 @@
-//! The office's desk: words to one order, an order to the office, and its outcome to a line and a status.
+//! The office's desk: words to one order, an order to the office, and what comes of it to lines and a status.
 //!
 //! [`order`](words) reads the words to an [`Order`](orders), and [`perform`](perform) does an order over an
-//! opened connection, to any store of `sqlite`, and prints its line. Words that are no order, and other
-//! failures, are told by [`lines`](lines). Which files and outputs these are, the program says.
+//! opened connection, to any store of `sqlite`, and prints its lines. An order may read a file, whose path
+//! [`file`](orders) tells. Words that are no order, and other failures, are told by [`lines`](lines).
+//! Which files and outputs these are, the program says.
 //!
 //! ```text
 //! match order(alloc, words) {
-//!     Ok(order) => perform(alloc, &order, conn, out, err),    // the status and the connection
+//!     Ok(order) => perform(alloc, &order, conn, file, out, err),    // the status and the connection
 //!     Err(fault) => tell_words(&fault, out, err),
 //! }
 //! ```
@@ -16,10 +17,17 @@
 pub mod orders;
 mod table;
 pub mod words;
-// An order to its line and its status.
+// An order to what is to be done,
+mod requests;
+mod tasks;
+// and that to lines and a status.
+mod import;
 pub mod lines;
 pub mod perform;
+pub mod progress;
+mod sending;
 
 pub use lines::{Failure, tell_failure, tell_words};
 pub use orders::Order;
+pub use progress::Progress;
 pub use words::{WordsFault, order};

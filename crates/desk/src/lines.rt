@@ -1,9 +1,11 @@
-//! The line that an order prints, and its exit status.
+//! The lines that an order prints, and its exit status.
 
 ghost use Rattle.std.specs.Prelude.{◌≡◌, ◌⊎◌, ◌+◌, ◌-◌, ◌^◌, ◌<◌, OnOk, OnErr};
+ghost use Rattle.desk.specs.Outcomes.{status_of, status_of_file};
 
 use crate::words::WordsFault;
 use arrayvec::ArrayString;
+use keyfile::{FileFault, Flaw};
 use register::{Refusal, Reply};
 use std::fmt::Write;
 use store::Fault;
@@ -22,6 +24,8 @@ pub(crate) enum Outcome {
     Replied(Reply),
     /// A request was refused.
     Refused(Refusal),
+    /// The file was refused, or couldn't be read.
+    Unread(FileFault),
     /// The office gave up.
     Failed(Fault),
 }
@@ -45,7 +49,7 @@ impl Failure {
     }
 }
 
-fn tell_text<O: Sink>(text: &str, out: &mut O) -> Result<(), Broken>
+fn put_line<O: Sink>(text: &str, out: &mut O) -> Result<(), Broken>
     requires { O.failed out.old < 2 ^ 64 - 1 }
     ensures ok { OnOk result (O.failed out.new ≡ O.failed out.old) }
 {
@@ -53,13 +57,53 @@ fn tell_text<O: Sink>(text: &str, out: &mut O) -> Result<(), Broken>
     put_all(out, b"\n")
 }
 
-fn tell_refusal<E: Sink>(refusal: &Refusal, err: &mut E) -> Result<(), Broken>
+/// Tells a text, and gives the status: 0, or 3 where the output fails.
+fn tell_text<O: Sink, E: Sink>(text: &str, out: &mut O, err: &mut E) -> u8
+    requires out { O.failed out.old < 2 ^ 64 - 1 }
+    requires err { E.failed err.old < 2 ^ 64 - 1 }
+    ensures { (result ≡ 3) ⊎ ((result ≡ 0) × (O.failed out.new ≡ O.failed out.old) × (E.failed err.new ≡ E.failed err.old)) }
+{
+    match put_line(text, out) {
+        Ok(()) => 0,
+        Err(Broken) => tell_failure(Failure::Output, err),
+    }
+}
+
+/// Tells a refusal, and gives the status: 1, or 3 where the error output fails.
+fn tell_refusal<E: Sink>(refusal: &Refusal, err: &mut E) -> u8
     requires { E.failed err.old < 2 ^ 64 - 1 }
-    ensures ok { OnOk result (E.failed err.new ≡ E.failed err.old) }
+    ensures { (result ≡ 3) ⊎ ((result ≡ 1) × (E.failed err.new ≡ E.failed err.old)) }
 {
     let mut line = ArrayString::<LINE>::new();
     let _ = writeln!(line, "refused {}: {}", refusal.number(), refusal.text());
-    put_all(err, line.as_bytes())
+    match put_all(err, line.as_bytes()) {
+        Ok(()) => 1,
+        Err(Broken) => 3,
+    }
+}
+
+/// The status of a file that isn't taken: 3 where its reading was stopped.
+fn status_of_file(fault: FileFault) -> u8
+    ensures { result ≡ status_of_file fault }
+{
+    match fault.flaw {
+        Flaw::ReadFailed | Flaw::Memory => 3,
+        _ => 1,
+    }
+}
+
+/// Tells why a file isn't taken, and gives the status: 1, or 3 where its reading was stopped or the error
+/// output fails.
+fn tell_file_fault<E: Sink>(fault: FileFault, err: &mut E) -> u8
+    requires { E.failed err.old < 2 ^ 64 - 1 }
+    ensures { (result ≡ 3) ⊎ ((result ≡ status_of_file fault) × (E.failed err.new ≡ E.failed err.old)) }
+{
+    let mut line = ArrayString::<LINE>::new();
+    let _ = writeln!(line, "{fault}");
+    match put_all(err, line.as_bytes()) {
+        Ok(()) => status_of_file(fault),
+        Err(Broken) => 3,
+    }
 }
 
 /// Tells a failure on the error output, and gives its status.
@@ -75,27 +119,20 @@ pub fn tell_failure<E: Sink>(failure: Failure, err: &mut E) -> u8
     3
 }
 
-/// Tells an outcome, and gives its status: 0 with a line on the output; 1 with a refusal, or 3 with a
-/// fault, on the error output; and 3 where one of the two fails.
+/// Tells an outcome, and gives its status: 0 with a line on the output; 1 with a refusal of a request or a
+/// file, or 3 with a fault or a file that couldn't be read, on the error output; and 3 where one of the two
+/// fails.
 pub(crate) fn tell<O: Sink, E: Sink>(outcome: &Outcome, out: &mut O, err: &mut E) -> u8
     requires out { O.failed out.old < 2 ^ 64 - 1 }
     requires err { E.failed err.old < 2 ^ 64 - 1 }
-    ensures broken { (result ≡ 3) ⊎ ((O.failed out.new ≡ O.failed out.old) × (E.failed err.new ≡ E.failed err.old)) }
+    ensures told { (result ≡ 3) ⊎ ((result ≡ status_of outcome.now) × (O.failed out.new ≡ O.failed out.old) × (E.failed err.new ≡ E.failed err.old)) }
 {
-    let told = match outcome {
-        Outcome::Ready => tell_text("office ready", out),
-        Outcome::Replied(reply) => tell_text(reply.as_str(), out),
-        Outcome::Refused(refusal) => {
-            return match tell_refusal(refusal, err) {
-                Ok(()) => 1,
-                Err(Broken) => 3,
-            };
-        }
-        Outcome::Failed(fault) => return tell_failure(Failure::Office(*fault), err),
-    };
-    match told {
-        Ok(()) => 0,
-        Err(Broken) => tell_failure(Failure::Output, err),
+    match outcome {
+        Outcome::Ready => tell_text("office ready", out, err),
+        Outcome::Replied(reply) => tell_text(reply.as_str(), out, err),
+        Outcome::Refused(refusal) => tell_refusal(refusal, err),
+        Outcome::Unread(fault) => tell_file_fault(*fault, err),
+        Outcome::Failed(fault) => tell_failure(Failure::Office(*fault), err),
     }
 }
 

@@ -1,5 +1,8 @@
 //! The orders that the program takes.
 
+ghost use Rattle.std.specs.Prelude.{◌≡◌, option_map};
+ghost use Rattle.desk.specs.Requests.{file_of};
+
 /// What the program is to do with an office. The numbers are as they were given, in range or not.
 #[derive(Debug, Drop)]
 pub enum Order<'a> {
@@ -19,6 +22,11 @@ pub enum Order<'a> {
         name: &'a str,
         id: &'a str,
     },
+    /// Add the candidates of a file, each under this id, a hyphen, and its record's number.
+    ImportCandidates {
+        file: &'a str,
+        id: &'a str,
+    },
     /// Take a candidate off a ward.
     Withdraw {
         ward: u32,
@@ -30,4 +38,16 @@ pub enum Order<'a> {
         ward: u32,
         id: &'a str,
     },
+}
+
+impl<'a> Order<'a> {
+    /// The path of the file that the order reads, if it reads one.
+    pub fn file(&self) -> Option<&'a str>
+        ensures { option_map (λ path. path.now) result ≡ file_of self.now }
+    {
+        match self {
+            Order::ImportCandidates { file, .. } => Some(file),
+            _ => None,
+        }
+    }
 }

@@ -58,6 +58,12 @@ pub(crate) const CANDIDATE: Word = Word {
     help: "The candidate's number in the ward, 1 to 30",
 };
 
+pub(crate) const FILE: Word = Word {
+    name: "FILE",
+    kind: Kind::Text,
+    help: "The import file",
+};
+
 pub(crate) const ID: Word = Word {
     name: "id",
     kind: Kind::Id,
@@ -65,7 +71,7 @@ pub(crate) const ID: Word = Word {
 };
 
 /// All orders, in the sequence of an election.
-const ORDERS: [Entry; 5] = [
+const ORDERS: [Entry; 6] = [
     Entry {
         name: "init",
         words: &[],
@@ -80,6 +86,11 @@ const ORDERS: [Entry; 5] = [
         name: "candidate",
         words: &[WARD, CANDIDATE, NAME, ID],
         help: "Adds a candidate to a ward:\ncandidate 7 1 Ann --id c1",
+    },
+    Entry {
+        name: "import-candidates",
+        words: &[FILE, ID],
+        help: "Adds the candidates of a file, the first under ID-1:\nimport-candidates harbour.csv --id c",
     },
     Entry {
         name: "withdraw",

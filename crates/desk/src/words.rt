@@ -7,7 +7,7 @@ ghost use Rattle.desk.specs.Orders.{entry_of, told};
 ghost use Rattle.desk.specs.Words.{id_rule, is_order_name, meaning, meaning_of, names_order, number_at, number_rule, office_words, order_words, rule_of_kind, start_words, text_at, text_rule, with_orders};
 
 use crate::orders::Order;
-use crate::table::{CANDIDATE, Entry, ID, Kind, NAME, SEATS, WARD, Word, entries};
+use crate::table::{CANDIDATE, Entry, FILE, ID, Kind, NAME, SEATS, WARD, Word, entries};
 use clap::error::ErrorKind;
 use clap::{Arg, ArgMatches, Command, Error, value_parser};
 use std::alloc::{AllocError, Global};
@@ -196,6 +196,10 @@ fn order_named<'a>(name: &str, matches: &ArgMatches<'a>) -> Option<Order<'a>>
             ward: number_in(matches, WARD),
             candidate: number_in(matches, CANDIDATE),
             name: text_in(matches, NAME),
+            id: text_in(matches, ID),
+        }),
+        "import-candidates" => Some(Order::ImportCandidates {
+            file: text_in(matches, FILE),
             id: text_in(matches, ID),
         }),
         "withdraw" => Some(Order::Withdraw {

@@ -3,9 +3,9 @@
 
 ghost use Rattle.std.specs.Prelude.{⊤};
 
-use super::steps::{Said, Step, Told, play};
+use super::steps::{Case, Said, Step, play};
 use sqlite::{Connection, Error, ErrorCode, FileStore, Files, Options};
-use sqlite_disk::{Crash, Fuse, Memory};
+use sqlite_disk::{Crash, Disk, Fuse, Memory};
 use std::alloc::Global;
 use std::marker::Model;
 use std::process::Abort;
@@ -37,6 +37,21 @@ fn opened(
     }
 }
 
+/// Which of the two files stops.
+#[derive(Clone, Copy)]
+pub enum File {
+    Log,
+    Database,
+}
+
+/// A disk with the same bytes, all of them synced, that fails after so many calls.
+fn copy_of(alloc: Global, disk: &Fuse<Memory>, calls: u64) -> Result<Fuse<Memory>, Fail> {
+    let mut copy = Memory::new(alloc);
+    copy.write_at(0, disk.inner().bytes())?;
+    copy.sync()?;
+    Ok(Fuse::new(copy, calls))
+}
+
 impl Disks {
     /// New files, of which the log fails after so many calls and the database file after so many.
     pub fn stopping(alloc: Global, log: u64, db: u64) -> Disks {
@@ -51,6 +66,20 @@ impl Disks {
     /// New files that never fail.
     pub fn lasting(alloc: Global) -> Disks {
         Disks::stopping(alloc, u64::MAX, u64::MAX)
+    }
+
+    /// Files with the same bytes, of which the one fails after so many calls.
+    pub fn copied(&self, alloc: Global, file: File, calls: u64) -> Result<Disks, Fail> {
+        let (log, db) = match file {
+            File::Log => (calls, u64::MAX),
+            File::Database => (u64::MAX, calls),
+        };
+        Ok(Disks {
+            files: Files {
+                log: copy_of(alloc, &self.files.log, log)?,
+                db: copy_of(alloc, &self.files.db, db)?,
+            },
+        })
     }
 
     /// The machine comes back: what was not synced is lost, and no call fails from now on.
@@ -79,18 +108,35 @@ impl Disks {
         }
     }
 
-    /// Does the steps, which must be told so.
-    pub fn hear(
+    /// Does the steps, each of which must be told so.
+    pub fn hear(self, rt: &(impl Abort + AllocGlobal), cases: &[Case<'_>]) -> Result<Disks, Fail> {
+        let script: Vec<Step<'_>> = cases.iter().map(|case| case.0).collect(rt.alloc())?;
+        let (said, disks) = self.play(rt.alloc(), &script)?;
+        assert!(rt; said.len() == cases.len(), "{script:?}: {said:?}");
+        for (said, (step, wanted)) in said.iter().zip(cases) {
+            assert_eq!(rt; said.told(), *wanted, "{step:?}");
+        }
+        Ok(disks)
+    }
+
+    /// Every row of every table.
+    pub fn rows(self, alloc: Global) -> Result<(String, Disks), Fail> {
+        let (said, disks) = self.play(alloc, &[Step::Contents])?;
+        match said.first() {
+            Some(said) => Ok((String::from_str(alloc, said.told().1)?, disks)),
+            None => Err(Fail::from("nothing was said")),
+        }
+    }
+
+    /// Does the steps, each of which must be told so, and none of which may change a row.
+    pub fn hear_unchanged(
         self,
         rt: &(impl Abort + AllocGlobal),
-        script: &[Step<'_>],
-        wanted: &[Told<'_>],
+        cases: &[Case<'_>],
     ) -> Result<Disks, Fail> {
-        let (said, disks) = self.play(rt.alloc(), script)?;
-        assert!(rt; said.len() == wanted.len(), "{script:?}: {said:?}");
-        for (said, wanted) in said.iter().zip(wanted) {
-            assert_eq!(rt; said.told(), *wanted, "{script:?}");
-        }
+        let (before, disks) = self.rows(rt.alloc())?;
+        let (after, disks) = disks.hear(rt, cases)?.rows(rt.alloc())?;
+        assert_eq!(rt; before.as_str(), after.as_str());
         Ok(disks)
     }
 }

@@ -16,8 +16,10 @@ use votes::{Counted, Sink};
 /// One step of a script.
 #[derive(Clone, Copy, Debug)]
 pub enum Step<'a> {
-    /// The order that the words are.
+    /// The order that the words are. A file that it names isn't there.
     Order(&'a [&'a str]),
+    /// The same, where the file that it names has these bytes.
+    FileOrder(&'a [&'a str], &'a [u8]),
     /// The same, where the output takes nothing; how many of its calls failed stands as the output.
     TornOrder(&'a [&'a str]),
     /// A new office, and a list of requests handed to it; their answers stand as the output.
@@ -30,6 +32,9 @@ pub enum Step<'a> {
 
 /// A status, and what was printed to the output and the error output.
 pub type Told<'a> = (u8, &'a str, &'a str);
+
+/// A step, and what must be told of it.
+pub type Case<'a> = (Step<'a>, Told<'a>);
 
 /// What an order is told that the store stopped, and never that memory was wanting.
 pub const STOPPED: Told<'static> = (3, "", "fault 102: store\n");
@@ -70,11 +75,12 @@ impl Write for Torn {
     }
 }
 
-/// Does the order that the words are, and gives its status and its text on the error output.
+/// Does the order that the words are over a file, and gives its status and its text on the error output.
 fn give<S: Alter + Drop, O: Sink>(
     alloc: Global,
     conn: Connection<S>,
     words: &[&str],
+    file: Option<&[u8]>,
     out: &mut O,
 ) -> Result<(u8, String, Connection<S>), Fail>
     requires { O.failed out.old < 2 ^ 64 - 1 }
@@ -85,7 +91,7 @@ fn give<S: Alter + Drop, O: Sink>(
         Err(WordsFault::Words { text, .. }) => return Err(Fail::from(text)),
     };
     let mut err = Vec::new(alloc);
-    let (status, conn) = perform(alloc, &order, conn, out, &mut Counted::new(&mut err));
+    let (status, conn) = perform(alloc, &order, conn, file, out, &mut Counted::new(&mut err));
     Ok((status, String::from_utf8(err)?, conn))
 }
 
@@ -134,21 +140,29 @@ fn contents<S: Alter + Drop>(alloc: Global, conn: &mut Connection<S>) -> Result<
     Ok(text)
 }
 
+fn ordered<S: Alter + Drop>(
+    alloc: Global,
+    conn: Connection<S>,
+    words: &[&str],
+    file: Option<&[u8]>,
+) -> Result<(Said, Connection<S>), Fail> {
+    let mut out = Vec::new(alloc);
+    let (status, err, conn) = give(alloc, conn, words, file, &mut Counted::new(&mut out))?;
+    let out = String::from_utf8(out)?;
+    Ok((Said { status, out, err }, conn))
+}
+
 fn done<S: Alter + Drop>(
     alloc: Global,
     mut conn: Connection<S>,
     step: Step<'_>,
 ) -> Result<(Said, Connection<S>), Fail> {
     match step {
-        Step::Order(words) => {
-            let mut out = Vec::new(alloc);
-            let (status, err, conn) = give(alloc, conn, words, &mut Counted::new(&mut out))?;
-            let out = String::from_utf8(out)?;
-            Ok((Said { status, out, err }, conn))
-        }
+        Step::Order(words) => ordered(alloc, conn, words, None),
+        Step::FileOrder(words, file) => ordered(alloc, conn, words, Some(file)),
         Step::TornOrder(words) => {
             let mut out = Counted::new(Torn);
-            let (status, err, conn) = give(alloc, conn, words, &mut out)?;
+            let (status, err, conn) = give(alloc, conn, words, None, &mut out)?;
             let out = format!(in alloc; "{} failed", out.failures())?;
             Ok((Said { status, out, err }, conn))
         }

@@ -14,7 +14,7 @@ fn read(alloc: Global, words: &[&str]) -> Result<String, AllocError> {
 }
 
 /// Each order once, and what else its words may look like.
-const TAKEN: [(&[&str], &str); 8] = [
+const TAKEN: [(&[&str], &str); 9] = [
     (&["DB", "init"], "Init"),
     (
         &["DB", "ward", "7", "2", "Harbour", "--id", "w1"],
@@ -35,6 +35,10 @@ const TAKEN: [(&[&str], &str); 8] = [
     (
         &["DB", "candidate", "7", "1", "Ann", "--id", "c1"],
         "Candidate { ward: 7, candidate: 1, name: \"Ann\", id: \"c1\" }",
+    ),
+    (
+        &["DB", "import-candidates", "harbour.csv", "--id", "c"],
+        "ImportCandidates { file: \"harbour.csv\", id: \"c\" }",
     ),
     (
         &["DB", "withdraw", "7", "1", "--id", "c3"],

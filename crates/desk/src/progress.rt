@@ -1,0 +1,71 @@
+//! How far a long order has come, for one who doesn't see its replies.
+
+ghost use Rattle.std.specs.Prelude.{◌≡◌};
+
+use std::io::Write;
+use votes::{Broken, Sink};
+
+/// The count is told after so many lines, and after so many more.
+const STEP: u64 = 100;
+
+/// Counts lines, and tells a writer from time to time how many there were.
+#[derive(Drop)]
+struct Meter<W> {
+    told: W,
+    lines: u64,
+}
+
+impl<W: Write> Meter<W> {
+    fn count_line(&mut self) {
+        self.lines = self.lines.saturating_add(1);
+        if self.lines % STEP == 0 {
+            // Where nobody can be told, the order goes on all the same.
+            let _ = writeln!(self.told, "{} records done", self.lines);
+        }
+    }
+
+    fn count(&mut self, bytes: &[u8]) {
+        for byte in bytes {
+            if *byte == b'\n' {
+                self.count_line();
+            }
+        }
+    }
+}
+
+/// An output that a writer is told of: after every hundredth line how many there were.
+///
+/// It takes what the output takes, and fails where that fails, never for the writer's sake.
+#[derive(Drop)]
+pub struct Progress<'a, O, W> {
+    out: &'a mut O,
+    meter: Meter<W>,
+}
+
+impl<'a, O: Sink, W: Write> Progress<'a, O, W> {
+    /// The output, of which no line is counted yet.
+    pub fn new(out: &'a mut O, told: W) -> Progress<'a, O, W>
+        ensures { result.out.now ≡ out.old }
+    {
+        Progress {
+            out,
+            meter: Meter { told, lines: 0 },
+        }
+    }
+}
+
+impl<O: Sink, W: Write> Sink for Progress<'_, O, W> {
+    ghost taken = { λ s. O.taken s.out.now };
+
+    ghost failed = { λ s. O.failed s.out.now };
+
+    fn put(&mut self, bytes: &[u8]) -> Result<usize, Broken> {
+        let n = self.out.put(bytes)?;
+        self.meter.count(&bytes[..n]);
+        Ok(n)
+    }
+
+    fn failures(&self) -> u64 {
+        self.out.failures()
+    }
+}
