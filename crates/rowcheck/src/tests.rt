@@ -25,6 +25,9 @@ fn only_ward(alloc: Global, numbers: [u32; 3], phase: Phase, name: &str) -> Resu
     Ok(Rows {
         wards: vec![in alloc; ward]?,
         candidates: Vec::new(alloc),
+        batches: Vec::new(alloc),
+        keyings: Vec::new(alloc),
+        verdicts: Vec::new(alloc),
         receipts: Vec::new(alloc),
     })
 }
@@ -50,6 +53,9 @@ fn only_receipt(alloc: Global, actor: u32, subject: &str) -> Result<Rows, AllocE
     Ok(Rows {
         wards: Vec::new(alloc),
         candidates: Vec::new(alloc),
+        batches: Vec::new(alloc),
+        keyings: Vec::new(alloc),
+        verdicts: Vec::new(alloc),
         receipts: vec![in alloc; receipt]?,
     })
 }
@@ -80,6 +86,9 @@ fn nominated(alloc: Global, phase: Phase, done: u32, ward: u32) -> Result<Rows, 
     Ok(Rows {
         wards: rows.wards,
         candidates: vec![in alloc; first, second]?,
+        batches: rows.batches,
+        keyings: rows.keyings,
+        verdicts: rows.verdicts,
         receipts: rows.receipts,
     })
 }
