@@ -9,6 +9,7 @@ mod CandidateLemmas
 mod BatchLemmas
 mod KeyingLemmas
 mod VerdictLemmas
+mod ColumnLemmas
 mod PaperLemmas
 pub mod MachineLemmas
 pub mod ListLaws

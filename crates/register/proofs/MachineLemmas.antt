@@ -16,6 +16,7 @@ use Rattle.register.specs.Items.{is_receipt, IsState}
 use Rattle.register.specs.Effects.{with_effect, with_receipt}
 use Rattle.register.specs.Parts.{PartEntries}
 use Rattle.register.specs.Machine.{keeps, refuses, part_of, objections, subject_of, reply_to, effect_of, receipt_for, judged, answered, decided, outcome_at, step, state_after, IsKeptAgain}
+use Rattle.register.specs.Views.{IsToldAlike}
 use Rattle.register.proofs.MapLemmas.{found_put}
 use Rattle.register.proofs.ItemLemmas.{IsFit, receipt_total, receipt_stays, same_receipts}
 use Rattle.register.proofs.WardLemmas.{ward_fits}
@@ -84,3 +85,23 @@ module _ (s : OfficeState) (actor : ℕ) (id : List ℕ) (command : Command) whe
       go false good o found = tt
       go true good (Some r) found = elim (bytes_eq r.subject (subject_of command)) as (λ b. IsKeptAgain actor id command (outcome_at s (cond b (keeps r.reply) (refuses IdUsed)))) [ true ↦ tt | false ↦ tt ]
       go true good None found = judged_again good found (first_reason (objections actor command (part_of s actor command)))
+
+-- ---- what a clerk is told
+
+-- the reply to an accepted keying is made of the command alone
+pub told_alike : (actor : ℕ) (id : List ℕ) (command : Command) (receipt : Option ReceiptEntry) (part : PartEntries) → IsToldAlike command (decided actor id command receipt part)
+unfolding decided
+told_alike actor id (Keying command) receipt part = go (is_id id) receipt
+  where
+    alike : (o : Option Reason) → IsToldAlike (Keying command) (judged actor id (Keying command) part o)
+    alike (Some why) = tt
+    alike None = refl
+
+    go : (b : Bool) (o : Option ReceiptEntry) → IsToldAlike (Keying command) (cond b (answered actor id (Keying command) o part) (refuses BadId))
+    go false o = tt
+    go true (Some r) = elim (bytes_eq r.subject (subject_of (Keying command))) as (λ b. IsToldAlike (Keying command) (cond b (keeps r.reply) (refuses IdUsed))) [ true ↦ tt | false ↦ tt ]
+    go true None = alike (first_reason (objections actor (Keying command) part))
+told_alike actor id (Ward command) receipt part = tt
+told_alike actor id (Candidate command) receipt part = tt
+told_alike actor id (Batch command) receipt part = tt
+told_alike actor id (Verdict command) receipt part = tt

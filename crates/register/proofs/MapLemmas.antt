@@ -133,7 +133,7 @@ found_put_too {X} cmp compared x (y ∷ ys) found = elim (is_lt (cmp x y)) as (�
 
 -- ---- an entry less
 
-kept_all : {X : Type 0} (p q : X → Bool) (xs : List X) → list_all p xs ≡ true → list_all p (filter q xs) ≡ true
+pub kept_all : {X : Type 0} (p q : X → Bool) (xs : List X) → list_all p xs ≡ true → list_all p (filter q xs) ≡ true
 kept_all p q [] all = refl
 kept_all p q (x ∷ xs) all = elim (q x) as (λ b. list_all p (cond b (x ∷ filter q xs) (filter q xs)) ≡ true) [
   | true ↦ and_from _ _ (and_parts _ _ all).0 (kept_all p q xs (and_parts _ _ all).1)

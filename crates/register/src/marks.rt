@@ -1,7 +1,8 @@
 //! The columns of a ward's ballot papers, and marks that are read by them.
 
-ghost use Rattle.std.specs.Prelude.{◌≡◌, Ok, ◌+◌, ◌^◌, ◌<◌, length, map, string_bytes};
-ghost use Rattle.register.specs.Offices.{candidate_entry};
+ghost use Rattle.std.specs.Prelude.{◌≡◌, ℕ, Ok, ◌+◌, ◌^◌, ◌<◌, length, map, string_bytes};
+ghost use Rattle.register.specs.Offices.{OfficeState, candidate_entry, candidates_of};
+ghost use Rattle.register.specs.Items.{IsState};
 ghost use Rattle.register.specs.Marks.{columns_of, is_readable, is_judged_valid, is_valid, marks_objection, first_bad_marks};
 
 use crate::candidates::Candidate;
@@ -12,7 +13,8 @@ use paper::{Columns, Keyed, Marks, judge};
 /// The columns of a ward's ballot papers: the numbers of its candidates, in ascending order. A number out
 /// of range, which no candidate of an office has, is left out.
 pub fn columns_of(candidates: &[Candidate]) -> Columns
-    ensures { result ≡ columns_of (map candidate_entry candidates.now) }
+    ensures is { result ≡ columns_of (map candidate_entry candidates.now) }
+    ensures of_a_ward { (s : OfficeState) (ward : ℕ) → IsState s → columns_of (candidates_of s ward) ≡ map (λ c. c.number) (candidates_of s ward) }
 {
     let mut columns = Columns::empty();
     for candidate in candidates {
