@@ -7,6 +7,7 @@ pub mod Nominations
 pub mod Marks
 pub mod Papers
 pub mod Keyed
+pub mod Standings
 pub mod Items
 pub mod Effects
 pub mod Parts

@@ -28,6 +28,8 @@ pub mod ranges;
 // How marks are read, and when a batch is taken.
 pub mod marks;
 pub mod papers;
+// How a ward stands.
+pub mod status;
 // The commands, by subject.
 pub mod batches;
 pub mod candidates;
@@ -46,6 +48,7 @@ pub use machine::decide;
 pub use phase::Phase;
 pub use receipt::Receipt;
 pub use refusal::{Reason, Refusal};
+pub use status::Status;
 pub use verdicts::{JudgedPaper, Verdict, VerdictCommand};
 pub use view::{Part, View};
 pub use wards::{Ward, WardCommand};
