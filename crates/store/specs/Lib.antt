@@ -1,3 +1,4 @@
 pub mod EntryRows
 pub mod Offices
 pub mod Openings
+pub mod Listings

@@ -2,7 +2,7 @@ use Rattle.sqlite.specs.Held.{state}
 use Rattle.register.specs.Offices.{candidate_entry}
 use Rattle.store.specs.Offices.{tables_of}
 use Rattle.store.proofs.WriteLemmas.{candidate_put, seen}
-use Rattle.store.proofs.writing.write_candidate.Goals as goal
+use Rattle.store.proofs.writing.candidates.write_candidate.Goals as goal
 
 pub returns-clause-writes : goal.returns-clause-writes
 returns-clause-writes g c clean s sees =

@@ -5,7 +5,7 @@ use Rattle.store.proofs.StateLemmas.{candidate_in, candidate_back}
 use Rattle.store.proofs.RowLemmas.{if_entries_told}
 use Rattle.store.proofs.FindLemmas.{candidates_listed}
 use Rattle.store.proofs.FitLemmas.{candidates_fit}
-use Rattle.store.proofs.views.list_candidates.Goals as goal
+use Rattle.store.proofs.views.candidates.list_candidates.Goals as goal
 
 pub returns-clause-found : goal.returns-clause-found
 returns-clause-found g c clean s at =

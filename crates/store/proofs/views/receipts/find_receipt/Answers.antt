@@ -6,7 +6,7 @@ use Rattle.store.specs.Offices.{tables_of}
 use Rattle.store.proofs.StateLemmas.{receipt_in, receipt_back}
 use Rattle.store.proofs.RowLemmas.{if_entry_told}
 use Rattle.store.proofs.FindLemmas.{receipt_found, receipt_fits}
-use Rattle.store.proofs.views.find_receipt.Goals as goal
+use Rattle.store.proofs.views.receipts.find_receipt.Goals as goal
 
 pub returns-clause-found : goal.returns-clause-found
 returns-clause-found g c clean s at =

@@ -3,7 +3,7 @@ use Rattle.sqlite.specs.Held.{state}
 use Rattle.register.specs.Offices.{ward_entry}
 use Rattle.store.specs.Offices.{tables_of}
 use Rattle.store.proofs.WriteLemmas.{ward_put, seen}
-use Rattle.store.proofs.writing.write_ward.Goals as goal
+use Rattle.store.proofs.writing.wards.write_ward.Goals as goal
 
 pub returns-clause-writes : goal.returns-clause-writes
 returns-clause-writes g c clean s sees =

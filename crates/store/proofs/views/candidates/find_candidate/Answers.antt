@@ -5,7 +5,7 @@ use Rattle.store.specs.Offices.{tables_of}
 use Rattle.store.proofs.StateLemmas.{candidate_in, candidate_back}
 use Rattle.store.proofs.RowLemmas.{if_entry_told}
 use Rattle.store.proofs.FindLemmas.{candidate_found, candidate_fits}
-use Rattle.store.proofs.views.find_candidate.Goals as goal
+use Rattle.store.proofs.views.candidates.find_candidate.Goals as goal
 
 pub returns-clause-found : goal.returns-clause-found
 returns-clause-found g c clean s at =

@@ -6,7 +6,7 @@ use Rattle.store.specs.Offices.{tables_of}
 use Rattle.store.proofs.StateLemmas.{ward_in, ward_back}
 use Rattle.store.proofs.RowLemmas.{if_entry_told}
 use Rattle.store.proofs.FindLemmas.{ward_found, ward_fits}
-use Rattle.store.proofs.views.find_ward.Goals as goal
+use Rattle.store.proofs.views.wards.find_ward.Goals as goal
 
 pub returns-clause-found : goal.returns-clause-found
 returns-clause-found g c clean s at =

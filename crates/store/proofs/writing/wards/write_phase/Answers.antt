@@ -1,7 +1,7 @@
 use Rattle.sqlite.specs.Held.{state}
 use Rattle.store.specs.Offices.{tables_of}
 use Rattle.store.proofs.WriteLemmas.{phase_put, seen}
-use Rattle.store.proofs.writing.write_phase.Goals as goal
+use Rattle.store.proofs.writing.wards.write_phase.Goals as goal
 
 pub returns-clause-writes : goal.returns-clause-writes
 returns-clause-writes g c clean s sees =

@@ -1,7 +1,7 @@
 use Rattle.sqlite.specs.Held.{state}
 use Rattle.store.specs.Offices.{tables_of}
 use Rattle.store.proofs.WriteLemmas.{candidate_gone, seen}
-use Rattle.store.proofs.writing.remove_candidate.Goals as goal
+use Rattle.store.proofs.writing.candidates.remove_candidate.Goals as goal
 
 pub returns-clause-writes : goal.returns-clause-writes
 returns-clause-writes g c clean s sees =
