@@ -2,9 +2,7 @@ pub mod MapLemmas
 mod LineLemmas
 mod ObjectionLemmas
 mod ItemLemmas
-mod NominationLemmas
-mod WardLemmas
-mod CandidateLemmas
+mod PaperLemmas
 pub mod MachineLemmas
 pub mod ListLaws
 mod Rows
