@@ -1,7 +1,14 @@
 pub mod MapLemmas
 mod LineLemmas
 mod ObjectionLemmas
+mod KeyedLemmas
 mod ItemLemmas
+mod NominationLemmas
+mod WardLemmas
+mod CandidateLemmas
+mod BatchLemmas
+mod KeyingLemmas
+mod VerdictLemmas
 mod PaperLemmas
 pub mod MachineLemmas
 pub mod ListLaws

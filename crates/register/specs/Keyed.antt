@@ -1,10 +1,9 @@
 -- What the batches of a state, their keyings and their verdicts have to be.
-use Rattle.std.specs.Prelude.{ℕ, zero, suc, ◌+◌, Bool, true, false, not, ◌&&◌, ◌||◌, ◌==◌, nat_le, List, [], ◌∷◌, length, Option, Some, None, is_some}
+use Rattle.std.specs.Prelude.{ℕ, zero, suc, ◌+◌, Bool, true, false, not, ◌&&◌, ◌||◌, ◌==◌, nat_le, List, [], ◌∷◌, length, Option, Some, None}
 use Rattle.std.specs.List.{list_all}
-use Rattle.register.specs.declared.phase.Phase.{Phase}
 use Rattle.register.specs.Phases.{phase_number}
 use Rattle.register.specs.declared.phase.Phase.TheVariants.{Nominations}
-use Rattle.register.specs.Offices.{WardEntry, CandidateEntry, BatchEntry, KeyedEntry, JudgedEntry, OfficeState, ward_at, candidates_of, batch_at, keying_of, verdicts_of}
+use Rattle.register.specs.Offices.{WardEntry, CandidateEntry, BatchEntry, KeyedEntry, JudgedEntry, OfficeState, ward_at, candidates_of, keying_of}
 use Rattle.register.specs.Nominations.{is_contested}
 use Rattle.register.specs.Marks.{columns_of, is_readable, is_valid}
 use Rattle.register.specs.Papers.{is_keyed, differ, has_doubtful, is_its_clerk, is_taken, first_keying}

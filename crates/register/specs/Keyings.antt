@@ -6,7 +6,7 @@ use Rattle.register.specs.declared.refusal.Reason.TheVariants.{NumberOutOfRange,
 use Rattle.register.specs.declared.keyings.KeyingCommand.{KeyingCommand}
 use Rattle.register.specs.Reasons.{objection}
 use Rattle.register.specs.Ranges.{is_clerk, is_batch_number, is_round}
-use Rattle.register.specs.Offices.{BatchEntry, KeyedEntry, OfficeState, batch_at, keying_of}
+use Rattle.register.specs.Offices.{KeyedEntry, OfficeState, batch_at, keying_of}
 use Rattle.register.specs.Marks.{columns_of, first_bad_marks}
 use Rattle.register.specs.Papers.{is_keyed, is_its_clerk}
 use Rattle.register.specs.Batches.{ward_for, candidates_for}

@@ -1,8 +1,8 @@
 -- How the papers of a batch stand: keyed by its clerks, taken where both keyings agree, judged where they are doubtful.
-use Rattle.std.specs.Prelude.{ℕ, ◌+◌, Bool, true, false, not, ◌&&◌, ◌||◌, ◌==◌, List, [], ◌∷◌, length, codes, find, Option, Some, None, is_none}
-use Rattle.std.specs.List.{filter}
+use Rattle.std.specs.Prelude.{ℕ, ◌+◌, Bool, true, false, not, ◌&&◌, ◌||◌, ◌==◌, List, [], ◌∷◌, length, codes, find, Option, Some, None}
+use Rattle.std.specs.List.{filter, list_any}
 use Rattle.std.specs.Str.{bytes_eq}
-use Rattle.register.specs.Offices.{BatchEntry, KeyedEntry, OfficeState, keying_of, verdict_at}
+use Rattle.register.specs.Offices.{BatchEntry, KeyedEntry, JudgedEntry, OfficeState, keying_of, verdicts_of}
 
 -- a keying is there
 abbrev pub is_keyed : List KeyedEntry → Bool
@@ -67,13 +67,17 @@ taken_of s ward = filter (is_taken s) (batches_of s ward)
 abbrev pub differing_of : OfficeState → ℕ → List BatchEntry
 differing_of s ward = filter (is_differing s) (batches_of s ward)
 
--- a doubtful paper without a verdict
-abbrev pub is_open : OfficeState → KeyedEntry → Bool
-is_open s k = is_doubtful k && is_none (verdict_at s k.batch k.paper)
+-- some verdicts have one on the paper of this number
+abbrev pub has_verdict : List JudgedEntry → ℕ → Bool
+has_verdict verdicts paper = list_any (λ (v : JudgedEntry). v.paper == paper) verdicts
 
--- the doubtful papers of a taken batch without a verdict
+-- a doubtful paper that has none among some verdicts
+abbrev pub is_open : List JudgedEntry → KeyedEntry → Bool
+is_open verdicts k = is_doubtful k && not (has_verdict verdicts k.paper)
+
+-- how many doubtful papers of a taken batch have no verdict
 abbrev pub open_in : OfficeState → BatchEntry → ℕ
-open_in s b = length (filter (is_open s) (first_keying s b))
+open_in s b = length (filter (is_open (verdicts_of s b.number)) (first_keying s b))
 
 -- how many of them some batches have together
 abbrev pub open_among : OfficeState → List BatchEntry → ℕ

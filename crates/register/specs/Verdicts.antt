@@ -1,5 +1,5 @@
 -- The command about a doubtful paper: what it needs of the state, what stands against it, what it is about, replies and does.
-use Rattle.std.specs.Prelude.{ℕ, Bool, not, ◌&&◌, ◌||◌, ◌==◌, List, [], ◌∷◌, ◌++◌, length, codes, string_bytes, Option, None, is_some}
+use Rattle.std.specs.Prelude.{ℕ, Bool, not, ◌&&◌, List, [], ◌∷◌, ◌++◌, codes, string_bytes, Option, None, is_some}
 use Rattle.std.specs.Fmt.{decimal}
 use Rattle.register.specs.declared.refusal.Reason.{Reason}
 use Rattle.register.specs.declared.refusal.Reason.TheVariants.{NumberOutOfRange, NotTaken, NotDoubtful, AlreadyJudged, BadVerdict}

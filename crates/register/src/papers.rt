@@ -1,10 +1,12 @@
 //! How the papers of a batch stand: keyed by its clerks, taken where both keyings agree.
 
-ghost use Rattle.std.specs.Prelude.{◌≡◌, map, string_bytes};
-ghost use Rattle.register.specs.Offices.{keyed_entry};
-ghost use Rattle.register.specs.Papers.{is_keyed, same_marks, are_taken, differ, is_doubtful, has_doubtful};
+ghost use Rattle.std.specs.Prelude.{◌≡◌, length, map};
+ghost use Rattle.std.specs.List.{filter};
+ghost use Rattle.register.specs.Offices.{keyed_entry, judged_entry};
+ghost use Rattle.register.specs.Papers.{is_keyed, same_marks, are_taken, differ, is_doubtful, has_doubtful, has_verdict, is_open};
 
 use crate::keyings::KeyedPaper;
+use crate::verdicts::JudgedPaper;
 
 /// Whether a keying is there.
 pub fn is_keyed(keying: &[KeyedPaper]) -> bool
@@ -60,4 +62,29 @@ pub fn has_doubtful(keying: &[KeyedPaper], paper: u32) -> bool
         }
     }
     false
+}
+
+/// Whether some verdicts have one on the paper of this number.
+fn has_verdict(verdicts: &[JudgedPaper], paper: u32) -> bool
+    ensures { result ≡ has_verdict (map judged_entry verdicts.now) paper }
+{
+    for judged in verdicts {
+        if judged.paper == paper {
+            return true;
+        }
+    }
+    false
+}
+
+/// How many papers of a keying are doubtful and have none among some verdicts.
+pub fn count_open(keying: &[KeyedPaper], verdicts: &[JudgedPaper]) -> usize
+    ensures { result ≡ length (filter (is_open (map judged_entry verdicts.now)) (map keyed_entry keying.now)) }
+{
+    let mut open = 0;
+    for keyed in keying {
+        if is_doubtful(keyed) && !has_verdict(verdicts, keyed.paper) {
+            open += 1;
+        }
+    }
+    open
 }
