@@ -9,17 +9,25 @@
 //! another.
 #![tactic(auto)]
 
-// The rows.
+// The rows, and entries among them.
+mod finding;
 pub mod rows;
+mod runs;
 // The conditions, and what they read: subjects of receipts, and numbers in them.
+mod batches;
+mod keyings;
 mod nominations;
 mod plain;
 mod ranges;
 mod subjects;
+mod verdicts;
 
+pub use batches::item3;
+pub use keyings::item4;
 pub use nominations::{are_reached, item2};
 pub use ranges::item1;
 pub use rows::Rows;
+pub use verdicts::item5;
 
 #[cfg(test)]
 mod tests;
