@@ -2,3 +2,4 @@ pub mod EntryRows
 pub mod Offices
 pub mod Openings
 pub mod Listings
+pub mod Tallies

@@ -10,15 +10,19 @@ ghost use Rattle.register.specs.Views.{IsViewOf};
 ghost use Rattle.tables.specs.Reading.{OnlyReads};
 ghost use Rattle.store.specs.Offices.{IsAt};
 
-mod candidates;
+pub(crate) mod batches;
+pub(crate) mod candidates;
+pub(crate) mod papers;
 mod receipts;
-mod wards;
+pub(crate) mod wards;
 
 use crate::storage::Store;
+use crate::views::batches::{again_part, new_batch_part};
 use crate::views::candidates::candidate_part;
+use crate::views::papers::{keying_part, verdict_part};
 use crate::views::receipts::find_receipt;
 use crate::views::wards::{contest_part, ward_part};
-use register::{CandidateCommand, Command, Part, View, WardCommand};
+use register::{BatchCommand, CandidateCommand, Command, Part, View, WardCommand};
 use sqlite::{Alter, Connection};
 use std::alloc::Global;
 use tables::Fault;
@@ -50,6 +54,12 @@ fn find_part<S: Alter>(
         Command::Candidate(CandidateCommand::Withdraw { ward, candidate }) => {
             candidate_part(alloc, conn, *ward, *candidate)
         }
+        Command::Batch(BatchCommand::Add { batch, ward, .. }) => {
+            new_batch_part(alloc, conn, *ward, *batch)
+        }
+        Command::Batch(BatchCommand::Again { batch }) => again_part(alloc, conn, *batch),
+        Command::Keying(keying) => keying_part(alloc, conn, keying.batch, keying.round, actor),
+        Command::Verdict(judged) => verdict_part(alloc, conn, judged.batch, judged.paper),
     }
 }
 

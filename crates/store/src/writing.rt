@@ -11,11 +11,15 @@ ghost use Rattle.tables.specs.Contents.{Contents, Sees};
 ghost use Rattle.tables.specs.Making.{no_contents};
 ghost use Rattle.store.specs.Offices.{tables_of, ChangesTo};
 
+mod batches;
 mod candidates;
+mod papers;
 mod wards;
 
 use crate::entries::receipts::Receipts;
+use crate::writing::batches::{write_batch, write_round};
 use crate::writing::candidates::{remove_candidate, write_candidate};
+use crate::writing::papers::{write_keying, write_verdict};
 use crate::writing::wards::{write_phase, write_ward};
 use register::{Change, Effect, Receipt};
 use sqlite::{Alter, Transaction};
@@ -49,6 +53,10 @@ pub(crate) fn write_effect<S: Alter>(
         Effect::CandidateWithdrawn { ward, candidate } => {
             remove_candidate(tx, *ward, *candidate)
         }
+        Effect::BatchAdded(batch) => write_batch(alloc, tx, batch),
+        Effect::BatchReopened { batch, round } => write_round(tx, *batch, *round),
+        Effect::PapersKeyed(papers) => write_keying(alloc, tx, papers),
+        Effect::PaperJudged(judged) => write_verdict(alloc, tx, judged),
     }
 }
 

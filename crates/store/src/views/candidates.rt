@@ -68,6 +68,6 @@ pub(crate) fn candidate_part<S: Alter>(
     Ok(Part {
         ward,
         candidate,
-        candidates: Vec::new(alloc),
+        ..Part::empty(alloc)
     })
 }

@@ -48,8 +48,7 @@ pub(crate) fn ward_part<S: Alter>(
     let ward = find_ward(conn, ward)?;
     Ok(Part {
         ward,
-        candidate: None,
-        candidates: Vec::new(alloc),
+        ..Part::empty(alloc)
     })
 }
 
@@ -70,7 +69,7 @@ pub(crate) fn contest_part<S: Alter>(
     let candidates = list_candidates(alloc, conn, number)?;
     Ok(Part {
         ward,
-        candidate: None,
         candidates,
+        ..Part::empty(alloc)
     })
 }

@@ -12,28 +12,41 @@ use Rattle.store.proofs.listing.all_rows.Goals as goal
 
 pub returns-clause-lists : goal.returns-clause-lists
 returns-clause-lists g c clean db has rests =
-    let first = c.all_entries.ensures.reads.clean clean in
+    let second = c.all_entries.ensures.reads.clean clean in
+    let first = c.all_papers.ensures.reads.clean second in
     let mid = c.all_contests.ensures.reads.rests first (c.in_ok-wards.ensures.opens first) db rests in
-    let contests = c.in_ok-wards.ensures.lists first db has rests in
-    lists_maps _ _ c.in_ok-receipts.receipts.items db contests.wards contests.candidates (c.in_ok-receipts.ensures.lists clean db (begins_to Receipt db.schema has) mid)
+    let late = c.all_papers.ensures.reads.rests second (c.in_ok-batches.ensures.opens second) db mid in
+    lists_maps _ _ c.in_ok-receipts.receipts.items db (c.in_ok-wards.ensures.lists first db has rests) (c.in_ok-batches.ensures.lists second db has mid) (c.in_ok-receipts.ensures.lists clean db (begins_to Receipt db.schema has) late)
 
 pub returns-clause-rise : goal.returns-clause-rise
-returns-clause-rise g c = let contests = c.in_ok-wards.ensures.rise in rows_of_maps_rise _ _ c.in_ok-receipts.receipts.items contests.wards contests.candidates c.in_ok-receipts.ensures.rise
+returns-clause-rise g c = rows_of_maps_rise _ _ c.in_ok-receipts.receipts.items c.in_ok-wards.ensures.rise c.in_ok-batches.ensures.rise c.in_ok-receipts.ensures.rise
 
 pub returns-clause-reads : goal.returns-clause-reads
-returns-clause-reads g c = only_reads_then _ _ _ c.all_contests.ensures.reads c.all_entries.ensures.reads
+returns-clause-reads g c = only_reads_then _ _ _ c.all_contests.ensures.reads (only_reads_then _ _ _ c.all_papers.ensures.reads c.all_entries.ensures.reads)
+
+pub returns-in_err-batches-clause-reads : goal.returns-in_err-batches-clause-reads
+returns-in_err-batches-clause-reads g c = only_reads_then _ _ _ c.all_contests.ensures.reads c.all_papers.ensures.reads
 
 pub returns-in_err-receipts-clause-reads : goal.returns-in_err-receipts-clause-reads
-returns-in_err-receipts-clause-reads g c = only_reads_then _ _ _ c.all_contests.ensures.reads c.all_entries.ensures.reads
+returns-in_err-receipts-clause-reads g c = only_reads_then _ _ _ c.all_contests.ensures.reads (only_reads_then _ _ _ c.all_papers.ensures.reads c.all_entries.ensures.reads)
 
 pub returns-in_err-wards-clause-told : goal.returns-in_err-wards-clause-told
 returns-in_err-wards-clause-told g c clean db has rests =
     let p = err_from_is_err_and c.from_residual.result c.from_residual.ensures.1 in
     rw (p.1, p.2) (c.in_err-wards.ensures.told clean db has rests)
 
+pub returns-in_err-batches-clause-told : goal.returns-in_err-batches-clause-told
+returns-in_err-batches-clause-told g c clean db has rests =
+    let first = c.all_papers.ensures.reads.clean clean in
+    let mid = c.all_contests.ensures.reads.rests first (c.in_ok-wards.ensures.opens first) db rests in
+    let p = err_from_is_err_and c.from_residual-in_err-batches.result c.from_residual-in_err-batches.ensures.1 in
+    rw (p.1, p.2) (c.in_err-batches.ensures.told clean db has mid)
+
 pub returns-in_err-receipts-clause-told : goal.returns-in_err-receipts-clause-told
 returns-in_err-receipts-clause-told g c clean db has rests =
-    let first = c.all_entries.ensures.reads.clean clean in
+    let second = c.all_entries.ensures.reads.clean clean in
+    let first = c.all_papers.ensures.reads.clean second in
     let mid = c.all_contests.ensures.reads.rests first (c.in_ok-wards.ensures.opens first) db rests in
+    let late = c.all_papers.ensures.reads.rests second (c.in_ok-batches.ensures.opens second) db mid in
     let p = err_from_is_err_and c.from_residual-in_err-receipts.result c.from_residual-in_err-receipts.ensures.1 in
-    rw (p.1, p.2) (told_entries Receipt IsReceiptRow refl receipts_fit db _ (c.in_err-receipts.ensures.cause clean db (begins_to Receipt db.schema has) mid))
+    rw (p.1, p.2) (told_entries Receipt IsReceiptRow refl receipts_fit db _ (c.in_err-receipts.ensures.cause clean db (begins_to Receipt db.schema has) late))
