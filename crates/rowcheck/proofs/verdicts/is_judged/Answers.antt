@@ -18,7 +18,7 @@ returns c =
       c.are_verdicts_on.ensures,
       sym (list_all-map (is_verdict_on c.columns_of-columns.result (first_keying (state_of c.args.rows.now) (batch_entry c.args.batch.now))) judged_entry c.verdicts_of-verdicts.result.now),
       c.verdicts_of-verdicts.ensures,
-      c.columns_of-columns.ensures,
+      c.columns_of-columns.ensures.is,
       c.candidates_of.ensures,
     )
     (sym (judged_some (state_of c.args.rows.now) (batch_entry c.args.batch.now) (verdicts_of (state_of c.args.rows.now) c.args.batch.now.number) some))
