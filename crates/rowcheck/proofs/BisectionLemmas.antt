@@ -7,7 +7,7 @@ use Rattle.std.specs.Ordering.{ordering_index, is_lt, is_le, is_eq}
 use Rattle.std.proofs.lemmas.List.{get_or-take, get_or-drop, take-append-drop, length-take-le, length-drop}
 use Rattle.std.proofs.lemmas.List.Elements.{filter-append}
 
--- ---- what is found
+-- ---- where rows pass a test
 
 pub lower_passes : {X : Type 0} (o : X → Ordering) (xs : List X) → IsNonDecreasingBy (λ x. ordering_index (o x)) xs → IsPartitionedBy (λ x. is_lt (o x)) xs
 lower_passes {X} o xs rises i j d low high passes = go (o (get_or xs i d)) (o (get_or xs j d)) (rises i j d low high) passes
@@ -42,22 +42,22 @@ each_passes {X} p (x ∷ xs) all =
     let first : p x ≡ true = all 0 x (omega arith) in
     rw first (ap (λ ys. x ∷ ys) (each_passes p xs (λ k d below. all (suc k) d (omega (arith, below)))))
 
+not_less : (m : Ordering) → is_lt m ≡ true → is_eq m ≡ false
+not_less Less is = refl
+not_less Equal is = absurd (cc)
+not_less Greater is = refl
+
+not_above : (m : Ordering) → is_le m ≡ false → is_eq m ≡ false
+not_above Less is = refl
+not_above Equal is = absurd (cc)
+not_above Greater is = refl
+
+among : (m : Ordering) → is_lt m ≡ false → is_le m ≡ true → is_eq m ≡ true
+among Less least most = absurd (cc)
+among Equal least most = refl
+among Greater least most = absurd (cc)
+
 module _ {X : Type 0} (o : X → Ordering) where
-  not_less : (m : Ordering) → is_lt m ≡ true → is_eq m ≡ false
-  not_less Less is = refl
-  not_less Equal is = absurd (cc)
-  not_less Greater is = refl
-
-  not_above : (m : Ordering) → is_le m ≡ false → is_eq m ≡ false
-  not_above Less is = refl
-  not_above Equal is = absurd (cc)
-  not_above Greater is = refl
-
-  among : (m : Ordering) → is_lt m ≡ false → is_le m ≡ true → is_eq m ≡ true
-  among Less least most = absurd (cc)
-  among Equal least most = refl
-  among Greater least most = absurd (cc)
-
   -- those of the key stand in a part, none before it
   run_in : (left : List X) (run : ℕ) → run ≤ length left → ((k : ℕ) (d : X) → k < length left → is_lt (o (get_or left k d)) ≡ false) → IsPartitionPoint (λ x. is_le (o x) ≡ true) (λ x. is_le (o x) ≡ false) left run
       → filter (λ x. is_eq (o x)) left ≡ take run left
@@ -75,6 +75,7 @@ module _ {X : Type 0} (o : X → Ordering) where
           let there : get_or (drop run left) k d ≡ get_or left (run + k) d = get_or-drop run left k d in
           not_above _ (ap (λ x. is_le (o x)) there ∙ upper.1 (run + k) d (omega arith) (omega (arith, length-drop run left, within, below))))
 
+  -- what two bisections part off: first those before the key, and then of the rest those of it
   pub run_is : (xs : List X) (before run : ℕ) (left : List X) → before ≤ length xs → run ≤ length left → left ≡ drop before xs
       → IsPartitionPoint (λ x. is_lt (o x) ≡ true) (λ x. is_lt (o x) ≡ false) xs before → IsPartitionPoint (λ x. is_le (o x) ≡ true) (λ x. is_le (o x) ≡ false) left run
       → take run left ≡ filter (λ x. is_eq (o x)) xs

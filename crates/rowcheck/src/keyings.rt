@@ -3,7 +3,7 @@
 //! Each keyed paper has its batch; then the papers of each batch are read by its columns, and its rounds
 //! are gone through, each keying a run of the rows.
 
-ghost use Rattle.std.specs.Prelude.{◌≡◌, ◌&&◌, nat_le, map, is_some, string_bytes};
+ghost use Rattle.std.specs.Prelude.{◌≡◌, ◌&&◌, true, nat_le, map, is_some, IfSome, string_bytes};
 ghost use Rattle.std.specs.List.{list_all};
 ghost use Rattle.register.specs.Offices.{MapsRise, batch_entry, keyed_entry, batch_at};
 ghost use Rattle.register.specs.Marks.{is_readable};
@@ -21,11 +21,32 @@ use register::marks::{columns_of, is_readable};
 use register::papers::differ;
 use register::{Batch, KeyedPaper};
 
+/// Whether there is a batch with this number, where that of another number may be known to be there.
+fn is_there(rows: &Rows, known: Option<u32>, number: u32) -> bool
+    requires rise { MapsRise (state_of rows.now) }
+    requires known { IfSome known (λ n. is_some (batch_at (state_of rows.now) n) ≡ true) }
+    ensures { result ≡ is_some (batch_at (state_of rows.now) number) }
+{
+    match known {
+        Some(known) if known == number => true,
+        _ => has_batch(rows, number),
+    }
+}
+
+/// Whether each keyed paper belongs to a batch that is there. The papers of a batch stand side by side, so
+/// that it is looked up once.
 fn are_of_batches(rows: &Rows, keyings: &[KeyedPaper]) -> bool
     requires { MapsRise (state_of rows.now) }
     ensures { result ≡ list_all (λ k. is_some (batch_at (state_of rows.now) k.batch)) keyings.now }
 {
-    keyings.iter().all(|keyed| has_batch(rows, keyed.batch))
+    let mut known = None;
+    for keyed in keyings {
+        if !is_there(rows, known, keyed.batch) {
+            return false;
+        }
+        known = Some(keyed.batch);
+    }
+    true
 }
 
 /// Whether a paper of a batch is keyed in a round up to its current one, by one of its clerks, with marks
@@ -38,7 +59,7 @@ fn is_keyed_for(batch: &Batch, columns: Columns, keyed: &KeyedPaper) -> bool
     in_time & (its_clerk & is_readable(columns, keyed.marks.as_str()))
 }
 
-fn each_keyed_for(batch: &Batch, columns: Columns, papers: &[KeyedPaper]) -> bool
+fn are_papers_for(batch: &Batch, columns: Columns, papers: &[KeyedPaper]) -> bool
     ensures { result ≡ list_all (λ k. nat_le k.round batch.now.round && (is_its_clerk k.clerk (batch_entry batch.now) && is_readable columns (string_bytes k.marks))) papers.now }
 {
     papers
@@ -52,7 +73,7 @@ fn are_keyed_for(rows: &Rows, batch: &Batch) -> bool
     ensures { result ≡ are_keyed_for (state_of rows.now) (batch_entry batch.now) }
 {
     let columns = columns_of(candidates_of(rows, batch.ward));
-    each_keyed_for(batch, columns, papers_of(rows, batch.number))
+    are_papers_for(batch, columns, papers_of(rows, batch.number))
 }
 
 #[tactic(auto, unfolding(register::specs::Keyed::are_numbered))]

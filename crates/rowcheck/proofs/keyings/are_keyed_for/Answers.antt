@@ -8,7 +8,7 @@ use Rattle.rowcheck.proofs.keyings.are_keyed_for.Goals as goal
 pub returns : goal.returns
 returns c =
     rw (
-      c.each_keyed_for.ensures,
+      c.are_papers_for.ensures,
       sym (list_all-map (λ (k : KeyedEntry). nat_le k.round c.args.batch.now.round && (is_its_clerk k.clerk (batch_entry c.args.batch.now) && is_readable c.columns_of-columns.result k.marks)) keyed_entry c.papers_of.result.now),
       c.papers_of.ensures,
       c.columns_of-columns.ensures.is,
