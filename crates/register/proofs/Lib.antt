@@ -15,3 +15,4 @@ pub mod MachineLemmas
 pub mod ListLaws
 mod Rows
 mod NominationRows
+mod BatchRows
