@@ -1,5 +1,5 @@
 use Rattle.sqlite.specs.Held.{state}
-use Rattle.std.proofs.Common.{List, map, sym, subst}
+use Rattle.std.proofs.Common.{List, map, subst}
 use Rattle.sqlite.specs.Order.{Row}
 use Rattle.register.specs.Offices.{keyed_entry}
 use Rattle.register.specs.Effects.{papers_keyed, with_effect}
