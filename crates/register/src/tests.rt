@@ -1,12 +1,20 @@
 //! The first morning of an office, request by request.
 
+use crate::batches::{Batch, BatchCommand};
 use crate::candidates::{Candidate, CandidateCommand};
 use crate::command::Command;
 use crate::decision::Decision;
+use crate::keyings::{KeyedPaper, KeyingCommand, is_its_clerk};
 use crate::machine::decide;
+use crate::marks::{columns_of, is_readable, is_valid};
+use crate::papers::{are_taken, count_open, differ, has_doubtful, is_keyed};
 use crate::phase::Phase;
-use crate::ranges::{is_candidate_number, is_clerk, is_reply, is_seat_number};
+use crate::ranges::{
+    is_batch_number, is_candidate_number, is_clerk, is_paper_number, is_reply, is_round,
+    is_seat_number,
+};
 use crate::receipt::Receipt;
+use crate::verdicts::{JudgedPaper, Verdict, VerdictCommand, is_rejection_code};
 use crate::view::{Part, View};
 use crate::wards::{Ward, WardCommand};
 use std::alloc::{AllocError, Global};
@@ -201,6 +209,176 @@ fn nominations_have_their_answers(rt: HostRuntime) -> Result<(), Fail> {
     Ok(())
 }
 
+/// A clerk's keying of batch 12 in its first round, with these marks on the first paper and a doubtful
+/// second one; none where there are no marks.
+fn keying_of(alloc: Global, clerk: u32, marks: &str) -> Result<Vec<KeyedPaper>, AllocError> {
+    let mut keying = Vec::new(alloc);
+    if marks.is_empty() {
+        return Ok(keying);
+    }
+    for (paper, marks) in [(1, marks), (2, "D")] {
+        keying.push(KeyedPaper {
+            batch: 12,
+            round: 1,
+            clerk,
+            paper,
+            marks: String::from_str(alloc, marks)?,
+        })?;
+    }
+    Ok(keying)
+}
+
+/// What the office holds of batch 12, two papers of ward 8 that the clerks 4 and 9 key: the first keying
+/// `1,2,`, and the second one with these marks.
+fn keyed_by_two(alloc: Global, actor: u32, second: &str) -> Result<Part, AllocError> {
+    let mut part = quay(alloc, 8, Phase::Keying, 3, 1)?;
+    part.batch = Some(Batch {
+        number: 12,
+        ward: 8,
+        size: 2,
+        first_clerk: 4,
+        second_clerk: 9,
+        round: 1,
+    });
+    part.first = keying_of(alloc, 4, "1,2,")?;
+    part.second = keying_of(alloc, 9, second)?;
+    part.own = if actor == 4 {
+        keying_of(alloc, 4, "1,2,")?
+    } else {
+        keying_of(alloc, 9, second)?
+    };
+    Ok(part)
+}
+
+/// The command about batch 12 of this word.
+fn about_batch(alloc: Global, word: &str) -> Result<Command, AllocError> {
+    if word == "again" {
+        return Ok(Command::Batch(BatchCommand::Again { batch: 12 }));
+    }
+    if word == "key" {
+        let papers = vec![in alloc;
+            String::from_str(alloc, "1,2,")?,
+            String::from_str(alloc, "D")?,
+        ]?;
+        return Ok(Command::Keying(KeyingCommand {
+            batch: 12,
+            round: 1,
+            papers,
+        }));
+    }
+    let verdict = if word == "reject" {
+        Verdict::Reject(5)
+    } else {
+        Verdict::Accept(String::from_str(alloc, word)?)
+    };
+    Ok(Command::Verdict(VerdictCommand {
+        batch: 12,
+        paper: 2,
+        verdict,
+    }))
+}
+
+#[test]
+fn batches_have_their_answers(rt: HostRuntime) -> Result<(), Fail> {
+    let alloc = rt.alloc();
+    let cases = [
+        (
+            "key",
+            9,
+            "",
+            "accepted: batch 12 round 1 keyed (b1, key 12 1)",
+        ),
+        ("key", 4, "", "refused 16: already keyed"),
+        (
+            "again",
+            0,
+            "2,1,",
+            "accepted: batch 12 round 2 open (b1, again 12)",
+        ),
+        ("again", 0, "1,2,", "refused 19: keyings don't differ"),
+        (
+            "1,,2",
+            0,
+            "1,2,",
+            "accepted: batch 12 paper 2 accepted (b1, judge 12 2)",
+        ),
+        (
+            "reject",
+            0,
+            "1,2,",
+            "accepted: batch 12 paper 2 rejected 5 (b1, judge 12 2)",
+        ),
+        (
+            "1,2",
+            0,
+            "1,2,",
+            "refused 18: bad marks on paper 2, fault 1",
+        ),
+        ("reject", 0, "2,1,", "refused 20: batch not taken"),
+    ];
+    for (word, actor, second, wanted) in cases {
+        let view = View {
+            actor,
+            id: "b1",
+            receipt: None,
+            part: keyed_by_two(alloc, actor, second)?,
+        };
+        let decision = decide(alloc, &view, &about_batch(alloc, word)?)?;
+        assert_eq!(rt; told(alloc, &decision)?.as_str(), wanted);
+    }
+    Ok(())
+}
+
+#[test]
+fn papers_of_a_batch(rt: HostRuntime) -> Result<(), Fail> {
+    let alloc = rt.alloc();
+    let part = keyed_by_two(alloc, 4, "2,1,")?;
+    let (first, second) = (&part.first, &part.second);
+    assert_eq!(rt;
+        (are_taken(first, first), are_taken(first, second)),
+        (true, false)
+    );
+    assert_eq!(rt;
+        (differ(first, first), differ(first, second)),
+        (false, true)
+    );
+    assert_eq!(rt;
+        (
+            is_keyed(first),
+            has_doubtful(first, 2),
+            has_doubtful(first, 1)
+        ),
+        (true, true, false)
+    );
+    if let Some(batch) = &part.batch {
+        assert_eq!(rt;
+            (is_its_clerk(9, batch), is_its_clerk(5, batch)),
+            (true, false)
+        );
+    }
+    let judged = JudgedPaper {
+        batch: 12,
+        paper: 2,
+        code: 5,
+        marks: String::new(alloc),
+    };
+    assert_eq!(rt;
+        (count_open(first, &[]), count_open(first, &[judged])),
+        (1, 0)
+    );
+    let columns = columns_of(&part.candidates);
+    assert_eq!(rt; columns.as_slice(), [1, 2, 3].as_slice());
+    assert_eq!(rt;
+        (is_readable(columns, "D"), is_readable(columns, "1,2")),
+        (true, false)
+    );
+    assert_eq!(rt;
+        (is_valid(columns, "1,,2"), is_valid(columns, "D")),
+        (true, false)
+    );
+    Ok(())
+}
+
 #[test]
 fn numbers_in_range(rt: HostRuntime) {
     let phases = [
@@ -219,5 +397,12 @@ fn numbers_in_range(rt: HostRuntime) {
         (is_candidate_number(30), is_candidate_number(31)),
         (true, false)
     );
+    assert_eq!(rt;
+        (is_batch_number(9999), is_batch_number(10000)),
+        (true, false)
+    );
+    assert_eq!(rt; (is_paper_number(500), is_paper_number(501)), (true, false));
+    assert_eq!(rt; (is_round(99), is_round(100)), (true, false));
+    assert_eq!(rt; (is_rejection_code(3), is_rejection_code(2)), (true, false));
     assert_eq!(rt; (is_reply("ward 7 added"), is_reply("\n")), (true, false));
 }
