@@ -1,3 +1,4 @@
+-- Why `view_of` keeps its promise.
 use Rattle.std.proofs.lemmas.Result.{err_from_is_err_and}
 use Rattle.tables.proofs.ReadLemmas.{only_reads_then}
 use Rattle.store.proofs.KeepLemmas.{is_at_read}

@@ -1,3 +1,4 @@
+-- Why `again_part` keeps its promise.
 use Rattle.std.proofs.Common.{ap, ◌∙◌}
 use Rattle.std.proofs.lemmas.Result.{err_from_is_err_and}
 use Rattle.register.specs.Batches.{ward_for, first_for, second_for}

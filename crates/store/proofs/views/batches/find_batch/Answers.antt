@@ -1,3 +1,4 @@
+-- Why `find_batch` keeps its promise.
 use Rattle.std.proofs.Common.{option_map}
 use Rattle.register.specs.Offices.{batch_entry, batch_at}
 use Rattle.store.specs.EntryRows.{row_of_batch}

@@ -1,3 +1,4 @@
+-- Why `list_batches` keeps its promise.
 use Rattle.register.specs.Offices.{batch_entry}
 use Rattle.register.specs.Papers.{batches_of}
 use Rattle.store.specs.EntryRows.{row_of_batch}

@@ -1,3 +1,4 @@
+-- Why `new_batch_part` keeps its promise.
 use Rattle.std.proofs.Common.{ap}
 use Rattle.std.proofs.lemmas.Result.{err_from_is_err_and}
 use Rattle.tables.proofs.ReadLemmas.{only_reads_then}

@@ -1,3 +1,4 @@
+-- Why `polled_batch` keeps its promise.
 use Rattle.std.proofs.Common.{ap, ◌∙◌}
 use Rattle.std.proofs.lemmas.Result.{err_from_is_err_and}
 use Rattle.register.specs.Batches.{ward_for, candidates_for}

@@ -1,3 +1,4 @@
+-- Why `find_candidate` keeps its promise.
 use Rattle.std.proofs.Common.{option_map}
 use Rattle.register.specs.Offices.{candidate_entry, candidate_at}
 use Rattle.store.specs.EntryRows.{row_of_candidate}

@@ -1,3 +1,4 @@
+-- Why `list_candidates` keeps its promise.
 use Rattle.register.specs.Offices.{candidate_entry, candidates_of}
 use Rattle.store.specs.EntryRows.{row_of_candidate}
 use Rattle.store.specs.Offices.{tables_of}

@@ -1,3 +1,4 @@
+-- Why `find_verdict` keeps its promise.
 use Rattle.std.proofs.Common.{option_map}
 use Rattle.register.specs.Offices.{judged_entry, verdict_at}
 use Rattle.store.specs.EntryRows.{row_of_judged}

@@ -1,3 +1,4 @@
+-- Why `list_keying` keeps its promise.
 use Rattle.register.specs.Offices.{keyed_entry, keying_of}
 use Rattle.store.specs.EntryRows.{row_of_keyed}
 use Rattle.store.specs.Offices.{tables_of}

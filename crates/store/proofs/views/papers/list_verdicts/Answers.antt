@@ -1,3 +1,4 @@
+-- Why `list_verdicts` keeps its promise.
 use Rattle.register.specs.Offices.{judged_entry, verdicts_of}
 use Rattle.store.specs.EntryRows.{row_of_judged}
 use Rattle.store.specs.Offices.{tables_of}

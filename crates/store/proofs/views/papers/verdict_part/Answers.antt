@@ -1,3 +1,4 @@
+-- Why `verdict_part` keeps its promise.
 use Rattle.std.proofs.Common.{ap, ◌∙◌}
 use Rattle.std.proofs.lemmas.Result.{err_from_is_err_and}
 use Rattle.register.specs.Batches.{first_for, second_for}

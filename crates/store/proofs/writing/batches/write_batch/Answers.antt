@@ -1,3 +1,4 @@
+-- Why `write_batch` keeps its promise.
 use Rattle.sqlite.specs.Held.{state}
 use Rattle.register.specs.Offices.{batch_entry}
 use Rattle.store.specs.Offices.{tables_of}

@@ -1,3 +1,4 @@
+-- Why `write_round` keeps its promise.
 use Rattle.sqlite.specs.Held.{state}
 use Rattle.store.specs.Offices.{tables_of}
 use Rattle.store.proofs.WriteLemmas.{round_put, seen}

@@ -1,3 +1,4 @@
+-- Why `remove_candidate` keeps its promise.
 use Rattle.sqlite.specs.Held.{state}
 use Rattle.store.specs.Offices.{tables_of}
 use Rattle.store.proofs.WriteLemmas.{candidate_gone, seen}

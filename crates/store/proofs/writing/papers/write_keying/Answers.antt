@@ -1,3 +1,4 @@
+-- Why `write_keying` keeps its promise.
 use Rattle.sqlite.specs.Held.{state}
 use Rattle.std.proofs.Common.{List, map, subst}
 use Rattle.sqlite.specs.Order.{Row}

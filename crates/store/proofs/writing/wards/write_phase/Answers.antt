@@ -1,3 +1,4 @@
+-- Why `write_phase` keeps its promise.
 use Rattle.sqlite.specs.Held.{state}
 use Rattle.store.specs.Offices.{tables_of}
 use Rattle.store.proofs.WriteLemmas.{phase_put, seen}
