@@ -6,6 +6,7 @@ mod steps;
 mod disks;
 // The tests.
 mod imports;
+mod keyings;
 mod nominations;
 mod orders;
 mod statements;

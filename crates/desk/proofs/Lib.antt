@@ -1,2 +1,3 @@
 pub mod NumbersRead
+pub mod FrontsRead
 pub mod OrdersNamed

@@ -1,6 +1,12 @@
 //! Requests sent to an office, and what came of them.
 
-ghost use Rattle.std.specs.Prelude.{◌≡◌, ◌⊎◌, ◌+◌, ◌-◌, ◌^◌, ◌<◌};
+ghost use Rattle.std.specs.Prelude.{◌≡◌, ◌⊎◌, ◌+◌, ◌-◌, ◌^◌, ◌<◌, false};
+ghost use Rattle.sqlite.specs.State.{HasCleanDisk};
+ghost use Rattle.sqlite.specs.Held.{state};
+ghost use Rattle.register.specs.Machine.{step_of};
+ghost use Rattle.register.specs.Offices.{OfficeState};
+ghost use Rattle.store.specs.Offices.{IsAt};
+ghost use Rattle.desk.specs.Outcomes.{IsOutcomeOf};
 
 use crate::lines::{Failure, Outcome, tell, tell_failure};
 use office::{Answer, Office};
@@ -10,7 +16,10 @@ use std::alloc::Global;
 use votes::Sink;
 
 /// What comes of one request to an office.
-fn outcome_of<S: Alter>(office: &mut Office<S>, request: &Request) -> Outcome {
+pub(crate) fn outcome_of<S: Alter>(office: &mut Office<S>, request: &Request) -> Outcome
+    ensures { HasCleanDisk (state S.Store office.new.held) → office.old.closed ≡ false → (s : OfficeState) → IsAt s (state S.Store office.old.held)
+        → IsOutcomeOf s (step_of s request.now) result office.new.closed (state S.Store office.new.held) }
+{
     match office.handle(request.actor, request.id.as_str(), &request.command) {
         Ok(Answer::Done(reply) | Answer::Kept(reply)) => Outcome::Replied(reply),
         Ok(Answer::Refused(refusal)) => Outcome::Refused(refusal),
