@@ -8,6 +8,7 @@ mod disks;
 mod imports;
 mod keyings;
 mod nominations;
+mod order_stops;
 mod orders;
 mod statements;
 mod stops;

@@ -2,8 +2,9 @@
 use Rattle.std.specs.Prelude.{◌≡◌, ◌⊎◌, ℕ, Bool, List, Ok, Err, if◌then◌else◌}
 use Rattle.sqlite.specs.State.{State}
 use Rattle.register.specs.Offices.{OfficeState}
-use Rattle.register.specs.Machine.{Outcome as Ruled}
-use Rattle.office.specs.Answers.{Handled}
+use Rattle.register.specs.Machine.{Outcome as Ruled, after}
+use Rattle.register.specs.declared.command.Request.{Request}
+use Rattle.office.specs.Answers.{Handled, IsOpenAt}
 use Rattle.office.specs.declared.answers.Answer.TheVariants.{Done, Kept, Refused}
 use Rattle.store.specs.declared.fault.Fault.TheVariants.{Memory}
 use Rattle.keyfile.specs.Faults.{is_stop}
@@ -40,3 +41,9 @@ IsOutcomeOf s ruled (outcome.Replied reply) closed st = Handled s ruled (Ok (Don
 IsOutcomeOf s ruled (outcome.Refused refusal) closed st = Handled s ruled (Ok (Refused refusal)) closed st
 IsOutcomeOf s ruled (outcome.Unread fault) closed st = ⊥
 IsOutcomeOf s ruled (outcome.Failed fault) closed st = Handled s ruled (Err fault) closed st
+
+-- an open office, from whose state some requests lead to a state
+pub record LeadsTo (end : OfficeState) (requests : List Request) (closed : Bool) (st : State) : Type 0 where
+  pub here : OfficeState
+  pub open_at : IsOpenAt here closed st
+  pub leads : after here requests ≡ end

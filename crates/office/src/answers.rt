@@ -17,6 +17,15 @@ pub enum Answer {
     Refused(Refusal),
 }
 
+/// Why a read tells nothing.
+#[derive(Debug, Drop)]
+pub enum Stop {
+    /// There is nothing to tell, for this reason.
+    Refused(Refusal),
+    /// It met a fault.
+    Fault(Fault),
+}
+
 /// The answers to a list of requests, in order, up to the first fault, and that fault.
 #[derive(Debug, Drop)]
 pub struct Run {

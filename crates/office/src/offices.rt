@@ -28,9 +28,9 @@ use store::{Fault, Store};
 /// An office over a store. It is closed after a fault inside a transaction, and after any fault but want
 /// of memory; then each call but `into_connection` answers `Closed`, until it is opened again.
 pub struct Office<S: Alter> {
-    store: Store<S>,
-    closed: bool,
-    alloc: Global,
+    pub(crate) store: Store<S>,
+    pub(crate) closed: bool,
+    pub(crate) alloc: Global,
 }
 
 impl<S: Alter> Model for Office<S> {

@@ -1,24 +1,38 @@
 -- What may be put into the maps of a state, so that there is a state again.
-use Rattle.std.proofs.Common.{◌≡◌, ℕ, Bool, true, List, None, is_some, refl}
+use Rattle.std.proofs.Common.{◌≡◌, ℕ, Bool, true, false, not, ◌&&◌, ◌||◌, ◌==◌, List, Option, Some, None, is_some, refl}
 use Rattle.std.specs.Str.{is_utf8}
 use Rattle.std.specs.List.{list_all}
 use Rattle.std.specs.Cmp.{IsTotalOrder}
 use Rattle.std.proofs.lemmas.Bool.{and_parts, and_from}
 use Rattle.std.proofs.lemmas.Cmp.{nat_cmp_total, on_total, then_total, nat_list_cmp_total}
-use Rattle.register.specs.Ranges.{is_office, is_reply}
-use Rattle.register.specs.Subjects.{is_office_subject}
+use Rattle.register.specs.Ranges.{is_office, is_clerk, is_reply}
+use Rattle.register.specs.Subjects.{is_office_subject, is_clerk_subject}
 use Rattle.register.specs.declared.phase.Phase.TheVariants.{Nominations}
 use Rattle.register.specs.Nominations.{are_enough, is_reached}
-use Rattle.register.specs.Offices.{WardEntry, CandidateEntry, ReceiptEntry, OfficeState, ward_cmp, candidate_cmp, receipt_cmp, ward_compared, ward_at, candidates_of, receipt_at}
-use Rattle.register.specs.Items.{is_ward, is_candidate, is_about, is_receipt, item2, are_reached, IsState}
-use Rattle.register.specs.Effects.{EffectEntry, ward_added, ward_moved, candidate_added, candidate_withdrawn, with_effect, with_receipt}
-use Rattle.register.proofs.MapLemmas.{IsMap, list_all_weaker, put_all, put_is_map, found_put_too}
+use Rattle.register.specs.Offices.{put, WardEntry, CandidateEntry, BatchEntry, KeyedEntry, JudgedEntry, ReceiptEntry, OfficeState, ward_cmp, candidate_cmp, batch_cmp, keyed_cmp, judged_cmp, receipt_cmp, ward_compared, ward_at, candidates_of, receipt_at}
+use Rattle.register.specs.Keyed.{is_polled, is_given_out, is_round_of, are_rounds_to}
+use Rattle.register.specs.Items.{is_ward, is_candidate, is_batch, is_keyed_paper, is_judged_paper, is_about, is_receipt, item2, item3, item4, item5, are_reached, IsState}
+use Rattle.register.specs.Effects.{EffectEntry, ward_added, ward_moved, candidate_added, candidate_withdrawn, batch_added, batch_reopened, papers_keyed, paper_judged, with_effect, with_receipt}
+use Rattle.register.proofs.MapLemmas.{IsMap, list_all_weaker, put_all, put_is_map, found_put_too, found_put_still}
+use Rattle.register.proofs.KeyedLemmas.{rounds_from, with_nominations, IsStill, given_out_still, keyed_still, judged_still}
 
 pub ward_total : IsTotalOrder ward_cmp
 ward_total = on_total (λ (w : WardEntry). w.number) nat_cmp_total
 
 pub candidate_total : IsTotalOrder candidate_cmp
 candidate_total = then_total (on_total (λ (c : CandidateEntry). c.ward) nat_cmp_total) (on_total (λ (c : CandidateEntry). c.number) nat_cmp_total)
+
+pub batch_total : IsTotalOrder batch_cmp
+batch_total = on_total (λ (b : BatchEntry). b.number) nat_cmp_total
+
+pub keyed_total : IsTotalOrder keyed_cmp
+keyed_total =
+    then_total
+    (on_total (λ (k : KeyedEntry). k.batch) nat_cmp_total)
+    (then_total (on_total (λ (k : KeyedEntry). k.round) nat_cmp_total) (then_total (on_total (λ (k : KeyedEntry). k.clerk) nat_cmp_total) (on_total (λ (k : KeyedEntry). k.paper) nat_cmp_total)))
+
+pub judged_total : IsTotalOrder judged_cmp
+judged_total = then_total (on_total (λ (v : JudgedEntry). v.batch) nat_cmp_total) (on_total (λ (v : JudgedEntry). v.paper) nat_cmp_total)
 
 pub receipt_total : IsTotalOrder receipt_cmp
 receipt_total = then_total (on_total (λ (r : ReceiptEntry). r.actor) nat_cmp_total) (on_total (λ (r : ReceiptEntry). r.id) nat_list_cmp_total)
@@ -27,26 +41,60 @@ receipt_total = then_total (on_total (λ (r : ReceiptEntry). r.actor) nat_cmp_to
 pub data MapName : Type 0 where
   ward_map : MapName
   candidate_map : MapName
+  batch_map : MapName
+  keyed_map : MapName
+  judged_map : MapName
   receipt_map : MapName
 
 -- what a state says of each of its maps
 abbrev pub Holds : MapName → OfficeState → Type 0
 Holds ward_map s = IsMap is_ward ward_cmp s.wards
 Holds candidate_map s = IsMap is_candidate candidate_cmp s.candidates
+Holds batch_map s = IsMap is_batch batch_cmp s.batches
+Holds keyed_map s = IsMap is_keyed_paper keyed_cmp s.keyings
+Holds judged_map s = IsMap is_judged_paper judged_cmp s.verdicts
 Holds receipt_map s = IsMap is_receipt receipt_cmp s.receipts
 
 pub maps_of : {s : OfficeState} → IsState s → (m : MapName) → Holds m s
-maps_of is ward_map = record { in_range = (and_parts _ _ is.in_range).0; rises = is.rise.wards }
-maps_of is candidate_map = record { in_range = (and_parts _ _ (and_parts _ _ is.in_range).1).0; rises = is.rise.candidates }
-maps_of is receipt_map = record { in_range = (and_parts _ _ (and_parts _ _ is.in_range).1).1; rises = is.rise.receipts }
+maps_of {s} is m =
+    let first = and_parts _ _ is.in_range in
+    let second = and_parts _ _ first.1 in
+    let third = and_parts _ _ second.1 in
+    let fourth = and_parts _ _ third.1 in
+    let fifth = and_parts _ _ fourth.1 in
+    go first.0 second.0 third.0 fourth.0 fifth.0 fifth.1 m
+  where
+    go : list_all is_ward s.wards ≡ true → list_all is_candidate s.candidates ≡ true → list_all is_batch s.batches ≡ true → list_all is_keyed_paper s.keyings ≡ true → list_all is_judged_paper s.verdicts ≡ true → list_all is_receipt s.receipts ≡ true → (m : MapName) → Holds m s
+    go wards candidates batches keyings verdicts receipts ward_map = record { in_range = wards; rises = is.rise.wards }
+    go wards candidates batches keyings verdicts receipts candidate_map = record { in_range = candidates; rises = is.rise.candidates }
+    go wards candidates batches keyings verdicts receipts batch_map = record { in_range = batches; rises = is.rise.batches }
+    go wards candidates batches keyings verdicts receipts keyed_map = record { in_range = keyings; rises = is.rise.keyings }
+    go wards candidates batches keyings verdicts receipts judged_map = record { in_range = verdicts; rises = is.rise.verdicts }
+    go wards candidates batches keyings verdicts receipts receipt_map = record { in_range = receipts; rises = is.rise.receipts }
 
-pub state_from : (s : OfficeState) → ((m : MapName) → Holds m s) → item2 s ≡ true → are_reached s ≡ true → IsState s
-state_from s maps nominated reached = record {
-  in_range = and_from _ _ (maps ward_map).in_range (and_from _ _ (maps candidate_map).in_range (maps receipt_map).in_range);
-  nominated = nominated;
-  reached = reached;
-  rise = record { wards = (maps ward_map).rises; candidates = (maps candidate_map).rises; receipts = (maps receipt_map).rises };
+-- the conditions of a state beside those of each map alone
+pub record AreJoined (s : OfficeState) : Type 0 where
+  pub nominated : item2 s ≡ true
+  pub given_out : item3 s ≡ true
+  pub keyed : item4 s ≡ true
+  pub judged : item5 s ≡ true
+  pub reached : are_reached s ≡ true
+
+pub state_from : (s : OfficeState) → ((m : MapName) → Holds m s) → AreJoined s → IsState s
+state_from s maps joined = record {
+  in_range = and_from _ _ (maps ward_map).in_range (and_from _ _ (maps candidate_map).in_range (and_from _ _ (maps batch_map).in_range (and_from _ _ (maps keyed_map).in_range (and_from _ _ (maps judged_map).in_range (maps receipt_map).in_range))));
+  nominated = joined.nominated;
+  given_out = joined.given_out;
+  keyed = joined.keyed;
+  judged = joined.judged;
+  reached = joined.reached;
+  rise = record { wards = (maps ward_map).rises; candidates = (maps candidate_map).rises; batches = (maps batch_map).rises; keyings = (maps keyed_map).rises; verdicts = (maps judged_map).rises; receipts = (maps receipt_map).rises };
 }
+
+-- the rounds of the batches are those of a state with the same batches, keyings and candidates
+pub rounds_still : (s t : OfficeState) (bs : List BatchEntry) → ((b : BatchEntry) (m : ℕ) → is_round_of s b m ≡ true → is_round_of t b m ≡ true) → list_all (λ b. are_rounds_to s b b.round) bs ≡ true
+    → list_all (λ b. are_rounds_to t b b.round) bs ≡ true
+rounds_still s t bs each all = list_all_weaker _ _ bs (λ b rounds. rounds_from s t b b b.round (each b) rounds) all
 
 -- ---- wards and their candidates
 
@@ -71,8 +119,13 @@ ward_stays s w good phase done new is =
     state_from
     (with_effect (ward_added w) s)
     maps
-    (and_from _ _ (still_placed s.candidates placed.0) (put_all ward_cmp (λ x. has_enough x (candidates_of s x.number)) w s.wards enough placed.1))
-    (put_all ward_cmp (λ x. is_reached x (candidates_of s x.number)) w s.wards reached is.reached)
+    (record {
+      nominated = and_from _ _ (still_placed s.candidates placed.0) (put_all ward_cmp (λ x. has_enough x (candidates_of s x.number)) w s.wards enough placed.1);
+      given_out = given_out_still s (put ward_cmp w s.wards) s.candidates is past;
+      keyed = keyed_still s (put ward_cmp w s.wards) s.candidates is past;
+      judged = judged_still s (put ward_cmp w s.wards) s.candidates is past;
+      reached = put_all ward_cmp (λ x. is_reached x (candidates_of s x.number)) w s.wards reached is.reached;
+    })
   where
     maps : (m : MapName) → Holds m (with_effect (ward_added w) s)
     maps ward_map = put_is_map ward_total w s.wards good new (maps_of is ward_map)
@@ -81,9 +134,30 @@ ward_stays s w good phase done new is =
     still_placed : (cs : List CandidateEntry) → list_all (λ c. is_some (ward_at s c.ward)) cs ≡ true → list_all (λ c. is_some (ward_at (with_effect (ward_added w) s) c.ward)) cs ≡ true
     still_placed cs placed = list_all_weaker _ _ cs (λ c there. found_put_too ward_cmp (ward_compared c.ward) w s.wards there) placed
 
+    polled : (n : ℕ) (cs : List CandidateEntry) (o : Option WardEntry) → ward_at s n ≡ o → is_polled o cs ≡ true → is_polled (ward_at (with_effect (ward_added w) s) n) cs ≡ true
+    polled n cs None found is = absurd (cc)
+    polled n cs (Some x) found is = rw (found_put_still (λ (x : WardEntry). x.number) s.wards w n x new found) is
+
+    past : (b : BatchEntry) → is_given_out s b ≡ true → IsStill s (with_nominations (put ward_cmp w s.wards) s.candidates s) b
+    past b out = record {
+      given_out = let parts = and_parts (not (b.first_clerk == b.second_clerk)) (is_polled (ward_at s b.ward) (candidates_of s b.ward)) out in and_from _ _ parts.0 (polled b.ward (candidates_of s b.ward) (ward_at s b.ward) refl parts.1);
+      candidates = refl;
+    }
+
 -- a receipt in range, of an actor and id that have none
 pub receipt_stays : (s : OfficeState) (r : ReceiptEntry) → is_receipt r ≡ true → receipt_at s r.actor r.id ≡ None → IsState s → IsState (with_receipt r s)
-receipt_stays s r good new is = state_from (with_receipt r s) maps is.nominated is.reached
+receipt_stays s r good new is =
+    let parts = and_parts _ _ is.keyed in
+    state_from
+    (with_receipt r s)
+    maps
+    (record {
+      nominated = is.nominated;
+      given_out = is.given_out;
+      keyed = and_from _ _ parts.0 (rounds_still s (with_receipt r s) s.batches (λ b m round. round) parts.1);
+      judged = is.judged;
+      reached = is.reached;
+    })
   where
     maps : (m : MapName) → Holds m (with_receipt r s)
     maps receipt_map = put_is_map receipt_total r s.receipts good new (maps_of is receipt_map)
@@ -103,7 +177,19 @@ same_receipts (ward_added w) s = refl
 same_receipts (ward_moved ward phase) s = refl
 same_receipts (candidate_added c) s = refl
 same_receipts (candidate_withdrawn ward candidate) s = refl
+same_receipts (batch_added b) s = refl
+same_receipts (batch_reopened batch round) s = refl
+same_receipts (papers_keyed papers) s = refl
+same_receipts (paper_judged v) s = refl
 
 -- what a receipt of the office may be about
 pub office_about : (actor : ℕ) (subject : List ℕ) → is_office actor ≡ true → is_office_subject subject ≡ true → is_about actor subject ≡ true
 office_about actor subject office about = rw (office, about) refl
+
+-- what a receipt of a clerk may be about
+pub clerk_about : (actor : ℕ) (subject : List ℕ) → is_clerk actor ≡ true → is_clerk_subject subject ≡ true → is_about actor subject ≡ true
+clerk_about actor subject clerk about = rw (clerk, about) (go (is_office actor && is_office_subject subject))
+  where
+    go : (b : Bool) → (b || true) ≡ true
+    go true = refl
+    go false = refl

@@ -8,7 +8,7 @@ use Rattle.std.proofs.lemmas.Slice.Eq.{bytes_eq-Decides}
 use Rattle.register.specs.declared.refusal.Reason.{Reason}
 use Rattle.register.specs.declared.refusal.Reason.TheVariants.{BadId, IdUsed}
 use Rattle.register.specs.declared.command.Command.{Command}
-use Rattle.register.specs.declared.command.Command.TheVariants.{Ward, Candidate}
+use Rattle.register.specs.declared.command.Command.TheVariants.{Ward, Candidate, Batch, Keying, Verdict}
 use Rattle.register.specs.Reasons.{first_reason}
 use Rattle.register.specs.Ranges.{is_id}
 use Rattle.register.specs.Offices.{OfficeState, ReceiptEntry, receipt_at, entry_at}
@@ -16,17 +16,24 @@ use Rattle.register.specs.Items.{is_receipt, IsState}
 use Rattle.register.specs.Effects.{with_effect, with_receipt}
 use Rattle.register.specs.Parts.{PartEntries}
 use Rattle.register.specs.Machine.{keeps, refuses, part_of, objections, subject_of, reply_to, effect_of, receipt_for, judged, answered, decided, outcome_at, step, state_after, IsKeptAgain}
+use Rattle.register.specs.Views.{IsToldAlike}
 use Rattle.register.proofs.MapLemmas.{found_put}
 use Rattle.register.proofs.ItemLemmas.{IsFit, receipt_total, receipt_stays, same_receipts}
 use Rattle.register.proofs.WardLemmas.{ward_fits}
 use Rattle.register.proofs.CandidateLemmas.{candidate_fits}
+use Rattle.register.proofs.BatchLemmas.{batch_fits}
+use Rattle.register.proofs.KeyingLemmas.{keying_fits}
+use Rattle.register.proofs.VerdictLemmas.{verdict_fits}
 
 -- ---- the commands, by subject
 
 fits : (s : OfficeState) (actor : ℕ) (command : Command) → IsState s → first_reason (objections actor command (part_of s actor command)) ≡ None
-    → IsFit s actor (effect_of command (part_of s actor command)) (subject_of command) (reply_to command (part_of s actor command))
+    → IsFit s actor (effect_of actor command (part_of s actor command)) (subject_of command) (reply_to command (part_of s actor command))
 fits s actor (Ward command) is none = ward_fits s actor command is none
 fits s actor (Candidate command) is none = candidate_fits s actor command is none
+fits s actor (Batch command) is none = batch_fits s actor command is none
+fits s actor (Keying command) is none = keying_fits s actor command is none
+fits s actor (Verdict command) is none = verdict_fits s actor command is none
 
 -- ---- a request at a state
 
@@ -38,8 +45,8 @@ step_on s actor id command receipt part same_receipt same_part = rw (same_receip
 
 module _ (s : OfficeState) (actor : ℕ) (id : List ℕ) (command : Command) where
   -- an actor and an id without a receipt have none after the effect either
-  still_new : receipt_at s actor id ≡ None → receipt_at (with_effect (effect_of command (part_of s actor command)) s) actor id ≡ None
-  still_new new = ap (entry_at (λ (r : ReceiptEntry). ordering_then (nat_cmp actor r.actor) (slice_cmp nat_cmp id r.id))) (same_receipts (effect_of command (part_of s actor command)) s) ∙ new
+  still_new : receipt_at s actor id ≡ None → receipt_at (with_effect (effect_of actor command (part_of s actor command)) s) actor id ≡ None
+  still_new new = ap (entry_at (λ (r : ReceiptEntry). ordering_then (nat_cmp actor r.actor) (slice_cmp nat_cmp id r.id))) (same_receipts (effect_of actor command (part_of s actor command)) s) ∙ new
 
   judged_stays : IsState s → is_id id ≡ true → receipt_at s actor id ≡ None → (o : Option Reason) → first_reason (objections actor command (part_of s actor command)) ≡ o
       → IsState (state_after s (outcome_at s (judged actor id command (part_of s actor command) o)))
@@ -47,7 +54,7 @@ module _ (s : OfficeState) (actor : ℕ) (id : List ℕ) (command : Command) whe
   judged_stays is good new (Some why) told = is
   judged_stays is good new None told =
       let fit = fits s actor command is told in
-      receipt_stays (with_effect (effect_of command (part_of s actor command)) s) (receipt_for actor id command (part_of s actor command)) (and_from _ _ fit.about (and_from _ _ fit.text (and_from _ _ good fit.line))) (still_new new) fit.state
+      receipt_stays (with_effect (effect_of actor command (part_of s actor command)) s) (receipt_for actor id command (part_of s actor command)) (and_from _ _ fit.about (and_from _ _ fit.text (and_from _ _ good fit.line))) (still_new new) fit.state
 
   -- after each step there is a state again
   pub step_stays : IsState s → IsState (state_after s (step s actor id command))
@@ -64,7 +71,7 @@ module _ (s : OfficeState) (actor : ℕ) (id : List ℕ) (command : Command) whe
   judged_again good new (Some why) = tt
   judged_again good new None =
       let receipt = receipt_for actor id command (part_of s actor command) in
-      let later = with_effect (effect_of command (part_of s actor command)) s in
+      let later = with_effect (effect_of actor command (part_of s actor command)) s in
       let found : receipt_at (with_receipt receipt later) actor id ≡ Some receipt = found_put receipt_total receipt later.receipts (still_new new) in
       let same : bytes_eq (subject_of command) (subject_of command) ≡ true = (bytes_eq-Decides (subject_of command) (subject_of command)).1 refl in
       rw good (rw found (rw same refl))
@@ -78,3 +85,23 @@ module _ (s : OfficeState) (actor : ℕ) (id : List ℕ) (command : Command) whe
       go false good o found = tt
       go true good (Some r) found = elim (bytes_eq r.subject (subject_of command)) as (λ b. IsKeptAgain actor id command (outcome_at s (cond b (keeps r.reply) (refuses IdUsed)))) [ true ↦ tt | false ↦ tt ]
       go true good None found = judged_again good found (first_reason (objections actor command (part_of s actor command)))
+
+-- ---- what a clerk is told
+
+-- the reply to an accepted keying is made of the command alone
+pub told_alike : (actor : ℕ) (id : List ℕ) (command : Command) (receipt : Option ReceiptEntry) (part : PartEntries) → IsToldAlike command (decided actor id command receipt part)
+unfolding decided
+told_alike actor id (Keying command) receipt part = go (is_id id) receipt
+  where
+    alike : (o : Option Reason) → IsToldAlike (Keying command) (judged actor id (Keying command) part o)
+    alike (Some why) = tt
+    alike None = refl
+
+    go : (b : Bool) (o : Option ReceiptEntry) → IsToldAlike (Keying command) (cond b (answered actor id (Keying command) o part) (refuses BadId))
+    go false o = tt
+    go true (Some r) = elim (bytes_eq r.subject (subject_of (Keying command))) as (λ b. IsToldAlike (Keying command) (cond b (keeps r.reply) (refuses IdUsed))) [ true ↦ tt | false ↦ tt ]
+    go true None = alike (first_reason (objections actor (Keying command) part))
+told_alike actor id (Ward command) receipt part = tt
+told_alike actor id (Candidate command) receipt part = tt
+told_alike actor id (Batch command) receipt part = tt
+told_alike actor id (Verdict command) receipt part = tt

@@ -1,16 +1,16 @@
 -- Maps: an entry put among others, over any entries and any order of their keys.
-use Rattle.std.proofs.Common.{◌≡◌, Bool, true, false, not, List, [], ◌∷◌, map, filter, Some, None, is_some, cond, refl, sym, ap, ◌∙◌}
+use Rattle.std.proofs.Common.{◌≡◌, ℕ, ◌==◌, Bool, true, false, not, List, [], ◌∷◌, ◌++◌, map, filter, Option, Some, None, is_some, option_map, cond, refl, sym, ap, ◌∙◌}
 use Rattle.std.specs.List.{AllByRecursion, list_all}
 use Rattle.std.specs.List.Sorted.{IsPermutation, IsStrictlySortedBy}
 use Rattle.std.specs.declared.cmp.Ordering.{Ordering}
 use Rattle.std.specs.declared.cmp.Ordering.TheVariants.{Less, Equal, Greater}
-use Rattle.std.specs.Ordering.{is_lt, is_eq, ordering_reverse}
-use Rattle.std.specs.Cmp.{IsTotalOrder}
-use Rattle.std.proofs.lemmas.Bool.{and_parts, and_from}
+use Rattle.std.specs.Ordering.{nat_cmp, on, is_lt, is_eq, ordering_reverse, ordering_then}
+use Rattle.std.specs.Cmp.{IsTotalOrder, unsigned_tied}
+use Rattle.std.proofs.lemmas.Bool.{and_parts, and_from, eqb-true, not-true, both_ways}
 use Rattle.std.proofs.lemmas.List.Kept.{IsStrictlySortedBy-filter}
 use Rattle.std.proofs.lemmas.List.Folds.{list_all-map}
 use Rattle.std.proofs.lemmas.List.Sorted.{IsPermutation-refl, IsPermutation-sym, IsPermutation-trans, IsPermutation-cons, IsPermutation-middle}
-use Rattle.register.specs.Offices.{put, entry_at, without, changed}
+use Rattle.register.specs.Offices.{put, put_each, entry_at, without, changed}
 
 -- a map with an entry more has just this entry more
 pub put_same : {X : Type 0} (cmp : X → X → Ordering) (x : X) (ys : List X) → IsPermutation (x ∷ ys) (put cmp x ys)
@@ -39,6 +39,12 @@ each_put cmp P x (y ∷ ys) good all = elim (is_lt (cmp x y)) as (λ b. AllByRec
 pub list_all_weaker : {X : Type 0} (p q : X → Bool) (xs : List X) → ((x : X) → p x ≡ true → q x ≡ true) → list_all p xs ≡ true → list_all q xs ≡ true
 list_all_weaker p q [] weaker all = refl
 list_all_weaker p q (x ∷ xs) weaker all = and_from _ _ (weaker x (and_parts _ _ all).0) (list_all_weaker p q xs weaker (and_parts _ _ all).1)
+
+-- what two tests say together of each entry
+pub list_all_both : {X : Type 0} (p q r : X → Bool) (xs : List X) → ((x : X) → p x ≡ true → q x ≡ true → r x ≡ true) → list_all p xs ≡ true → list_all q xs ≡ true → list_all r xs ≡ true
+list_all_both p q r [] both first second = refl
+list_all_both p q r (x ∷ xs) both first second =
+    and_from _ _ (both x (and_parts _ _ first).0 (and_parts _ _ second).0) (list_all_both p q r xs both (and_parts _ _ first).1 (and_parts _ _ second).1)
 
 pub each_weaker : {X : Type 0} (P Q : X → Type 0) (ys : List X) → ((y : X) → P y → Q y) → AllByRecursion P ys → AllByRecursion Q ys
 each_weaker P Q [] f all = tt
@@ -88,6 +94,19 @@ put_is_map {X} {test} {cmp} total x ys good new is = record { in_range = put_all
 
 -- ---- an entry more
 
+-- where no entry passes a test, none is left
+pub filter_none : {X : Type 0} (p : X → Bool) (xs : List X) → list_all (λ x. not (p x)) xs ≡ true → filter p xs ≡ []
+filter_none p [] none = refl
+filter_none p (x ∷ xs) none = rw (not-true (p x) (and_parts _ _ none).0) (filter_none p xs (and_parts _ _ none).1)
+
+-- an entry of another key leaves what is found
+pub found_put_other : {X : Type 0} (cmp : X → X → Ordering) (compared : X → Ordering) (x : X) (ys : List X) → is_eq (compared x) ≡ false → entry_at compared (put cmp x ys) ≡ entry_at compared ys
+found_put_other cmp compared x [] other = rw other refl
+found_put_other {X} cmp compared x (y ∷ ys) other = elim (is_lt (cmp x y)) as (λ b. entry_at compared (cond b (x ∷ y ∷ ys) (y ∷ put cmp x ys)) ≡ entry_at compared (y ∷ ys)) [
+  | true ↦ rw other refl
+  | false ↦ ap (λ (o : Option X). cond (is_eq (compared y)) (Some y) o) (found_put_other cmp compared x ys other)
+]
+
 -- what an entry that fails a test changes of those that pass: nothing
 pub filter_put : {X : Type 0} (cmp : X → X → Ordering) (p : X → Bool) (x : X) (ys : List X) → p x ≡ false → filter p (put cmp x ys) ≡ filter p ys
 filter_put cmp p x [] fails = rw fails refl
@@ -114,7 +133,7 @@ found_put_too {X} cmp compared x (y ∷ ys) found = elim (is_lt (cmp x y)) as (�
 
 -- ---- an entry less
 
-kept_all : {X : Type 0} (p q : X → Bool) (xs : List X) → list_all p xs ≡ true → list_all p (filter q xs) ≡ true
+pub kept_all : {X : Type 0} (p q : X → Bool) (xs : List X) → list_all p xs ≡ true → list_all p (filter q xs) ≡ true
 kept_all p q [] all = refl
 kept_all p q (x ∷ xs) all = elim (q x) as (λ b. list_all p (cond b (x ∷ filter q xs) (filter q xs)) ≡ true) [
   | true ↦ and_from _ _ (and_parts _ _ all).0 (kept_all p q xs (and_parts _ _ all).1)
@@ -149,9 +168,9 @@ unfolding IsStrictlySortedBy
 map_rises f same [] up = tt
 map_rises {X} {cmp} f same (x ∷ xs) up = (each_map (λ y. cmp x y ≡ Less) (λ y. cmp (f x) y ≡ Less) f xs (λ y below. same x y ∙ below) up.0, map_rises f same xs up.1)
 
--- a change that keeps each key, and what a test says of each entry
+-- a change that keeps each key, and lets each entry pass a test that it passed
 pub record Keeps {X : Type 0} (test : X → Bool) (cmp : X → X → Ordering) (change : X → X) : Type 0 where
-  pub passes : (x : X) → test (change x) ≡ test x
+  pub passes : (x : X) → test x ≡ true → test (change x) ≡ true
   pub before : (x y : X) → cmp (change x) y ≡ cmp x y
   pub behind : (x y : X) → cmp x (change y) ≡ cmp x y
 
@@ -167,7 +186,7 @@ changed_is_map {X} {test} {cmp} compared change keeps xs is = record { in_range 
     passing (y ∷ ys) all = and_from _ _ (go (is_eq (compared y))) (passing ys (and_parts _ _ all).1)
       where
         go : (b : Bool) → test (cond b (change y) y) ≡ true
-        go true = keeps.passes y ∙ (and_parts _ _ all).0
+        go true = keeps.passes y (and_parts _ _ all).0
         go false = (and_parts _ _ all).0
 
     same : (x y : X) → cmp (next x) (next y) ≡ cmp x y
@@ -179,20 +198,32 @@ changed_is_map {X} {test} {cmp} compared change keeps xs is = record { in_range 
         go false true = keeps.behind x y
         go false false = refl
 
+-- what is found is what was found, changed where it is the one that is changed
+pub changed_at : {X : Type 0} (compared other : X → Ordering) (change : X → X) → ((x : X) → other (change x) ≡ other x) → (xs : List X)
+    → entry_at other (changed compared change xs) ≡ option_map (λ x. cond (is_eq (compared x)) (change x) x) (entry_at other xs)
+changed_at compared other change same [] = refl
+changed_at {X} compared other change same (x ∷ xs) = go (is_eq (compared x)) refl (changed_at compared other change same xs)
+  where
+    next : X → X
+    next y = cond (is_eq (compared y)) (change y) y
+
+    found : (c : Bool) (y : X) → y ≡ next x → entry_at other (changed compared change xs) ≡ option_map next (entry_at other xs)
+        → cond c (Some y) (entry_at other (changed compared change xs)) ≡ option_map next (cond c (Some x) (entry_at other xs))
+    found true y is later = ap Some is
+    found false y is later = later
+
+    go : (b : Bool) → is_eq (compared x) ≡ b → entry_at other (changed compared change xs) ≡ option_map next (entry_at other xs)
+        → entry_at other (cond b (change x) x ∷ changed compared change xs) ≡ option_map next (entry_at other (x ∷ xs))
+    go true is later = rw (same x) (found (is_eq (other x)) (change x) (rw is refl) later)
+    go false is later = found (is_eq (other x)) x (rw is refl) later
+
 -- what was there is there, and nothing else
 pub found_changed : {X : Type 0} (compared other : X → Ordering) (change : X → X) → ((x : X) → other (change x) ≡ other x) → (xs : List X) → is_some (entry_at other (changed compared change xs)) ≡ is_some (entry_at other xs)
-found_changed compared other change same [] = refl
-found_changed {X} compared other change same (x ∷ xs) = go (is_eq (compared x)) (found_changed compared other change same xs)
+found_changed {X} compared other change same xs = ap is_some (changed_at compared other change same xs) ∙ mapped (entry_at other xs)
   where
-    both : (b : Bool) (y : X) → is_some (entry_at other (changed compared change xs)) ≡ is_some (entry_at other xs)
-        → is_some (cond b (Some y) (entry_at other (changed compared change xs))) ≡ is_some (cond b (Some x) (entry_at other xs))
-    both true y later = refl
-    both false y later = later
-
-    go : (b : Bool) → is_some (entry_at other (changed compared change xs)) ≡ is_some (entry_at other xs)
-        → is_some (entry_at other (cond b (change x) x ∷ changed compared change xs)) ≡ is_some (entry_at other (x ∷ xs))
-    go true later = rw (same x) (both (is_eq (other x)) (change x) later)
-    go false later = both (is_eq (other x)) x later
+    mapped : (o : Option X) → is_some (option_map (λ x. cond (is_eq (compared x)) (change x) x) o) ≡ is_some o
+    mapped None = refl
+    mapped (Some x) = refl
 
 -- ---- the entry that is found
 
@@ -231,3 +262,109 @@ all_but_one {X} cmp p q e (y ∷ ys) up found good others all = go (is_eq (cmp e
         let same : y ≡ e = cc in
         and_from _ _ (ap q same ∙ good) (above ys (each_weaker (λ z. cmp y z ≡ Less) (λ z. cmp e z ≡ Less) ys (λ z less. ap (λ (x : X). cmp x z) (sym same) ∙ less) up.0) (and_parts _ _ all).1)
     go false is later = and_from _ _ (others y is (and_parts _ _ all).0) (later (rw is at found))
+
+-- ---- entries under numbers
+
+-- two numbers are equal where they are compared so
+pub same_number : (m n : ℕ) → is_eq (nat_cmp m n) ≡ true → m ≡ n
+same_number m n is = eqb-true m n (sym (unsigned_tied m n) ∙ is)
+
+pub other_number : (m n : ℕ) → is_eq (nat_cmp m n) ≡ false → (m == n) ≡ false
+other_number m n is = sym (unsigned_tied m n) ∙ is
+
+-- two orders, one after the other, tell equal only where both do
+pub both_equal : (a b : Ordering) → is_eq (ordering_then a b) ≡ true → (is_eq a ≡ true) × (is_eq b ≡ true)
+both_equal Less b is = absurd (cc)
+both_equal Equal b is = (refl, is)
+both_equal Greater b is = absurd (cc)
+
+module _ {X : Type 0} (number : X → ℕ) (xs : List X) where
+  -- the entry under a number has it
+  pub found_number : (n : ℕ) (e : X) → entry_at (λ x. nat_cmp n (number x)) xs ≡ Some e → n ≡ number e
+  found_number n e found = same_number n (number e) (found_key (λ x. nat_cmp n (number x)) e xs found)
+
+  -- what holds of the entry under a number, and of each entry under another one, holds of each
+  pub all_but_number : (n : ℕ) (e : X) (p q : X → Bool) → IsStrictlySortedBy (on number nat_cmp) xs → entry_at (λ x. nat_cmp n (number x)) xs ≡ Some e → (n ≡ number e → q e ≡ true)
+      → ((x : X) → (n == number x) ≡ false → p x ≡ true → q x ≡ true) → list_all p xs ≡ true → list_all q xs ≡ true
+  all_but_number n e p q up found good others all =
+      let same = found_number n e found in
+      let own : entry_at (on number nat_cmp e) xs ≡ Some e = ap (λ (m : ℕ). entry_at (λ x. nat_cmp m (number x)) xs) (sym same) ∙ found in
+      all_but_one (on number nat_cmp) p q e xs up own (good same) (λ x other. others x (ap (λ m. m == number x) same ∙ other_number (number e) (number x) other)) all
+
+  -- what is found is found still, where an entry of a new number is put in
+  pub found_put_still : (new : X) (n : ℕ) (e : X) → entry_at (λ x. nat_cmp (number new) (number x)) xs ≡ None → entry_at (λ x. nat_cmp n (number x)) xs ≡ Some e
+      → entry_at (λ x. nat_cmp n (number x)) (put (on number nat_cmp) new xs) ≡ Some e
+  found_put_still new n e none found = go (is_eq (nat_cmp n (number new))) refl
+    where
+      go : (b : Bool) → is_eq (nat_cmp n (number new)) ≡ b → entry_at (λ x. nat_cmp n (number x)) (put (on number nat_cmp) new xs) ≡ Some e
+      go true is =
+          let both : Some e ≡ None = sym found ∙ ap (λ (m : ℕ). entry_at (λ x. nat_cmp m (number x)) xs) (same_number n (number new) is) ∙ none in
+          absurd (cc)
+      go false other = found_put_other (on number nat_cmp) (λ x. nat_cmp n (number x)) new xs other ∙ found
+
+-- ---- several entries
+
+-- what holds of each entry, and of each one that is put in
+pub put_each_all : {X : Type 0} (cmp : X → X → Ordering) (p : X → Bool) (xs ys : List X) → list_all p xs ≡ true → list_all p ys ≡ true → list_all p (put_each cmp xs ys) ≡ true
+put_each_all cmp p [] ys good all = all
+put_each_all cmp p (x ∷ xs) ys good all = put_each_all cmp p xs (put cmp x ys) (and_parts _ _ good).1 (put_all cmp p x ys (and_parts _ _ good).0 all)
+
+-- what entries that fail a test change of those that pass: nothing
+pub filter_put_each : {X : Type 0} (cmp : X → X → Ordering) (p : X → Bool) (xs ys : List X) → list_all (λ x. not (p x)) xs ≡ true → filter p (put_each cmp xs ys) ≡ filter p ys
+filter_put_each cmp p [] ys fail = refl
+filter_put_each cmp p (x ∷ xs) ys fail = filter_put_each cmp p xs (put cmp x ys) (and_parts _ _ fail).1 ∙ filter_put cmp p x ys (not-true (p x) (and_parts _ _ fail).0)
+
+-- ---- an entry put last among those that pass a test
+
+each_kept : {X : Type 0} (P : X → Type 0) (p : X → Bool) (xs : List X) → AllByRecursion P xs → AllByRecursion P (filter p xs)
+each_kept P p [] all = tt
+each_kept {X} P p (x ∷ xs) all = elim (p x) as (λ b. AllByRecursion P (cond b (x ∷ filter p xs) (filter p xs))) [ true ↦ (all.0, each_kept P p xs all.1) | false ↦ each_kept P p xs all.1 ]
+
+put_first : {X : Type 0} (cmp : X → X → Ordering) (x : X) (ys : List X) → AllByRecursion (λ y. cmp x y ≡ Less) ys → put cmp x ys ≡ x ∷ ys
+put_first cmp x [] above = refl
+put_first cmp x (y ∷ ys) above = rw above.0 refl
+
+is_less : (o : Ordering) → is_lt o ≡ true → o ≡ Less
+is_less Less is = refl
+is_less Equal is = absurd (cc)
+is_less Greater is = absurd (cc)
+
+-- an entry that passes a test stands among those that pass as it stands among all
+pub filter_put_in : {X : Type 0} {cmp : X → X → Ordering} → IsTotalOrder cmp → (p : X → Bool) (x : X) (ys : List X) → p x ≡ true → IsStrictlySortedBy cmp ys
+    → filter p (put cmp x ys) ≡ put cmp x (filter p ys)
+unfolding IsStrictlySortedBy
+filter_put_in total p x [] passes up = rw passes refl
+filter_put_in {X} {cmp} total p x (y ∷ ys) passes up = go (is_lt (cmp x y)) refl (filter_put_in total p x ys passes up.1)
+  where
+    behind : (c : Bool) → is_lt (cmp x y) ≡ false → filter p (put cmp x ys) ≡ put cmp x (filter p ys)
+        → cond c (y ∷ filter p (put cmp x ys)) (filter p (put cmp x ys)) ≡ put cmp x (cond c (y ∷ filter p ys) (filter p ys))
+    behind true is later = rw is (ap (λ (zs : List X). y ∷ zs) later)
+    behind false is later = later
+
+    go : (b : Bool) → is_lt (cmp x y) ≡ b → filter p (put cmp x ys) ≡ put cmp x (filter p ys) → filter p (cond b (x ∷ y ∷ ys) (y ∷ put cmp x ys)) ≡ put cmp x (filter p (y ∷ ys))
+    go true is later =
+        let less = is_less (cmp x y) is in
+        let above : AllByRecursion (λ z. cmp x z ≡ Less) (y ∷ ys) = (less, each_weaker (λ z. cmp y z ≡ Less) (λ z. cmp x z ≡ Less) ys (λ z h. total.trans x y z less h) up.0) in
+        rw passes (sym (put_first cmp x (filter p (y ∷ ys)) (each_kept (λ z. cmp x z ≡ Less) p (y ∷ ys) above)))
+    go false is later = behind (p y) is later
+
+-- an entry behind all others is put last
+pub put_last : {X : Type 0} (cmp : X → X → Ordering) (x : X) (ys : List X) → AllByRecursion (λ y. is_lt (cmp x y) ≡ false) ys → put cmp x ys ≡ ys ++ (x ∷ [])
+put_last cmp x [] behind = refl
+put_last {X} cmp x (y ∷ ys) behind = rw behind.0 (ap (λ (zs : List X). y ∷ zs) (put_last cmp x ys behind.1))
+
+-- what passes a test is found among those that pass
+pub found_filter : {X : Type 0} (compared : X → Ordering) (p : X → Bool) (ys : List X) → ((y : X) → is_eq (compared y) ≡ true → p y ≡ true) → entry_at compared (filter p ys) ≡ entry_at compared ys
+found_filter compared p [] passes = refl
+found_filter {X} compared p (y ∷ ys) passes = go (p y) refl (is_eq (compared y)) refl (found_filter compared p ys passes)
+  where
+    go : (b : Bool) → p y ≡ b → (c : Bool) → is_eq (compared y) ≡ c → entry_at compared (filter p ys) ≡ entry_at compared ys
+        → entry_at compared (cond b (y ∷ filter p ys) (filter p ys)) ≡ cond c (Some y) (entry_at compared ys)
+    go true is c eq later = rw eq (ap (λ (o : Option X). cond c (Some y) o) later)
+    go false is true eq later = absurd (both_ways (p y) is (passes y eq))
+    go false is false eq later = later
+
+-- where no entry has the key, none is found
+pub found_none : {X : Type 0} (compared : X → Ordering) (ys : List X) → AllByRecursion (λ y. is_eq (compared y) ≡ false) ys → entry_at compared ys ≡ None
+found_none compared [] others = refl
+found_none compared (y ∷ ys) others = rw others.0 (found_none compared ys others.1)

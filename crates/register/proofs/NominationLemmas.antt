@@ -1,42 +1,27 @@
 -- What candidates and wards may change in a state, so that there is a state again.
-use Rattle.std.proofs.Common.{◌≡◌, ℕ, ◌==◌, Bool, true, false, cond, List, Some, None, is_some, refl, sym, ap, ◌∙◌}
+use Rattle.std.proofs.Common.{◌≡◌, ℕ, ◌==◌, not, Bool, true, false, cond, List, Option, Some, None, is_some, option_map, refl, sym, ap, ◌∙◌}
 use Rattle.std.specs.List.{list_all}
 use Rattle.std.specs.List.Sorted.{IsStrictlySortedBy}
-use Rattle.std.specs.declared.cmp.Ordering.{Ordering}
-use Rattle.std.specs.declared.cmp.Ordering.TheVariants.{Less, Equal, Greater}
-use Rattle.std.specs.Ordering.{nat_cmp, is_eq, ordering_then}
+use Rattle.std.specs.Ordering.{nat_cmp, is_eq}
 use Rattle.std.specs.Cmp.{unsigned_tied}
 use Rattle.std.proofs.lemmas.Bool.{and_parts, and_from, eqb-true}
 use Rattle.std.proofs.lemmas.List.Folds.{list_all-map}
 use Rattle.register.specs.declared.phase.Phase.{Phase}
 use Rattle.register.specs.declared.phase.Phase.TheVariants.{Nominations}
-use Rattle.register.specs.Offices.{WardEntry, CandidateEntry, OfficeState, ward_cmp, candidate_cmp, ward_compared, candidate_compared, ward_at, candidate_at, candidates_of}
+use Rattle.register.specs.Phases.{phase_number}
+use Rattle.register.specs.Offices.{changed, WardEntry, CandidateEntry, BatchEntry, OfficeState, ward_cmp, candidate_cmp, ward_compared, candidate_compared, ward_at, candidate_at, candidates_of}
 use Rattle.register.specs.Nominations.{is_led_to, is_reached}
+use Rattle.register.specs.Keyed.{is_polled, is_given_out}
 use Rattle.register.specs.Items.{is_ward, is_candidate, IsState}
 use Rattle.register.specs.Effects.{ward_moved, candidate_added, candidate_withdrawn, in_phase, with_effect}
-use Rattle.register.proofs.MapLemmas.{Keeps, list_all_weaker, put_all, put_is_map, filter_put, without_all, without_is_map, filter_without, changed_is_map, found_changed, found_key, found_passes, all_but_one}
-use Rattle.register.proofs.ItemLemmas.{MapName, ward_map, candidate_map, Holds, maps_of, state_from, candidate_total, are_placed, are_all, has_enough}
-
--- two numbers are equal where they are compared so
-same_number : (m n : ℕ) → is_eq (nat_cmp m n) ≡ true → m ≡ n
-same_number m n is = eqb-true m n (sym (unsigned_tied m n) ∙ is)
-
-other_number : (m n : ℕ) → is_eq (nat_cmp m n) ≡ false → (m == n) ≡ false
-other_number m n is = sym (unsigned_tied m n) ∙ is
+use Rattle.register.proofs.MapLemmas.{Keeps, list_all_weaker, put_all, put_is_map, filter_put, without_all, without_is_map, filter_without, changed_is_map, changed_at, found_changed, found_key, found_passes, same_number, both_equal, all_but_number}
+use Rattle.register.proofs.KeyedLemmas.{with_nominations, IsStill, given_out_still, keyed_still, judged_still}
+use Rattle.register.proofs.ItemLemmas.{MapName, ward_map, candidate_map, Holds, maps_of, AreJoined, state_from, candidate_total, are_placed, are_all, has_enough}
 
 -- what holds of the ward of a number, and of each ward of another number, holds of each ward
 wards_but_one : (s : OfficeState) (n : ℕ) (w : WardEntry) (p q : WardEntry → Bool) → IsStrictlySortedBy ward_cmp s.wards → ward_at s n ≡ Some w → (n ≡ w.number → q w ≡ true)
     → ((x : WardEntry) → (n == x.number) ≡ false → p x ≡ true → q x ≡ true) → list_all p s.wards ≡ true → list_all q s.wards ≡ true
-wards_but_one s n w p q up found good others all =
-    let same : n ≡ w.number = same_number n w.number (found_key (ward_compared n) w s.wards found) in
-    let own : ward_at s w.number ≡ Some w = ap (ward_at s) (sym same) ∙ found in
-    all_but_one ward_cmp p q w s.wards up own (good same) (λ x other. others x (ap (λ m. m == x.number) same ∙ other_number w.number x.number other)) all
-
--- two orders, one after the other, tell equal only where the first does
-first_equal : (a b : Ordering) → is_eq (ordering_then a b) ≡ true → is_eq a ≡ true
-first_equal Less b is = is
-first_equal Equal b is = refl
-first_equal Greater b is = is
+wards_but_one s n w p q up found good others all = all_but_number (λ (x : WardEntry). x.number) s.wards n w p q up found good others all
 
 -- ---- other candidates in the ward of a number
 
@@ -63,6 +48,28 @@ module _ (s : OfficeState) (n : ℕ) (w : WardEntry) (later : List CandidateEntr
       let none : (w.done == 0) ≡ true = (and_parts (w.done == 0) (is_led_to w.phase w (candidates_of s w.number)) own).0 in
       still is_reached is.rise.wards (and_from _ _ none (rw nominations refl)) is.reached
 
+  -- no batch is given out of the ward, so those of each batch's ward are as they were
+  elsewhere : (b : BatchEntry) → (same : Bool) → (n == b.ward) ≡ same → is_polled (ward_at s b.ward) (candidates_of s b.ward) ≡ true → (n == b.ward) ≡ false
+  elsewhere b false is polled = is
+  elsewhere b true is polled =
+      let there : ward_at s b.ward ≡ Some w = ap (ward_at s) (sym (eqb-true n b.ward is)) ∙ found in
+      absurd (let none = rw (there, nominations) at polled in cc)
+
+  past : (b : BatchEntry) → is_given_out s b ≡ true → IsStill s (with_nominations s.wards later s) b
+  past b out =
+      let parts = and_parts (not (b.first_clerk == b.second_clerk)) (is_polled (ward_at s b.ward) (candidates_of s b.ward)) out in
+      let same = others b.ward (elsewhere b (n == b.ward) refl parts.1) in
+      record { given_out = and_from _ _ parts.0 (ap (is_polled (ward_at s b.ward)) same ∙ parts.1); candidates = same }
+
+  joined : IsState s → are_placed (with_candidates later s) ≡ true → AreJoined (with_candidates later s)
+  joined is placed = record {
+    nominated = and_from _ _ placed (enough_still is);
+    given_out = given_out_still s s.wards later is past;
+    keyed = keyed_still s s.wards later is past;
+    judged = judged_still s s.wards later is past;
+    reached = reached_still is;
+  }
+
 -- a candidate in range, of a new number, in a ward that is in its nominations
 pub candidate_stays : (s : OfficeState) (c : CandidateEntry) (w : WardEntry) → is_candidate c ≡ true → candidate_at s c.ward c.number ≡ None → ward_at s c.ward ≡ Some w → w.phase ≡ Nominations → IsState s
     → IsState (with_effect (candidate_added c) s)
@@ -73,8 +80,7 @@ candidate_stays s c w good new found nominations is =
     state_from
     (with_effect (candidate_added c) s)
     maps
-    (and_from _ _ (put_all candidate_cmp (λ d. is_some (ward_at s d.ward)) c s.candidates belongs placed.0) (enough_still s c.ward w _ found nominations others is))
-    (reached_still s c.ward w _ found nominations others is)
+    (joined s c.ward w _ found nominations others is (put_all candidate_cmp (λ d. is_some (ward_at s d.ward)) c s.candidates belongs placed.0))
   where
     maps : (m : MapName) → Holds m (with_effect (candidate_added c) s)
     maps candidate_map = put_is_map candidate_total c s.candidates good new (maps_of is candidate_map)
@@ -88,11 +94,10 @@ withdrawn_stays s n candidate w found nominations is =
     state_from
     (with_effect (candidate_withdrawn n candidate) s)
     maps
-    (and_from _ _ (without_all (candidate_compared n candidate) (λ d. is_some (ward_at s d.ward)) s.candidates placed.0) (enough_still s n w _ found nominations others is))
-    (reached_still s n w _ found nominations others is)
+    (joined s n w _ found nominations others is (without_all (candidate_compared n candidate) (λ d. is_some (ward_at s d.ward)) s.candidates placed.0))
   where
     of_this : (m : ℕ) (d : CandidateEntry) → (n == m) ≡ false → is_eq (candidate_compared n candidate d) ≡ true → (d.ward == m) ≡ false
-    of_this m d other tied = let same = same_number n d.ward (first_equal (nat_cmp n d.ward) (nat_cmp candidate d.number) tied) in ap (λ k. k == m) (sym same) ∙ other
+    of_this m d other tied = let same = same_number n d.ward (both_equal (nat_cmp n d.ward) (nat_cmp candidate d.number) tied).0 in ap (λ k. k == m) (sym same) ∙ other
 
     maps : (m : MapName) → Holds m (with_effect (candidate_withdrawn n candidate) s)
     maps candidate_map = without_is_map (candidate_compared n candidate) s.candidates (maps_of is candidate_map)
@@ -103,7 +108,7 @@ withdrawn_stays s n candidate w found nominations is =
 -- in whichever phase, a ward has its number, and is in range where it was
 same_ward : (phase : Phase) → Keeps is_ward ward_cmp (in_phase phase)
 unfolding is_ward
-same_ward phase = record { passes = λ x. refl; before = λ x y. refl; behind = λ x y. refl }
+same_ward phase = record { passes = λ x h. h; before = λ x y. refl; behind = λ x y. refl }
 
 module _ (s : OfficeState) (n : ℕ) (w : WardEntry) (phase : Phase) (found : ward_at s n ≡ Some w) where
   moved_still : (test : WardEntry → List CandidateEntry → Bool) → IsStrictlySortedBy ward_cmp s.wards → test (in_phase phase w) (candidates_of s n) ≡ true → are_all test s ≡ true
@@ -121,15 +126,40 @@ module _ (s : OfficeState) (n : ℕ) (w : WardEntry) (phase : Phase) (found : wa
       there : (x : WardEntry) → (n == x.number) ≡ false → test x (candidates_of s x.number) ≡ true → test (next x) (candidates_of s (next x).number) ≡ true
       there x other holds = rw (unsigned_tied n x.number ∙ other) holds
 
-  -- a ward that is there, in a phase for which it has enough candidates, and to which commands lead
-  pub moved_stays : has_enough (in_phase phase w) (candidates_of s n) ≡ true → is_reached (in_phase phase w) (candidates_of s n) ≡ true → IsState s → IsState (with_effect (ward_moved n phase) s)
-  moved_stays enough reached is =
+  -- a ward that was polled is, in a phase past nominations
+  polled_still : (phase_number phase == phase_number Nominations) ≡ false → (m : ℕ) (cs : List CandidateEntry) → is_polled (ward_at s m) cs ≡ true → is_polled (ward_at (with_effect (ward_moved n phase) s) m) cs ≡ true
+  polled_still beyond m cs polled = rw (changed_at (ward_compared n) (ward_compared m) (in_phase phase) (λ x. refl) s.wards) (go (ward_at s m) polled)
+    where
+      next : WardEntry → WardEntry
+      next x = cond (is_eq (ward_compared n x)) (in_phase phase x) x
+
+      go : (o : Option WardEntry) → is_polled o cs ≡ true → is_polled (option_map next o) cs ≡ true
+      go None polled = polled
+      go (Some x) polled = elim (is_eq (ward_compared n x)) as (λ b. is_polled (Some (cond b (in_phase phase x) x)) cs ≡ true) [
+        | true ↦ and_from _ _ (ap not beyond) (and_parts _ _ polled).1
+        | false ↦ polled
+      ]
+
+  past_move : (phase_number phase == phase_number Nominations) ≡ false → (b : BatchEntry) → is_given_out s b ≡ true → IsStill s (with_effect (ward_moved n phase) s) b
+  past_move beyond b out =
+      let parts = and_parts (not (b.first_clerk == b.second_clerk)) (is_polled (ward_at s b.ward) (candidates_of s b.ward)) out in
+      record { given_out = and_from _ _ parts.0 (polled_still beyond b.ward (candidates_of s b.ward) parts.1); candidates = refl }
+
+  -- a ward that is there, in a phase past nominations for which it has enough candidates, and to which commands lead
+  pub moved_stays : (phase_number phase == phase_number Nominations) ≡ false → has_enough (in_phase phase w) (candidates_of s n) ≡ true → is_reached (in_phase phase w) (candidates_of s n) ≡ true → IsState s → IsState (with_effect (ward_moved n phase) s)
+  moved_stays beyond enough reached is =
       let placed = and_parts (are_placed s) (are_all has_enough s) is.nominated in
+      let wards = changed (ward_compared n) (in_phase phase) s.wards in
       state_from
       (with_effect (ward_moved n phase) s)
       maps
-      (and_from _ _ (still_placed s.candidates placed.0) (moved_still has_enough is.rise.wards enough placed.1))
-      (moved_still is_reached is.rise.wards reached is.reached)
+      (record {
+        nominated = and_from _ _ (still_placed s.candidates placed.0) (moved_still has_enough is.rise.wards enough placed.1);
+        given_out = given_out_still s wards s.candidates is (past_move beyond);
+        keyed = keyed_still s wards s.candidates is (past_move beyond);
+        judged = judged_still s wards s.candidates is (past_move beyond);
+        reached = moved_still is_reached is.rise.wards reached is.reached;
+      })
     where
       maps : (m : MapName) → Holds m (with_effect (ward_moved n phase) s)
       maps ward_map = changed_is_map (ward_compared n) (in_phase phase) (same_ward phase) s.wards (maps_of is ward_map)

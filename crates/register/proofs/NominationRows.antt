@@ -10,7 +10,7 @@ use Rattle.register.specs.declared.wards.WardCommand.TheVariants.{Close}
 use Rattle.register.specs.declared.candidates.CandidateCommand.TheVariants.{Add, Withdraw}
 use Rattle.register.specs.declared.refusal.Reason.TheVariants.{NumberOutOfRange, BadName, NoSuchWard, WrongPhase, CandidateExists, NoSuchCandidate, NoCandidates}
 use Rattle.register.specs.Ranges.{is_name, is_id}
-use Rattle.register.specs.Offices.{CandidateEntry, ReceiptEntry, OfficeState}
+use Rattle.register.specs.Offices.{CandidateEntry, ReceiptEntry, OfficeState, empty_office}
 use Rattle.register.specs.Items.{item2, are_reached}
 use Rattle.register.specs.Wards as wards
 use Rattle.register.specs.Candidates as candidates
@@ -18,7 +18,7 @@ use Rattle.register.specs.Machine.{accepted, kept, refused, step, decided}
 
 -- an office with the ward Quay of two seats, in this phase, with these candidates and receipts
 abbrev with_quay : Phase → List CandidateEntry → List ReceiptEntry → OfficeState
-with_quay phase candidates receipts = record { wards = record { number = 8; seats = 2; phase = phase; done = 0; name = codes "Quay" } ∷ []; candidates = candidates; receipts = receipts }
+with_quay phase candidates receipts = record empty_office { wards = record { number = 8; seats = 2; phase = phase; done = 0; name = codes "Quay" } ∷ []; candidates = candidates; receipts = receipts }
 
 dee : CandidateEntry
 dee = record { ward = 8; number = 1; name = codes "Dee" }

@@ -1,5 +1,5 @@
 -- Where nothing stands against a command, each of its conditions is met.
-use Rattle.std.proofs.Common.{◌≡◌, ◌==◌, Bool, true, false, not, List, [], ◌∷◌, Option, Some, None, is_some, refl}
+use Rattle.std.proofs.Common.{◌≡◌, ◌==◌, Bool, true, false, not, List, [], ◌∷◌, Option, Some, None, is_some, is_none, refl}
 use Rattle.std.specs.List.{AllByRecursion}
 use Rattle.register.specs.declared.phase.Phase.{Phase}
 use Rattle.register.specs.declared.phase.Phase.TheVariants.{Nominations, Keying, Sealed, Declared}
@@ -43,3 +43,18 @@ pub record IsThere (phase : Phase) (found : Option WardEntry) : Type 0 where
 pub there : (phase : Phase) (found : Option WardEntry) (why : Reason) → objection (not (is_in_phase phase found)) why ≡ None → IsThere phase found
 there phase None why none = absurd (cc)
 there phase (Some w) why none = record { ward = w; is = refl; phased = one_phase w.phase phase (asked (is_in_phase phase (Some w)) why none) }
+
+-- what is not to be so isn't, where it doesn't object
+pub unasked : (b : Bool) (why : Reason) → objection b why ≡ None → b ≡ false
+unasked true why none = absurd (cc)
+unasked false why none = refl
+
+-- what is to be there
+pub record IsFound {X : Type 0} (found : Option X) : Type 0 where
+  pub it : X
+  pub is : found ≡ Some it
+
+-- it is there, where its lack doesn't object
+pub present : {X : Type 0} (o : Option X) (why : Reason) → objection (is_none o) why ≡ None → IsFound o
+present None why none = absurd (cc)
+present (Some x) why none = record { it = x; is = refl }

@@ -14,9 +14,8 @@ use Rattle.register.specs.Machine.{accepted, kept, refused, step, decided}
 
 -- an office with the ward Harbour, added under the id w1
 with_harbour : OfficeState
-with_harbour = record {
+with_harbour = record empty_office {
   wards = record { number = 7; seats = 2; phase = Nominations; done = 0; name = codes "Harbour" } ∷ [];
-  candidates = [];
   receipts = record { actor = 0; id = codes "w1"; subject = codes "ward 7"; reply = codes "ward 7 added" } ∷ [];
 }
 

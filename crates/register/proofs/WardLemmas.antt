@@ -6,6 +6,7 @@ use Rattle.register.specs.declared.phase.Phase.TheVariants.{Nominations, Keying,
 use Rattle.register.specs.declared.refusal.Reason.TheVariants.{NumberOutOfRange, BadName, WardExists, WrongPhase, NoCandidates}
 use Rattle.register.specs.declared.wards.WardCommand.{WardCommand}
 use Rattle.register.specs.declared.wards.WardCommand.TheVariants.{Add, Close}
+use Rattle.register.specs.Phases.{phase_number}
 use Rattle.register.specs.Reasons.{first_reason}
 use Rattle.register.specs.Ranges.{last_ward, is_office, is_ward_number, is_seat_number, is_name}
 use Rattle.register.specs.Subjects.{is_office_subject}
@@ -45,6 +46,10 @@ closed_led_to : (w : WardEntry) (candidates : List CandidateEntry) → (w.done =
 closed_led_to w candidates none true is = and_from _ _ none refl
 closed_led_to w candidates none false is = and_from _ _ none (ap not is)
 
+closed_past : (b : Bool) → (phase_number (cond b Keying Sealed) == phase_number Nominations) ≡ false
+closed_past true = refl
+closed_past false = refl
+
 closed_stays : (s : OfficeState) (actor ward : ℕ) (w : WardEntry) → ward_at s ward ≡ Some w → is_stood_in (candidates_of s ward) ≡ true → IsState s
     → IsState (with_effect (effect_of (Close ward) (part_of s actor (Close ward))) s)
 closed_stays s actor ward w found stood is =
@@ -53,7 +58,7 @@ closed_stays s actor ward w found stood is =
     let none : (w.done == 0) ≡ true = (and_parts (w.done == 0) (is_led_to w.phase w (candidates_of s w.number)) own).0 in
     rw
     found
-    (moved_stays s ward w (cond (is_contested w candidates) Keying Sealed) found (closed_enough w candidates stood (is_contested w candidates) refl) (closed_led_to w candidates none (is_contested w candidates) refl) is)
+    (moved_stays s ward w (cond (is_contested w candidates) Keying Sealed) found (closed_past (is_contested w candidates)) (closed_enough w candidates stood (is_contested w candidates) refl) (closed_led_to w candidates none (is_contested w candidates) refl) is)
 
 -- ---- each command
 

@@ -1,18 +1,22 @@
 -- What an accepted command changes in the state of an office.
-use Rattle.std.specs.Prelude.{ℕ}
+use Rattle.std.specs.Prelude.{ℕ, List, map}
 use Rattle.register.specs.declared.phase.Phase.{Phase}
 use Rattle.register.specs.declared.decision.Effect.{Effect}
-use Rattle.register.specs.declared.decision.Effect.TheVariants.{WardAdded, WardMoved, CandidateAdded, CandidateWithdrawn}
+use Rattle.register.specs.declared.decision.Effect.TheVariants.{WardAdded, WardMoved, CandidateAdded, CandidateWithdrawn, BatchAdded, BatchReopened, PapersKeyed, PaperJudged}
 use Rattle.register.specs.declared.decision.Change.{Change}
-use Rattle.register.specs.Offices.{WardEntry, CandidateEntry, ReceiptEntry, OfficeState, put, without, changed, ward_cmp, candidate_cmp, receipt_cmp, ward_compared, candidate_compared, ward_entry, candidate_entry, receipt_entry}
+use Rattle.register.specs.Offices.{WardEntry, CandidateEntry, BatchEntry, KeyedEntry, JudgedEntry, ReceiptEntry, OfficeState, put, put_each, without, changed, ward_cmp, candidate_cmp, batch_cmp, keyed_cmp, judged_cmp, receipt_cmp, ward_compared, candidate_compared, batch_compared, ward_entry, candidate_entry, batch_entry, keyed_entry, judged_entry, receipt_entry}
 
 -- what a command does to the state, beside its receipt: a ward is new, or comes to a phase; a candidate of a ward stands,
--- or stands no longer
+-- or stands no longer; a batch is new, or is keyed in another round; papers are keyed; a paper is judged
 pub data EffectEntry : Type 0 where
   ward_added : WardEntry → EffectEntry
   ward_moved : ℕ → Phase → EffectEntry
   candidate_added : CandidateEntry → EffectEntry
   candidate_withdrawn : ℕ → ℕ → EffectEntry
+  batch_added : BatchEntry → EffectEntry
+  batch_reopened : ℕ → ℕ → EffectEntry
+  papers_keyed : List KeyedEntry → EffectEntry
+  paper_judged : JudgedEntry → EffectEntry
 
 -- all that an accepted request changes
 pub record ChangeEntry : Type 0 where
@@ -23,12 +27,20 @@ pub record ChangeEntry : Type 0 where
 abbrev pub in_phase : Phase → WardEntry → WardEntry
 in_phase phase w = record w { phase = phase }
 
+-- the batch in this round
+abbrev pub in_round : ℕ → BatchEntry → BatchEntry
+in_round round b = record b { round = round }
+
 -- the state after an effect
 abbrev pub with_effect : EffectEntry → OfficeState → OfficeState
 with_effect (ward_added w) s = record s { wards = put ward_cmp w s.wards }
 with_effect (ward_moved ward phase) s = record s { wards = changed (ward_compared ward) (in_phase phase) s.wards }
 with_effect (candidate_added c) s = record s { candidates = put candidate_cmp c s.candidates }
 with_effect (candidate_withdrawn ward candidate) s = record s { candidates = without (candidate_compared ward candidate) s.candidates }
+with_effect (batch_added b) s = record s { batches = put batch_cmp b s.batches }
+with_effect (batch_reopened batch round) s = record s { batches = changed (batch_compared batch) (in_round round) s.batches }
+with_effect (papers_keyed papers) s = record s { keyings = put_each keyed_cmp papers s.keyings }
+with_effect (paper_judged v) s = record s { verdicts = put judged_cmp v s.verdicts }
 
 -- the state with a receipt more
 abbrev pub with_receipt : ReceiptEntry → OfficeState → OfficeState
@@ -44,6 +56,10 @@ effect_entry (WardAdded w) = ward_added (ward_entry w)
 effect_entry (WardMoved ward phase) = ward_moved ward phase
 effect_entry (CandidateAdded c) = candidate_added (candidate_entry c)
 effect_entry (CandidateWithdrawn ward candidate) = candidate_withdrawn ward candidate
+effect_entry (BatchAdded b) = batch_added (batch_entry b)
+effect_entry (BatchReopened batch round) = batch_reopened batch round
+effect_entry (PapersKeyed papers) = papers_keyed (map keyed_entry papers.items)
+effect_entry (PaperJudged v) = paper_judged (judged_entry v)
 
 -- what a change stands for
 abbrev pub change_entry : Change → ChangeEntry

@@ -1,11 +1,12 @@
 -- Which maps are a state: the conditions that are judged when an office is opened, one by one, and that each step keeps.
-use Rattle.std.specs.Prelude.{◌≡◌, Bool, true, ◌&&◌, ◌||◌, List, ℕ, is_some}
+use Rattle.std.specs.Prelude.{◌≡◌, Bool, true, ◌&&◌, ◌||◌, List, ℕ, nat_le, is_some}
 use Rattle.std.specs.List.{list_all}
 use Rattle.std.specs.Str.{is_utf8}
-use Rattle.register.specs.Ranges.{is_office, is_clerk, is_ward_number, is_seat_number, is_candidate_number, is_name, is_id, is_reply}
+use Rattle.register.specs.Ranges.{is_office, is_clerk, is_ward_number, is_seat_number, is_candidate_number, is_batch_number, is_paper_number, is_round, is_name, is_id, is_reply}
 use Rattle.register.specs.Subjects.{is_office_subject, is_clerk_subject}
-use Rattle.register.specs.Offices.{WardEntry, CandidateEntry, ReceiptEntry, OfficeState, ward_at, candidates_of, MapsRise}
+use Rattle.register.specs.Offices.{WardEntry, CandidateEntry, BatchEntry, KeyedEntry, JudgedEntry, ReceiptEntry, OfficeState, ward_at, candidates_of, batch_at, verdicts_of, MapsRise}
 use Rattle.register.specs.Nominations.{are_enough, is_reached}
+use Rattle.register.specs.Keyed.{is_given_out, is_keyed_for, are_rounds_to, is_judged}
 
 -- a ward whose number, seats and name are in range
 unfoldable pub is_ward : WardEntry → Bool
@@ -14,6 +15,18 @@ is_ward w = is_ward_number w.number && (is_seat_number w.seats && is_name w.name
 -- a candidate whose ward, number and name are in range
 unfoldable pub is_candidate : CandidateEntry → Bool
 is_candidate c = is_ward_number c.ward && (is_candidate_number c.number && is_name c.name)
+
+-- a batch whose numbers are in range
+unfoldable pub is_batch : BatchEntry → Bool
+is_batch b = is_batch_number b.number && (is_ward_number b.ward && (is_paper_number b.size && (is_clerk b.first_clerk && (is_clerk b.second_clerk && is_round b.round))))
+
+-- a keyed paper whose numbers are in range
+unfoldable pub is_keyed_paper : KeyedEntry → Bool
+is_keyed_paper k = is_batch_number k.batch && (is_round k.round && (is_clerk k.clerk && (is_paper_number k.paper && is_utf8 k.marks)))
+
+-- a judged paper whose numbers are in range
+unfoldable pub is_judged_paper : JudgedEntry → Bool
+is_judged_paper v = is_batch_number v.batch && (is_paper_number v.paper && (nat_le v.code 5 && is_utf8 v.marks))
 
 -- what the office, or a clerk, may ask for
 abbrev pub is_about : ℕ → List ℕ → Bool
@@ -25,11 +38,26 @@ is_receipt r = is_about r.actor r.subject && (is_utf8 r.subject && (is_id r.id &
 
 -- the first condition: numbers, names, ids, phases, subjects and replies are in range
 abbrev pub item1 : OfficeState → Bool
-item1 s = list_all is_ward s.wards && (list_all is_candidate s.candidates && list_all is_receipt s.receipts)
+item1 s =
+    list_all is_ward s.wards
+    && (list_all is_candidate s.candidates && (list_all is_batch s.batches && (list_all is_keyed_paper s.keyings && (list_all is_judged_paper s.verdicts && list_all is_receipt s.receipts))))
 
 -- the second condition: candidates belong to wards that are there, and each ward has those that its phase asks for
 abbrev pub item2 : OfficeState → Bool
 item2 s = list_all (λ c. is_some (ward_at s c.ward)) s.candidates && list_all (λ w. are_enough w.phase w (candidates_of s w.number)) s.wards
+
+-- the third condition: batches belong to contested wards past their nominations, and their two clerks differ
+abbrev pub item3 : OfficeState → Bool
+item3 s = list_all (is_given_out s) s.batches
+
+-- the fourth condition: papers are keyed of batches that are there, in rounds and by clerks of theirs, and are read; a keying
+-- is whole, and those of an earlier round differ
+abbrev pub item4 : OfficeState → Bool
+item4 s = list_all (λ k. is_keyed_for s k (batch_at s k.batch)) s.keyings && list_all (λ b. are_rounds_to s b b.round) s.batches
+
+-- the fifth condition: verdicts belong to batches that are there, and are on doubtful papers of taken ones
+abbrev pub item5 : OfficeState → Bool
+item5 s = list_all (λ v. is_some (batch_at s v.batch)) s.verdicts && list_all (λ b. is_judged s b (verdicts_of s b.number)) s.batches
 
 -- what later commands bring: until then no contested ward is past keying, none is declared, and no stage is done
 abbrev pub are_reached : OfficeState → Bool
@@ -39,5 +67,8 @@ are_reached s = list_all (λ w. is_reached w (candidates_of s w.number)) s.wards
 pub record IsState (s : OfficeState) : Type 0 where
   pub in_range : item1 s ≡ true
   pub nominated : item2 s ≡ true
+  pub given_out : item3 s ≡ true
+  pub keyed : item4 s ≡ true
+  pub judged : item5 s ≡ true
   pub reached : are_reached s ≡ true
   pub rise : MapsRise s

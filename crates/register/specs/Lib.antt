@@ -4,10 +4,17 @@ pub mod Ranges
 pub mod Subjects
 pub mod Offices
 pub mod Nominations
+pub mod Marks
+pub mod Papers
+pub mod Keyed
+pub mod Standings
 pub mod Items
 pub mod Effects
 pub mod Parts
 pub mod Wards
 pub mod Candidates
+pub mod Batches
+pub mod Keyings
+pub mod Verdicts
 pub mod Machine
 pub mod Views

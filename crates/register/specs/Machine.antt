@@ -4,7 +4,7 @@ use Rattle.std.specs.Str.{bytes_eq}
 use Rattle.register.specs.declared.refusal.Reason.{Reason}
 use Rattle.register.specs.declared.refusal.Reason.TheVariants.{BadId, IdUsed}
 use Rattle.register.specs.declared.command.Command.{Command}
-use Rattle.register.specs.declared.command.Command.TheVariants.{Ward, Candidate}
+use Rattle.register.specs.declared.command.Command.TheVariants.{Ward, Candidate, Batch, Keying, Verdict}
 use Rattle.register.specs.declared.command.Request.{Request}
 use Rattle.register.specs.Reasons.{first_reason}
 use Rattle.register.specs.Ranges.{is_id}
@@ -13,6 +13,9 @@ use Rattle.register.specs.Effects.{EffectEntry, ChangeEntry, with_change}
 use Rattle.register.specs.Parts.{PartEntries}
 use Rattle.register.specs.Wards as wards
 use Rattle.register.specs.Candidates as candidates
+use Rattle.register.specs.Batches as batches
+use Rattle.register.specs.Keyings as keyings
+use Rattle.register.specs.Verdicts as verdicts
 
 -- ---- the commands, by subject
 
@@ -20,26 +23,41 @@ use Rattle.register.specs.Candidates as candidates
 abbrev pub part_of : OfficeState → ℕ → Command → PartEntries
 part_of s actor (Ward command) = wards.part_of s actor command
 part_of s actor (Candidate command) = candidates.part_of s actor command
+part_of s actor (Batch command) = batches.part_of s actor command
+part_of s actor (Keying command) = keyings.part_of s actor command
+part_of s actor (Verdict command) = verdicts.part_of s actor command
 
 -- what stands against it, in the order of the reasons' numbers
 abbrev pub objections : ℕ → Command → PartEntries → List (Option Reason)
 objections actor (Ward command) part = wards.objections actor command part
 objections actor (Candidate command) part = candidates.objections actor command part
+objections actor (Batch command) part = batches.objections actor command part
+objections actor (Keying command) part = keyings.objections actor command part
+objections actor (Verdict command) part = verdicts.objections actor command part
 
 -- what its receipt is about
 abbrev pub subject_of : Command → List ℕ
 subject_of (Ward command) = wards.subject_of command
 subject_of (Candidate command) = candidates.subject_of command
+subject_of (Batch command) = batches.subject_of command
+subject_of (Keying command) = keyings.subject_of command
+subject_of (Verdict command) = verdicts.subject_of command
 
 -- what is replied where it is accepted
 abbrev pub reply_to : Command → PartEntries → List ℕ
 reply_to (Ward command) part = wards.reply_to command part
 reply_to (Candidate command) part = candidates.reply_to command part
+reply_to (Batch command) part = batches.reply_to command part
+reply_to (Keying command) part = keyings.reply_to command
+reply_to (Verdict command) part = verdicts.reply_to command
 
 -- what it does where it is accepted
-abbrev pub effect_of : Command → PartEntries → EffectEntry
-effect_of (Ward command) part = wards.effect_of command part
-effect_of (Candidate command) part = candidates.effect_of command part
+abbrev pub effect_of : ℕ → Command → PartEntries → EffectEntry
+effect_of actor (Ward command) part = wards.effect_of command part
+effect_of actor (Candidate command) part = candidates.effect_of command part
+effect_of actor (Batch command) part = batches.effect_of command part
+effect_of actor (Keying command) part = keyings.effect_of actor command
+effect_of actor (Verdict command) part = verdicts.effect_of command
 
 -- ---- what is decided on a view: actor, id, command, receipt, and the part of the state
 
@@ -56,7 +74,7 @@ receipt_for actor id command part = record { actor = actor; id = id; subject = s
 -- a new request: refused for the first reason that stands against it, or accepted
 abbrev pub judged : ℕ → List ℕ → Command → PartEntries → Option Reason → Ruling
 judged actor id command part (Some why) = refuses why
-judged actor id command part None = accepts (record { effect = effect_of command part; receipt = receipt_for actor id command part }) (reply_to command part)
+judged actor id command part None = accepts (record { effect = effect_of actor command part; receipt = receipt_for actor id command part }) (reply_to command part)
 
 -- an id that has a receipt gets its reply, or is refused where that is about something else
 abbrev pub answered : ℕ → List ℕ → Command → Option ReceiptEntry → PartEntries → Ruling

@@ -1,5 +1,5 @@
 -- The state of an office: maps of entries, each in the order of its keys.
-use Rattle.std.specs.Prelude.{ℕ, not, ◌==◌, if◌then◌else◌, List, [], ◌∷◌, map, find, Option, string_bytes}
+use Rattle.std.specs.Prelude.{ℕ, not, ◌==◌, ◌&&◌, if◌then◌else◌, List, [], ◌∷◌, map, find, fold, Option, string_bytes}
 use Rattle.std.specs.List.{filter}
 use Rattle.std.specs.List.Sorted.{IsStrictlySortedBy}
 use Rattle.std.specs.declared.cmp.Ordering.{Ordering}
@@ -8,6 +8,9 @@ use Rattle.std.specs.Cmp.Lexicographic.{slice_cmp}
 use Rattle.register.specs.declared.phase.Phase.{Phase}
 use Rattle.register.specs.declared.wards.Ward.{Ward}
 use Rattle.register.specs.declared.candidates.Candidate.{Candidate}
+use Rattle.register.specs.declared.batches.Batch.{Batch}
+use Rattle.register.specs.declared.keyings.KeyedPaper.{KeyedPaper}
+use Rattle.register.specs.declared.verdicts.JudgedPaper.{JudgedPaper}
 use Rattle.register.specs.declared.receipt.Receipt.{Receipt}
 
 -- ---- entries
@@ -26,6 +29,31 @@ pub record CandidateEntry : Type 0 where
   pub number : ℕ
   pub name : List ℕ
 
+-- a batch of ballot papers: its number, its ward, how many papers it has, the two clerks who key it, and its current round
+pub record BatchEntry : Type 0 where
+  pub number : ℕ
+  pub ward : ℕ
+  pub size : ℕ
+  pub first_clerk : ℕ
+  pub second_clerk : ℕ
+  pub round : ℕ
+
+-- a ballot paper as a clerk keyed it: of which batch, in which round, by whom, its number there, its marks text
+pub record KeyedEntry : Type 0 where
+  pub batch : ℕ
+  pub round : ℕ
+  pub clerk : ℕ
+  pub paper : ℕ
+  pub marks : List ℕ
+
+-- a doubtful ballot paper as the returning officer judged it: of which batch, its number there, 0 with the marks that it was
+-- accepted with, or the code of its rejection
+pub record JudgedEntry : Type 0 where
+  pub batch : ℕ
+  pub paper : ℕ
+  pub code : ℕ
+  pub marks : List ℕ
+
 -- what an accepted request left: who sent it under which id, what it was about, and what was replied
 pub record ReceiptEntry : Type 0 where
   pub actor : ℕ
@@ -41,6 +69,18 @@ ward_entry w = record { number = w.number; seats = w.seats; phase = w.phase; don
 abbrev pub candidate_entry : Candidate → CandidateEntry
 candidate_entry c = record { ward = c.ward; number = c.number; name = string_bytes c.name }
 
+-- the entry that a batch stands for
+abbrev pub batch_entry : Batch → BatchEntry
+batch_entry b = record { number = b.number; ward = b.ward; size = b.size; first_clerk = b.first_clerk; second_clerk = b.second_clerk; round = b.round }
+
+-- the entry that a keyed paper stands for
+abbrev pub keyed_entry : KeyedPaper → KeyedEntry
+keyed_entry k = record { batch = k.batch; round = k.round; clerk = k.clerk; paper = k.paper; marks = string_bytes k.marks }
+
+-- the entry that a judged paper stands for
+abbrev pub judged_entry : JudgedPaper → JudgedEntry
+judged_entry v = record { batch = v.batch; paper = v.paper; code = v.code; marks = string_bytes v.marks }
+
 -- the entry that a receipt stands for
 abbrev pub receipt_entry : Receipt → ReceiptEntry
 receipt_entry r = record { actor = r.actor; id = string_bytes r.id; subject = string_bytes r.subject; reply = string_bytes r.reply }
@@ -51,6 +91,10 @@ receipt_entry r = record { actor = r.actor; id = string_bytes r.id; subject = st
 abbrev pub put : {X : Type 0} → (X → X → Ordering) → X → List X → List X
 put cmp x [] = x ∷ []
 put cmp x (y ∷ ys) = if is_lt (cmp x y) then x ∷ y ∷ ys else y ∷ put cmp x ys
+
+-- some entries put among others, one after the other
+abbrev pub put_each : {X : Type 0} → (X → X → Ordering) → List X → List X → List X
+put_each cmp xs ys = fold (λ zs x. put cmp x zs) ys xs
 
 -- the entry whose key is the one that is compared with
 abbrev pub entry_at : {X : Type 0} → (X → Ordering) → List X → Option X
@@ -66,15 +110,19 @@ changed compared change xs = map (λ x. if is_eq (compared x) then change x else
 
 -- ---- the state
 
--- the wards by number, the candidates by ward and number, the receipts by actor and id
+-- the wards by number, the candidates by ward and number, the batches by number, the keyed papers by batch, round, clerk and
+-- number, the judged papers by batch and number, the receipts by actor and id
 pub record OfficeState : Type 0 where
   pub wards : List WardEntry
   pub candidates : List CandidateEntry
+  pub batches : List BatchEntry
+  pub keyings : List KeyedEntry
+  pub verdicts : List JudgedEntry
   pub receipts : List ReceiptEntry
 
 -- an office where nothing has happened yet
 abbrev pub empty_office : OfficeState
-empty_office = record { wards = []; candidates = []; receipts = [] }
+empty_office = record { wards = []; candidates = []; batches = []; keyings = []; verdicts = []; receipts = [] }
 
 -- the order of wards: by number
 abbrev pub ward_cmp : WardEntry → WardEntry → Ordering
@@ -83,6 +131,18 @@ ward_cmp = on (λ (w : WardEntry). w.number) nat_cmp
 -- the order of candidates: by ward, and then by number
 abbrev pub candidate_cmp : CandidateEntry → CandidateEntry → Ordering
 candidate_cmp = then_cmp (on (λ (c : CandidateEntry). c.ward) nat_cmp) (on (λ (c : CandidateEntry). c.number) nat_cmp)
+
+-- the order of batches: by number
+abbrev pub batch_cmp : BatchEntry → BatchEntry → Ordering
+batch_cmp = on (λ (b : BatchEntry). b.number) nat_cmp
+
+-- the order of keyed papers: by batch, by round, by clerk, and then by number
+abbrev pub keyed_cmp : KeyedEntry → KeyedEntry → Ordering
+keyed_cmp = then_cmp (on (λ (k : KeyedEntry). k.batch) nat_cmp) (then_cmp (on (λ (k : KeyedEntry). k.round) nat_cmp) (then_cmp (on (λ (k : KeyedEntry). k.clerk) nat_cmp) (on (λ (k : KeyedEntry). k.paper) nat_cmp)))
+
+-- the order of judged papers: by batch, and then by number
+abbrev pub judged_cmp : JudgedEntry → JudgedEntry → Ordering
+judged_cmp = then_cmp (on (λ (v : JudgedEntry). v.batch) nat_cmp) (on (λ (v : JudgedEntry). v.paper) nat_cmp)
 
 -- the order of receipts: by actor, and then by id
 abbrev pub receipt_cmp : ReceiptEntry → ReceiptEntry → Ordering
@@ -108,6 +168,30 @@ candidate_at s ward number = entry_at (candidate_compared ward number) s.candida
 abbrev pub candidates_of : OfficeState → ℕ → List CandidateEntry
 candidates_of s ward = filter (λ (c : CandidateEntry). c.ward == ward) s.candidates
 
+-- a batch, compared with a number
+abbrev pub batch_compared : ℕ → BatchEntry → Ordering
+batch_compared number b = nat_cmp number b.number
+
+-- the batch with this number
+abbrev pub batch_at : OfficeState → ℕ → Option BatchEntry
+batch_at s number = entry_at (batch_compared number) s.batches
+
+-- the papers that a clerk keyed of a batch in a round: his keying, in the order of the papers
+abbrev pub keying_of : OfficeState → ℕ → ℕ → ℕ → List KeyedEntry
+keying_of s batch round clerk = filter (λ (k : KeyedEntry). (k.batch == batch) && ((k.round == round) && (k.clerk == clerk))) s.keyings
+
+-- a judged paper, compared with a batch and a number
+abbrev pub judged_compared : ℕ → ℕ → JudgedEntry → Ordering
+judged_compared batch paper v = ordering_then (nat_cmp batch v.batch) (nat_cmp paper v.paper)
+
+-- the verdict on the paper of this number in this batch
+abbrev pub verdict_at : OfficeState → ℕ → ℕ → Option JudgedEntry
+verdict_at s batch paper = entry_at (judged_compared batch paper) s.verdicts
+
+-- the verdicts on papers of a batch, in the order of the papers
+abbrev pub verdicts_of : OfficeState → ℕ → List JudgedEntry
+verdicts_of s batch = filter (λ (v : JudgedEntry). v.batch == batch) s.verdicts
+
 -- the receipt of this actor and id
 abbrev pub receipt_at : OfficeState → ℕ → List ℕ → Option ReceiptEntry
 receipt_at s actor id = entry_at (λ r. ordering_then (nat_cmp actor r.actor) (slice_cmp nat_cmp id r.id)) s.receipts
@@ -116,4 +200,7 @@ receipt_at s actor id = entry_at (λ r. ordering_then (nat_cmp actor r.actor) (s
 pub record MapsRise (s : OfficeState) : Type 0 where
   pub wards : IsStrictlySortedBy ward_cmp s.wards
   pub candidates : IsStrictlySortedBy candidate_cmp s.candidates
+  pub batches : IsStrictlySortedBy batch_cmp s.batches
+  pub keyings : IsStrictlySortedBy keyed_cmp s.keyings
+  pub verdicts : IsStrictlySortedBy judged_cmp s.verdicts
   pub receipts : IsStrictlySortedBy receipt_cmp s.receipts

@@ -1,23 +1,30 @@
 -- The part of the state that a command needs.
 use Rattle.std.specs.Prelude.{Bool, false, not, ◌==◌, List, [], ◌∷◌, map, Option, Some, None, is_none, option_map}
 use Rattle.register.specs.declared.phase.Phase.{Phase}
+use Rattle.register.specs.declared.phase.Phase.TheVariants.{Keying}
 use Rattle.register.specs.declared.view.Part.{Part}
 use Rattle.register.specs.declared.refusal.Reason.{Reason}
-use Rattle.register.specs.declared.refusal.Reason.TheVariants.{NoSuchWard, WrongPhase}
+use Rattle.register.specs.declared.refusal.Reason.TheVariants.{NoSuchWard, NoSuchBatch, WrongPhase}
 use Rattle.register.specs.Phases.{phase_number}
 use Rattle.register.specs.Reasons.{objection}
-use Rattle.register.specs.Offices.{WardEntry, CandidateEntry, ward_entry, candidate_entry}
+use Rattle.register.specs.Offices.{WardEntry, CandidateEntry, BatchEntry, KeyedEntry, JudgedEntry, ward_entry, candidate_entry, batch_entry, keyed_entry, judged_entry}
 
--- what any command may need, each there only where the command needs it: the ward that it names, the candidate that it
--- names, the candidates of the ward
+-- what any command may need, each there only where the command needs it: the ward that it names, or that the batch which it
+-- names belongs to; the candidate that it names; the candidates of the ward; the batch that it names; the actor's own keying
+-- of it; both clerks' keyings of its current round; the verdict on the paper that it names
 pub record PartEntries : Type 0 where
   pub ward : Option WardEntry
   pub candidate : Option CandidateEntry
   pub candidates : List CandidateEntry
+  pub batch : Option BatchEntry
+  pub own : List KeyedEntry
+  pub first : List KeyedEntry
+  pub second : List KeyedEntry
+  pub verdict : Option JudgedEntry
 
 -- no part, to which a command adds what it needs
 abbrev pub empty_part : PartEntries
-empty_part = record { ward = None; candidate = None; candidates = [] }
+empty_part = record { ward = None; candidate = None; candidates = []; batch = None; own = []; first = []; second = []; verdict = None }
 
 -- the ward is there, in this phase
 abbrev pub is_in_phase : Phase → Option WardEntry → Bool
@@ -28,6 +35,15 @@ is_in_phase phase (Some w) = phase_number w.phase == phase_number phase
 abbrev pub phase_objections : Phase → Option WardEntry → List (Option Reason)
 phase_objections phase ward = objection (is_none ward) NoSuchWard ∷ objection (not (is_in_phase phase ward)) WrongPhase ∷ []
 
+-- what stands against a command that needs a batch of a ward in keying: there is no such batch, or its ward is in another phase
+abbrev pub batch_objections : PartEntries → List (Option Reason)
+batch_objections part = objection (is_none part.batch) NoSuchBatch ∷ objection (not (is_in_phase Keying part.ward)) WrongPhase ∷ []
+
+-- a batch that is there passes a test
+abbrev pub passes : (BatchEntry → Bool) → Option BatchEntry → Bool
+passes test None = false
+passes test (Some b) = test b
+
 -- the entries that a part stands for
 abbrev pub part_entries : Part → PartEntries
-part_entries part = record { ward = option_map ward_entry part.ward; candidate = option_map candidate_entry part.candidate; candidates = map candidate_entry part.candidates.items }
+part_entries part = record { ward = option_map ward_entry part.ward; candidate = option_map candidate_entry part.candidate; candidates = map candidate_entry part.candidates.items; batch = option_map batch_entry part.batch; own = map keyed_entry part.own.items; first = map keyed_entry part.first.items; second = map keyed_entry part.second.items; verdict = option_map judged_entry part.verdict }

@@ -66,6 +66,18 @@ is_seat_number = is_between 1 most_seats
 abbrev pub is_candidate_number : ℕ → Bool
 is_candidate_number = is_between 1 last_candidate
 
+-- a batch's number
+abbrev pub is_batch_number : ℕ → Bool
+is_batch_number = is_between 1 last_batch
+
+-- a batch's number of papers, and the number of a paper in its batch
+abbrev pub is_paper_number : ℕ → Bool
+is_paper_number = is_between 1 most_papers
+
+-- the round in which a batch is keyed
+abbrev pub is_round : ℕ → Bool
+is_round = is_between 1 last_round
+
 -- ---- texts
 
 -- a byte of no control character: not below a space, and not DEL

@@ -1,7 +1,8 @@
 -- The reasons for which requests are refused, by number and text.
-use Rattle.std.specs.Prelude.{ℕ, Bool, if◌then◌else◌, List, [], ◌∷◌, codes, Option, Some, None}
+use Rattle.std.specs.Prelude.{ℕ, Bool, if◌then◌else◌, List, [], ◌∷◌, ◌++◌, codes, Option, Some, None}
+use Rattle.std.specs.Fmt.{decimal}
 use Rattle.register.specs.declared.refusal.Reason.{Reason}
-use Rattle.register.specs.declared.refusal.Reason.TheVariants.{BadId, IdUsed, NumberOutOfRange, BadName, NoSuchWard, WardExists, WrongPhase, CandidateExists, NoSuchCandidate, NoCandidates}
+use Rattle.register.specs.declared.refusal.Reason.TheVariants.{BadId, IdUsed, NumberOutOfRange, BadName, NoSuchWard, WardExists, NoSuchBatch, BatchExists, WrongPhase, CandidateExists, NoSuchCandidate, NoCandidates, SameClerk, NotItsClerk, NotThisRound, AlreadyKeyed, WrongPaperCount, BadMarks, NoDifference, NotTaken, NotDoubtful, AlreadyJudged, BadVerdict}
 
 -- the number that stands for a reason
 abbrev pub reason_number : Reason → ℕ
@@ -11,23 +12,58 @@ reason_number NumberOutOfRange = 3
 reason_number BadName = 4
 reason_number NoSuchWard = 5
 reason_number WardExists = 6
+reason_number NoSuchBatch = 7
+reason_number BatchExists = 8
 reason_number WrongPhase = 9
 reason_number CandidateExists = 10
 reason_number NoSuchCandidate = 11
 reason_number NoCandidates = 12
+reason_number SameClerk = 13
+reason_number NotItsClerk = 14
+reason_number NotThisRound = 15
+reason_number AlreadyKeyed = 16
+reason_number WrongPaperCount = 17
+reason_number (BadMarks paper fault) = 18
+reason_number NoDifference = 19
+reason_number NotTaken = 20
+reason_number NotDoubtful = 21
+reason_number AlreadyJudged = 22
+reason_number BadVerdict = 23
+
+-- the reason in words, before any number that it carries
+abbrev pub reason_words : Reason → List ℕ
+reason_words BadId = codes "bad id"
+reason_words IdUsed = codes "id used for another subject"
+reason_words NumberOutOfRange = codes "number out of range"
+reason_words BadName = codes "bad name"
+reason_words NoSuchWard = codes "no such ward"
+reason_words WardExists = codes "ward exists"
+reason_words NoSuchBatch = codes "no such batch"
+reason_words BatchExists = codes "batch exists"
+reason_words WrongPhase = codes "wrong phase"
+reason_words CandidateExists = codes "candidate exists"
+reason_words NoSuchCandidate = codes "no such candidate"
+reason_words NoCandidates = codes "no candidates"
+reason_words SameClerk = codes "clerks not different"
+reason_words NotItsClerk = codes "clerk not of this batch"
+reason_words NotThisRound = codes "not this round"
+reason_words AlreadyKeyed = codes "already keyed"
+reason_words WrongPaperCount = codes "wrong number of papers"
+reason_words (BadMarks paper fault) = codes "bad marks on paper "
+reason_words NoDifference = codes "keyings don't differ"
+reason_words NotTaken = codes "batch not taken"
+reason_words NotDoubtful = codes "paper not doubtful"
+reason_words AlreadyJudged = codes "already judged"
+reason_words BadVerdict = codes "bad verdict"
+
+-- the numbers that a reason carries
+abbrev pub reason_numbers : Reason → List ℕ
+reason_numbers (BadMarks paper fault) = decimal paper ++ (codes ", fault " ++ decimal fault)
+reason_numbers _ = []
 
 -- the reason in words, with the numbers that it carries
 abbrev pub reason_text : Reason → List ℕ
-reason_text BadId = codes "bad id"
-reason_text IdUsed = codes "id used for another subject"
-reason_text NumberOutOfRange = codes "number out of range"
-reason_text BadName = codes "bad name"
-reason_text NoSuchWard = codes "no such ward"
-reason_text WardExists = codes "ward exists"
-reason_text WrongPhase = codes "wrong phase"
-reason_text CandidateExists = codes "candidate exists"
-reason_text NoSuchCandidate = codes "no such candidate"
-reason_text NoCandidates = codes "no candidates"
+reason_text why = reason_words why ++ reason_numbers why
 
 -- an objection: this reason, where a condition is met
 abbrev pub objection : Bool → Reason → Option Reason

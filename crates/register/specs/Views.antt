@@ -1,12 +1,14 @@
 -- What a view shows of a state, and what a decision says.
-use Rattle.std.specs.Prelude.{◌≡◌, option_map, string_bytes}
+use Rattle.std.specs.Prelude.{◌≡◌, ⊤, option_map, string_bytes}
 use Rattle.register.specs.declared.command.Command.{Command}
+use Rattle.register.specs.declared.command.Command.TheVariants.{Keying}
 use Rattle.register.specs.declared.view.View.{View}
 use Rattle.register.specs.declared.decision.Decision.{Decision}
 use Rattle.register.specs.declared.decision.Decision.TheVariants.{Accepted, Kept, Refused}
 use Rattle.register.specs.Offices.{OfficeState, receipt_entry, receipt_at}
 use Rattle.register.specs.Effects.{change_entry}
 use Rattle.register.specs.Parts.{part_entries}
+use Rattle.register.specs.Keyings.{reply_to}
 use Rattle.register.specs.Machine.{Ruling, accepts, keeps, refuses, Outcome, outcome_at, decided, part_of}
 
 -- the view shows what the state has for this command
@@ -27,3 +29,8 @@ ruling_of (Refused why) = refuses why
 -- the outcome that a decision tells at a state
 abbrev pub outcome_of : OfficeState → Decision → Outcome
 outcome_of s decision = outcome_at s (ruling_of decision)
+
+-- An accepted keying gets a reply that is made of the command alone: whatever the other clerk keyed, both are told alike.
+abbrev pub IsToldAlike : Command → Ruling → Type 0
+IsToldAlike (Keying command) (accepts change reply) = reply ≡ reply_to command
+IsToldAlike command ruling = ⊤

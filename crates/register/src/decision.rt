@@ -1,9 +1,12 @@
 //! What the machine decides.
 
+use crate::batches::Batch;
 use crate::candidates::Candidate;
+use crate::keyings::KeyedPaper;
 use crate::phase::Phase;
 use crate::receipt::Receipt;
 use crate::refusal::Refusal;
+use crate::verdicts::JudgedPaper;
 use crate::wards::Ward;
 
 /// One line of text, without its end.
@@ -20,6 +23,14 @@ pub enum Effect {
     CandidateAdded(Candidate),
     /// The candidate of this number in this ward stands no longer, and the number is free.
     CandidateWithdrawn { ward: u32, candidate: u32 },
+    /// This batch is new.
+    BatchAdded(Batch),
+    /// The batch of this number is keyed in this round.
+    BatchReopened { batch: u32, round: u32 },
+    /// These papers are keyed, all of one keying.
+    PapersKeyed(Vec<KeyedPaper>),
+    /// This paper is judged.
+    PaperJudged(JudgedPaper),
 }
 
 /// All that an accepted request changes. It is kept whole or not at all.

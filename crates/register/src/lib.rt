@@ -25,19 +25,31 @@ pub mod decision;
 pub mod refusal;
 // Which numbers and texts are in range.
 pub mod ranges;
+// How marks are read, and when a batch is taken.
+pub mod marks;
+pub mod papers;
+// How a ward stands.
+pub mod status;
 // The commands, by subject.
+pub mod batches;
 pub mod candidates;
+pub mod keyings;
+pub mod verdicts;
 pub mod wards;
 // The machine, which chooses among the subjects.
 mod machine;
 
+pub use batches::{Batch, BatchCommand};
 pub use candidates::{Candidate, CandidateCommand};
 pub use command::{Command, Request};
 pub use decision::{Change, Decision, Effect, Reply};
+pub use keyings::{KeyedPaper, KeyingCommand};
 pub use machine::decide;
 pub use phase::Phase;
 pub use receipt::Receipt;
 pub use refusal::{Reason, Refusal};
+pub use status::Status;
+pub use verdicts::{JudgedPaper, Verdict, VerdictCommand};
 pub use view::{Part, View};
 pub use wards::{Ward, WardCommand};
 

@@ -7,7 +7,7 @@ ghost use Rattle.register.specs.Items.{IsState};
 ghost use Rattle.register.specs.Effects.{effect_entry};
 ghost use Rattle.register.specs.Parts.{part_entries};
 ghost use Rattle.register.specs.Machine.{objections, subject_of, reply_to, effect_of, judged, step, state_after, IsKeptAgain};
-ghost use Rattle.register.specs.Views.{IsViewOf, decided_on, ruling_of, outcome_of};
+ghost use Rattle.register.specs.Views.{IsViewOf, decided_on, ruling_of, outcome_of, IsToldAlike};
 
 use crate::command::Command;
 use crate::decision::{Change, Decision, Effect};
@@ -15,7 +15,7 @@ use crate::ranges::is_id;
 use crate::receipt::Receipt;
 use crate::refusal::{Reason, Refusal};
 use crate::view::{Part, View};
-use crate::{candidates, wards};
+use crate::{batches, candidates, keyings, verdicts, wards};
 use std::alloc::{AllocError, Global};
 
 /// What stands against a command: of several reasons the one with the lowest number.
@@ -25,6 +25,9 @@ fn objection_to(actor: u32, command: &Command, part: &Part) -> Option<Reason>
     match command {
         Command::Ward(command) => wards::objection_to(actor, command, part),
         Command::Candidate(command) => candidates::objection_to(actor, command, part),
+        Command::Batch(command) => batches::objection_to(actor, command, part),
+        Command::Keying(command) => keyings::objection_to(actor, command, part),
+        Command::Verdict(command) => verdicts::objection_to(actor, command, part),
     }
 }
 
@@ -35,6 +38,9 @@ fn subject_of(alloc: Global, command: &Command) -> Result<String, AllocError>
     match command {
         Command::Ward(command) => wards::subject_of(alloc, command),
         Command::Candidate(command) => candidates::subject_of(alloc, command),
+        Command::Batch(command) => batches::subject_of(alloc, command),
+        Command::Keying(command) => keyings::subject_of(alloc, command),
+        Command::Verdict(command) => verdicts::subject_of(alloc, command),
     }
 }
 
@@ -45,16 +51,27 @@ fn reply_to(alloc: Global, command: &Command, part: &Part) -> Result<String, All
     match command {
         Command::Ward(command) => wards::reply_to(alloc, command, part),
         Command::Candidate(command) => candidates::reply_to(alloc, command, part),
+        Command::Batch(command) => batches::reply_to(alloc, command, part),
+        Command::Keying(command) => keyings::reply_to(alloc, command),
+        Command::Verdict(command) => verdicts::reply_to(alloc, command),
     }
 }
 
 /// What the command does to the state.
-fn effect_of(command: &Command, part: &Part) -> Result<Effect, AllocError>
-    ensures { IfOk result (λ effect. effect_entry effect ≡ effect_of command.now (part_entries part.now)) }
+fn effect_of(
+    alloc: Global,
+    actor: u32,
+    command: &Command,
+    part: &Part,
+) -> Result<Effect, AllocError>
+    ensures { IfOk result (λ effect. effect_entry effect ≡ effect_of actor command.now (part_entries part.now)) }
 {
     match command {
         Command::Ward(command) => wards::effect_of(command, part),
         Command::Candidate(command) => candidates::effect_of(command, part),
+        Command::Batch(command) => Ok(batches::effect_of(command, part)),
+        Command::Keying(command) => keyings::effect_of(alloc, actor, command),
+        Command::Verdict(command) => verdicts::effect_of(alloc, command),
     }
 }
 
@@ -74,7 +91,7 @@ fn accepted(
 ) -> Result<Decision, AllocError>
     ensures { IfOk result (λ decision. string_bytes subject ≡ subject_of command.now → ruling_of decision ≡ judged view.now.actor view.now.id.now command.now (part_entries view.now.part) None) }
 {
-    let effect = effect_of(command, &view.part)?;
+    let effect = effect_of(alloc, view.actor, command, &view.part)?;
     let reply = reply_to(alloc, command, &view.part)?;
     let receipt = Receipt {
         actor: view.actor,
@@ -110,10 +127,12 @@ fn decided(alloc: Global, view: &View<'_>, command: &Command) -> Result<Decision
 ///
 /// A bad id is refused first. An id that has a receipt gets the reply of then, or is refused where the
 /// receipt is about something else. Of several objections to a new request the one with the lowest
-/// number is told. An error is want of memory, and nothing was decided then.
+/// number is told. The reply to a keying says nothing of the other clerk's. An error is want of memory,
+/// and nothing was decided then.
 pub fn decide(alloc: Global, view: &View<'_>, command: &Command) -> Result<Decision, AllocError>
     ensures on_view { IfOk result (λ decision. ruling_of decision ≡ decided_on view.now command.now) }
     ensures decides { IfOk result (λ decision. (s : OfficeState) → IsViewOf s command.now view.now → outcome_of s decision ≡ step s view.now.actor view.now.id.now command.now) }
+    ensures told_alike { IfOk result (λ decision. IsToldAlike command.now (ruling_of decision)) }
     ensures kept_again { (s : OfficeState) → IsKeptAgain view.now.actor view.now.id.now command.now (step s view.now.actor view.now.id.now command.now) }
     ensures stays_a_state { (s : OfficeState) → IsState s → IsState (state_after s (step s view.now.actor view.now.id.now command.now)) }
 {

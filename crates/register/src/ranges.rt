@@ -2,7 +2,7 @@
 
 ghost use Rattle.std.specs.Prelude.{◌≡◌};
 ghost use Rattle.std.specs.List.{list_all};
-ghost use Rattle.register.specs.Ranges.{is_between, is_clerk, is_ward_number, is_seat_number, is_candidate_number, is_name_byte, is_id_byte, is_line_byte, is_name, is_id, is_reply};
+ghost use Rattle.register.specs.Ranges.{is_between, is_clerk, is_ward_number, is_seat_number, is_candidate_number, is_batch_number, is_paper_number, is_round, is_name_byte, is_id_byte, is_line_byte, is_name, is_id, is_reply};
 
 /// The highest number of a clerk.
 pub const LAST_CLERK: u32 = 999;
@@ -76,6 +76,27 @@ pub fn is_candidate_number(n: u32) -> bool
     ensures { result ≡ is_candidate_number n }
 {
     is_between(1, LAST_CANDIDATE, n)
+}
+
+/// Whether a number is that of a batch: 1 to 9999.
+pub fn is_batch_number(n: u32) -> bool
+    ensures { result ≡ is_batch_number n }
+{
+    is_between(1, LAST_BATCH, n)
+}
+
+/// Whether a batch may have so many papers, and a paper this number in its batch: 1 to 500.
+pub fn is_paper_number(n: u32) -> bool
+    ensures { result ≡ is_paper_number n }
+{
+    is_between(1, MOST_PAPERS, n)
+}
+
+/// Whether a number is that of a round in which a batch is keyed: 1 to 99.
+pub fn is_round(n: u32) -> bool
+    ensures { result ≡ is_round n }
+{
+    is_between(1, LAST_ROUND, n)
 }
 
 fn is_length(most: usize, n: usize) -> bool

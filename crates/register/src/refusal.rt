@@ -1,7 +1,7 @@
 //! Why a request is refused.
 
-ghost use Rattle.std.specs.Prelude.{◌≡◌, IfOk};
-ghost use Rattle.register.specs.Reasons.{reason_number, reason_text};
+ghost use Rattle.std.specs.Prelude.{◌≡◌, IfOk, string_bytes};
+ghost use Rattle.register.specs.Reasons.{reason_number, reason_words, reason_text};
 
 use std::alloc::{AllocError, Global};
 use std::marker::Model;
@@ -21,7 +21,11 @@ pub enum Reason {
     NoSuchWard,
     /// A ward of this number is there already.
     WardExists,
-    /// The ward isn't in the phase in which this may be asked.
+    /// There is no batch of this number.
+    NoSuchBatch,
+    /// A batch of this number is there already.
+    BatchExists,
+    /// The ward, or that of the batch, isn't in the phase in which this may be asked.
     WrongPhase,
     /// A candidate of this number in this ward is there already.
     CandidateExists,
@@ -29,13 +33,36 @@ pub enum Reason {
     NoSuchCandidate,
     /// The ward has no candidates.
     NoCandidates,
+    /// Both clerks of the batch are one.
+    SameClerk,
+    /// The actor is none of the batch's clerks.
+    NotItsClerk,
+    /// The round isn't the batch's current one.
+    NotThisRound,
+    /// The clerk's keying of this round is there already.
+    AlreadyKeyed,
+    /// There aren't as many marks texts as the batch has papers.
+    WrongPaperCount,
+    /// The marks text of this paper, the first such one, has the mark fault of this number.
+    BadMarks { paper: u32, fault: u32 },
+    /// Not both keyings of the batch's current round are there, or they are equal.
+    NoDifference,
+    /// Not both keyings of the batch's current round are there, or they are unequal.
+    NotTaken,
+    /// The batch has no paper of this number that is keyed as doubtful.
+    NotDoubtful,
+    /// The paper has a verdict already.
+    AlreadyJudged,
+    /// The paper is accepted as doubtful, or with marks by which it is invalid, or rejected with a code
+    /// that isn't 3, 4 or 5.
+    BadVerdict,
 }
 
 impl Reason {
-    /// The table of reasons: each with its number and its words.
+    /// The table of reasons: each with its number and its words, those before any number that it carries.
     fn told(self) -> (u32, &'static str)
         ensures number { result.0 ≡ reason_number self }
-        ensures words { result.1.now ≡ reason_text self }
+        ensures words { result.1.now ≡ reason_words self }
     {
         match self {
             Reason::BadId => (1, "bad id"),
@@ -44,10 +71,36 @@ impl Reason {
             Reason::BadName => (4, "bad name"),
             Reason::NoSuchWard => (5, "no such ward"),
             Reason::WardExists => (6, "ward exists"),
+            Reason::NoSuchBatch => (7, "no such batch"),
+            Reason::BatchExists => (8, "batch exists"),
             Reason::WrongPhase => (9, "wrong phase"),
             Reason::CandidateExists => (10, "candidate exists"),
             Reason::NoSuchCandidate => (11, "no such candidate"),
             Reason::NoCandidates => (12, "no candidates"),
+            Reason::SameClerk => (13, "clerks not different"),
+            Reason::NotItsClerk => (14, "clerk not of this batch"),
+            Reason::NotThisRound => (15, "not this round"),
+            Reason::AlreadyKeyed => (16, "already keyed"),
+            Reason::WrongPaperCount => (17, "wrong number of papers"),
+            Reason::BadMarks { .. } => (18, "bad marks on paper "),
+            Reason::NoDifference => (19, "keyings don't differ"),
+            Reason::NotTaken => (20, "batch not taken"),
+            Reason::NotDoubtful => (21, "paper not doubtful"),
+            Reason::AlreadyJudged => (22, "already judged"),
+            Reason::BadVerdict => (23, "bad verdict"),
+        }
+    }
+
+    /// The reason in words, with the numbers that it carries.
+    fn text(self, alloc: Global) -> Result<String, AllocError>
+        ensures { IfOk result (λ text. string_bytes text ≡ reason_text self) }
+    {
+        let (_, words) = self.told();
+        match self {
+            Reason::BadMarks { paper, fault } => {
+                format!(in alloc; "{words}{paper}, fault {fault}")
+            }
+            _ => String::from_str(alloc, words),
         }
     }
 }
@@ -78,8 +131,7 @@ impl Refusal {
     pub fn new(alloc: Global, reason: Reason) -> Result<Refusal, AllocError>
         ensures { IfOk result (λ refusal. refusal ≡ reason) }
     {
-        let (_, words) = reason.told();
-        let text = String::from_str(alloc, words)?;
+        let text = reason.text(alloc)?;
         Ok(Refusal { reason, text })
     }
 

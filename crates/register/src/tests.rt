@@ -35,15 +35,13 @@ fn view_of<'a>(alloc: Global, actor: u32, id: &'a str, ward: u32) -> Result<View
         done: 0,
         name: String::from_str(alloc, "Harbour")?,
     };
+    let mut part = Part::empty(alloc);
+    part.ward = if ward == 7 { Some(harbour) } else { None };
     Ok(View {
         actor,
         id,
         receipt: if id == "w1" { Some(receipt) } else { None },
-        part: Part {
-            ward: if ward == 7 { Some(harbour) } else { None },
-            candidate: None,
-            candidates: Vec::new(alloc),
-        },
+        part,
     })
 }
 
@@ -113,15 +111,15 @@ fn quay(
         done: 0,
         name: String::from_str(alloc, "Quay")?,
     };
-    Ok(Part {
-        ward: if ward == 8 { Some(quay) } else { None },
-        candidate: if candidate <= standing {
-            Some(named)
-        } else {
-            None
-        },
-        candidates,
-    })
+    let mut part = Part::empty(alloc);
+    part.ward = if ward == 8 { Some(quay) } else { None };
+    part.candidate = if candidate <= standing {
+        Some(named)
+    } else {
+        None
+    };
+    part.candidates = candidates;
+    Ok(part)
 }
 
 /// The command of this word; any other word is the name of a new candidate.

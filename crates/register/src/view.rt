@@ -1,17 +1,49 @@
 //! The part of the state that one request needs.
 
+ghost use Rattle.std.specs.Prelude.{◌≡◌};
+ghost use Rattle.register.specs.Parts.{part_entries, empty_part};
+
+use crate::batches::Batch;
 use crate::candidates::Candidate;
+use crate::keyings::KeyedPaper;
 use crate::receipt::Receipt;
+use crate::verdicts::JudgedPaper;
 use crate::wards::Ward;
+use std::alloc::Global;
 
 /// What any command may need of the state, each there only where the command needs it and the state has
-/// it: the ward that it names, the candidate that it names, and the ward's candidates in the order of
-/// their numbers.
+/// it: the ward that it names, or that the batch which it names belongs to; the candidate that it names;
+/// the ward's candidates in the order of their numbers; the batch that it names; the actor's own keying
+/// of it; the first and the second clerk's keyings of its current round; and the verdict on the paper
+/// that it names. A keying is in the order of its papers.
 #[derive(Debug, Drop)]
 pub struct Part {
     pub ward: Option<Ward>,
     pub candidate: Option<Candidate>,
     pub candidates: Vec<Candidate>,
+    pub batch: Option<Batch>,
+    pub own: Vec<KeyedPaper>,
+    pub first: Vec<KeyedPaper>,
+    pub second: Vec<KeyedPaper>,
+    pub verdict: Option<JudgedPaper>,
+}
+
+impl Part {
+    /// No part, to which what a command needs is added. Takes no memory.
+    pub fn empty(alloc: Global) -> Part
+        ensures { part_entries result ≡ empty_part }
+    {
+        Part {
+            ward: None,
+            candidate: None,
+            candidates: Vec::new(alloc),
+            batch: None,
+            own: Vec::new(alloc),
+            first: Vec::new(alloc),
+            second: Vec::new(alloc),
+            verdict: None,
+        }
+    }
 }
 
 /// What the machine sees for one request: who sends it under which id, the receipt of that actor and id

@@ -3,7 +3,7 @@
 ghost use Rattle.std.specs.Prelude.{◌≡◌, IfOk, map, option_map, string_bytes};
 ghost use Rattle.register.specs.Reasons.{first_reason};
 ghost use Rattle.register.specs.Offices.{ward_entry, candidate_entry};
-ghost use Rattle.register.specs.Parts.{part_entries, phase_objections};
+ghost use Rattle.register.specs.Parts.{part_entries, is_in_phase, phase_objections};
 ghost use Rattle.register.specs.Effects.{effect_entry};
 ghost use Rattle.register.specs.Nominations.{is_contested};
 ghost use Rattle.register.specs.Wards.{is_in_range, is_polled, objections, subject_of, reply_to, effect_of};
@@ -53,19 +53,27 @@ fn is_in_range(actor: u32, command: &WardCommand) -> bool
     }
 }
 
+/// Whether a ward is there, in a phase.
+pub(crate) fn is_in_phase(phase: Phase, ward: &Option<Ward>) -> bool
+    ensures { result ≡ is_in_phase phase (option_map ward_entry ward.now) }
+{
+    match ward {
+        Some(ward) => ward.phase.number() == phase.number(),
+        None => false,
+    }
+}
+
 /// What stands against a command that needs a ward in a phase: there is none, or it is in another one.
 pub(crate) fn phase_objection(phase: Phase, ward: &Option<Ward>) -> Option<Reason>
     ensures { result ≡ first_reason (phase_objections phase (option_map ward_entry ward.now)) }
 {
-    match ward {
-        None => Some(Reason::NoSuchWard),
-        Some(ward) => {
-            if ward.phase.number() != phase.number() {
-                return Some(Reason::WrongPhase);
-            }
-            None
-        }
+    if ward.is_none() {
+        return Some(Reason::NoSuchWard);
     }
+    if !is_in_phase(phase, ward) {
+        return Some(Reason::WrongPhase);
+    }
+    None
 }
 
 /// Whether a ward has more candidates than seats.
@@ -126,7 +134,7 @@ pub(crate) fn subject_of(alloc: Global, command: &WardCommand) -> Result<String,
 }
 
 #[tactic(auto, unfolding(crate::specs::Wards::reply_to))]
-/// What is replied where the command is accepted. No ward command needs the part for it yet.
+/// What is replied where the command is accepted: of a closed ward also whether it is polled.
 pub(crate) fn reply_to(
     alloc: Global,
     command: &WardCommand,
@@ -145,7 +153,7 @@ pub(crate) fn reply_to(
     }
 }
 
-/// What the command does to the state. No ward command needs the part for it yet.
+/// What the command does to the state: a closed ward is keyed where it is polled, and else sealed.
 pub(crate) fn effect_of(command: &WardCommand, part: &Part) -> Result<Effect, AllocError>
     ensures { IfOk result (λ effect. effect_entry effect ≡ effect_of command.now (part_entries part.now)) }
 {

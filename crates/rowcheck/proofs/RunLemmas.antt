@@ -72,7 +72,7 @@ nothing : (a : Bool) → (a && false) ≡ false
 nothing true = refl
 nothing false = refl
 
-less_differs : (m n : ℕ) → m < n → (m == n) ≡ false
+pub less_differs : (m n : ℕ) → m < n → (m == n) ≡ false
 less_differs m n less = elim (eqb_tells m n) [ inl same ↦ absurd (let e = same.1 in omega (arith, e, less)) | inr other ↦ other.0 ]
 
 more_differs : (m n : ℕ) → n < m → (m == n) ≡ false

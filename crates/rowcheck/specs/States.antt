@@ -1,8 +1,16 @@
 -- The maps that rows stand for.
 use Rattle.std.specs.Prelude.{map}
-use Rattle.register.specs.Offices.{OfficeState, ward_entry, candidate_entry, receipt_entry}
+use Rattle.register.specs.Offices.{OfficeState, ward_entry, candidate_entry, batch_entry, keyed_entry, judged_entry, receipt_entry}
 use Rattle.rowcheck.specs.declared.rows.Rows.{Rows}
 
 -- the maps of the rows, entry by entry: a state only where they meet each condition
 abbrev pub state_of : Rows → OfficeState
-state_of rows = record { wards = map ward_entry rows.wards.items; candidates = map candidate_entry rows.candidates.items; receipts = map receipt_entry rows.receipts.items }
+state_of rows =
+    record {
+      wards = map ward_entry rows.wards.items;
+      candidates = map candidate_entry rows.candidates.items;
+      batches = map batch_entry rows.batches.items;
+      keyings = map keyed_entry rows.keyings.items;
+      verdicts = map judged_entry rows.verdicts.items;
+      receipts = map receipt_entry rows.receipts.items;
+    }

@@ -5,21 +5,31 @@
 //!
 //! A condition is a definition on the state, `item1` and those after it in `register`'s
 //! `specs/Items.antt`; here `item1(&rows)` answers it for `state_of rows`. Later ones have that form
-//! too, and walk down lists in the order of their keys side by side, never searching one for each row of
-//! another.
+//! too. No list is searched for each row of another: lists in the order of their keys are walked side by
+//! side, or the rows of a key, which stand side by side, are found by bisection (`runs`, `finding`).
 #![tactic(auto)]
 
-// The rows.
+// The rows,
 pub mod rows;
+// runs of them that bisection finds,
+mod runs;
+// and the entries that are found so.
+mod finding;
 // The conditions, and what they read: subjects of receipts, and numbers in them.
+mod batches;
+mod keyings;
 mod nominations;
 mod plain;
 mod ranges;
 mod subjects;
+mod verdicts;
 
+pub use batches::item3;
+pub use keyings::item4;
 pub use nominations::{are_reached, item2};
 pub use ranges::item1;
 pub use rows::Rows;
+pub use verdicts::item5;
 
 #[cfg(test)]
 mod tests;

@@ -2,16 +2,20 @@
 
 ghost use Rattle.std.specs.Prelude.{◌≡◌};
 ghost use Rattle.std.specs.List.{list_all};
-ghost use Rattle.register.specs.Offices.{ward_entry, candidate_entry, receipt_entry};
-ghost use Rattle.register.specs.Items.{is_ward, is_candidate, is_receipt, item1};
+ghost use Rattle.register.specs.Offices.{ward_entry, candidate_entry, batch_entry, keyed_entry, judged_entry, receipt_entry};
+ghost use Rattle.register.specs.Items.{is_ward, is_candidate, is_batch, is_keyed_paper, is_judged_paper, is_receipt, item1};
 ghost use Rattle.rowcheck.specs.States.{state_of};
 
 use crate::rows::Rows;
 use crate::subjects::{is_clerk_subject, is_office_subject};
 use register::ranges::{
-    is_candidate_number, is_clerk, is_id, is_name, is_reply, is_seat_number, is_ward_number,
+    is_batch_number, is_candidate_number, is_clerk, is_id, is_name, is_paper_number, is_reply,
+    is_round, is_seat_number, is_ward_number,
 };
-use register::{Candidate, Receipt, Ward};
+use register::{Batch, Candidate, JudgedPaper, KeyedPaper, Receipt, Ward};
+
+/// The highest code of a verdict.
+const LAST_CODE: u32 = 5;
 
 fn is_ward(ward: &Ward) -> bool
     ensures { result ≡ is_ward (ward_entry ward.now) }
@@ -27,6 +31,37 @@ fn is_candidate(candidate: &Candidate) -> bool
     let ward = is_ward_number(candidate.ward);
     let number = is_candidate_number(candidate.number);
     ward & (number & is_name(candidate.name.as_str()))
+}
+
+fn is_batch(batch: &Batch) -> bool
+    ensures { result ≡ is_batch (batch_entry batch.now) }
+{
+    let number = is_batch_number(batch.number);
+    let ward = is_ward_number(batch.ward);
+    let size = is_paper_number(batch.size);
+    let first = is_clerk(batch.first_clerk);
+    let second = is_clerk(batch.second_clerk);
+    number & (ward & (size & (first & (second & is_round(batch.round)))))
+}
+
+fn is_keyed_paper(keyed: &KeyedPaper) -> bool
+    ensures { result ≡ is_keyed_paper (keyed_entry keyed.now) }
+{
+    let batch = is_batch_number(keyed.batch);
+    let round = is_round(keyed.round);
+    let clerk = is_clerk(keyed.clerk);
+    // Its marks are text, as each `String` is.
+    let _marks = keyed.marks.as_str();
+    batch & (round & (clerk & is_paper_number(keyed.paper)))
+}
+
+fn is_judged_paper(judged: &JudgedPaper) -> bool
+    ensures { result ≡ is_judged_paper (judged_entry judged.now) }
+{
+    let batch = is_batch_number(judged.batch);
+    let paper = is_paper_number(judged.paper);
+    let _marks = judged.marks.as_str();
+    batch & (paper & (judged.code <= LAST_CODE))
 }
 
 fn is_receipt(receipt: &Receipt) -> bool
@@ -53,6 +88,24 @@ fn are_candidates(candidates: &[Candidate]) -> bool
     candidates.iter().all(|candidate| is_candidate(candidate))
 }
 
+fn are_batches(batches: &[Batch]) -> bool
+    ensures { result ≡ list_all (λ b. is_batch (batch_entry b)) batches.now }
+{
+    batches.iter().all(|batch| is_batch(batch))
+}
+
+fn are_keyed_papers(keyings: &[KeyedPaper]) -> bool
+    ensures { result ≡ list_all (λ k. is_keyed_paper (keyed_entry k)) keyings.now }
+{
+    keyings.iter().all(|keyed| is_keyed_paper(keyed))
+}
+
+fn are_judged_papers(verdicts: &[JudgedPaper]) -> bool
+    ensures { result ≡ list_all (λ v. is_judged_paper (judged_entry v)) verdicts.now }
+{
+    verdicts.iter().all(|judged| is_judged_paper(judged))
+}
+
 fn are_receipts(receipts: &[Receipt]) -> bool
     ensures { result ≡ list_all (λ r. is_receipt (receipt_entry r)) receipts.now }
 {
@@ -66,5 +119,9 @@ pub fn item1(rows: &Rows) -> bool
 {
     let wards = are_wards(&rows.wards);
     let candidates = are_candidates(&rows.candidates);
-    wards & (candidates & are_receipts(&rows.receipts))
+    let batches = are_batches(&rows.batches);
+    let keyings = are_keyed_papers(&rows.keyings);
+    let verdicts = are_judged_papers(&rows.verdicts);
+    let receipts = are_receipts(&rows.receipts);
+    wards & (candidates & (batches & (keyings & (verdicts & receipts))))
 }

@@ -1,6 +1,6 @@
 //! Rows, as the values that they hold.
 
-use register::{Candidate, Receipt, Ward};
+use register::{Batch, Candidate, JudgedPaper, KeyedPaper, Receipt, Ward};
 
 /// The rows of an office, each table's in the order of its keys. Their numbers and texts are in range
 /// only where `item1` says so.
@@ -8,5 +8,8 @@ use register::{Candidate, Receipt, Ward};
 pub struct Rows {
     pub wards: Vec<Ward>,
     pub candidates: Vec<Candidate>,
+    pub batches: Vec<Batch>,
+    pub keyings: Vec<KeyedPaper>,
+    pub verdicts: Vec<JudgedPaper>,
     pub receipts: Vec<Receipt>,
 }

@@ -4,10 +4,13 @@ ghost use Rattle.std.specs.Prelude.{◌≡◌, IfOk};
 ghost use Rattle.register.specs.Offices.{MapsRise};
 ghost use Rattle.rowcheck.specs.States.{state_of};
 
+use crate::batches::item3;
+use crate::keyings::item4;
 use crate::nominations::{are_reached, item2};
 use crate::ranges::item1;
 use crate::rows::Rows;
-use register::{Candidate, Phase, Receipt, Ward};
+use crate::verdicts::item5;
+use register::{Batch, Candidate, JudgedPaper, KeyedPaper, Phase, Receipt, Ward};
 use std::alloc::{AllocError, Global};
 use std::test::Fail;
 
@@ -25,6 +28,9 @@ fn only_ward(alloc: Global, numbers: [u32; 3], phase: Phase, name: &str) -> Resu
     Ok(Rows {
         wards: vec![in alloc; ward]?,
         candidates: Vec::new(alloc),
+        batches: Vec::new(alloc),
+        keyings: Vec::new(alloc),
+        verdicts: Vec::new(alloc),
         receipts: Vec::new(alloc),
     })
 }
@@ -50,6 +56,9 @@ fn only_receipt(alloc: Global, actor: u32, subject: &str) -> Result<Rows, AllocE
     Ok(Rows {
         wards: Vec::new(alloc),
         candidates: Vec::new(alloc),
+        batches: Vec::new(alloc),
+        keyings: Vec::new(alloc),
+        verdicts: Vec::new(alloc),
         receipts: vec![in alloc; receipt]?,
     })
 }
@@ -80,6 +89,9 @@ fn nominated(alloc: Global, phase: Phase, done: u32, ward: u32) -> Result<Rows, 
     Ok(Rows {
         wards: rows.wards,
         candidates: vec![in alloc; first, second]?,
+        batches: rows.batches,
+        keyings: rows.keyings,
+        verdicts: rows.verdicts,
         receipts: rows.receipts,
     })
 }
@@ -103,6 +115,162 @@ fn candidates_of_wards(rt: HostRuntime) -> Result<(), Fail> {
         if found {
             assert_eq!(rt; are_reached(&rows), reached);
         }
+    }
+    Ok(())
+}
+
+/// A paper of batch 12, as a clerk keyed it in the first round.
+fn keyed(alloc: Global, clerk: u32, paper: u32, marks: &str) -> Result<KeyedPaper, AllocError>
+    ensures batch { IfOk result (λ k. k.batch ≡ 12) }
+    ensures round { IfOk result (λ k. k.round ≡ 1) }
+    ensures clerk { IfOk result (λ k. k.clerk ≡ clerk) }
+    ensures paper { IfOk result (λ k. k.paper ≡ paper) }
+{
+    Ok(KeyedPaper {
+        batch: 12,
+        round: 1,
+        clerk,
+        paper,
+        marks: String::from_str(alloc, marks)?,
+    })
+}
+
+/// A batch of ward 7, given out to clerk 4 and another one.
+fn batch(number: u32, size: u32, second_clerk: u32, round: u32) -> Batch {
+    Batch {
+        number,
+        ward: 7,
+        size,
+        first_clerk: 4,
+        second_clerk,
+        round,
+    }
+}
+
+/// Ward 7, polled, with candidates 1 and 2; a batch; and two papers of batch 12, keyed by clerks 4 and 9.
+fn papers_keyed(
+    alloc: Global,
+    batch: Batch,
+    first: [&str; 2],
+    second: [&str; 2],
+) -> Result<Rows, AllocError>
+    ensures { IfOk result (λ rows. MapsRise (state_of rows)) }
+{
+    let rows = nominated(alloc, Phase::Keying, 0, 7)?;
+    let first_one = keyed(alloc, 4, 1, first[0])?;
+    let first_two = keyed(alloc, 4, 2, first[1])?;
+    let second_one = keyed(alloc, 9, 1, second[0])?;
+    let second_two = keyed(alloc, 9, 2, second[1])?;
+    Ok(Rows {
+        wards: rows.wards,
+        candidates: rows.candidates,
+        batches: vec![in alloc; batch]?,
+        keyings: vec![in alloc; first_one, first_two, second_one, second_two]?,
+        verdicts: rows.verdicts,
+        receipts: rows.receipts,
+    })
+}
+
+/// The same, with a verdict on a paper of batch 12.
+fn paper_judged(
+    alloc: Global,
+    second: [&str; 2],
+    paper: u32,
+    code: u32,
+    marks: &str,
+) -> Result<Rows, AllocError>
+    ensures { IfOk result (λ rows. MapsRise (state_of rows)) }
+{
+    let rows = papers_keyed(alloc, batch(12, 2, 9, 1), ["1,2", "D"], second)?;
+    let verdict = JudgedPaper {
+        batch: 12,
+        paper,
+        code,
+        marks: String::from_str(alloc, marks)?,
+    };
+    Ok(Rows {
+        wards: rows.wards,
+        candidates: rows.candidates,
+        batches: rows.batches,
+        keyings: rows.keyings,
+        verdicts: vec![in alloc; verdict]?,
+        receipts: rows.receipts,
+    })
+}
+
+/// Ward 7, of one seat, in a phase, with candidates 1 and 2, and a batch.
+fn given_out(alloc: Global, phase: Phase, batch: Batch) -> Result<Rows, AllocError>
+    ensures { IfOk result (λ rows. MapsRise (state_of rows)) }
+{
+    let rows = nominated(alloc, phase, 0, 7)?;
+    Ok(Rows {
+        wards: rows.wards,
+        candidates: rows.candidates,
+        batches: vec![in alloc; batch]?,
+        keyings: rows.keyings,
+        verdicts: rows.verdicts,
+        receipts: rows.receipts,
+    })
+}
+
+#[test]
+fn batches_of_wards(rt: HostRuntime) -> Result<(), Fail> {
+    let alloc = rt.alloc();
+    let cases = [
+        (Phase::Keying, 9, true),
+        (Phase::Sealed, 9, true),
+        (Phase::Nominations, 9, false),
+        (Phase::Keying, 4, false),
+    ];
+    for (phase, second_clerk, are_given) in cases {
+        let rows = given_out(alloc, phase, batch(12, 2, second_clerk, 1))?;
+        assert_eq!(rt; item3(&rows), are_given);
+    }
+    Ok(())
+}
+
+#[test]
+fn keyings_of_batches(rt: HostRuntime) -> Result<(), Fail> {
+    let alloc = rt.alloc();
+    let (first, same, other) = (["1,2", "D"], ["1,2", "D"], ["2,1", "D"]);
+    let cases = [
+        ([12, 2, 9, 1], same, true),
+        ([12, 2, 9, 1], other, true),
+        ([12, 2, 9, 2], other, true),
+        ([12, 2, 9, 2], same, false),
+        ([13, 2, 9, 1], same, false),
+        ([12, 3, 9, 1], same, false),
+        ([12, 2, 8, 1], same, false),
+        ([12, 2, 9, 1], ["1,2", "3"], false),
+    ];
+    for ([number, size, second_clerk, round], second, are_keyed) in cases {
+        let rows = papers_keyed(
+            alloc,
+            batch(number, size, second_clerk, round),
+            first,
+            second,
+        )?;
+        assert_eq!(rt; item4(&rows), are_keyed);
+    }
+    Ok(())
+}
+
+#[test]
+fn verdicts_on_papers(rt: HostRuntime) -> Result<(), Fail> {
+    let alloc = rt.alloc();
+    let (same, other) = (["1,2", "D"], ["2,1", "D"]);
+    let cases = [
+        (same, 2, 0, "2,1", true),
+        (same, 2, 3, "", true),
+        (other, 2, 3, "", false),
+        (same, 1, 3, "", false),
+        (same, 2, 3, "2,1", false),
+        (same, 2, 2, "", false),
+        (same, 2, 0, "D", false),
+    ];
+    for (second, paper, code, marks, are_judged) in cases {
+        let rows = paper_judged(alloc, second, paper, code, marks)?;
+        assert_eq!(rt; item5(&rows), are_judged);
     }
     Ok(())
 }

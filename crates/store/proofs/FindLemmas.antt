@@ -1,27 +1,24 @@
 -- The row with a key is that of the state's entry with it.
-use Rattle.std.proofs.Common.{◌≡◌, ◌==◌, map, ap, ℕ, pos, List, [], ◌∷◌, filter, option_map, IfSome, refl, sym, ◌∙◌, nat_cmp, Ordering, Less, Equal, Greater}
+use Rattle.std.proofs.Common.{◌≡◌, ◌==◌, ◌&&◌, map, ℕ, pos, List, [], ◌∷◌, filter, option_map, IfSome, refl, sym, ◌∙◌, nat_cmp, Ordering, Less, Equal, Greater}
 use Rattle.std.specs.Option.{option_to_list}
 use Rattle.std.specs.Ordering.{ordering_then}
 use Rattle.std.specs.Cmp.Lexicographic.{slice_cmp}
 use Rattle.std.proofs.lemmas.Cmp.{nat_cmp_total, nat_list_cmp_total}
-use Rattle.std.specs.Ordering.{is_eq, ordering_reverse}
-use Rattle.std.specs.Cmp.{unsigned_tied}
-use Rattle.std.proofs.lemmas.List.Kept.{IsStrictlySortedBy-filter}
-use Rattle.sqlite_trees.proofs.ListLemmas.{filter-map}
 use Rattle.sqlite.specs.Order.{Row}
 use Rattle.sqlite.specs.declared.types.Value.TheVariants.{Int, Text}
-use Rattle.register.specs.Offices.{OfficeState, ward_at, candidate_compared, candidate_at, candidates_of, receipt_at}
+use Rattle.register.specs.Offices.{OfficeState, ward_at, candidate_compared, candidate_at, candidates_of, batch_compared, batch_at, keying_of, judged_compared, verdict_at, verdicts_of, receipt_at}
+use Rattle.register.specs.Papers.{batches_of}
 use Rattle.register.specs.Items.{IsState}
-use Rattle.tables.specs.declared.table.Table.TheVariants.{Ward, Candidate, Receipt}
-use Rattle.tables.specs.Rows.{begins_with, row_cmp}
+use Rattle.tables.specs.declared.table.Table.TheVariants.{Ward, Candidate, Batch, Keying, Verdict, Receipt}
+use Rattle.tables.specs.declared.table.Reference.TheVariants.{WardOfBatch}
+use Rattle.tables.specs.Rows.{begins_with, refers_to}
 use Rattle.tables.specs.Reading.{Finds}
-use Rattle.store.specs.EntryRows.{row_of_ward, IsWardRow, row_of_candidate, IsCandidateRow, row_of_receipt, IsReceiptRow}
+use Rattle.store.specs.EntryRows.{row_of_ward, IsWardRow, row_of_candidate, IsCandidateRow, row_of_batch, IsBatchRow, row_of_keyed, row_of_judged, IsJudgedRow, row_of_receipt, IsReceiptRow}
 use Rattle.store.specs.Offices.{tables_of}
-use Rattle.tables.proofs.OrderLemmas.{key_of_number, key_of_two_numbers, key_of_number_and_text}
-use Rattle.tables.proofs.HoldLemmas.{found_same}
+use Rattle.tables.proofs.OrderLemmas.{equal-number, key_of_number, key_of_two_numbers, key_of_number_and_text, same_number, same_three_numbers}
 use Rattle.store.proofs.StateLemmas.{tables_rise}
-use Rattle.store.proofs.FitLemmas.{wards_fit, candidates_fit, receipts_fit}
-use Rattle.store.proofs.RowLemmas.{filter_alike, row_found, found_fits}
+use Rattle.store.proofs.FitLemmas.{wards_fit, candidates_fit, batches_fit, verdicts_fit, receipts_fit}
+use Rattle.store.proofs.RowLemmas.{listed_as, row_found, found_fits}
 
 -- ---- keys
 
@@ -37,7 +34,7 @@ both_equal Equal b h = (refl, h)
 both_equal Less b h = absurd cc
 both_equal Greater b h = absurd cc
 
--- ---- wards, candidates and receipts
+-- ---- wards and candidates
 
 pub ward_found : (s : OfficeState) → IsState s → (number : ℕ) → filter (begins_with (Int (pos number) ∷ [])) (tables_of s Ward) ≡ option_to_list (option_map row_of_ward (ward_at s number))
 unfolding tables_of
@@ -63,26 +60,59 @@ pub candidate_fits : (s : OfficeState) → IsState s → (ward number : ℕ) →
 unfolding tables_of
 candidate_fits s is ward number = found_fits IsCandidateRow row_of_candidate _ s.candidates (candidates_fit s is)
 
--- a row that begins with a ward's number is that of one of its candidates
-of_ward : (ward number : ℕ) → is_eq (nat_cmp ward number) ≡ (number == ward)
-of_ward ward number = ap is_eq (nat_cmp_total.antisymm ward number) ∙ turned (nat_cmp number ward) ∙ unsigned_tied number ward
-  where
-    turned : (o : Ordering) → is_eq (ordering_reverse o) ≡ is_eq o
-    turned Less = refl
-    turned Equal = refl
-    turned Greater = refl
-
-beginning : (s : OfficeState) (ward : ℕ) → filter (begins_with (Int (pos ward) ∷ [])) (tables_of s Candidate) ≡ map row_of_candidate (candidates_of s ward)
-unfolding tables_of
-beginning s ward =
-    filter-map (begins_with (Int (pos ward) ∷ [])) row_of_candidate s.candidates
-    ∙ ap (map row_of_candidate) (filter_alike (λ c. begins_with (Int (pos ward) ∷ []) (row_of_candidate c)) (λ c. c.ward == ward) (λ c. key_of_number ward c.ward ∙ of_ward ward c.ward) s.candidates)
-
 -- the rows that begin with a ward's number are those of its candidates, in the order of their numbers
 pub candidates_listed : (s : OfficeState) → IsState s → (ward : ℕ) (rows : List Row) → Finds Candidate (begins_with (Int (pos ward) ∷ [])) (tables_of s) rows → rows ≡ map row_of_candidate (candidates_of s ward)
+unfolding tables_of
 candidates_listed s is ward rows finds =
-    sym (found_same Candidate rows (filter (begins_with (Int (pos ward) ∷ [])) (tables_of s Candidate)) finds.sorted (IsStrictlySortedBy-filter (row_cmp Candidate) (begins_with (Int (pos ward) ∷ [])) (tables_of s Candidate) (tables_rise s is.rise Candidate refl)) finds.same)
-    ∙ beginning s ward
+    listed_as Candidate row_of_candidate (begins_with (Int (pos ward) ∷ [])) (λ c. c.ward == ward) (λ c. same_number ward c.ward) s.candidates (tables_rise s is.rise Candidate refl) rows finds.same finds.sorted
+
+-- ---- batches and their papers
+
+pub batch_found : (s : OfficeState) → IsState s → (number : ℕ) → filter (begins_with (Int (pos number) ∷ [])) (tables_of s Batch) ≡ option_to_list (option_map row_of_batch (batch_at s number))
+unfolding tables_of
+batch_found s is number =
+    row_found row_of_batch (Int (pos number) ∷ []) (batch_compared number) (λ b. key_of_number number b.number) (λ a b. numbers_apart number a.number b.number) s.batches is.rise.batches
+
+pub batch_fits : (s : OfficeState) → IsState s → (number : ℕ) → IfSome (option_map row_of_batch (batch_at s number)) IsBatchRow
+unfolding tables_of
+batch_fits s is number = found_fits IsBatchRow row_of_batch _ s.batches (batches_fit s is)
+
+-- the rows that refer to a ward are those of its batches
+pub batches_listed : (s : OfficeState) → IsState s → (ward : ℕ) (rows : List Row) → Finds Batch (refers_to WardOfBatch (Int (pos ward))) (tables_of s) rows → rows ≡ map row_of_batch (batches_of s ward)
+unfolding tables_of
+batches_listed s is ward rows finds =
+    listed_as Batch row_of_batch (refers_to WardOfBatch (Int (pos ward))) (λ b. b.ward == ward) (λ b. equal-number b.ward ward) s.batches (tables_rise s is.rise Batch refl) rows finds.same finds.sorted
+
+-- the rows that begin with a batch, a round and a clerk are those of his keying, in the order of the papers
+pub keying_listed : (s : OfficeState) → IsState s → (batch round clerk : ℕ) (rows : List Row)
+    → Finds Keying (begins_with (Int (pos batch) ∷ Int (pos round) ∷ Int (pos clerk) ∷ [])) (tables_of s) rows → rows ≡ map row_of_keyed (keying_of s batch round clerk)
+unfolding tables_of
+keying_listed s is batch round clerk rows finds =
+    listed_as Keying row_of_keyed (begins_with (Int (pos batch) ∷ Int (pos round) ∷ Int (pos clerk) ∷ [])) (λ k. (k.batch == batch) && ((k.round == round) && (k.clerk == clerk)))
+    (λ k. same_three_numbers batch round clerk k.batch k.round k.clerk) s.keyings (tables_rise s is.rise Keying refl) rows finds.same finds.sorted
+
+pub verdict_found : (s : OfficeState) → IsState s → (batch paper : ℕ)
+    → filter (begins_with (Int (pos batch) ∷ Int (pos paper) ∷ [])) (tables_of s Verdict) ≡ option_to_list (option_map row_of_judged (verdict_at s batch paper))
+unfolding tables_of
+verdict_found s is batch paper =
+    row_found row_of_judged (Int (pos batch) ∷ Int (pos paper) ∷ []) (judged_compared batch paper) (λ v. key_of_two_numbers batch paper v.batch v.paper)
+    (λ a b first second.
+    let f = both_equal (nat_cmp batch a.batch) (nat_cmp paper a.paper) first in
+    let g = both_equal (nat_cmp batch b.batch) (nat_cmp paper b.paper) second in
+    rw (numbers_apart batch a.batch b.batch f.0 g.0) (numbers_apart paper a.paper b.paper f.1 g.1))
+    s.verdicts is.rise.verdicts
+
+pub verdict_fits : (s : OfficeState) → IsState s → (batch paper : ℕ) → IfSome (option_map row_of_judged (verdict_at s batch paper)) IsJudgedRow
+unfolding tables_of
+verdict_fits s is batch paper = found_fits IsJudgedRow row_of_judged _ s.verdicts (verdicts_fit s is)
+
+-- the rows that begin with a batch are those of the verdicts on its papers, in the order of the papers
+pub verdicts_listed : (s : OfficeState) → IsState s → (batch : ℕ) (rows : List Row) → Finds Verdict (begins_with (Int (pos batch) ∷ [])) (tables_of s) rows → rows ≡ map row_of_judged (verdicts_of s batch)
+unfolding tables_of
+verdicts_listed s is batch rows finds =
+    listed_as Verdict row_of_judged (begins_with (Int (pos batch) ∷ [])) (λ v. v.batch == batch) (λ v. same_number batch v.batch) s.verdicts (tables_rise s is.rise Verdict refl) rows finds.same finds.sorted
+
+-- ---- receipts
 
 pub receipt_found : (s : OfficeState) → IsState s → (actor : ℕ) (id : List ℕ)
     → filter (begins_with (Int (pos actor) ∷ Text id ∷ [])) (tables_of s Receipt) ≡ option_to_list (option_map row_of_receipt (receipt_at s actor id))

@@ -6,12 +6,12 @@ use Rattle.std.proofs.lemmas.Bool.{and_parts, and_from, leb-true}
 use Rattle.std.proofs.lemmas.Bool.Decides.{Decides-eqb, eqb_tells, nat_tests}
 use Rattle.std.proofs.lemmas.Str.{IsUtf8-from_is_utf8, IsUtf8-from_ascii}
 use Rattle.sqlite.specs.Order.{Row}
-use Rattle.register.specs.Ranges.{is_between, last_ward, most_seats, last_candidate, last_clerk, is_name, is_id, is_reply, is_id_byte}
-use Rattle.register.specs.Offices.{WardEntry, CandidateEntry, ReceiptEntry, OfficeState, candidates_of}
+use Rattle.register.specs.Ranges.{is_between, last_ward, most_seats, last_candidate, last_clerk, last_batch, most_papers, last_round, is_name, is_id, is_reply, is_id_byte}
+use Rattle.register.specs.Offices.{WardEntry, CandidateEntry, BatchEntry, KeyedEntry, JudgedEntry, ReceiptEntry, OfficeState, candidates_of}
 use Rattle.register.specs.Nominations.{is_led_to, is_reached}
-use Rattle.register.specs.Items.{is_ward, is_candidate, is_receipt, is_about, IsState}
-use Rattle.tables.specs.declared.table.Table.TheVariants.{Ward, Candidate, Receipt}
-use Rattle.store.specs.EntryRows.{row_of_ward, IsWardRow, row_of_candidate, IsCandidateRow, row_of_receipt, IsReceiptRow}
+use Rattle.register.specs.Items.{is_ward, is_candidate, is_batch, is_keyed_paper, is_judged_paper, is_receipt, is_about, IsState}
+use Rattle.tables.specs.declared.table.Table.TheVariants.{Ward, Candidate, Batch, Keying, Verdict, Receipt}
+use Rattle.store.specs.EntryRows.{row_of_ward, IsWardRow, row_of_candidate, IsCandidateRow, row_of_batch, IsBatchRow, row_of_keyed, IsKeyedRow, row_of_judged, IsJudgedRow, row_of_receipt, IsReceiptRow}
 use Rattle.store.specs.Offices.{tables_of}
 use Rattle.register.proofs.MapLemmas.{list_all_weaker}
 
@@ -63,6 +63,51 @@ candidate_fits c good =
       (c.name, IsUtf8-from_is_utf8 c.name (and_parts _ _ b.1).0, refl),
     )
 
+-- ---- batches and their papers
+
+batch_fits : (b : BatchEntry) → is_batch b ≡ true → IsBatchRow (row_of_batch b)
+unfolding is_batch
+batch_fits b good =
+    let ward = and_parts _ _ good in
+    let size = and_parts _ _ ward.1 in
+    let first = and_parts _ _ size.1 in
+    let second = and_parts _ _ first.1 in
+    let round = and_parts _ _ second.1 in (
+      (b.number, small 1 last_batch b.number (omega arith) ward.0, refl),
+      (b.ward, small 1 last_ward b.ward (omega arith) size.0, refl),
+      (b.size, small 1 most_papers b.size (omega arith) first.0, refl),
+      (b.first_clerk, small 1 last_clerk b.first_clerk (omega arith) second.0, refl),
+      (b.second_clerk, small 1 last_clerk b.second_clerk (omega arith) round.0, refl),
+      (b.round, small 1 last_round b.round (omega arith) round.1, refl),
+    )
+
+keyed_fits : (k : KeyedEntry) → is_keyed_paper k ≡ true → IsKeyedRow (row_of_keyed k)
+unfolding is_keyed_paper
+keyed_fits k good =
+    let round = and_parts _ _ good in
+    let clerk = and_parts _ _ round.1 in
+    let paper = and_parts _ _ clerk.1 in
+    let marks = and_parts _ _ paper.1 in (
+      (k.batch, small 1 last_batch k.batch (omega arith) round.0, refl),
+      (k.round, small 1 last_round k.round (omega arith) clerk.0, refl),
+      (k.clerk, small 1 last_clerk k.clerk (omega arith) paper.0, refl),
+      (k.paper, small 1 most_papers k.paper (omega arith) marks.0, refl),
+      (k.marks, IsUtf8-from_is_utf8 k.marks marks.1, refl),
+    )
+
+judged_fits : (v : JudgedEntry) → is_judged_paper v ≡ true → IsJudgedRow (row_of_judged v)
+unfolding is_judged_paper
+judged_fits v good =
+    let paper = and_parts _ _ good in
+    let code = and_parts _ _ paper.1 in
+    let marks = and_parts _ _ code.1 in
+    let low = leb-true v.code 5 marks.0 in (
+      (v.batch, small 1 last_batch v.batch (omega arith) paper.0, refl),
+      (v.paper, small 1 most_papers v.paper (omega arith) code.0, refl),
+      (v.code, omega (arith, low), refl),
+      (v.marks, IsUtf8-from_is_utf8 v.marks marks.1, refl),
+    )
+
 -- ---- receipts
 
 byte_small : (b : ℕ) → is_id_byte b ≡ true → b < 128
@@ -101,6 +146,28 @@ pub candidates_fit : (s : OfficeState) → IsState s → AllByRecursion IsCandid
 unfolding tables_of
 candidates_fit s is = all_passed is_candidate IsCandidateRow row_of_candidate candidate_fits s.candidates (and_parts _ _ (and_parts _ _ is.in_range).1).0
 
+-- what the papers and the receipts are in range by
+beyond_candidates : (s : OfficeState) → IsState s → (list_all is_batch s.batches && (list_all is_keyed_paper s.keyings && (list_all is_judged_paper s.verdicts && list_all is_receipt s.receipts))) ≡ true
+beyond_candidates s is = (and_parts _ _ (and_parts _ _ is.in_range).1).1
+
+pub batches_fit : (s : OfficeState) → IsState s → AllByRecursion IsBatchRow (tables_of s Batch)
+unfolding tables_of
+batches_fit s is = all_passed is_batch IsBatchRow row_of_batch batch_fits s.batches (and_parts _ _ (beyond_candidates s is)).0
+
+beyond_batches : (s : OfficeState) → IsState s → (list_all is_keyed_paper s.keyings && (list_all is_judged_paper s.verdicts && list_all is_receipt s.receipts)) ≡ true
+beyond_batches s is = (and_parts _ _ (beyond_candidates s is)).1
+
+beyond_keyings : (s : OfficeState) → IsState s → (list_all is_judged_paper s.verdicts && list_all is_receipt s.receipts) ≡ true
+beyond_keyings s is = (and_parts _ _ (beyond_batches s is)).1
+
+pub keyings_fit : (s : OfficeState) → IsState s → AllByRecursion IsKeyedRow (tables_of s Keying)
+unfolding tables_of
+keyings_fit s is = all_passed is_keyed_paper IsKeyedRow row_of_keyed keyed_fits s.keyings (and_parts _ _ (beyond_batches s is)).0
+
+pub verdicts_fit : (s : OfficeState) → IsState s → AllByRecursion IsJudgedRow (tables_of s Verdict)
+unfolding tables_of
+verdicts_fit s is = all_passed is_judged_paper IsJudgedRow row_of_judged judged_fits s.verdicts (and_parts _ _ (beyond_keyings s is)).0
+
 pub receipts_fit : (s : OfficeState) → IsState s → AllByRecursion IsReceiptRow (tables_of s Receipt)
 unfolding tables_of
-receipts_fit s is = all_passed is_receipt IsReceiptRow row_of_receipt receipt_fits s.receipts (and_parts _ _ (and_parts _ _ is.in_range).1).1
+receipts_fit s is = all_passed is_receipt IsReceiptRow row_of_receipt receipt_fits s.receipts (and_parts _ _ (beyond_keyings s is)).1

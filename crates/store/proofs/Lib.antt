@@ -7,3 +7,5 @@ pub mod KeepLemmas
 pub mod TellLemmas
 pub mod ReopenLemmas
 pub mod ListsLemmas
+pub mod TallyLemmas
+pub mod PartLemmas

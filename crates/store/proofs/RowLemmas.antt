@@ -3,17 +3,18 @@ use Rattle.std.proofs.Common.{◌≡◌, List, [], ◌∷◌, map, filter, find,
 use Rattle.std.specs.Option.{option_to_list}
 use Rattle.std.specs.Ordering.{is_eq}
 use Rattle.std.specs.List.{AllByRecursion}
-use Rattle.std.specs.List.Sorted.{IsPermutation, IsStrictlySortedBy}
+use Rattle.std.specs.List.Sorted.{IsPermutation, IsSorted, IsStrictlySortedBy}
 use Rattle.std.proofs.lemmas.List.Sorted.{IsPermutation-sym}
 use Rattle.std.proofs.lemmas.Map.Keys.{sorted_head, sorted_tail}
 use Rattle.sqlite_trees.proofs.ListLemmas.{filter-map}
 use Rattle.sqlite.specs.Order.{Row}
 use Rattle.register.specs.Offices.{entry_at}
 use Rattle.tables.specs.declared.table.Table.{Table}
+use Rattle.std.proofs.lemmas.List.Kept.{IsStrictlySortedBy-filter}
 use Rattle.tables.specs.Rows.{row_cmp, begins_with}
 use Rattle.tables.proofs.ListLemmas.{mapped_twice, mapped_same, mapped_itself, permuted_has}
 use Rattle.tables.proofs.OrderLemmas.{row_total}
-use Rattle.tables.proofs.HoldLemmas.{rising_same}
+use Rattle.tables.proofs.HoldLemmas.{rising_same, found_same}
 
 -- ---- the order of rows
 
@@ -66,6 +67,13 @@ if_entries_told items entry row back returns (Err f) xs P are told = tt
 pub filter_alike : {X : Type 0} (p q : X → Bool) → ((x : X) → p x ≡ q x) → (xs : List X) → filter p xs ≡ filter q xs
 filter_alike p q alike [] = refl
 filter_alike p q alike (x ∷ xs) = ap (λ b. cond b (x ∷ filter p xs) (filter p xs)) (alike x) ∙ ap (λ l. cond (q x) (x ∷ l) l) (filter_alike p q alike xs)
+
+-- the rows that pass a test, in the order of their keys, are those of the entries that pass it
+pub listed_as : {X : Type 0} (t : Table) (row : X → Row) (test : Row → Bool) (keep : X → Bool) → ((x : X) → test (row x) ≡ keep x) → (xs : List X) → IsStrictlySortedBy (row_cmp t) (map row xs)
+    → (rows : List Row) → IsPermutation (filter test (map row xs)) rows → IsSorted (row_cmp t) rows → rows ≡ map row (filter keep xs)
+listed_as t row test keep alike xs up rows same sorted =
+    sym (found_same t rows (filter test (map row xs)) sorted (IsStrictlySortedBy-filter (row_cmp t) test (map row xs) up) same)
+    ∙ filter-map test row xs ∙ ap (map row) (filter_alike (λ x. test (row x)) keep alike xs)
 
 none_pass : {X : Type 0} (q : X → Bool) (P : X → Type 0) → ((x : X) → P x → q x ≡ false) → (xs : List X) → AllByRecursion P xs → filter q xs ≡ []
 none_pass q P fails [] all = refl

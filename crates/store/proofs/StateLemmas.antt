@@ -8,16 +8,16 @@ use Rattle.sqlite.specs.Effect.{Database}
 use Rattle.register.specs.declared.phase.Phase.{Phase}
 use Rattle.register.specs.declared.phase.Phase.TheVariants.{Nominations, Keying as Keyed, Sealed, Declared}
 use Rattle.register.specs.Phases.{phase_number}
-use Rattle.register.specs.Offices.{WardEntry, CandidateEntry, ReceiptEntry, OfficeState, MapsRise, ward_cmp, candidate_cmp, receipt_cmp}
+use Rattle.register.specs.Offices.{WardEntry, CandidateEntry, BatchEntry, KeyedEntry, JudgedEntry, ReceiptEntry, OfficeState, MapsRise, ward_cmp, candidate_cmp, batch_cmp, keyed_cmp, judged_cmp, receipt_cmp}
 use Rattle.register.specs.Items.{IsState}
 use Rattle.tables.specs.declared.table.Table.{Table}
-use Rattle.tables.specs.declared.table.Table.TheVariants.{Ward, Candidate, Receipt}
+use Rattle.tables.specs.declared.table.Table.TheVariants.{Ward, Candidate, Batch, Keying, Verdict, Receipt}
 use Rattle.tables.specs.Rows.{row_cmp}
 use Rattle.tables.specs.Contents.{SameContents, IsOffice}
-use Rattle.store.specs.EntryRows.{row_of_ward, row_of_candidate, row_of_receipt}
+use Rattle.store.specs.EntryRows.{row_of_ward, row_of_candidate, row_of_batch, row_of_keyed, row_of_judged, row_of_receipt}
 use Rattle.store.specs.Offices.{tables_of, HoldsState}
 use Rattle.store.specs.Openings.{has_entries}
-use Rattle.tables.proofs.OrderLemmas.{one_number, two_numbers, number_and_text, rows_rise}
+use Rattle.tables.proofs.OrderLemmas.{one_number, two_numbers, four_numbers, number_and_text, rows_rise}
 use Rattle.tables.proofs.SameLemmas.{one_contents}
 use Rattle.store.proofs.RowLemmas.{entries_rise, entries_same}
 
@@ -55,6 +55,24 @@ candidate_in r = record { ward = number_in (column r 0); number = number_in (col
 pub candidate_back : (c : CandidateEntry) → candidate_in (row_of_candidate c) ≡ c
 candidate_back c = refl
 
+abbrev pub batch_in : Row → BatchEntry
+batch_in r = record { number = number_in (column r 0); ward = number_in (column r 1); size = number_in (column r 2); first_clerk = number_in (column r 3); second_clerk = number_in (column r 4); round = number_in (column r 5) }
+
+pub batch_back : (b : BatchEntry) → batch_in (row_of_batch b) ≡ b
+batch_back b = refl
+
+abbrev pub keyed_in : Row → KeyedEntry
+keyed_in r = record { batch = number_in (column r 0); round = number_in (column r 1); clerk = number_in (column r 2); paper = number_in (column r 3); marks = text_in (column r 4) }
+
+pub keyed_back : (k : KeyedEntry) → keyed_in (row_of_keyed k) ≡ k
+keyed_back k = refl
+
+abbrev pub judged_in : Row → JudgedEntry
+judged_in r = record { batch = number_in (column r 0); paper = number_in (column r 1); code = number_in (column r 2); marks = text_in (column r 3) }
+
+pub judged_back : (j : JudgedEntry) → judged_in (row_of_judged j) ≡ j
+judged_back j = refl
+
 abbrev pub receipt_in : Row → ReceiptEntry
 receipt_in r = record { actor = number_in (column r 0); id = text_in (column r 1); subject = text_in (column r 2); reply = text_in (column r 3) }
 
@@ -69,6 +87,15 @@ wards_alike a b = one_number a.number b.number
 candidates_alike : (a b : CandidateEntry) → row_cmp Candidate (row_of_candidate a) (row_of_candidate b) ≡ candidate_cmp a b
 candidates_alike a b = two_numbers a.ward a.number b.ward b.number
 
+batches_alike : (a b : BatchEntry) → row_cmp Batch (row_of_batch a) (row_of_batch b) ≡ batch_cmp a b
+batches_alike a b = one_number a.number b.number
+
+keyings_alike : (a b : KeyedEntry) → row_cmp Keying (row_of_keyed a) (row_of_keyed b) ≡ keyed_cmp a b
+keyings_alike a b = four_numbers a.batch a.round a.clerk a.paper b.batch b.round b.clerk b.paper
+
+verdicts_alike : (a b : JudgedEntry) → row_cmp Verdict (row_of_judged a) (row_of_judged b) ≡ judged_cmp a b
+verdicts_alike a b = two_numbers a.batch a.paper b.batch b.paper
+
 receipts_alike : (a b : ReceiptEntry) → row_cmp Receipt (row_of_receipt a) (row_of_receipt b) ≡ receipt_cmp a b
 receipts_alike a b = number_and_text a.actor b.actor a.id b.id
 
@@ -77,6 +104,9 @@ pub tables_rise : (s : OfficeState) → MapsRise s → (t : Table) → has_entri
 unfolding tables_of
 tables_rise s rise Ward has = rows_rise row_of_ward (row_cmp Ward) ward_cmp wards_alike s.wards rise.wards
 tables_rise s rise Candidate has = rows_rise row_of_candidate (row_cmp Candidate) candidate_cmp candidates_alike s.candidates rise.candidates
+tables_rise s rise Batch has = rows_rise row_of_batch (row_cmp Batch) batch_cmp batches_alike s.batches rise.batches
+tables_rise s rise Keying has = rows_rise row_of_keyed (row_cmp Keying) keyed_cmp keyings_alike s.keyings rise.keyings
+tables_rise s rise Verdict has = rows_rise row_of_judged (row_cmp Verdict) judged_cmp verdicts_alike s.verdicts rise.verdicts
 tables_rise s rise Receipt has = rows_rise row_of_receipt (row_cmp Receipt) receipt_cmp receipts_alike s.receipts rise.receipts
 tables_rise s rise _ has = absurd (true≢false (sym has))
 
@@ -86,6 +116,9 @@ unfolding tables_of
 maps_rise s each = record {
   wards = entries_rise row_of_ward (row_cmp Ward) ward_cmp wards_alike s.wards (each Ward refl);
   candidates = entries_rise row_of_candidate (row_cmp Candidate) candidate_cmp candidates_alike s.candidates (each Candidate refl);
+  batches = entries_rise row_of_batch (row_cmp Batch) batch_cmp batches_alike s.batches (each Batch refl);
+  keyings = entries_rise row_of_keyed (row_cmp Keying) keyed_cmp keyings_alike s.keyings (each Keying refl);
+  verdicts = entries_rise row_of_judged (row_cmp Verdict) judged_cmp verdicts_alike s.verdicts (each Verdict refl);
   receipts = entries_rise row_of_receipt (row_cmp Receipt) receipt_cmp receipts_alike s.receipts (each Receipt refl);
 }
 
@@ -97,10 +130,16 @@ unfolding tables_of
 equal_maps s t rise also same =
     let wards = entries_same Ward row_of_ward ward_in ward_back s.wards t.wards (tables_rise s rise Ward refl) (tables_rise t also Ward refl) (same Ward) in
     let candidates = entries_same Candidate row_of_candidate candidate_in candidate_back s.candidates t.candidates (tables_rise s rise Candidate refl) (tables_rise t also Candidate refl) (same Candidate) in
+    let batches = entries_same Batch row_of_batch batch_in batch_back s.batches t.batches (tables_rise s rise Batch refl) (tables_rise t also Batch refl) (same Batch) in
+    let keyings = entries_same Keying row_of_keyed keyed_in keyed_back s.keyings t.keyings (tables_rise s rise Keying refl) (tables_rise t also Keying refl) (same Keying) in
+    let verdicts = entries_same Verdict row_of_judged judged_in judged_back s.verdicts t.verdicts (tables_rise s rise Verdict refl) (tables_rise t also Verdict refl) (same Verdict) in
     let receipts = entries_same Receipt row_of_receipt receipt_in receipt_back s.receipts t.receipts (tables_rise s rise Receipt refl) (tables_rise t also Receipt refl) (same Receipt) in
-    ap (λ ws. let x : OfficeState = record { wards = ws; candidates = s.candidates; receipts = s.receipts } in x) wards
-    ∙ ap (λ cs. let x : OfficeState = record { wards = t.wards; candidates = cs; receipts = s.receipts } in x) candidates
-    ∙ ap (λ rs. let x : OfficeState = record { wards = t.wards; candidates = t.candidates; receipts = rs } in x) receipts
+    ap (λ l. record s { wards = l }) wards
+    ∙ ap (λ l. record s { wards = t.wards; candidates = l }) candidates
+    ∙ ap (λ l. record s { wards = t.wards; candidates = t.candidates; batches = l }) batches
+    ∙ ap (λ l. record s { wards = t.wards; candidates = t.candidates; batches = t.batches; keyings = l }) keyings
+    ∙ ap (λ l. record t { verdicts = l; receipts = s.receipts }) verdicts
+    ∙ ap (λ l. record t { receipts = l }) receipts
 
 -- states with the same tables are equal
 pub equal_states : (s t : OfficeState) → IsState s → IsState t → SameContents (tables_of s) (tables_of t) → s ≡ t

@@ -41,9 +41,9 @@ which_kind Office = inl refl
 which_kind Ward = inr (inl refl)
 which_kind Candidate = inr (inl refl)
 which_kind Receipt = inr (inl refl)
-which_kind Batch = inr (inr refl)
-which_kind Keying = inr (inr refl)
-which_kind Verdict = inr (inr refl)
+which_kind Batch = inr (inl refl)
+which_kind Keying = inr (inl refl)
+which_kind Verdict = inr (inl refl)
 which_kind Lot = inr (inr refl)
 
 office_rows : (s : OfficeState) → tables_of s Office ≡ office_row 1 ∷ []
@@ -56,6 +56,9 @@ unfolding tables_of
 later_rows Office later s = absurd (true≢false (sym later))
 later_rows Ward later s = absurd (true≢false (sym later))
 later_rows Candidate later s = absurd (true≢false (sym later))
+later_rows Batch later s = absurd (true≢false (sym later))
+later_rows Keying later s = absurd (true≢false (sym later))
+later_rows Verdict later s = absurd (true≢false (sym later))
 later_rows Receipt later s = absurd (true≢false (sym later))
 later_rows _ later s = refl
 

@@ -1,24 +1,26 @@
 -- What each write makes of the tables of a state.
-use Rattle.std.proofs.Common.{◌≡◌, ℕ, pos, List, [], ◌∷◌, map, not, cond, Result, Ok, Err, OnOk, refl, subst}
+use Rattle.std.proofs.Common.{◌≡◌, ℕ, pos, List, [], ◌∷◌, ◌++◌, map, not, cond, Result, Ok, Err, OnOk, refl, subst}
 use Rattle.std.specs.Ordering.{is_eq}
 use Rattle.std.specs.List.{filter}
 use Rattle.std.specs.List.Sorted.{IsPermutation}
-use Rattle.std.proofs.lemmas.List.Sorted.{IsPermutation-refl, IsPermutation-map}
+use Rattle.std.proofs.lemmas.List.Sorted.{IsPermutation-refl, IsPermutation-sym, IsPermutation-trans, IsPermutation-map, IsPermutation-middle, IsPermutation-append_right}
+use Rattle.std.proofs.lemmas.List.{map-append}
+use Rattle.std.specs.declared.cmp.Ordering.{Ordering}
 use Rattle.sqlite.specs.declared.types.Value.TheVariants.{Int}
 use Rattle.sqlite.specs.Order.{Row}
 use Rattle.sqlite.specs.State.{State}
 use Rattle.register.specs.declared.phase.Phase.{Phase}
 use Rattle.register.specs.Phases.{phase_number}
-use Rattle.register.specs.Offices.{WardEntry, CandidateEntry, ReceiptEntry, OfficeState, empty_office, put, without, changed, ward_cmp, candidate_cmp, receipt_cmp, ward_compared, candidate_compared}
-use Rattle.register.specs.Effects.{ward_added, ward_moved, candidate_added, candidate_withdrawn, in_phase, with_effect, with_receipt}
+use Rattle.register.specs.Offices.{WardEntry, CandidateEntry, BatchEntry, KeyedEntry, JudgedEntry, ReceiptEntry, OfficeState, empty_office, put, put_each, without, changed, ward_cmp, candidate_cmp, batch_cmp, keyed_cmp, judged_cmp, receipt_cmp, ward_compared, candidate_compared, batch_compared}
+use Rattle.register.specs.Effects.{ward_added, ward_moved, candidate_added, candidate_withdrawn, batch_added, batch_reopened, papers_keyed, paper_judged, in_phase, in_round, with_effect, with_receipt}
 use Rattle.register.proofs.MapLemmas.{put_same}
 use Rattle.tables.specs.declared.table.Table.{Table}
-use Rattle.tables.specs.declared.table.Table.TheVariants.{Office, Ward, Candidate, Receipt}
-use Rattle.tables.specs.declared.table.Setting.TheVariants.{PhaseOfWard}
+use Rattle.tables.specs.declared.table.Table.TheVariants.{Office, Ward, Candidate, Batch, Keying, Verdict, Receipt}
+use Rattle.tables.specs.declared.table.Setting.TheVariants.{PhaseOfWard, RoundOfBatch}
 use Rattle.tables.specs.Rows.{has_key, value_set, with_value}
-use Rattle.tables.specs.Contents.{Contents, SameContents, added, value_put, removed, Sees}
+use Rattle.tables.specs.Contents.{Contents, SameContents, added, added_all, value_put, removed, Sees}
 use Rattle.tables.specs.Making.{no_contents}
-use Rattle.store.specs.EntryRows.{office_row, row_of_ward, row_of_candidate, row_of_receipt}
+use Rattle.store.specs.EntryRows.{office_row, row_of_ward, row_of_candidate, row_of_batch, row_of_keyed, row_of_judged, row_of_receipt}
 use Rattle.store.specs.Offices.{tables_of}
 use Rattle.tables.proofs.OrderLemmas.{key_of_number, key_of_two_numbers}
 use Rattle.tables.proofs.ChangeLemmas.{rows_set, removed_rows}
@@ -35,6 +37,15 @@ ward_rows s = (Ward, map row_of_ward s.wards)
 abbrev candidate_rows : OfficeState → Table × List Row
 candidate_rows s = (Candidate, map row_of_candidate s.candidates)
 
+abbrev batch_rows : OfficeState → Table × List Row
+batch_rows s = (Batch, map row_of_batch s.batches)
+
+abbrev keying_rows : OfficeState → Table × List Row
+keying_rows s = (Keying, map row_of_keyed s.keyings)
+
+abbrev verdict_rows : OfficeState → Table × List Row
+verdict_rows s = (Verdict, map row_of_judged s.verdicts)
+
 abbrev receipt_rows : OfficeState → Table × List Row
 receipt_rows s = (Receipt, map row_of_receipt s.receipts)
 
@@ -46,7 +57,7 @@ equal_rows rows news same = subst (IsPermutation rows) same (IsPermutation-refl 
 -- a ward more
 pub ward_put : (s : OfficeState) (w : WardEntry) → SameContents (added Ward (row_of_ward w) (tables_of s)) (tables_of (with_effect (ward_added w) s))
 unfolding added tables_of
-ward_put s w = filled_changed (office_rows ∷ []) Ward (map row_of_ward s.wards) (map row_of_ward (put ward_cmp w s.wards)) (candidate_rows s ∷ receipt_rows s ∷ []) (λ rows. row_of_ward w ∷ rows) refl
+ward_put s w = filled_changed (office_rows ∷ []) Ward (map row_of_ward s.wards) (map row_of_ward (put ward_cmp w s.wards)) (candidate_rows s ∷ batch_rows s ∷ keying_rows s ∷ verdict_rows s ∷ receipt_rows s ∷ []) (λ rows. row_of_ward w ∷ rows) refl
     (IsPermutation-map row_of_ward (w ∷ s.wards) (put ward_cmp w s.wards) (put_same ward_cmp w s.wards))
 
 -- a ward in another phase
@@ -55,7 +66,7 @@ pub phase_put : (s : OfficeState) (number : ℕ) (phase : Phase)
 unfolding value_put tables_of
 phase_put s number phase =
     let values : Row = Int (pos number) ∷ Int (pos (phase_number phase)) ∷ [] in
-    filled_changed (office_rows ∷ []) Ward (map row_of_ward s.wards) (map row_of_ward (changed (ward_compared number) (in_phase phase) s.wards)) (candidate_rows s ∷ receipt_rows s ∷ [])
+    filled_changed (office_rows ∷ []) Ward (map row_of_ward s.wards) (map row_of_ward (changed (ward_compared number) (in_phase phase) s.wards)) (candidate_rows s ∷ batch_rows s ∷ keying_rows s ∷ verdict_rows s ∷ receipt_rows s ∷ [])
     (map (λ r. cond (has_key Ward values r) (with_value PhaseOfWard (value_set PhaseOfWard values) r) r)) refl
     (equal_rows _ _ (rows_set PhaseOfWard values row_of_ward (λ w. is_eq (ward_compared number w)) (in_phase phase) (λ w. key_of_number number w.number) (λ w. refl) s.wards))
 
@@ -64,7 +75,7 @@ phase_put s number phase =
 -- a candidate more
 pub candidate_put : (s : OfficeState) (c : CandidateEntry) → SameContents (added Candidate (row_of_candidate c) (tables_of s)) (tables_of (with_effect (candidate_added c) s))
 unfolding added tables_of
-candidate_put s c = filled_changed (office_rows ∷ ward_rows s ∷ []) Candidate (map row_of_candidate s.candidates) (map row_of_candidate (put candidate_cmp c s.candidates)) (receipt_rows s ∷ []) (λ rows. row_of_candidate c ∷ rows) refl
+candidate_put s c = filled_changed (office_rows ∷ ward_rows s ∷ []) Candidate (map row_of_candidate s.candidates) (map row_of_candidate (put candidate_cmp c s.candidates)) (batch_rows s ∷ keying_rows s ∷ verdict_rows s ∷ receipt_rows s ∷ []) (λ rows. row_of_candidate c ∷ rows) refl
     (IsPermutation-map row_of_candidate (c ∷ s.candidates) (put candidate_cmp c s.candidates) (put_same candidate_cmp c s.candidates))
 
 -- a candidate less
@@ -72,16 +83,59 @@ pub candidate_gone : (s : OfficeState) (ward number : ℕ) → SameContents (rem
 unfolding removed tables_of
 candidate_gone s ward number =
     let key : Row = Int (pos ward) ∷ Int (pos number) ∷ [] in
-    filled_changed (office_rows ∷ ward_rows s ∷ []) Candidate (map row_of_candidate s.candidates) (map row_of_candidate (without (candidate_compared ward number) s.candidates)) (receipt_rows s ∷ [])
+    filled_changed (office_rows ∷ ward_rows s ∷ []) Candidate (map row_of_candidate s.candidates) (map row_of_candidate (without (candidate_compared ward number) s.candidates)) (batch_rows s ∷ keying_rows s ∷ verdict_rows s ∷ receipt_rows s ∷ [])
     (filter (λ r. not (has_key Candidate key r))) refl
     (equal_rows _ _ (removed_rows Candidate key row_of_candidate (λ c. is_eq (candidate_compared ward number c)) (λ c. key_of_two_numbers ward number c.ward c.number) s.candidates))
+
+-- ---- batches
+
+-- a batch more
+pub batch_put : (s : OfficeState) (b : BatchEntry) → SameContents (added Batch (row_of_batch b) (tables_of s)) (tables_of (with_effect (batch_added b) s))
+unfolding added tables_of
+batch_put s b =
+    filled_changed (office_rows ∷ ward_rows s ∷ candidate_rows s ∷ []) Batch (map row_of_batch s.batches) (map row_of_batch (put batch_cmp b s.batches)) (keying_rows s ∷ verdict_rows s ∷ receipt_rows s ∷ []) (λ rows. row_of_batch b ∷ rows) refl
+    (IsPermutation-map row_of_batch (b ∷ s.batches) (put batch_cmp b s.batches) (put_same batch_cmp b s.batches))
+
+-- a batch in another round
+pub round_put : (s : OfficeState) (number round : ℕ) → SameContents (value_put RoundOfBatch (Int (pos number) ∷ Int (pos round) ∷ []) (tables_of s)) (tables_of (with_effect (batch_reopened number round) s))
+unfolding value_put tables_of
+round_put s number round =
+    let values : Row = Int (pos number) ∷ Int (pos round) ∷ [] in
+    filled_changed (office_rows ∷ ward_rows s ∷ candidate_rows s ∷ []) Batch (map row_of_batch s.batches) (map row_of_batch (changed (batch_compared number) (in_round round) s.batches)) (keying_rows s ∷ verdict_rows s ∷ receipt_rows s ∷ [])
+    (map (λ r. cond (has_key Batch values r) (with_value RoundOfBatch (value_set RoundOfBatch values) r) r)) refl
+    (equal_rows _ _ (rows_set RoundOfBatch values row_of_batch (λ b. is_eq (batch_compared number b)) (in_round round) (λ b. key_of_number number b.number) (λ b. refl) s.batches))
+
+-- ---- papers
+
+-- a map with some entries more has just these more
+put_each_same : {X : Type 0} (cmp : X → X → Ordering) (xs ys : List X) → IsPermutation (xs ++ ys) (put_each cmp xs ys)
+put_each_same cmp [] ys = IsPermutation-refl ys
+put_each_same cmp (x ∷ xs) ys =
+    IsPermutation-trans _ _ _ (IsPermutation-sym _ _ (IsPermutation-middle xs x ys))
+    (IsPermutation-trans _ _ _ (IsPermutation-append_right xs (x ∷ ys) (put cmp x ys) (put_same cmp x ys)) (put_each_same cmp xs (put cmp x ys)))
+
+-- keyed papers more
+pub papers_put : (s : OfficeState) (papers : List KeyedEntry) → SameContents (added_all Keying (map row_of_keyed papers) (tables_of s)) (tables_of (with_effect (papers_keyed papers) s))
+unfolding added_all tables_of
+papers_put s papers =
+    filled_changed (office_rows ∷ ward_rows s ∷ candidate_rows s ∷ batch_rows s ∷ []) Keying (map row_of_keyed s.keyings) (map row_of_keyed (put_each keyed_cmp papers s.keyings)) (verdict_rows s ∷ receipt_rows s ∷ [])
+    (λ rows. map row_of_keyed papers ++ rows) refl
+    (subst (λ rows. IsPermutation rows (map row_of_keyed (put_each keyed_cmp papers s.keyings))) (map-append row_of_keyed papers s.keyings)
+    (IsPermutation-map row_of_keyed (papers ++ s.keyings) (put_each keyed_cmp papers s.keyings) (put_each_same keyed_cmp papers s.keyings)))
+
+-- a verdict more
+pub verdict_put : (s : OfficeState) (v : JudgedEntry) → SameContents (added Verdict (row_of_judged v) (tables_of s)) (tables_of (with_effect (paper_judged v) s))
+unfolding added tables_of
+verdict_put s v =
+    filled_changed (office_rows ∷ ward_rows s ∷ candidate_rows s ∷ batch_rows s ∷ keying_rows s ∷ []) Verdict (map row_of_judged s.verdicts) (map row_of_judged (put judged_cmp v s.verdicts)) (receipt_rows s ∷ []) (λ rows. row_of_judged v ∷ rows) refl
+    (IsPermutation-map row_of_judged (v ∷ s.verdicts) (put judged_cmp v s.verdicts) (put_same judged_cmp v s.verdicts))
 
 -- ---- receipts
 
 -- a receipt more
 pub receipt_put : (s : OfficeState) (r : ReceiptEntry) → SameContents (added Receipt (row_of_receipt r) (tables_of s)) (tables_of (with_receipt r s))
 unfolding added tables_of
-receipt_put s r = filled_changed (office_rows ∷ ward_rows s ∷ candidate_rows s ∷ []) Receipt (map row_of_receipt s.receipts) (map row_of_receipt (put receipt_cmp r s.receipts)) [] (λ rows. row_of_receipt r ∷ rows) refl
+receipt_put s r = filled_changed (office_rows ∷ ward_rows s ∷ candidate_rows s ∷ batch_rows s ∷ keying_rows s ∷ verdict_rows s ∷ []) Receipt (map row_of_receipt s.receipts) (map row_of_receipt (put receipt_cmp r s.receipts)) [] (λ rows. row_of_receipt r ∷ rows) refl
     (IsPermutation-map row_of_receipt (r ∷ s.receipts) (put receipt_cmp r s.receipts) (put_same receipt_cmp r s.receipts))
 
 -- ---- a new office
@@ -92,6 +146,9 @@ unfolding added no_contents tables_of
 office_put Office = IsPermutation-refl _
 office_put Ward = IsPermutation-refl _
 office_put Candidate = IsPermutation-refl _
+office_put Batch = IsPermutation-refl _
+office_put Keying = IsPermutation-refl _
+office_put Verdict = IsPermutation-refl _
 office_put Receipt = IsPermutation-refl _
 office_put _ = IsPermutation-refl _
 

@@ -5,7 +5,7 @@ use Rattle.sqlite.specs.declared.types.Value.TheVariants.{Int, Text}
 use Rattle.sqlite.specs.Order.{Row, column}
 use Rattle.register.specs.declared.phase.Phase.{Phase}
 use Rattle.register.specs.Phases.{phase_number}
-use Rattle.register.specs.Offices.{WardEntry, CandidateEntry, ReceiptEntry}
+use Rattle.register.specs.Offices.{WardEntry, CandidateEntry, BatchEntry, KeyedEntry, JudgedEntry, ReceiptEntry}
 use Rattle.tables.specs.Cells.{IsNumber, IsText}
 
 -- the number of a phase
@@ -31,6 +31,30 @@ row_of_candidate c = Int (pos c.ward) ∷ Int (pos c.number) ∷ Text c.name ∷
 -- a row that reads as a candidate's
 abbrev pub IsCandidateRow : Row → Type 0
 IsCandidateRow r = IsNumber (column r 0) × IsNumber (column r 1) × IsText (column r 2)
+
+-- the row of a batch
+abbrev pub row_of_batch : BatchEntry → Row
+row_of_batch b = Int (pos b.number) ∷ Int (pos b.ward) ∷ Int (pos b.size) ∷ Int (pos b.first_clerk) ∷ Int (pos b.second_clerk) ∷ Int (pos b.round) ∷ []
+
+-- a row that reads as a batch's
+abbrev pub IsBatchRow : Row → Type 0
+IsBatchRow r = IsNumber (column r 0) × IsNumber (column r 1) × IsNumber (column r 2) × IsNumber (column r 3) × IsNumber (column r 4) × IsNumber (column r 5)
+
+-- the row of a keyed paper
+abbrev pub row_of_keyed : KeyedEntry → Row
+row_of_keyed k = Int (pos k.batch) ∷ Int (pos k.round) ∷ Int (pos k.clerk) ∷ Int (pos k.paper) ∷ Text k.marks ∷ []
+
+-- a row that reads as a keyed paper's
+abbrev pub IsKeyedRow : Row → Type 0
+IsKeyedRow r = IsNumber (column r 0) × IsNumber (column r 1) × IsNumber (column r 2) × IsNumber (column r 3) × IsText (column r 4)
+
+-- the row of a judged paper
+abbrev pub row_of_judged : JudgedEntry → Row
+row_of_judged j = Int (pos j.batch) ∷ Int (pos j.paper) ∷ Int (pos j.code) ∷ Text j.marks ∷ []
+
+-- a row that reads as a judged paper's
+abbrev pub IsJudgedRow : Row → Type 0
+IsJudgedRow r = IsNumber (column r 0) × IsNumber (column r 1) × IsNumber (column r 2) × IsText (column r 3)
 
 -- the row of a receipt
 abbrev pub row_of_receipt : ReceiptEntry → Row

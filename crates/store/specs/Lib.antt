@@ -1,3 +1,5 @@
 pub mod EntryRows
 pub mod Offices
 pub mod Openings
+pub mod Listings
+pub mod Tallies

@@ -6,13 +6,23 @@ use Rattle.sqlite.specs.State.{State}
 use Rattle.register.specs.Offices.{OfficeState}
 use Rattle.register.specs.Items.{IsState}
 use Rattle.register.specs.Effects.{ChangeEntry, with_change}
-use Rattle.tables.specs.declared.table.Table.TheVariants.{Office, Ward, Candidate, Receipt}
+use Rattle.tables.specs.declared.table.Table.TheVariants.{Office, Ward, Candidate, Batch, Keying, Verdict, Receipt}
 use Rattle.tables.specs.Contents.{Contents, filled, IsOffice, Stores, Rests}
-use Rattle.store.specs.EntryRows.{office_row, row_of_ward, row_of_candidate, row_of_receipt}
+use Rattle.store.specs.EntryRows.{office_row, row_of_ward, row_of_candidate, row_of_batch, row_of_keyed, row_of_judged, row_of_receipt}
 
 -- the rows that stand for a state, table by table; opaque, so that a search does not compute it
 unfoldable pub tables_of : OfficeState → Contents
-tables_of s = filled ((Office, office_row 1 ∷ []) ∷ (Ward, map row_of_ward s.wards) ∷ (Candidate, map row_of_candidate s.candidates) ∷ (Receipt, map row_of_receipt s.receipts) ∷ [])
+tables_of s =
+    filled (
+    (Office, office_row 1 ∷ [])
+    ∷ (Ward, map row_of_ward s.wards)
+    ∷ (Candidate, map row_of_candidate s.candidates)
+    ∷ (Batch, map row_of_batch s.batches)
+    ∷ (Keying, map row_of_keyed s.keyings)
+    ∷ (Verdict, map row_of_judged s.verdicts)
+    ∷ (Receipt, map row_of_receipt s.receipts)
+    ∷ []
+    )
 
 -- contents that are the tables of a state, and those that a change makes of them
 pub record ChangesTo (change : ChangeEntry) (before after : Contents) : Type 0 where

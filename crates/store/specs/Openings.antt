@@ -9,7 +9,7 @@ use Rattle.register.specs.Items.{IsState}
 use Rattle.tables.specs.declared.fault.Fault.{Fault}
 use Rattle.tables.specs.declared.fault.Fault.TheVariants.{Memory, Store, Damaged, Closed, WrongDatabase, NewerSchema}
 use Rattle.tables.specs.declared.table.Table.{Table}
-use Rattle.tables.specs.declared.table.Table.TheVariants.{Office, Ward, Candidate, Receipt}
+use Rattle.tables.specs.declared.table.Table.TheVariants.{Office, Ward, Candidate, Batch, Keying, Verdict, Receipt}
 use Rattle.tables.specs.Schema.{no_schema}
 use Rattle.tables.specs.Rows.{tuples, at, column_places}
 use Rattle.tables.specs.Contents.{HoldsTable, Stores}
@@ -109,6 +109,9 @@ TellsOffice db NewerSchema = IsNewer db
 abbrev pub has_entries : Table → Bool
 has_entries Ward = true
 has_entries Candidate = true
+has_entries Batch = true
+has_entries Keying = true
+has_entries Verdict = true
 has_entries Receipt = true
 has_entries _ = false
 

@@ -2,8 +2,9 @@
 //!
 //! `Store` holds a connection between two transactions. `create` makes the tables of an empty office,
 //! `open_from` finds the state that the rows of a database stand for, `load_view` reads the part of it
-//! that one request needs, and `commit` keeps a change in one transaction, whole or not at all. `Fault`
-//! says why a call gave up.
+//! that one request needs, `load_status` and `load_columns` how a ward stands and what a batch's papers have
+//! as columns, and `commit` keeps a change in one transaction, whole or not at all. `Fault` says why a call
+//! gave up.
 //!
 //! ```text
 //! let mut store = Store::open_from(alloc, conn)?;
@@ -17,6 +18,7 @@
 mod entries;
 mod listing;
 mod opening;
+mod standings;
 pub mod storage;
 mod views;
 mod writing;

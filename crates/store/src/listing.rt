@@ -10,13 +10,74 @@ ghost use Rattle.tables.specs.Schema.{IsOfficeSchema};
 ghost use Rattle.tables.specs.Contents.{RestsAt};
 ghost use Rattle.tables.specs.Reading.{OnlyReads};
 ghost use Rattle.store.specs.Openings.{TellsNoState, ListsMaps};
+ghost use Rattle.store.specs.Listings.{ListsContests, ContestsRise, ListsPapers, PapersRise};
 
-use crate::entries::{Candidates, Receipts, Wards};
+use crate::entries::batches::Batches;
+use crate::entries::candidates::Candidates;
+use crate::entries::keyings::KeyedPapers;
+use crate::entries::receipts::Receipts;
+use crate::entries::verdicts::JudgedPapers;
+use crate::entries::wards::Wards;
+use register::{Batch, Candidate, JudgedPaper, KeyedPaper, Ward};
 use rowcheck::Rows;
 use sqlite::{Alter, Connection};
 use std::alloc::Global;
 use tables::Fault;
 use tables::listing::all_entries;
+
+/// The wards, and the candidates in them.
+#[derive(Drop)]
+struct Contests {
+    wards: Vec<Ward>,
+    candidates: Vec<Candidate>,
+}
+
+/// The batches of ballot papers, and those papers as they were keyed and judged.
+#[derive(Drop)]
+struct Papers {
+    batches: Vec<Batch>,
+    keyings: Vec<KeyedPaper>,
+    verdicts: Vec<JudgedPaper>,
+}
+
+/// The wards and the candidates of a database. `Damaged` where the rows are those of no state.
+fn all_contests<S: Alter>(alloc: Global, conn: &mut Connection<S>) -> Result<Contests, Fault>
+    requires { conn.old.in_transaction ≡ false }
+    ensures lists { HasCleanDisk (state S.Store conn.new) → (db : Database) → IsOfficeSchema db.schema → RestsAt db (state S.Store conn.old)
+        → IfOk result (ListsContests db) }
+    ensures told { HasCleanDisk (state S.Store conn.new) → (db : Database) → IsOfficeSchema db.schema → RestsAt db (state S.Store conn.old)
+        → IfErr result (TellsNoState db) }
+    ensures rise { IfOk result ContestsRise }
+    ensures opens { HasCleanDisk (state S.Store conn.new) → OnOk result (IsTrue (state S.Store conn.new).is_open) }
+    ensures reads { OnlyReads (state S.Store conn.old) (state S.Store conn.new) }
+    ensures outside { conn.new.in_transaction ≡ false }
+{
+    let wards = all_entries::<Wards, S>(alloc, conn)?;
+    let candidates = all_entries::<Candidates, S>(alloc, conn)?;
+    Ok(Contests { wards, candidates })
+}
+
+/// The batches of a database, and their papers. `Damaged` where the rows are those of no state.
+fn all_papers<S: Alter>(alloc: Global, conn: &mut Connection<S>) -> Result<Papers, Fault>
+    requires { conn.old.in_transaction ≡ false }
+    ensures lists { HasCleanDisk (state S.Store conn.new) → (db : Database) → IsOfficeSchema db.schema → RestsAt db (state S.Store conn.old)
+        → IfOk result (ListsPapers db) }
+    ensures told { HasCleanDisk (state S.Store conn.new) → (db : Database) → IsOfficeSchema db.schema → RestsAt db (state S.Store conn.old)
+        → IfErr result (TellsNoState db) }
+    ensures rise { IfOk result PapersRise }
+    ensures opens { HasCleanDisk (state S.Store conn.new) → OnOk result (IsTrue (state S.Store conn.new).is_open) }
+    ensures reads { OnlyReads (state S.Store conn.old) (state S.Store conn.new) }
+    ensures outside { conn.new.in_transaction ≡ false }
+{
+    let batches = all_entries::<Batches, S>(alloc, conn)?;
+    let keyings = all_entries::<KeyedPapers, S>(alloc, conn)?;
+    let verdicts = all_entries::<JudgedPapers, S>(alloc, conn)?;
+    Ok(Papers {
+        batches,
+        keyings,
+        verdicts,
+    })
+}
 
 /// The entries of a database, each table's in the order of its key. `Damaged` where the rows are those of
 /// no state.
@@ -31,12 +92,19 @@ pub(crate) fn all_rows<S: Alter>(alloc: Global, conn: &mut Connection<S>) -> Res
     ensures reads { OnlyReads (state S.Store conn.old) (state S.Store conn.new) }
     ensures outside { conn.new.in_transaction ≡ false }
 {
-    let wards = all_entries::<Wards, S>(alloc, conn)?;
-    let candidates = all_entries::<Candidates, S>(alloc, conn)?;
+    let Contests { wards, candidates } = all_contests(alloc, conn)?;
+    let Papers {
+        batches,
+        keyings,
+        verdicts,
+    } = all_papers(alloc, conn)?;
     let receipts = all_entries::<Receipts, S>(alloc, conn)?;
     Ok(Rows {
         wards,
         candidates,
+        batches,
+        keyings,
+        verdicts,
         receipts,
     })
 }

@@ -15,7 +15,7 @@ ghost use Rattle.store.specs.Offices.{HoldsState};
 ghost use Rattle.store.specs.Openings.{IsToldBy, TellsNoState, IsVersion, TellsRow, TellsRows, HasVersion, TellsOffice, is_later, TellsRowsIn, AreEmpty, HoldsEntries};
 
 use crate::listing;
-use rowcheck::{Rows, are_reached, item1, item2};
+use rowcheck::{Rows, are_reached, item1, item2, item3, item4, item5};
 use sqlite::{Alter, Connection, Row};
 use std::alloc::Global;
 use tables::cells::integer_at;
@@ -99,8 +99,14 @@ fn is_later(table: Table) -> bool
     ensures { result ≡ is_later table }
 {
     match table {
-        Table::Office | Table::Ward | Table::Candidate | Table::Receipt => false,
-        Table::Batch | Table::Keying | Table::Verdict | Table::Lot => true,
+        Table::Office
+        | Table::Ward
+        | Table::Candidate
+        | Table::Batch
+        | Table::Keying
+        | Table::Verdict
+        | Table::Receipt => false,
+        Table::Lot => true,
     }
 }
 
@@ -149,6 +155,15 @@ fn are_of_state(rows: &Rows) -> bool
         return false;
     }
     if !item2(rows) {
+        return false;
+    }
+    if !item3(rows) {
+        return false;
+    }
+    if !item4(rows) {
+        return false;
+    }
+    if !item5(rows) {
         return false;
     }
     are_reached(rows)

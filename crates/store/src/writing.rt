@@ -11,84 +11,27 @@ ghost use Rattle.tables.specs.Contents.{Contents, Sees};
 ghost use Rattle.tables.specs.Making.{no_contents};
 ghost use Rattle.store.specs.Offices.{tables_of, ChangesTo};
 
-use crate::entries::{Candidates, Receipts, Wards};
-use register::{Candidate, Change, Effect, Phase, Receipt, Ward};
+mod batches;
+mod candidates;
+mod papers;
+mod wards;
+
+use crate::entries::receipts::Receipts;
+use crate::writing::batches::{write_batch, write_round};
+use crate::writing::candidates::{remove_candidate, write_candidate};
+use crate::writing::papers::{write_keying, write_verdict};
+use crate::writing::wards::{write_phase, write_ward};
+use register::{Change, Effect, Receipt};
 use sqlite::{Alter, Transaction};
 use std::alloc::Global;
 use tables::cells::number;
 use tables::insertion::insert;
 use tables::making::create_tables;
-use tables::removal::remove;
-use tables::replacement::set_value;
 use tables::writing::add_entry;
-use tables::{Fault, Setting, Table};
+use tables::{Fault, Table};
 
 /// The schema version of this program's offices.
 const VERSION: u32 = 1;
-
-/// Adds the row of a ward.
-fn write_ward<S: Alter>(
-    alloc: Global,
-    tx: &mut Transaction<'_, S>,
-    ward: &Ward,
-) -> Result<(), Fault>
-    ensures same_reference { tx.new.conn.ghost_name ≡ tx.old.conn.ghost_name }
-    ensures writes { HasCleanDisk (state S.Store tx.new.conn.now) → (s : OfficeState) → Sees (tables_of s) (state S.Store tx.old.conn.now)
-        → OnOk result (Sees (tables_of (with_effect (effect_entry (Effect.WardAdded ward.now)) s)) (state S.Store tx.new.conn.now)) }
-    ensures keeps { HasCleanDisk (state S.Store tx.new.conn.now) → KeepsCommit (state S.Store tx.old.conn.now) (state S.Store tx.new.conn.now) }
-    ensures survives { Survives (state S.Store tx.old.conn.now) (state S.Store tx.new.conn.now) (λ _. ⊥) }
-    ensures cause { IfErr result (λ f. (f ≡ Fault.Memory) ⊎ (f ≡ Fault.Store)) }
-{
-    add_entry::<Wards, S>(alloc, tx, ward)
-}
-
-/// Sets the phase in the row of a ward.
-fn write_phase<S: Alter>(tx: &mut Transaction<'_, S>, ward: u32, phase: Phase) -> Result<(), Fault>
-    ensures same_reference { tx.new.conn.ghost_name ≡ tx.old.conn.ghost_name }
-    ensures writes { HasCleanDisk (state S.Store tx.new.conn.now) → (s : OfficeState) → Sees (tables_of s) (state S.Store tx.old.conn.now)
-        → OnOk result (Sees (tables_of (with_effect (effect_entry (Effect.WardMoved ward phase)) s)) (state S.Store tx.new.conn.now)) }
-    ensures keeps { HasCleanDisk (state S.Store tx.new.conn.now) → KeepsCommit (state S.Store tx.old.conn.now) (state S.Store tx.new.conn.now) }
-    ensures survives { Survives (state S.Store tx.old.conn.now) (state S.Store tx.new.conn.now) (λ _. ⊥) }
-    ensures cause { IfErr result (λ f. (f ≡ Fault.Memory) ⊎ (f ≡ Fault.Store)) }
-{
-    set_value(
-        tx,
-        Setting::PhaseOfWard,
-        &[number(ward), number(phase.number())],
-    )
-}
-
-/// Adds the row of a candidate.
-fn write_candidate<S: Alter>(
-    alloc: Global,
-    tx: &mut Transaction<'_, S>,
-    candidate: &Candidate,
-) -> Result<(), Fault>
-    ensures same_reference { tx.new.conn.ghost_name ≡ tx.old.conn.ghost_name }
-    ensures writes { HasCleanDisk (state S.Store tx.new.conn.now) → (s : OfficeState) → Sees (tables_of s) (state S.Store tx.old.conn.now)
-        → OnOk result (Sees (tables_of (with_effect (effect_entry (Effect.CandidateAdded candidate.now)) s)) (state S.Store tx.new.conn.now)) }
-    ensures keeps { HasCleanDisk (state S.Store tx.new.conn.now) → KeepsCommit (state S.Store tx.old.conn.now) (state S.Store tx.new.conn.now) }
-    ensures survives { Survives (state S.Store tx.old.conn.now) (state S.Store tx.new.conn.now) (λ _. ⊥) }
-    ensures cause { IfErr result (λ f. (f ≡ Fault.Memory) ⊎ (f ≡ Fault.Store)) }
-{
-    add_entry::<Candidates, S>(alloc, tx, candidate)
-}
-
-/// Removes the row of a candidate.
-fn remove_candidate<S: Alter>(
-    tx: &mut Transaction<'_, S>,
-    ward: u32,
-    candidate: u32,
-) -> Result<(), Fault>
-    ensures same_reference { tx.new.conn.ghost_name ≡ tx.old.conn.ghost_name }
-    ensures writes { HasCleanDisk (state S.Store tx.new.conn.now) → (s : OfficeState) → Sees (tables_of s) (state S.Store tx.old.conn.now)
-        → OnOk result (Sees (tables_of (with_effect (effect_entry (Effect.CandidateWithdrawn ward candidate)) s)) (state S.Store tx.new.conn.now)) }
-    ensures keeps { HasCleanDisk (state S.Store tx.new.conn.now) → KeepsCommit (state S.Store tx.old.conn.now) (state S.Store tx.new.conn.now) }
-    ensures survives { Survives (state S.Store tx.old.conn.now) (state S.Store tx.new.conn.now) (λ _. ⊥) }
-    ensures cause { IfErr result (λ f. (f ≡ Fault.Memory) ⊎ (f ≡ Fault.Store)) }
-{
-    remove(tx, Table::Candidate, &[number(ward), number(candidate)])
-}
 
 /// Writes what a command does to the state.
 pub(crate) fn write_effect<S: Alter>(
@@ -110,6 +53,10 @@ pub(crate) fn write_effect<S: Alter>(
         Effect::CandidateWithdrawn { ward, candidate } => {
             remove_candidate(tx, *ward, *candidate)
         }
+        Effect::BatchAdded(batch) => write_batch(alloc, tx, batch),
+        Effect::BatchReopened { batch, round } => write_round(tx, *batch, *round),
+        Effect::PapersKeyed(papers) => write_keying(alloc, tx, papers),
+        Effect::PaperJudged(judged) => write_verdict(alloc, tx, judged),
     }
 }
 

@@ -98,6 +98,25 @@ key_of_two_numbers a b m n =
     ap (λ x. x && (equal Binary (Int (pos n)) (Int (pos b)) && true)) (equal-Int (pos m) (pos a) ∙ ap is_eq (numbers m a) ∙ turned nat_cmp_total m a)
     ∙ ap (λ x. is_eq (nat_cmp a m) && x) (key_of_number b n) ∙ then_equal (nat_cmp a m) (nat_cmp b n)
 
+pub key_of_three_numbers : (a b c k m n : ℕ) → (equal Binary (Int (pos k)) (Int (pos a)) && (equal Binary (Int (pos m)) (Int (pos b)) && (equal Binary (Int (pos n)) (Int (pos c)) && true)))
+    ≡ is_eq (ordering_then (nat_cmp a k) (ordering_then (nat_cmp b m) (nat_cmp c n)))
+key_of_three_numbers a b c k m n =
+    ap (λ x. x && (equal Binary (Int (pos m)) (Int (pos b)) && (equal Binary (Int (pos n)) (Int (pos c)) && true))) (equal-Int (pos k) (pos a) ∙ ap is_eq (numbers k a) ∙ turned nat_cmp_total k a)
+    ∙ ap (λ x. is_eq (nat_cmp a k) && x) (key_of_two_numbers b c m n) ∙ then_equal (nat_cmp a k) (ordering_then (nat_cmp b m) (nat_cmp c n))
+
+pub key_of_four_numbers : (a b c d k l m n : ℕ) → (equal Binary (Int (pos k)) (Int (pos a)) && (equal Binary (Int (pos l)) (Int (pos b)) && (equal Binary (Int (pos m)) (Int (pos c)) && (equal Binary (Int (pos n)) (Int (pos d)) && true))))
+    ≡ is_eq (ordering_then (nat_cmp a k) (ordering_then (nat_cmp b l) (ordering_then (nat_cmp c m) (nat_cmp d n))))
+key_of_four_numbers a b c d k l m n =
+    ap (λ x. x && (equal Binary (Int (pos l)) (Int (pos b)) && (equal Binary (Int (pos m)) (Int (pos c)) && (equal Binary (Int (pos n)) (Int (pos d)) && true)))) (equal-Int (pos k) (pos a) ∙ ap is_eq (numbers k a) ∙ turned nat_cmp_total k a)
+    ∙ ap (λ x. is_eq (nat_cmp a k) && x) (key_of_three_numbers b c d l m n) ∙ then_equal (nat_cmp a k) (ordering_then (nat_cmp b l) (ordering_then (nat_cmp c m) (nat_cmp d n)))
+
+-- the same, number by number
+pub same_number : (a k : ℕ) → (equal Binary (Int (pos k)) (Int (pos a)) && true) ≡ (k == a)
+same_number a k = and-true _ ∙ equal-number k a
+
+pub same_three_numbers : (a b c k m n : ℕ) → (equal Binary (Int (pos k)) (Int (pos a)) && (equal Binary (Int (pos m)) (Int (pos b)) && (equal Binary (Int (pos n)) (Int (pos c)) && true))) ≡ ((k == a) && ((m == b) && (n == c)))
+same_three_numbers a b c k m n = rw (equal-number k a, equal-number m b, same_number c n) refl
+
 pub key_of_number_and_text : (n m : ℕ) (s t : List ℕ) → (equal Binary (Int (pos m)) (Int (pos n)) && (equal Binary (Text t) (Text s) && true)) ≡ is_eq (ordering_then (nat_cmp n m) (slice_cmp nat_cmp s t))
 key_of_number_and_text n m s t =
     ap (λ b. b && (equal Binary (Text t) (Text s) && true)) (equal-Int (pos m) (pos n) ∙ ap is_eq (numbers m n) ∙ turned nat_cmp_total m n)

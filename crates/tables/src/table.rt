@@ -90,6 +90,8 @@ impl Reference {
 pub enum Setting {
     /// The phase of a ward.
     PhaseOfWard,
+    /// The round of a batch.
+    RoundOfBatch,
 }
 
 impl Setting {
@@ -99,6 +101,7 @@ impl Setting {
     {
         match self {
             Setting::PhaseOfWard => Table::Ward,
+            Setting::RoundOfBatch => Table::Batch,
         }
     }
 }

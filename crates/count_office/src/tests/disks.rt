@@ -5,7 +5,7 @@ ghost use Rattle.std.specs.Prelude.{⊤};
 
 use super::steps::{Case, Said, Step, play};
 use sqlite::{Connection, Error, ErrorCode, FileStore, Files, Options};
-use sqlite_disk::{Crash, Fuse, Memory};
+use sqlite_disk::{Crash, Disk, Fuse, Memory};
 use std::alloc::Global;
 use std::marker::Model;
 use std::process::Abort;
@@ -37,6 +37,21 @@ fn opened(
     }
 }
 
+/// Which of the two files stops.
+#[derive(Clone, Copy)]
+pub enum File {
+    Log,
+    Database,
+}
+
+/// A disk with the same bytes, all of them synced, that fails after so many calls.
+fn copy_of(alloc: Global, disk: &Fuse<Memory>, calls: u64) -> Result<Fuse<Memory>, Fail> {
+    let mut copy = Memory::new(alloc);
+    copy.write_at(0, disk.inner().bytes())?;
+    copy.sync()?;
+    Ok(Fuse::new(copy, calls))
+}
+
 impl Disks {
     /// New files, of which the log fails after so many calls and the database file after so many.
     pub fn stopping(alloc: Global, log: u64, db: u64) -> Disks {
@@ -51,6 +66,20 @@ impl Disks {
     /// New files that never fail.
     pub fn lasting(alloc: Global) -> Disks {
         Disks::stopping(alloc, u64::MAX, u64::MAX)
+    }
+
+    /// Files with the same bytes, of which the one fails after so many calls.
+    pub fn copied(&self, alloc: Global, file: File, calls: u64) -> Result<Disks, Fail> {
+        let (log, db) = match file {
+            File::Log => (calls, u64::MAX),
+            File::Database => (u64::MAX, calls),
+        };
+        Ok(Disks {
+            files: Files {
+                log: copy_of(alloc, &self.files.log, log)?,
+                db: copy_of(alloc, &self.files.db, db)?,
+            },
+        })
     }
 
     /// The machine comes back: what was not synced is lost, and no call fails from now on.
@@ -91,7 +120,7 @@ impl Disks {
     }
 
     /// Every row of every table.
-    fn rows(self, alloc: Global) -> Result<(String, Disks), Fail> {
+    pub fn rows(self, alloc: Global) -> Result<(String, Disks), Fail> {
         let (said, disks) = self.play(alloc, &[Step::Contents])?;
         match said.first() {
             Some(said) => Ok((String::from_str(alloc, said.told().1)?, disks)),

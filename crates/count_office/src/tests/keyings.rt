@@ -1,245 +1,624 @@
-//! Keyings: a batch is given out and keyed from files, keyed again where the two keyings differ, and a
-//! doubtful paper of it is judged; and what is refused on the way.
+//! Batches, two clerks' keyings of them, and verdicts, from words to rows and back.
 
-use super::disks::Disks;
-use super::orders::{ADDED, HARBOUR, INIT, READY};
+use super::disks::{Disks, File};
+use super::orders::{ADDED, DAMAGED, HARBOUR, INIT, QUAY, QUAY_ADDED, READY};
 use super::steps::{Case, Step, Told};
+use register::{BatchCommand, CandidateCommand, Command, KeyingCommand, Request, WardCommand};
+use std::alloc::{AllocError, Global};
 use std::test::Fail;
 
-const KEYED: &[u8] = b"paper,1,2,3\n1,1,2,\n2,D,,\n";
+pub const CANDIDATES: Step<'static> = Step::FileOrder(
+    &["DB", "import-candidates", "FILE", "--id", "c"],
+    b"ward,candidate,name\n7,1,Ann\n7,2,Bob\n7,3,Cy\n",
+);
 
-const KEYED_OTHERWISE: &[u8] = b"paper,1,2,3\n1,2,1,\n2,D,,\n";
+pub const CANDIDATES_ADDED: Told<'static> = (
+    0,
+    "candidate 1 of ward 7 added\ncandidate 2 of ward 7 added\ncandidate 3 of ward 7 added\n",
+    "",
+);
 
-const FIRST_KEYED: Told<'static> = (0, "batch 12 round 1 keyed\n", "");
+pub const CLOSE: Step<'static> = Step::Order(&["DB", "close", "7", "--id", "n1"]);
 
-const SECOND_KEYED: Told<'static> = (0, "batch 12 round 2 keyed\n", "");
-
-/// The first clerk keys the batch.
-const KEYING: &[&str] = &["DB", "import-keying", "4", "12", "1", "FILE", "--id", "k1"];
+pub const POLLED: Told<'static> = (0, "ward 7 polled\n", "");
 
 const STATUS: Step<'static> = Step::Order(&["DB", "status", "7"]);
 
-/// A ward in keying, with a batch of two papers for clerks 4 and 9.
-const BEGUN: [Case<'static>; 6] = [
+const TWELVE: Step<'static> = Step::Order(&["DB", "batch", "12", "7", "2", "4", "9", "--id", "b1"]);
+
+/// Ward 7 with three candidates and two seats in keying; batch 12 of two papers for the clerks 4 and 9,
+/// and batch 13 of one paper for the clerks 9 and 5.
+const GIVEN_OUT: [Case<'static>; 6] = [
     (INIT, READY),
     (HARBOUR, ADDED),
+    (CANDIDATES, CANDIDATES_ADDED),
+    (CLOSE, POLLED),
+    (TWELVE, (0, "batch 12 added\n", "")),
     (
-        Step::FileOrder(
-            &["DB", "import-candidates", "FILE", "--id", "c"],
-            b"ward,candidate,name\n7,1,Ann\n7,2,Bob\n7,3,Cy\n",
-        ),
-        (
-            0,
-            "candidate 1 of ward 7 added\ncandidate 2 of ward 7 added\ncandidate 3 of ward 7 added\n",
-            "",
-        ),
-    ),
-    (
-        Step::Order(&["DB", "close", "7", "--id", "n1"]),
-        (0, "ward 7 polled\n", ""),
-    ),
-    (
-        Step::Order(&["DB", "batch", "12", "7", "2", "4", "9", "--id", "b1"]),
-        (0, "batch 12 added\n", ""),
-    ),
-    (
-        STATUS,
-        (
-            0,
-            "ward 7 keying: 3 candidates, 1 batches, 0 taken, 0 differing, 0 doubtful open, 0 stages\n",
-            "",
-        ),
+        Step::Order(&["DB", "batch", "13", "7", "1", "9", "5", "--id", "b2"]),
+        (0, "batch 13 added\n", ""),
     ),
 ];
 
-/// What is refused before the batch is keyed. Where there is no such batch, its file isn't looked at.
-const UNKEYED: [Case<'static>; 16] = [
+/// The first paper is marked, and the second doubtful.
+const PAPERS: &[u8] = b"paper,1,2,3\n1,1,2,\n2,D,,\n";
+
+const OTHER_PAPERS: &[u8] = b"paper,1,2,3\n1,2,1,\n2,D,,\n";
+
+const ONE_PAPER: &[u8] = b"paper,1,2,3\n1,,1,\n";
+
+const BY_FOUR: &[&str] = &["DB", "import-keying", "4", "12", "1", "FILE", "--id", "k1"];
+
+const BY_NINE: &[&str] = &["DB", "import-keying", "9", "12", "1", "FILE", "--id", "k1"];
+
+const KEYED: Told<'static> = (0, "batch 12 round 1 keyed\n", "");
+
+const JUDGED: Case<'static> = (
+    Step::Order(&["DB", "judge", "12", "2", "accept:1,,2", "--id", "j1"]),
+    (0, "batch 12 paper 2 accepted\n", ""),
+);
+
+const BAD_VERDICT: Told<'static> = (1, "", "refused 23: bad verdict\n");
+
+const OUT_OF_RANGE: Told<'static> = (1, "", "refused 3: number out of range\n");
+
+/// Files that keep no paper of the first keying.
+const FILES: [Case<'static>; 6] = [
     (
-        Step::FileOrder(KEYING, b"paper,1,2,3\n1,1,2,\n2,D"),
+        Step::FileOrder(BY_FOUR, b""),
+        (1, "", "file fault 1 at record 0: header\n"),
+    ),
+    (
+        Step::FileOrder(BY_FOUR, b"paper,1,2,3\n1,1,2,\n2,D"),
         (1, "", "file fault 2 at record 2: record length\n"),
     ),
     (
-        Step::FileOrder(KEYING, b"paper,1,2,3\n1,1,2,\n"),
+        Step::FileOrder(BY_FOUR, b"paper,1,2,3\n1,1,2,\n3,D,,\n"),
+        (1, "", "file fault 4 at record 2: paper order\n"),
+    ),
+    (
+        Step::FileOrder(BY_FOUR, b"paper,1,2,3\n1,1,2,\n"),
         (1, "", "refused 17: wrong number of papers\n"),
     ),
     (
-        Step::FileOrder(KEYING, b""),
-        (1, "", "file fault 1 at record 0: header\n"),
-    ),
-    (
-        Step::FileOrder(KEYING, b"paper,1,2\n1,1,2\n2,D,\n"),
-        (1, "", "file fault 1 at record 0: header\n"),
-    ),
-    (
-        Step::Order(KEYING),
+        Step::Order(BY_FOUR),
         (3, "", "file fault 8 at record 0: read failed\n"),
     ),
     (
-        Step::FileOrder(KEYING, b"paper,1,2,3\n1,1,2,\n2,x,,\n"),
-        (1, "", "refused 18: bad marks on paper 2, fault 2\n"),
-    ),
-    (
-        Step::Order(&["DB", "import-keying", "4", "13", "1", "FILE", "--id", "k1"]),
+        Step::FileOrder(
+            &["DB", "import-keying", "4", "99", "1", "FILE", "--id", "k1"],
+            PAPERS,
+        ),
         (1, "", "refused 7: no such batch\n"),
     ),
-    (
-        Step::FileOrder(
-            &["DB", "import-keying", "5", "12", "1", "FILE", "--id", "k1"],
-            KEYED,
-        ),
-        (1, "", "refused 14: clerk not of this batch\n"),
-    ),
-    (
-        Step::FileOrder(
-            &["DB", "import-keying", "4", "12", "2", "FILE", "--id", "k1"],
-            KEYED,
-        ),
-        (1, "", "refused 15: not this round\n"),
-    ),
-    (
-        Step::Order(&["DB", "batch", "12", "7", "2", "4", "9", "--id", "b2"]),
-        (1, "", "refused 8: batch exists\n"),
-    ),
-    (
-        Step::Order(&["DB", "batch", "13", "7", "2", "4", "4", "--id", "b2"]),
-        (1, "", "refused 13: clerks not different\n"),
-    ),
-    (
-        Step::Order(&["DB", "batch", "13", "6", "2", "4", "9", "--id", "b2"]),
-        (1, "", "refused 5: no such ward\n"),
-    ),
-    (
-        Step::Order(&["DB", "again", "12", "--id", "a1"]),
-        (1, "", "refused 19: keyings don't differ\n"),
-    ),
-    (
-        Step::Order(&["DB", "judge", "12", "2", "accept:1,,2", "--id", "v1"]),
-        (1, "", "refused 20: batch not taken\n"),
-    ),
-    (
-        Step::Order(&["DB", "status", "6"]),
-        (1, "", "refused 5: no such ward\n"),
-    ),
-    (
-        Step::Order(&["DB", "status", "0"]),
-        (1, "", "refused 3: number out of range\n"),
-    ),
 ];
 
-/// The two keyings differ in the first round, and are alike in the second.
-const KEYINGS: [Case<'static>; 10] = [
-    (Step::FileOrder(KEYING, KEYED), FIRST_KEYED),
+/// What comes again once clerk 4 has keyed batch 12, and what is refused of it.
+const AGAIN: [Case<'static>; 5] = [
+    (Step::FileOrder(BY_FOUR, PAPERS), KEYED),
+    (Step::FileOrder(BY_FOUR, OTHER_PAPERS), KEYED),
     (
         Step::FileOrder(
-            &["DB", "import-keying", "9", "12", "1", "FILE", "--id", "k1"],
-            KEYED_OTHERWISE,
-        ),
-        FIRST_KEYED,
-    ),
-    (
-        STATUS,
-        (
-            0,
-            "ward 7 keying: 3 candidates, 1 batches, 0 taken, 1 differing, 0 doubtful open, 0 stages\n",
-            "",
-        ),
-    ),
-    (
-        Step::Order(&["DB", "again", "12", "--id", "a1"]),
-        (0, "batch 12 round 2 open\n", ""),
-    ),
-    (
-        Step::FileOrder(
-            &["DB", "import-keying", "4", "12", "2", "FILE", "--id", "k2"],
-            KEYED,
-        ),
-        SECOND_KEYED,
-    ),
-    (
-        Step::FileOrder(
-            &["DB", "import-keying", "9", "12", "2", "FILE", "--id", "k2"],
-            KEYED,
-        ),
-        SECOND_KEYED,
-    ),
-    (
-        STATUS,
-        (
-            0,
-            "ward 7 keying: 3 candidates, 1 batches, 1 taken, 0 differing, 1 doubtful open, 0 stages\n",
-            "",
-        ),
-    ),
-    (
-        Step::Order(&["DB", "judge", "12", "2", "reject:6", "--id", "v1"]),
-        (1, "", "refused 23: bad verdict\n"),
-    ),
-    (
-        Step::Order(&["DB", "judge", "12", "2", "accept:D", "--id", "v1"]),
-        (1, "", "refused 23: bad verdict\n"),
-    ),
-    (
-        Step::Order(&["DB", "judge", "12", "2", "accept:1,,2", "--id", "v1"]),
-        (0, "batch 12 paper 2 accepted\n", ""),
-    ),
-];
-
-/// What is told once the batch is taken and its doubtful paper judged, and changes nothing.
-const TAKEN: [Case<'static>; 10] = [
-    (Step::FileOrder(KEYING, KEYED_OTHERWISE), FIRST_KEYED),
-    (
-        Step::FileOrder(
-            &["DB", "import-keying", "4", "12", "2", "FILE", "--id", "k3"],
-            KEYED,
-        ),
-        (1, "", "refused 16: already keyed\n"),
-    ),
-    (
-        Step::FileOrder(
-            &["DB", "import-keying", "4", "12", "2", "FILE", "--id", "k1"],
-            KEYED,
+            &["DB", "import-keying", "4", "13", "1", "FILE", "--id", "k1"],
+            ONE_PAPER,
         ),
         (1, "", "refused 2: id used for another subject\n"),
     ),
     (
-        Step::Order(&["DB", "again", "12", "--id", "a1"]),
-        (0, "batch 12 round 2 open\n", ""),
-    ),
-    (
-        Step::Order(&["DB", "again", "12", "--id", "a2"]),
-        (1, "", "refused 19: keyings don't differ\n"),
-    ),
-    (
-        Step::Order(&["DB", "judge", "12", "1", "reject:3", "--id", "v2"]),
-        (1, "", "refused 21: paper not doubtful\n"),
-    ),
-    (
-        Step::Order(&["DB", "judge", "12", "2", "accept:1,,2", "--id", "v1"]),
-        (0, "batch 12 paper 2 accepted\n", ""),
-    ),
-    (
-        Step::Order(&["DB", "judge", "12", "2", "reject:3", "--id", "v2"]),
-        (1, "", "refused 22: already judged\n"),
-    ),
-    (
-        Step::Order(&["DB", "judge", "13", "2", "reject:3", "--id", "v2"]),
-        (1, "", "refused 7: no such batch\n"),
+        Step::FileOrder(
+            &["DB", "import-keying", "4", "12", "1", "FILE", "--id", "k2"],
+            PAPERS,
+        ),
+        (1, "", "refused 16: already keyed\n"),
     ),
     (
         STATUS,
         (
             0,
-            "ward 7 keying: 3 candidates, 1 batches, 1 taken, 0 differing, 0 doubtful open, 0 stages\n",
+            "ward 7 keying: 3 candidates, 2 batches, 0 taken, 0 differing, 0 doubtful open, 0 stages\n",
+            "",
+        ),
+    ),
+];
+
+/// Both clerks key batch 12 alike, and its doubtful paper is judged.
+const AGREED: [Case<'static>; 8] = [
+    (Step::FileOrder(BY_NINE, PAPERS), KEYED),
+    (
+        STATUS,
+        (
+            0,
+            "ward 7 keying: 3 candidates, 2 batches, 1 taken, 0 differing, 1 doubtful open, 0 stages\n",
+            "",
+        ),
+    ),
+    (
+        Step::Order(&["DB", "judge", "12", "2", "reject:6", "--id", "j1"]),
+        BAD_VERDICT,
+    ),
+    JUDGED,
+    JUDGED,
+    (
+        Step::Order(&["DB", "judge", "12", "1", "reject:3", "--id", "j2"]),
+        (1, "", "refused 21: paper not doubtful\n"),
+    ),
+    (
+        Step::Order(&["DB", "judge", "12", "2", "reject:5", "--id", "j2"]),
+        (1, "", "refused 22: already judged\n"),
+    ),
+    (
+        STATUS,
+        (
+            0,
+            "ward 7 keying: 3 candidates, 2 batches, 1 taken, 0 differing, 0 doubtful open, 0 stages\n",
             "",
         ),
     ),
 ];
 
 #[test]
-fn batches_are_keyed_and_judged(rt: HostRuntime) -> Result<(), Fail> {
-    let disks = Disks::lasting(rt.alloc()).hear(&rt, &BEGUN)?;
-    let disks = disks.hear_unchanged(&rt, &UNKEYED)?;
-    let disks = disks.hear(&rt, &KEYINGS)?;
-    disks.hear_unchanged(&rt, &TAKEN)?;
+fn two_clerks_agree(rt: HostRuntime) -> Result<(), Fail> {
+    let disks = Disks::lasting(rt.alloc()).hear(&rt, &GIVEN_OUT)?;
+    let disks = disks.hear_unchanged(&rt, &FILES)?;
+    let keyed = [(Step::FileOrder(BY_FOUR, PAPERS), KEYED)];
+    let disks = disks.hear(&rt, &keyed)?.hear_unchanged(&rt, &AGAIN)?;
+    disks.hear(&rt, &AGREED)?;
+    Ok(())
+}
+
+/// The clerks key batch 12 unlike, and each is told the same; in the next round they agree.
+const DIFFERING: [Case<'static>; 9] = [
+    (Step::FileOrder(BY_FOUR, PAPERS), KEYED),
+    (Step::FileOrder(BY_NINE, OTHER_PAPERS), KEYED),
+    (
+        STATUS,
+        (
+            0,
+            "ward 7 keying: 3 candidates, 2 batches, 0 taken, 1 differing, 0 doubtful open, 0 stages\n",
+            "",
+        ),
+    ),
+    (
+        Step::Order(&["DB", "again", "12", "--id", "a1"]),
+        (0, "batch 12 round 2 open\n", ""),
+    ),
+    (
+        Step::Order(&["DB", "again", "12", "--id", "a1"]),
+        (0, "batch 12 round 2 open\n", ""),
+    ),
+    (
+        Step::FileOrder(
+            &["DB", "import-keying", "4", "12", "1", "FILE", "--id", "k2"],
+            PAPERS,
+        ),
+        (1, "", "refused 15: not this round\n"),
+    ),
+    (
+        Step::FileOrder(
+            &["DB", "import-keying", "4", "12", "2", "FILE", "--id", "k2"],
+            OTHER_PAPERS,
+        ),
+        (0, "batch 12 round 2 keyed\n", ""),
+    ),
+    (
+        Step::FileOrder(
+            &["DB", "import-keying", "9", "12", "2", "FILE", "--id", "k2"],
+            OTHER_PAPERS,
+        ),
+        (0, "batch 12 round 2 keyed\n", ""),
+    ),
+    (
+        STATUS,
+        (
+            0,
+            "ward 7 keying: 3 candidates, 2 batches, 1 taken, 0 differing, 1 doubtful open, 0 stages\n",
+            "",
+        ),
+    ),
+];
+
+#[test]
+fn clerks_who_differ_key_again(rt: HostRuntime) -> Result<(), Fail> {
+    Disks::lasting(rt.alloc())
+        .hear(&rt, &GIVEN_OUT)?
+        .hear(&rt, &DIFFERING)?;
+    Ok(())
+}
+
+/// What that office refuses before anything is keyed, each of the four commands' refusals.
+const REFUSED: [Case<'static>; 24] = [
+    (
+        Step::Order(&["DB", "batch", "10000", "7", "2", "4", "9", "--id", "x"]),
+        OUT_OF_RANGE,
+    ),
+    (
+        Step::Order(&["DB", "batch", "14", "7", "501", "4", "9", "--id", "x"]),
+        OUT_OF_RANGE,
+    ),
+    (
+        Step::Order(&["DB", "batch", "14", "7", "2", "4", "1000", "--id", "x"]),
+        OUT_OF_RANGE,
+    ),
+    (
+        Step::Order(&["DB", "batch", "14", "9", "2", "4", "9", "--id", "x"]),
+        (1, "", "refused 5: no such ward\n"),
+    ),
+    (
+        Step::Order(&["DB", "batch", "12", "7", "2", "4", "4", "--id", "x"]),
+        (1, "", "refused 8: batch exists\n"),
+    ),
+    (
+        Step::Order(&["DB", "batch", "14", "8", "2", "4", "4", "--id", "x"]),
+        (1, "", "refused 9: wrong phase\n"),
+    ),
+    (
+        Step::Order(&["DB", "batch", "14", "7", "2", "4", "4", "--id", "x"]),
+        (1, "", "refused 13: clerks not different\n"),
+    ),
+    (
+        Step::Order(&["DB", "again", "0", "--id", "x"]),
+        OUT_OF_RANGE,
+    ),
+    (
+        Step::Order(&["DB", "again", "14", "--id", "x"]),
+        (1, "", "refused 7: no such batch\n"),
+    ),
+    (
+        Step::Order(&["DB", "again", "12", "--id", "x"]),
+        (1, "", "refused 19: keyings don't differ\n"),
+    ),
+    (
+        Step::FileOrder(
+            &["DB", "import-keying", "0", "12", "1", "FILE", "--id", "x"],
+            PAPERS,
+        ),
+        OUT_OF_RANGE,
+    ),
+    (
+        Step::FileOrder(
+            &["DB", "import-keying", "4", "12", "100", "FILE", "--id", "x"],
+            PAPERS,
+        ),
+        OUT_OF_RANGE,
+    ),
+    (
+        Step::FileOrder(
+            &["DB", "import-keying", "5", "12", "1", "FILE", "--id", "x"],
+            PAPERS,
+        ),
+        (1, "", "refused 14: clerk not of this batch\n"),
+    ),
+    (
+        Step::FileOrder(
+            &["DB", "import-keying", "4", "12", "2", "FILE", "--id", "x"],
+            PAPERS,
+        ),
+        (1, "", "refused 15: not this round\n"),
+    ),
+    (
+        Step::FileOrder(BY_FOUR, b"paper,1,2,3\n1,1,2,\n2,1,100,\n"),
+        (1, "", "refused 18: bad marks on paper 2, fault 3\n"),
+    ),
+    (
+        Step::FileOrder(BY_FOUR, b"paper,1,2,3\n1,01,2,\n2,1,100,\n"),
+        (1, "", "refused 18: bad marks on paper 1, fault 2\n"),
+    ),
+    (
+        Step::Order(&["DB", "judge", "12", "501", "reject:3", "--id", "x"]),
+        OUT_OF_RANGE,
+    ),
+    (
+        Step::Order(&["DB", "judge", "14", "1", "reject:3", "--id", "x"]),
+        (1, "", "refused 7: no such batch\n"),
+    ),
+    (
+        Step::Order(&["DB", "judge", "12", "2", "accept:", "--id", "x"]),
+        (1, "", "refused 18: bad marks on paper 2, fault 1\n"),
+    ),
+    (
+        Step::Order(&["DB", "judge", "12", "2", "accept:D", "--id", "x"]),
+        (1, "", "refused 20: batch not taken\n"),
+    ),
+    (Step::Order(&["DB", "status", "0"]), OUT_OF_RANGE),
+    (
+        Step::Order(&["DB", "status", "9"]),
+        (1, "", "refused 5: no such ward\n"),
+    ),
+    (
+        Step::Order(&["DB", "status", "8"]),
+        (
+            0,
+            "ward 8 nominations: 0 candidates, 0 batches, 0 taken, 0 differing, 0 doubtful open, 0 stages\n",
+            "",
+        ),
+    ),
+    (
+        Step::Order(&["DB", "withdraw", "7", "1", "--id", "x"]),
+        (1, "", "refused 9: wrong phase\n"),
+    ),
+];
+
+/// What it refuses of its doubtful paper once batch 12 is taken.
+const VERDICTS: [Case<'static>; 4] = [
+    (
+        Step::Order(&["DB", "judge", "12", "2", "accept:D", "--id", "x"]),
+        BAD_VERDICT,
+    ),
+    (
+        Step::Order(&["DB", "judge", "12", "2", "accept:1,1,", "--id", "x"]),
+        BAD_VERDICT,
+    ),
+    (
+        Step::Order(&["DB", "judge", "12", "2", "reject:2", "--id", "x"]),
+        BAD_VERDICT,
+    ),
+    (
+        Step::Order(&["DB", "judge", "12", "3", "reject:3", "--id", "x"]),
+        (1, "", "refused 21: paper not doubtful\n"),
+    ),
+];
+
+#[test]
+fn keying_is_refused(rt: HostRuntime) -> Result<(), Fail> {
+    let disks = Disks::lasting(rt.alloc()).hear(&rt, &GIVEN_OUT)?;
+    let disks = disks.hear(&rt, &[(QUAY, QUAY_ADDED)])?;
+    let disks = disks.hear_unchanged(&rt, &REFUSED)?;
+    let both = [
+        (Step::FileOrder(BY_FOUR, PAPERS), KEYED),
+        (Step::FileOrder(BY_NINE, PAPERS), KEYED),
+    ];
+    disks.hear(&rt, &both)?.hear_unchanged(&rt, &VERDICTS)?;
+    Ok(())
+}
+
+/// The highest numbers: ward 99 with candidate 30, clerk 999, batch 9999, paper 500.
+const LIMITS: [Case<'static>; 6] = [
+    (INIT, READY),
+    (
+        Step::Order(&["DB", "ward", "99", "1", "Moor", "--id", "w1"]),
+        (0, "ward 99 added\n", ""),
+    ),
+    (
+        Step::Order(&["DB", "candidate", "99", "1", "Dee", "--id", "c1"]),
+        (0, "candidate 1 of ward 99 added\n", ""),
+    ),
+    (
+        Step::Order(&["DB", "candidate", "99", "30", "Eve", "--id", "c2"]),
+        (0, "candidate 30 of ward 99 added\n", ""),
+    ),
+    (
+        Step::Order(&["DB", "close", "99", "--id", "n1"]),
+        (0, "ward 99 polled\n", ""),
+    ),
+    (
+        Step::Order(&["DB", "batch", "9999", "99", "500", "1", "999", "--id", "b1"]),
+        (0, "batch 9999 added\n", ""),
+    ),
+];
+
+/// Rounds 1 to 98 of a batch of one paper, in which its clerks differed.
+const ROUNDS: &str = "UPDATE batch SET round = 99 WHERE batch = 13";
+
+#[test]
+fn the_last_numbers_are_taken(rt: HostRuntime) -> Result<(), Fail> {
+    Disks::lasting(rt.alloc()).hear(&rt, &LIMITS)?;
+    let mut rounds = String::from_str(rt.alloc(), ROUNDS)?;
+    for round in 1..=98 {
+        write!(
+            rounds,
+            "; INSERT INTO keying VALUES (13, {round}, 9, 1, '1,,'); INSERT INTO keying VALUES (13, {round}, 5, 1, ',1,')"
+        )?;
+    }
+    let cases = [
+        (Step::Change(rounds.as_str()), (0, "", "")),
+        (
+            Step::FileOrder(
+                &["DB", "import-keying", "9", "13", "99", "FILE", "--id", "k1"],
+                ONE_PAPER,
+            ),
+            (0, "batch 13 round 99 keyed\n", ""),
+        ),
+        (
+            Step::FileOrder(
+                &["DB", "import-keying", "5", "13", "99", "FILE", "--id", "k1"],
+                b"paper,1,2,3\n1,1,,\n",
+            ),
+            (0, "batch 13 round 99 keyed\n", ""),
+        ),
+        (
+            Step::Order(&["DB", "again", "13", "--id", "x"]),
+            OUT_OF_RANGE,
+        ),
+    ];
+    Disks::lasting(rt.alloc())
+        .hear(&rt, &GIVEN_OUT)?
+        .hear(&rt, &cases)?;
+    Ok(())
+}
+
+/// Batch 12 is taken and its doubtful paper judged, and batch 13 is in its second round.
+const STOOD: [Case<'static>; 7] = [
+    (Step::FileOrder(BY_FOUR, PAPERS), KEYED),
+    (Step::FileOrder(BY_NINE, PAPERS), KEYED),
+    JUDGED,
+    (
+        Step::FileOrder(
+            &["DB", "import-keying", "9", "13", "1", "FILE", "--id", "k3"],
+            ONE_PAPER,
+        ),
+        (0, "batch 13 round 1 keyed\n", ""),
+    ),
+    (
+        Step::FileOrder(
+            &["DB", "import-keying", "5", "13", "1", "FILE", "--id", "k3"],
+            b"paper,1,2,3\n1,1,,\n",
+        ),
+        (0, "batch 13 round 1 keyed\n", ""),
+    ),
+    (
+        Step::Order(&["DB", "again", "13", "--id", "a1"]),
+        (0, "batch 13 round 2 open\n", ""),
+    ),
+    (
+        Step::FileOrder(
+            &["DB", "import-keying", "9", "13", "2", "FILE", "--id", "k4"],
+            ONE_PAPER,
+        ),
+        (0, "batch 13 round 2 keyed\n", ""),
+    ),
+];
+
+/// What is done to that office, and what it then says to another ward.
+const CHANGES: [(&str, Told<'static>); 30] = [
+    ("UPDATE ward SET name = 'Pier'", QUAY_ADDED),
+    (
+        "UPDATE keying SET marks = ',,1' WHERE round = 2",
+        QUAY_ADDED,
+    ),
+    ("DELETE FROM keying WHERE round = 2", QUAY_ADDED),
+    ("DELETE FROM verdict", QUAY_ADDED),
+    ("UPDATE verdict SET code = 5, marks = ''", QUAY_ADDED),
+    // batches
+    ("UPDATE batch SET ward = 8", DAMAGED),
+    ("UPDATE batch SET clerk_b = clerk_a", DAMAGED),
+    ("UPDATE ward SET phase = 1", DAMAGED),
+    ("INSERT INTO batch VALUES (14, 8, 2, 4, 9, 1)", DAMAGED),
+    ("UPDATE batch SET size = 3 WHERE batch = 12", DAMAGED),
+    ("UPDATE batch SET round = 3 WHERE batch = 13", DAMAGED),
+    ("UPDATE batch SET round = 1 WHERE batch = 13", DAMAGED),
+    ("DELETE FROM batch WHERE batch = 12", DAMAGED),
+    // keyings
+    ("INSERT INTO keying VALUES (14, 1, 4, 1, '1,,')", DAMAGED),
+    ("INSERT INTO keying VALUES (12, 1, 4, 3, '1,,')", DAMAGED),
+    ("INSERT INTO keying VALUES (12, 2, 4, 1, '1,,')", DAMAGED),
+    ("INSERT INTO keying VALUES (13, 1, 4, 1, '1,,')", DAMAGED),
+    (
+        "DELETE FROM keying WHERE batch = 12 AND clerk = 4 AND paper = 1",
+        DAMAGED,
+    ),
+    (
+        "DELETE FROM keying WHERE batch = 12 AND clerk = 4 AND paper = 2",
+        DAMAGED,
+    ),
+    (
+        "DELETE FROM keying WHERE batch = 13 AND round = 1 AND clerk = 5",
+        DAMAGED,
+    ),
+    ("UPDATE keying SET marks = ',1,' WHERE batch = 13", DAMAGED),
+    (
+        "UPDATE keying SET marks = '1,' WHERE batch = 12 AND paper = 1",
+        DAMAGED,
+    ),
+    (
+        "UPDATE keying SET marks = '1,02,' WHERE batch = 12 AND paper = 1",
+        DAMAGED,
+    ),
+    // verdicts
+    ("UPDATE verdict SET paper = 1", DAMAGED),
+    ("UPDATE verdict SET batch = 13, paper = 1", DAMAGED),
+    ("UPDATE verdict SET code = 2, marks = ''", DAMAGED),
+    ("UPDATE verdict SET code = 3", DAMAGED),
+    ("UPDATE verdict SET marks = '1,1,'", DAMAGED),
+    ("UPDATE verdict SET marks = 'D'", DAMAGED),
+    ("DELETE FROM keying WHERE batch = 12 AND clerk = 9", DAMAGED),
+];
+
+#[test]
+fn damaged_keyings_are_found(rt: HostRuntime) -> Result<(), Fail> {
+    let disks = Disks::lasting(rt.alloc())
+        .hear(&rt, &GIVEN_OUT)?
+        .hear(&rt, &STOOD)?;
+    for (change, wanted) in CHANGES {
+        let cases = [(Step::Change(change), (0, "", "")), (QUAY, wanted)];
+        disks
+            .copied(rt.alloc(), File::Log, u64::MAX)?
+            .hear(&rt, &cases)?;
+    }
+    Ok(())
+}
+
+/// What the office asks under an id.
+fn office_asks(alloc: Global, id: &str, command: Command) -> Result<Request, AllocError> {
+    Ok(Request {
+        actor: 0,
+        id: String::from_str(alloc, id)?,
+        command,
+    })
+}
+
+/// A clerk's keying of two papers of batch 12, the second of which is doubtful.
+fn keying(alloc: Global, clerk: u32, id: &str, marks: &str) -> Result<Request, AllocError> {
+    let papers = vec![in alloc;
+        String::from_str(alloc, marks)?,
+        String::from_str(alloc, "D")?,
+    ]?;
+    Ok(Request {
+        actor: clerk,
+        id: String::from_str(alloc, id)?,
+        command: Command::Keying(KeyingCommand {
+            batch: 12,
+            round: 1,
+            papers,
+        }),
+    })
+}
+
+/// Ward 7 with three candidates, and batch 12 of it.
+fn begun(alloc: Global) -> Result<Vec<Request>, AllocError> {
+    let ward = WardCommand::Add {
+        ward: 7,
+        seats: 2,
+        name: String::from_str(alloc, "Harbour")?,
+    };
+    let batch = BatchCommand::Add {
+        batch: 12,
+        ward: 7,
+        size: 2,
+        first_clerk: 4,
+        second_clerk: 9,
+    };
+    let mut requests = vec![in alloc; office_asks(alloc, "w1", Command::Ward(ward))?]?;
+    for (candidate, name, id) in [(1, "Ann", "c1"), (2, "Bob", "c2"), (3, "Cy", "c3")] {
+        let add = CandidateCommand::Add {
+            ward: 7,
+            candidate,
+            name: String::from_str(alloc, name)?,
+        };
+        requests.push(office_asks(alloc, id, Command::Candidate(add))?)?;
+    }
+    let close = Command::Ward(WardCommand::Close { ward: 7 });
+    requests.push(office_asks(alloc, "n1", close)?)?;
+    requests.push(office_asks(alloc, "b1", Command::Batch(batch))?)?;
+    Ok(requests)
+}
+
+/// What a list of requests up to two equal keyings is answered, one of them sent twice with other papers.
+const ANSWERS: &str = "done: ward 7 added
+done: candidate 1 of ward 7 added
+done: candidate 2 of ward 7 added
+done: candidate 3 of ward 7 added
+done: ward 7 polled
+done: batch 12 added
+done: batch 12 round 1 keyed
+kept: batch 12 round 1 keyed
+refused 16: already keyed
+done: batch 12 round 1 keyed
+";
+
+#[test]
+fn a_list_of_keyings_is_answered(rt: HostRuntime) -> Result<(), Fail> {
+    let alloc = rt.alloc();
+    let mut requests = begun(alloc)?;
+    requests.push(keying(alloc, 4, "k1", "1,2,")?)?;
+    requests.push(keying(alloc, 4, "k1", "2,1,")?)?;
+    requests.push(keying(alloc, 4, "k2", "1,2,")?)?;
+    requests.push(keying(alloc, 9, "k1", "1,2,")?)?;
+    let taken =
+        "ward 7 keying: 3 candidates, 1 batches, 1 taken, 0 differing, 1 doubtful open, 0 stages\n";
+    let cases = [
+        (Step::List(requests.as_slice()), (0, ANSWERS, "")),
+        (STATUS, (0, taken, "")),
+    ];
+    Disks::lasting(alloc).hear(&rt, &cases)?;
     Ok(())
 }

@@ -24,7 +24,7 @@ const CHANGED: Told<'static> = (0, "", "");
 
 pub const FOREIGN: Told<'static> = (3, "", "fault 105: wrong database\n");
 
-const DAMAGED: Told<'static> = (3, "", "fault 103: damaged\n");
+pub const DAMAGED: Told<'static> = (3, "", "fault 103: damaged\n");
 
 const NEWER: Told<'static> = (3, "", "fault 106: newer schema\n");
 

@@ -1,6 +1,6 @@
 //! A store that stops at each of its calls in turn, while an office is made and a ward is added.
 
-use super::disks::Disks;
+use super::disks::{Disks, File};
 use super::orders::{ADDED, FOREIGN, HARBOUR, INIT, READY};
 use super::steps::{STOPPED, Said, Step};
 use std::alloc::Global;
@@ -108,13 +108,6 @@ fn stop(
 
 /// More calls than a run makes of either file.
 const CALLS: u64 = 200;
-
-/// Which of the two files stops.
-#[derive(Clone, Copy)]
-enum File {
-    Log,
-    Database,
-}
 
 fn stopping(alloc: Global, file: File, calls: u64) -> Disks {
     match file {

@@ -1,10 +1,10 @@
-use Rattle.std.proofs.Common.{◌≡◌, option_map, ap, ◌∙◌}
+use Rattle.std.proofs.Common.{◌≡◌, option_map, sym, ap, subst, ◌∙◌}
 use Rattle.std.proofs.lemmas.Result.{IfOk-weaker}
 use Rattle.register.specs.Offices.{OfficeState, receipt_entry}
 use Rattle.register.specs.Parts.{part_entries}
 use Rattle.register.specs.Machine.{outcome_at, step}
-use Rattle.register.specs.Views.{IsViewOf, decided_on, ruling_of, outcome_of}
-use Rattle.register.proofs.MachineLemmas.{step_on, step_stays, accepted_is_kept}
+use Rattle.register.specs.Views.{IsViewOf, decided_on, ruling_of, outcome_of, IsToldAlike}
+use Rattle.register.proofs.MachineLemmas.{step_on, step_stays, accepted_is_kept, told_alike}
 use Rattle.register.proofs.machine.decide.Goals as goal
 
 pub returns-clause-decides : goal.returns-clause-decides
@@ -13,6 +13,14 @@ returns-clause-decides c =
     let command = c.args.command.now in
     IfOk-weaker c.decided.result (λ d. ruling_of d ≡ decided_on view command) (λ d. (s : OfficeState) → IsViewOf s command view → outcome_of s d ≡ step s view.actor view.id.now command)
     (λ d same s shows. ap (outcome_at s) same ∙ step_on s view.actor view.id.now command (option_map receipt_entry view.receipt) (part_entries view.part) shows.receipt shows.part)
+    c.decided.ensures
+
+pub returns-clause-told_alike : goal.returns-clause-told_alike
+returns-clause-told_alike c =
+    let view = c.args.view.now in
+    let command = c.args.command.now in
+    IfOk-weaker c.decided.result (λ d. ruling_of d ≡ decided_on view command) (λ d. IsToldAlike command (ruling_of d))
+    (λ d same. subst (IsToldAlike command) (sym same) (told_alike view.actor view.id.now command (option_map receipt_entry view.receipt) (part_entries view.part)))
     c.decided.ensures
 
 pub returns-clause-kept_again : goal.returns-clause-kept_again

@@ -12,5 +12,8 @@ returns c =
     record {
       wards = c.in_ok-rows.ensures.wards;
       candidates = rw (c.in_ok-vec.ensures.items, c.in_ok-first.ensures.ward, c.in_ok-second.ensures.ward, c.in_ok-first.ensures.number, c.in_ok-second.ensures.number, same) ((refl, tt), (tt, tt));
+      batches = c.in_ok-rows.ensures.batches;
+      keyings = c.in_ok-rows.ensures.keyings;
+      verdicts = c.in_ok-rows.ensures.verdicts;
       receipts = c.in_ok-rows.ensures.receipts;
     }

@@ -1,54 +1,52 @@
 -- Why `all_rows` keeps its promise.
 use Rattle.std.proofs.Common.{refl}
 use Rattle.std.proofs.lemmas.Result.{err_from_is_err_and}
-use Rattle.tables.specs.declared.table.Table.TheVariants.{Ward, Candidate, Receipt}
-use Rattle.store.specs.EntryRows.{IsWardRow, IsCandidateRow, IsReceiptRow}
+use Rattle.tables.specs.declared.table.Table.TheVariants.{Receipt}
+use Rattle.store.specs.EntryRows.{IsReceiptRow}
 use Rattle.tables.proofs.ReadLemmas.{only_reads_then}
 use Rattle.tables.proofs.ListingLemmas.{begins_to}
-use Rattle.store.proofs.FitLemmas.{wards_fit, candidates_fit, receipts_fit}
+use Rattle.store.proofs.FitLemmas.{receipts_fit}
 use Rattle.store.proofs.TellLemmas.{told_entries}
 use Rattle.store.proofs.ListsLemmas.{lists_maps, rows_of_maps_rise}
 use Rattle.store.proofs.listing.all_rows.Goals as goal
 
 pub returns-clause-lists : goal.returns-clause-lists
 returns-clause-lists g c clean db has rests =
-    let second = c.all_entries-3.ensures.reads.clean clean in
-    let first = c.all_entries-2.ensures.reads.clean second in
-    let mid = c.all_entries.ensures.reads.rests first (c.in_ok-wards.ensures.opens first) db rests in
-    let late = c.all_entries-2.ensures.reads.rests second (c.in_ok-candidates.ensures.opens second) db mid in
-    lists_maps c.in_ok-wards.wards.items c.in_ok-candidates.candidates.items c.in_ok-receipts.receipts.items db (c.in_ok-wards.ensures.lists first db (begins_to Ward db.schema has) rests)
-    (c.in_ok-candidates.ensures.lists second db (begins_to Candidate db.schema has) mid) (c.in_ok-receipts.ensures.lists clean db (begins_to Receipt db.schema has) late)
+    let second = c.all_entries.ensures.reads.clean clean in
+    let first = c.all_papers.ensures.reads.clean second in
+    let mid = c.all_contests.ensures.reads.rests first (c.in_ok-wards.ensures.opens first) db rests in
+    let late = c.all_papers.ensures.reads.rests second (c.in_ok-batches.ensures.opens second) db mid in
+    lists_maps _ _ c.in_ok-receipts.receipts.items db (c.in_ok-wards.ensures.lists first db has rests) (c.in_ok-batches.ensures.lists second db has mid) (c.in_ok-receipts.ensures.lists clean db (begins_to Receipt db.schema has) late)
 
 pub returns-clause-rise : goal.returns-clause-rise
-returns-clause-rise g c =
-    rows_of_maps_rise c.in_ok-wards.wards.items c.in_ok-candidates.candidates.items c.in_ok-receipts.receipts.items c.in_ok-wards.ensures.rise c.in_ok-candidates.ensures.rise c.in_ok-receipts.ensures.rise
+returns-clause-rise g c = rows_of_maps_rise _ _ c.in_ok-receipts.receipts.items c.in_ok-wards.ensures.rise c.in_ok-batches.ensures.rise c.in_ok-receipts.ensures.rise
 
 pub returns-clause-reads : goal.returns-clause-reads
-returns-clause-reads g c = only_reads_then _ _ _ c.all_entries.ensures.reads (only_reads_then _ _ _ c.all_entries-2.ensures.reads c.all_entries-3.ensures.reads)
+returns-clause-reads g c = only_reads_then _ _ _ c.all_contests.ensures.reads (only_reads_then _ _ _ c.all_papers.ensures.reads c.all_entries.ensures.reads)
 
-pub returns-in_err-candidates-clause-reads : goal.returns-in_err-candidates-clause-reads
-returns-in_err-candidates-clause-reads g c = only_reads_then _ _ _ c.all_entries.ensures.reads c.all_entries-2.ensures.reads
+pub returns-in_err-batches-clause-reads : goal.returns-in_err-batches-clause-reads
+returns-in_err-batches-clause-reads g c = only_reads_then _ _ _ c.all_contests.ensures.reads c.all_papers.ensures.reads
 
 pub returns-in_err-receipts-clause-reads : goal.returns-in_err-receipts-clause-reads
-returns-in_err-receipts-clause-reads g c = only_reads_then _ _ _ c.all_entries.ensures.reads (only_reads_then _ _ _ c.all_entries-2.ensures.reads c.all_entries-3.ensures.reads)
+returns-in_err-receipts-clause-reads g c = only_reads_then _ _ _ c.all_contests.ensures.reads (only_reads_then _ _ _ c.all_papers.ensures.reads c.all_entries.ensures.reads)
 
 pub returns-in_err-wards-clause-told : goal.returns-in_err-wards-clause-told
 returns-in_err-wards-clause-told g c clean db has rests =
     let p = err_from_is_err_and c.from_residual.result c.from_residual.ensures.1 in
-    rw (p.1, p.2) (told_entries Ward IsWardRow refl wards_fit db _ (c.in_err-wards.ensures.cause clean db (begins_to Ward db.schema has) rests))
+    rw (p.1, p.2) (c.in_err-wards.ensures.told clean db has rests)
 
-pub returns-in_err-candidates-clause-told : goal.returns-in_err-candidates-clause-told
-returns-in_err-candidates-clause-told g c clean db has rests =
-    let first = c.all_entries-2.ensures.reads.clean clean in
-    let mid = c.all_entries.ensures.reads.rests first (c.in_ok-wards.ensures.opens first) db rests in
-    let p = err_from_is_err_and c.from_residual-in_err-candidates.result c.from_residual-in_err-candidates.ensures.1 in
-    rw (p.1, p.2) (told_entries Candidate IsCandidateRow refl candidates_fit db _ (c.in_err-candidates.ensures.cause clean db (begins_to Candidate db.schema has) mid))
+pub returns-in_err-batches-clause-told : goal.returns-in_err-batches-clause-told
+returns-in_err-batches-clause-told g c clean db has rests =
+    let first = c.all_papers.ensures.reads.clean clean in
+    let mid = c.all_contests.ensures.reads.rests first (c.in_ok-wards.ensures.opens first) db rests in
+    let p = err_from_is_err_and c.from_residual-in_err-batches.result c.from_residual-in_err-batches.ensures.1 in
+    rw (p.1, p.2) (c.in_err-batches.ensures.told clean db has mid)
 
 pub returns-in_err-receipts-clause-told : goal.returns-in_err-receipts-clause-told
 returns-in_err-receipts-clause-told g c clean db has rests =
-    let second = c.all_entries-3.ensures.reads.clean clean in
-    let first = c.all_entries-2.ensures.reads.clean second in
-    let mid = c.all_entries.ensures.reads.rests first (c.in_ok-wards.ensures.opens first) db rests in
-    let late = c.all_entries-2.ensures.reads.rests second (c.in_ok-candidates.ensures.opens second) db mid in
+    let second = c.all_entries.ensures.reads.clean clean in
+    let first = c.all_papers.ensures.reads.clean second in
+    let mid = c.all_contests.ensures.reads.rests first (c.in_ok-wards.ensures.opens first) db rests in
+    let late = c.all_papers.ensures.reads.rests second (c.in_ok-batches.ensures.opens second) db mid in
     let p = err_from_is_err_and c.from_residual-in_err-receipts.result c.from_residual-in_err-receipts.ensures.1 in
     rw (p.1, p.2) (told_entries Receipt IsReceiptRow refl receipts_fit db _ (c.in_err-receipts.ensures.cause clean db (begins_to Receipt db.schema has) late))

@@ -1,0 +1,45 @@
+-- What is told of a state, and what a read leaves.
+use Rattle.std.specs.Prelude.{◌≡◌, ◌⊎◌, ℕ, Bool, true, if◌then◌else◌, List, Option, Some, None, Result, Ok, Err}
+use Rattle.sqlite.specs.State.{State}
+use Rattle.register.specs.declared.refusal.Reason.{Reason}
+use Rattle.register.specs.declared.refusal.Reason.TheVariants.{NumberOutOfRange, NoSuchWard, NoSuchBatch}
+use Rattle.register.specs.Ranges.{is_ward_number, is_batch_number}
+use Rattle.register.specs.Offices.{OfficeState}
+use Rattle.register.specs.Standings.{StatusEntry, status_at, columns_at}
+use Rattle.tables.specs.declared.fault.Fault.{Fault}
+use Rattle.tables.specs.declared.fault.Fault.TheVariants.{Memory, Store}
+use Rattle.store.specs.Offices.{LeavesState}
+use Rattle.office.specs.declared.answers.Stop.{Stop}
+use Rattle.office.specs.declared.answers.Stop.TheVariants.{Refused, Fault as Failed}
+use Rattle.office.specs.Answers.{IsOpenAt, IsKeptOpen}
+
+-- what was found, or the reason why there is nothing
+abbrev pub found_or : {X : Type 0} → Reason → Option X → Result X Reason
+found_or why (Some x) = Ok x
+found_or why None = Err why
+
+-- what is told of how a ward stands
+abbrev pub status_told : OfficeState → ℕ → Result StatusEntry Reason
+status_told s ward = if is_ward_number ward then found_or NoSuchWard (status_at s ward) else Err NumberOutOfRange
+
+-- what is told of the columns of a batch's papers
+abbrev pub columns_told : OfficeState → ℕ → Result (List ℕ) Reason
+columns_told s batch = if is_batch_number batch then found_or NoSuchBatch (columns_at s batch) else Err NumberOutOfRange
+
+-- a fault that closed the office while it read: a stop leaves the state as it was
+pub record IsClosedReading (s : OfficeState) (f : Fault) (closed : Bool) (st : State) : Type 0 where
+  pub is_closed : closed ≡ true
+  pub fault : f ≡ Store
+  pub leaves : LeavesState st (λ x. x ≡ s)
+
+-- What each exit of a read says and leaves: what is told of the state, or the reason why nothing is, with the office as it
+-- was; or a fault. The values read stand for those of the definition by a view.
+abbrev pub Read : {X Y : Type 0} → (Y → X) → OfficeState → Result X Reason → Result Y Stop → Bool → State → Type 0
+Read view s told (Ok y) closed st = (told ≡ Ok (view y)) × IsOpenAt s closed st
+Read view s told (Err (Refused why)) closed st = (told ≡ Err why) × IsOpenAt s closed st
+Read view s told (Err (Failed f)) closed st = IsKeptOpen s f closed st ⊎ IsClosedReading s f closed st
+
+-- a refusal for this reason, or want of memory
+abbrev pub StopsFor : Reason → Stop → Type 0
+StopsFor reason (Refused why) = why ≡ reason
+StopsFor reason (Failed f) = f ≡ Memory

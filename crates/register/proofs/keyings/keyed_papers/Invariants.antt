@@ -1,0 +1,11 @@
+-- What the loop of `keyed_papers` keeps.
+use Rattle.std.proofs.Common.{◌≡◌, ◌+◌, ◌++◌, map, drop, string_bytes}
+use Rattle.register.specs.Offices.{keyed_entry}
+use Rattle.register.specs.Keyings.{papers_from}
+use Rattle.register.proofs.keyings.keyed_papers.Given as goal
+
+abbrev pub invariant-loop-marks : goal.invariant-loop-marks
+invariant-loop-marks l = record {
+  number : l.paper ≡ l.marks-index;
+  all : map keyed_entry l.papers.items ++ papers_from l.command.batch l.command.round l.actor (l.paper + 1) (map string_bytes (drop l.marks-index l.command.papers.items)) ≡ papers_from l.command.batch l.command.round l.actor 1 (map string_bytes l.command.papers.items);
+}

@@ -1,0 +1,12 @@
+-- What the loop of `count_open` keeps.
+use Rattle.std.proofs.Common.{◌≡◌, ◌≤◌, ◌+◌, length, map, drop}
+use Rattle.std.specs.List.{filter}
+use Rattle.register.specs.Offices.{keyed_entry, judged_entry}
+use Rattle.register.specs.Papers.{is_open}
+use Rattle.register.proofs.papers.count_open.Given as goal
+
+abbrev pub invariant-loop-keyed : goal.invariant-loop-keyed
+invariant-loop-keyed l = record {
+  few : l.open ≤ l.keyed-index;
+  all : l.open + length (filter (is_open (map judged_entry l.verdicts)) (map keyed_entry (drop l.keyed-index l.keying))) ≡ length (filter (is_open (map judged_entry l.verdicts)) (map keyed_entry l.keying));
+}

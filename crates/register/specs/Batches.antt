@@ -1,0 +1,83 @@
+-- The commands about batches: what each needs of the state, what stands against it, what it is about, replies and does.
+use Rattle.std.specs.Prelude.{ℕ, ◌+◌, Bool, not, ◌&&◌, ◌==◌, nat_le, if◌then◌else◌, List, [], ◌∷◌, ◌++◌, codes, Option, Some, None, is_some, is_none}
+use Rattle.std.specs.Fmt.{decimal}
+use Rattle.register.specs.declared.phase.Phase.TheVariants.{Keying}
+use Rattle.register.specs.declared.refusal.Reason.{Reason}
+use Rattle.register.specs.declared.refusal.Reason.TheVariants.{NumberOutOfRange, NoSuchWard, BatchExists, WrongPhase, SameClerk, NoDifference}
+use Rattle.register.specs.declared.batches.BatchCommand.{BatchCommand}
+use Rattle.register.specs.declared.batches.BatchCommand.TheVariants.{Add, Again}
+use Rattle.register.specs.Reasons.{objection}
+use Rattle.register.specs.Ranges.{last_round, is_office, is_clerk, is_ward_number, is_batch_number, is_paper_number}
+use Rattle.register.specs.Offices.{WardEntry, CandidateEntry, BatchEntry, KeyedEntry, OfficeState, ward_at, candidates_of, batch_at}
+use Rattle.register.specs.Papers.{first_keying, second_keying, differ}
+use Rattle.register.specs.Effects.{EffectEntry, batch_added, batch_reopened}
+use Rattle.register.specs.Parts.{PartEntries, empty_part, is_in_phase, batch_objections, passes}
+
+-- ---- what the state has for a batch that may be there
+
+abbrev pub ward_for : OfficeState → Option BatchEntry → Option WardEntry
+ward_for s None = None
+ward_for s (Some b) = ward_at s b.ward
+
+abbrev pub candidates_for : OfficeState → Option BatchEntry → List CandidateEntry
+candidates_for s None = []
+candidates_for s (Some b) = candidates_of s b.ward
+
+abbrev pub first_for : OfficeState → Option BatchEntry → List KeyedEntry
+first_for s None = []
+first_for s (Some b) = first_keying s b
+
+abbrev pub second_for : OfficeState → Option BatchEntry → List KeyedEntry
+second_for s None = []
+second_for s (Some b) = second_keying s b
+
+-- ---- the commands
+
+-- the part of the state that each needs
+abbrev pub part_of : OfficeState → ℕ → BatchCommand → PartEntries
+part_of s actor (Add batch ward size first_clerk second_clerk) = record empty_part { ward = ward_at s ward; batch = batch_at s batch }
+part_of s actor (Again batch) =
+    record empty_part { ward = ward_for s (batch_at s batch); batch = batch_at s batch; first = first_for s (batch_at s batch); second = second_for s (batch_at s batch) }
+
+-- the batch is in the last round
+abbrev pub is_in_last_round : BatchEntry → Bool
+is_in_last_round b = nat_le last_round b.round
+
+-- the numbers are in range, and the actor is one who may send it; of a batch in its last round there is no next one
+abbrev pub is_in_range : ℕ → BatchCommand → PartEntries → Bool
+is_in_range actor (Add batch ward size first_clerk second_clerk) part =
+    is_office actor && (is_batch_number batch && (is_ward_number ward && (is_paper_number size && (is_clerk first_clerk && is_clerk second_clerk))))
+is_in_range actor (Again batch) part = is_office actor && (is_batch_number batch && not (passes is_in_last_round part.batch))
+
+-- what stands against each, in the order of the reasons' numbers
+abbrev pub objections : ℕ → BatchCommand → PartEntries → List (Option Reason)
+objections actor (Add batch ward size first_clerk second_clerk) part =
+    objection (not (is_in_range actor (Add batch ward size first_clerk second_clerk) part)) NumberOutOfRange
+    ∷ objection (is_none part.ward) NoSuchWard
+    ∷ objection (is_some part.batch) BatchExists
+    ∷ objection (not (is_in_phase Keying part.ward)) WrongPhase
+    ∷ objection (first_clerk == second_clerk) SameClerk
+    ∷ []
+objections actor (Again batch) part =
+    objection (not (is_in_range actor (Again batch) part)) NumberOutOfRange ∷ batch_objections part ++ (objection (not (differ part.first part.second)) NoDifference ∷ [])
+
+-- the round after the current one; after the last there is none
+abbrev pub next_round : Option BatchEntry → ℕ
+next_round None = 1
+next_round (Some b) = if is_in_last_round b then b.round else b.round + 1
+
+-- what the receipt is about: the same for two commands that an id may stand for only once
+unfoldable pub subject_of : BatchCommand → List ℕ
+subject_of (Add batch ward size first_clerk second_clerk) = codes "batch " ++ decimal batch
+subject_of (Again batch) = codes "again " ++ decimal batch
+
+-- what is replied where it is accepted
+unfoldable pub reply_to : BatchCommand → PartEntries → List ℕ
+reply_to (Add batch ward size first_clerk second_clerk) part = codes "batch " ++ (decimal batch ++ codes " added")
+reply_to (Again batch) part = codes "batch " ++ (decimal batch ++ (codes " round " ++ (decimal (next_round part.batch) ++ codes " open")))
+
+-- what it does where it is accepted: a new batch is in its first round
+abbrev pub effect_of : BatchCommand → PartEntries → EffectEntry
+effect_of (Add batch ward size first_clerk second_clerk) part =
+    batch_added (record { number = batch; ward = ward; size = size; first_clerk = first_clerk; second_clerk = second_clerk; round = 1 })
+effect_of (Again batch) part = batch_reopened batch (next_round part.batch)

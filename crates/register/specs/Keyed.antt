@@ -1,0 +1,64 @@
+-- What the batches of a state, their keyings and their verdicts have to be.
+use Rattle.std.specs.Prelude.{ℕ, zero, suc, ◌+◌, Bool, true, false, not, ◌&&◌, ◌||◌, ◌==◌, nat_le, List, [], ◌∷◌, length, Option, Some, None}
+use Rattle.std.specs.List.{list_all}
+use Rattle.register.specs.Phases.{phase_number}
+use Rattle.register.specs.declared.phase.Phase.TheVariants.{Nominations}
+use Rattle.register.specs.Offices.{WardEntry, CandidateEntry, BatchEntry, KeyedEntry, JudgedEntry, OfficeState, ward_at, candidates_of, keying_of}
+use Rattle.register.specs.Nominations.{is_contested}
+use Rattle.register.specs.Marks.{columns_of, is_readable, is_valid}
+use Rattle.register.specs.Papers.{is_keyed, differ, has_doubtful, is_its_clerk, is_taken, first_keying}
+use Rattle.register.specs.Verdicts.{is_rejection_code}
+
+-- ---- batches
+
+-- a ward that is there, past its nominations and contested
+abbrev pub is_polled : Option WardEntry → List CandidateEntry → Bool
+is_polled None candidates = false
+is_polled (Some w) candidates = not (phase_number w.phase == phase_number Nominations) && is_contested w candidates
+
+-- a batch of such a ward, with two clerks
+abbrev pub is_given_out : OfficeState → BatchEntry → Bool
+is_given_out s b = not (b.first_clerk == b.second_clerk) && is_polled (ward_at s b.ward) (candidates_of s b.ward)
+
+-- ---- keyings
+
+-- the columns of a batch's papers
+abbrev pub columns_for : OfficeState → BatchEntry → List ℕ
+columns_for s b = columns_of (candidates_of s b.ward)
+
+-- a paper keyed in a round up to the batch's current one by one of its clerks, with marks that its columns read
+abbrev pub is_keyed_for : OfficeState → KeyedEntry → Option BatchEntry → Bool
+is_keyed_for s k None = false
+is_keyed_for s k (Some b) = nat_le k.round b.round && (is_its_clerk k.clerk b && is_readable (columns_for s b) k.marks)
+
+-- papers numbered from a number on
+unfoldable pub are_numbered : ℕ → List KeyedEntry → Bool
+are_numbered paper [] = true
+are_numbered paper (k ∷ ks) = (k.paper == paper) && are_numbered (paper + 1) ks
+
+-- a keying that isn't there, or has each of so many papers once
+abbrev pub is_whole : ℕ → List KeyedEntry → Bool
+is_whole size keying = not (is_keyed keying) || ((length keying == size) && are_numbered 1 keying)
+
+-- a round of a batch: each keying is whole, and in an earlier round than the current one both are there and unequal
+abbrev pub is_round_of : OfficeState → BatchEntry → ℕ → Bool
+is_round_of s b round =
+    is_whole b.size (keying_of s b.number round b.first_clerk)
+    && (is_whole b.size (keying_of s b.number round b.second_clerk)
+    && (nat_le b.round round || differ (keying_of s b.number round b.first_clerk) (keying_of s b.number round b.second_clerk)))
+
+-- each of the rounds of a batch from the first to one of them
+unfoldable pub are_rounds_to : OfficeState → BatchEntry → ℕ → Bool
+are_rounds_to s b zero = true
+are_rounds_to s b (suc round) = is_round_of s b (suc round) && are_rounds_to s b round
+
+-- ---- verdicts
+
+-- a verdict on a doubtful paper of a keying: accepted with marks by which the paper is valid, or rejected without marks
+abbrev pub is_verdict_on : List ℕ → List KeyedEntry → JudgedEntry → Bool
+is_verdict_on columns keying v = has_doubtful keying v.paper && (((v.code == 0) && is_valid columns v.marks) || (is_rejection_code v.code && (length v.marks == 0)))
+
+-- a batch without verdicts, or one that is taken, with verdicts on its doubtful papers
+abbrev pub is_judged : OfficeState → BatchEntry → List JudgedEntry → Bool
+is_judged s b [] = true
+is_judged s b (v ∷ vs) = is_taken s b && list_all (is_verdict_on (columns_for s b) (first_keying s b)) (v ∷ vs)

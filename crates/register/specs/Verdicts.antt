@@ -1,0 +1,82 @@
+-- The command about a doubtful paper: what it needs of the state, what stands against it, what it is about, replies and does.
+use Rattle.std.specs.Prelude.{ℕ, Bool, not, ◌&&◌, List, [], ◌∷◌, ◌++◌, codes, string_bytes, Option, None, is_some}
+use Rattle.std.specs.Fmt.{decimal}
+use Rattle.register.specs.declared.refusal.Reason.{Reason}
+use Rattle.register.specs.declared.refusal.Reason.TheVariants.{NumberOutOfRange, NotTaken, NotDoubtful, AlreadyJudged, BadVerdict}
+use Rattle.register.specs.declared.verdicts.Verdict.{Verdict}
+use Rattle.register.specs.declared.verdicts.Verdict.TheVariants.{Accept, Reject}
+use Rattle.register.specs.declared.verdicts.VerdictCommand.{VerdictCommand}
+use Rattle.register.specs.Reasons.{objection}
+use Rattle.register.specs.Ranges.{is_between, is_office, is_batch_number, is_paper_number}
+use Rattle.register.specs.Offices.{JudgedEntry, OfficeState, batch_at, verdict_at}
+use Rattle.register.specs.Marks.{columns_of, marks_objection, is_valid}
+use Rattle.register.specs.Papers.{are_taken, has_doubtful}
+use Rattle.register.specs.Batches.{ward_for, candidates_for, first_for, second_for}
+use Rattle.register.specs.Effects.{EffectEntry, paper_judged}
+use Rattle.register.specs.Parts.{PartEntries, empty_part, batch_objections}
+
+-- the part of the state that it needs
+abbrev pub part_of : OfficeState → ℕ → VerdictCommand → PartEntries
+part_of s actor command =
+    record empty_part {
+      ward = ward_for s (batch_at s command.batch);
+      candidates = candidates_for s (batch_at s command.batch);
+      batch = batch_at s command.batch;
+      first = first_for s (batch_at s command.batch);
+      second = second_for s (batch_at s command.batch);
+      verdict = verdict_at s command.batch command.paper;
+    }
+
+-- the numbers are in range, and the actor is one who may send it
+abbrev pub is_in_range : ℕ → VerdictCommand → Bool
+is_in_range actor command = is_office actor && (is_batch_number command.batch && is_paper_number command.paper)
+
+-- the code of a rejection that the returning officer gives: no official mark, voter identifiable, void for uncertainty
+abbrev pub is_rejection_code : ℕ → Bool
+is_rejection_code = is_between 3 5
+
+-- the reason that the marks of an accepting verdict give
+abbrev pub verdict_objection : List ℕ → ℕ → Verdict → Option Reason
+verdict_objection columns paper (Accept marks) = marks_objection columns paper (string_bytes marks)
+verdict_objection columns paper (Reject code) = None
+
+-- an accepted paper is valid by its marks, and a rejection has a code that may be given
+abbrev pub is_verdict : List ℕ → Verdict → Bool
+is_verdict columns (Accept marks) = is_valid columns (string_bytes marks)
+is_verdict columns (Reject code) = is_rejection_code code
+
+-- what stands against it, in the order of the reasons' numbers
+abbrev pub objections : ℕ → VerdictCommand → PartEntries → List (Option Reason)
+objections actor command part =
+    objection (not (is_in_range actor command)) NumberOutOfRange
+    ∷ batch_objections part
+    ++ (
+    verdict_objection (columns_of part.candidates) command.paper command.verdict
+    ∷ objection (not (are_taken part.first part.second)) NotTaken
+    ∷ objection (not (has_doubtful part.first command.paper)) NotDoubtful
+    ∷ objection (is_some part.verdict) AlreadyJudged
+    ∷ objection (not (is_verdict (columns_of part.candidates) command.verdict)) BadVerdict
+    ∷ []
+    )
+
+-- what the receipt is about: the same for two commands that an id may stand for only once
+unfoldable pub subject_of : VerdictCommand → List ℕ
+subject_of command = codes "judge " ++ (decimal command.batch ++ (codes " " ++ decimal command.paper))
+
+-- what is told of a verdict
+abbrev pub verdict_word : Verdict → List ℕ
+verdict_word (Accept marks) = codes " accepted"
+verdict_word (Reject code) = codes " rejected " ++ decimal code
+
+-- what is replied where it is accepted
+unfoldable pub reply_to : VerdictCommand → List ℕ
+reply_to command = codes "batch " ++ (decimal command.batch ++ (codes " paper " ++ (decimal command.paper ++ verdict_word command.verdict)))
+
+-- the verdict as it is kept: 0 with the marks of an accepted paper, or the code of a rejection without marks
+abbrev pub judged_as : ℕ → ℕ → Verdict → JudgedEntry
+judged_as batch paper (Accept marks) = record { batch = batch; paper = paper; code = 0; marks = string_bytes marks }
+judged_as batch paper (Reject code) = record { batch = batch; paper = paper; code = code; marks = [] }
+
+-- what it does where it is accepted
+abbrev pub effect_of : VerdictCommand → EffectEntry
+effect_of command = paper_judged (judged_as command.batch command.paper command.verdict)

@@ -1,0 +1,197 @@
+//! Batches of ballot papers, and the commands about them.
+
+ghost use Rattle.std.specs.Prelude.{◌≡◌, IfOk, option_map, string_bytes};
+ghost use Rattle.register.specs.Reasons.{first_reason};
+ghost use Rattle.register.specs.Offices.{batch_entry};
+ghost use Rattle.register.specs.Parts.{part_entries, passes};
+ghost use Rattle.register.specs.Effects.{effect_entry};
+ghost use Rattle.register.specs.Batches.{is_in_last_round, is_in_range, next_round, objections, subject_of, reply_to, effect_of};
+
+use crate::decision::Effect;
+use crate::papers::differ;
+use crate::phase::Phase;
+use crate::ranges::{LAST_ROUND, is_batch_number, is_clerk, is_paper_number, is_ward_number};
+use crate::refusal::Reason;
+use crate::view::Part;
+use crate::wards::is_in_phase;
+use std::alloc::{AllocError, Global};
+
+/// A batch of ballot papers: its number (1 to 9999, over all wards), its ward (1 to 99), how many papers
+/// it has (1 to 500), the two clerks who key it (1 to 999), and its current round (1 to 99).
+#[derive(Debug, Drop)]
+pub struct Batch {
+    pub number: u32,
+    pub ward: u32,
+    pub size: u32,
+    pub first_clerk: u32,
+    pub second_clerk: u32,
+    pub round: u32,
+}
+
+/// What the office asks about a batch.
+#[derive(Debug, Drop)]
+pub enum BatchCommand {
+    /// A batch of this ward, with so many papers, is given out to two clerks, in its first round.
+    Add {
+        batch: u32,
+        ward: u32,
+        size: u32,
+        first_clerk: u32,
+        second_clerk: u32,
+    },
+    /// The batch, whose keyings differ, is keyed again in a round more.
+    Again {
+        batch: u32,
+    },
+}
+
+/// Whether a batch is in the last round.
+fn is_in_last_round(batch: &Batch) -> bool
+    ensures { result ≡ is_in_last_round (batch_entry batch.now) }
+{
+    LAST_ROUND <= batch.round
+}
+
+/// Whether a batch is there, in the last round.
+fn is_last(batch: &Option<Batch>) -> bool
+    ensures { result ≡ passes is_in_last_round (option_map batch_entry batch.now) }
+{
+    match batch {
+        Some(batch) => is_in_last_round(batch),
+        None => false,
+    }
+}
+
+/// Whether the command's numbers are in range, and the actor is one who may send it. A batch in the last
+/// round can't be keyed again.
+fn is_in_range(actor: u32, command: &BatchCommand, part: &Part) -> bool
+    ensures { result ≡ is_in_range actor command.now (part_entries part.now) }
+{
+    let office = actor == 0;
+    match command {
+        BatchCommand::Add {
+            batch,
+            ward,
+            size,
+            first_clerk,
+            second_clerk,
+        } => {
+            let numbers = is_batch_number(*batch)
+                & (is_ward_number(*ward) & is_paper_number(*size));
+            let clerks = is_clerk(*first_clerk) & is_clerk(*second_clerk);
+            office & (numbers & clerks)
+        }
+        BatchCommand::Again { batch } => {
+            let number = is_batch_number(*batch);
+            office & (number & !is_last(&part.batch))
+        }
+    }
+}
+
+/// What stands against a command: of several reasons the one with the lowest number.
+pub(crate) fn objection_to(actor: u32, command: &BatchCommand, part: &Part) -> Option<Reason>
+    ensures { result ≡ first_reason (objections actor command.now (part_entries part.now)) }
+{
+    if !is_in_range(actor, command, part) {
+        return Some(Reason::NumberOutOfRange);
+    }
+    match command {
+        BatchCommand::Add {
+            first_clerk,
+            second_clerk,
+            ..
+        } => {
+            if part.ward.is_none() {
+                return Some(Reason::NoSuchWard);
+            }
+            if part.batch.is_some() {
+                return Some(Reason::BatchExists);
+            }
+            if !is_in_phase(Phase::Keying, &part.ward) {
+                return Some(Reason::WrongPhase);
+            }
+            if first_clerk == second_clerk {
+                return Some(Reason::SameClerk);
+            }
+            None
+        }
+        BatchCommand::Again { .. } => {
+            if part.batch.is_none() {
+                return Some(Reason::NoSuchBatch);
+            }
+            if !is_in_phase(Phase::Keying, &part.ward) {
+                return Some(Reason::WrongPhase);
+            }
+            if !differ(&part.first, &part.second) {
+                return Some(Reason::NoDifference);
+            }
+            None
+        }
+    }
+}
+
+/// The round after the current one; after the last there is none.
+fn next_round(batch: &Option<Batch>) -> u32
+    ensures { result ≡ next_round (option_map batch_entry batch.now) }
+{
+    match batch {
+        Some(batch) if is_in_last_round(batch) => batch.round,
+        Some(batch) => batch.round + 1,
+        None => 1,
+    }
+}
+
+#[tactic(auto, unfolding(crate::specs::Batches::subject_of))]
+/// What the receipt of a command is about.
+pub(crate) fn subject_of(alloc: Global, command: &BatchCommand) -> Result<String, AllocError>
+    ensures { IfOk result (λ text. string_bytes text ≡ subject_of command.now) }
+{
+    match command {
+        BatchCommand::Add { batch, .. } => format!(in alloc; "batch {batch}"),
+        BatchCommand::Again { batch } => format!(in alloc; "again {batch}"),
+    }
+}
+
+#[tactic(auto, unfolding(crate::specs::Batches::reply_to))]
+/// What is replied where the command is accepted: of a batch that is keyed again also in which round.
+pub(crate) fn reply_to(
+    alloc: Global,
+    command: &BatchCommand,
+    part: &Part,
+) -> Result<String, AllocError>
+    ensures { IfOk result (λ text. string_bytes text ≡ reply_to command.now (part_entries part.now)) }
+{
+    match command {
+        BatchCommand::Add { batch, .. } => format!(in alloc; "batch {batch} added"),
+        BatchCommand::Again { batch } => {
+            let round = next_round(&part.batch);
+            format!(in alloc; "batch {batch} round {round} open")
+        }
+    }
+}
+
+/// What the command does to the state: a new batch is in its first round.
+pub(crate) fn effect_of(command: &BatchCommand, part: &Part) -> Effect
+    ensures { effect_entry result ≡ effect_of command.now (part_entries part.now) }
+{
+    match command {
+        BatchCommand::Add {
+            batch,
+            ward,
+            size,
+            first_clerk,
+            second_clerk,
+        } => Effect::BatchAdded(Batch {
+            number: *batch,
+            ward: *ward,
+            size: *size,
+            first_clerk: *first_clerk,
+            second_clerk: *second_clerk,
+            round: 1,
+        }),
+        BatchCommand::Again { batch } => Effect::BatchReopened {
+            batch: *batch,
+            round: next_round(&part.batch),
+        },
+    }
+}

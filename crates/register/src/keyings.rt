@@ -1,0 +1,138 @@
+//! Keyed papers, and the command of the clerks.
+
+ghost use Rattle.std.specs.Prelude.{◌≡◌, IfOk, map, string_bytes};
+ghost use Rattle.register.specs.Reasons.{first_reason};
+ghost use Rattle.register.specs.Offices.{batch_entry, keyed_entry};
+ghost use Rattle.register.specs.Papers.{is_its_clerk};
+ghost use Rattle.register.specs.Parts.{part_entries};
+ghost use Rattle.register.specs.Effects.{effect_entry};
+ghost use Rattle.register.specs.Keyings.{is_in_range, objections, subject_of, reply_to, effect_of, papers_from};
+
+use crate::batches::Batch;
+use crate::decision::Effect;
+use crate::marks::{columns_of, first_bad_marks};
+use crate::papers::is_keyed;
+use crate::phase::Phase;
+use crate::ranges::{is_batch_number, is_clerk, is_round};
+use crate::refusal::Reason;
+use crate::view::Part;
+use crate::wards::is_in_phase;
+use std::alloc::{AllocError, Global};
+
+/// A ballot paper as a clerk (1 to 999) keyed it: of which batch (1 to 9999), in which round (1 to 99),
+/// its number there (1 to 500), and its marks text.
+#[derive(Debug, Drop)]
+pub struct KeyedPaper {
+    pub batch: u32,
+    pub round: u32,
+    pub clerk: u32,
+    pub paper: u32,
+    pub marks: String,
+}
+
+/// What a clerk asks: to keep his keying of a batch in a round, a marks text for each paper, in the order
+/// of the papers.
+#[derive(Debug, Drop)]
+pub struct KeyingCommand {
+    pub batch: u32,
+    pub round: u32,
+    pub papers: Vec<String>,
+}
+
+/// Whether the command's numbers are in range, and the actor is one who may send it.
+fn is_in_range(actor: u32, command: &KeyingCommand) -> bool
+    ensures { result ≡ is_in_range actor command.now }
+{
+    let clerk = is_clerk(actor);
+    let number = is_batch_number(command.batch);
+    clerk & (number & is_round(command.round))
+}
+
+/// Whether a clerk is one of the two who key a batch.
+pub fn is_its_clerk(clerk: u32, batch: &Batch) -> bool
+    ensures { result ≡ is_its_clerk clerk (batch_entry batch.now) }
+{
+    clerk == batch.first_clerk || clerk == batch.second_clerk
+}
+
+/// What stands against the command: of several reasons the one with the lowest number.
+pub(crate) fn objection_to(actor: u32, command: &KeyingCommand, part: &Part) -> Option<Reason>
+    ensures { result ≡ first_reason (objections actor command.now (part_entries part.now)) }
+{
+    if !is_in_range(actor, command) {
+        return Some(Reason::NumberOutOfRange);
+    }
+    let Some(batch) = &part.batch else {
+        return Some(Reason::NoSuchBatch);
+    };
+    if !is_in_phase(Phase::Keying, &part.ward) {
+        return Some(Reason::WrongPhase);
+    }
+    if !is_its_clerk(actor, batch) {
+        return Some(Reason::NotItsClerk);
+    }
+    if batch.round != command.round {
+        return Some(Reason::NotThisRound);
+    }
+    if is_keyed(&part.own) {
+        return Some(Reason::AlreadyKeyed);
+    }
+    if batch.size as usize != command.papers.len() {
+        return Some(Reason::WrongPaperCount);
+    }
+    first_bad_marks(columns_of(&part.candidates), &command.papers)
+}
+
+#[tactic(auto, unfolding(crate::specs::Keyings::subject_of))]
+/// What the receipt of the command is about.
+pub(crate) fn subject_of(alloc: Global, command: &KeyingCommand) -> Result<String, AllocError>
+    ensures { IfOk result (λ text. string_bytes text ≡ subject_of command.now) }
+{
+    let (batch, round) = (command.batch, command.round);
+    format!(in alloc; "key {batch} {round}")
+}
+
+#[tactic(auto, unfolding(crate::specs::Keyings::reply_to))]
+/// What is replied where the command is accepted, whatever the other clerk keyed.
+pub(crate) fn reply_to(alloc: Global, command: &KeyingCommand) -> Result<String, AllocError>
+    ensures { IfOk result (λ text. string_bytes text ≡ reply_to command.now) }
+{
+    let (batch, round) = (command.batch, command.round);
+    format!(in alloc; "batch {batch} round {round} keyed")
+}
+
+#[tactic(auto, unfolding(crate::specs::Keyings::papers_from))]
+/// The papers of a clerk's keying, numbered from 1 on.
+fn keyed_papers(
+    alloc: Global,
+    actor: u32,
+    command: &KeyingCommand,
+) -> Result<Vec<KeyedPaper>, AllocError>
+    ensures { IfOk result (λ papers. map keyed_entry papers.items ≡ papers_from command.now.batch command.now.round actor 1 (map string_bytes command.now.papers.items)) }
+{
+    let mut papers = Vec::with_capacity(alloc, command.papers.len())?;
+    let mut paper = 0;
+    for marks in &command.papers {
+        // No batch has so many papers that their numbers could run out.
+        paper = u32::checked_add(paper, 1).ok_or(AllocError)?;
+        papers.push(KeyedPaper {
+            batch: command.batch,
+            round: command.round,
+            clerk: actor,
+            paper,
+            marks: marks.clone()?,
+        })?;
+    }
+    Ok(papers)
+}
+
+/// What the command does to the state.
+pub(crate) fn effect_of(
+    alloc: Global,
+    actor: u32,
+    command: &KeyingCommand,
+) -> Result<Effect, AllocError>
+    ensures { IfOk result (λ effect. effect_entry effect ≡ effect_of actor command.now) }
+{
+    Ok(Effect::PapersKeyed(keyed_papers(alloc, actor, command)?))
+}

@@ -1,0 +1,82 @@
+//! The columns of a ward's ballot papers, and marks that are read by them.
+
+ghost use Rattle.std.specs.Prelude.{◌≡◌, ℕ, Ok, ◌+◌, ◌^◌, ◌<◌, length, map, string_bytes};
+ghost use Rattle.register.specs.Offices.{OfficeState, candidate_entry, candidates_of};
+ghost use Rattle.register.specs.Items.{IsState};
+ghost use Rattle.register.specs.Marks.{columns_of, is_readable, is_judged_valid, is_valid, marks_objection, first_bad_marks};
+
+use crate::candidates::Candidate;
+use crate::ranges::is_candidate_number;
+use crate::refusal::Reason;
+use paper::{Columns, Keyed, Marks, judge};
+
+/// The columns of a ward's ballot papers: the numbers of its candidates, in ascending order. A number out
+/// of range, which no candidate of an office has, is left out.
+pub fn columns_of(candidates: &[Candidate]) -> Columns
+    ensures is { result ≡ columns_of (map candidate_entry candidates.now) }
+    ensures of_a_ward { (s : OfficeState) (ward : ℕ) → IsState s → columns_of (candidates_of s ward) ≡ map (λ c. c.number) (candidates_of s ward) }
+{
+    let mut columns = Columns::empty();
+    for candidate in candidates {
+        if is_candidate_number(candidate.number) {
+            columns = columns.with(candidate.number as u8);
+        }
+    }
+    columns
+}
+
+/// Whether a marks text is read by some columns.
+pub fn is_readable(columns: Columns, marks: &str) -> bool
+    ensures { result ≡ is_readable columns marks.now }
+{
+    Marks::read(marks.as_bytes(), columns).is_ok()
+}
+
+/// Whether a marks text is read by some columns, and the paper is valid by it.
+pub fn is_valid(columns: Columns, marks: &str) -> bool
+    ensures { result ≡ is_valid columns marks.now }
+{
+    match Marks::read(marks.as_bytes(), columns) {
+        Ok(keyed) => is_keyed_valid(&keyed),
+        Err(_) => false,
+    }
+}
+
+/// Whether a paper is valid as it is keyed; of a doubtful one nothing is read.
+fn is_keyed_valid(keyed: &Keyed) -> bool
+    ensures { result ≡ is_judged_valid (Ok keyed.now) }
+{
+    match keyed {
+        Keyed::Marked(marked) => judge(marked).is_ok(),
+        Keyed::Doubtful => false,
+    }
+}
+
+/// What stands against the marks on a paper: that they can't be read.
+pub(crate) fn marks_objection(columns: Columns, paper: u32, marks: &str) -> Option<Reason>
+    ensures { result ≡ marks_objection columns paper marks.now }
+{
+    match Marks::read(marks.as_bytes(), columns) {
+        Ok(_) => None,
+        Err(fault) => Some(Reason::BadMarks {
+            paper,
+            fault: fault.number(),
+        }),
+    }
+}
+
+#[tactic(auto, unfolding(crate::specs::Marks::first_bad_marks))]
+/// What stands against the marks on some papers, which are numbered from 1 on: the first one that can't
+/// be read.
+pub(crate) fn first_bad_marks(columns: Columns, papers: &[String]) -> Option<Reason>
+    requires { length papers.now < 2 ^ 32 }
+    ensures { result ≡ first_bad_marks columns 1 (map string_bytes papers.now) }
+{
+    for (place, marks) in papers.iter().enumerate() {
+        let objection = marks_objection(columns, place as u32 + 1, marks.as_str());
+        if objection.is_some() {
+            return objection;
+        }
+    }
+    None
+}

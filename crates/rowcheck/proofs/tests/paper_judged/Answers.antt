@@ -1,0 +1,14 @@
+use Rattle.std.specs.List.Sorted.{IsStrictlySortedBy}
+use Rattle.rowcheck.proofs.tests.paper_judged.Goals as goal
+
+pub returns : goal.returns
+unfolding IsStrictlySortedBy
+returns c =
+    record {
+      wards = c.in_ok-rows.ensures.wards;
+      candidates = c.in_ok-rows.ensures.candidates;
+      batches = c.in_ok-rows.ensures.batches;
+      keyings = c.in_ok-rows.ensures.keyings;
+      verdicts = rw c.in_ok-vec.ensures.items (tt, tt);
+      receipts = c.in_ok-rows.ensures.receipts;
+    }

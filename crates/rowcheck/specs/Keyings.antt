@@ -1,0 +1,17 @@
+-- The keyed papers of one batch.
+use Rattle.std.specs.Prelude.{ℕ, Bool, ◌&&◌, ◌==◌, List, Some}
+use Rattle.std.specs.List.{list_all, filter}
+use Rattle.register.specs.Offices.{BatchEntry, KeyedEntry, OfficeState}
+use Rattle.register.specs.Keyed.{is_keyed_for, are_rounds_to}
+
+-- the papers that are keyed of a batch, in all rounds and by both clerks
+abbrev pub papers_of : OfficeState → ℕ → List KeyedEntry
+papers_of s batch = filter (λ (k : KeyedEntry). k.batch == batch) s.keyings
+
+-- each of them is keyed as the batch asks
+abbrev pub are_keyed_for : OfficeState → BatchEntry → Bool
+are_keyed_for s b = list_all (λ k. is_keyed_for s k (Some b)) (papers_of s b.number)
+
+-- and they are those of its rounds
+abbrev pub is_keyed : OfficeState → BatchEntry → Bool
+is_keyed s b = are_keyed_for s b && are_rounds_to s b b.round

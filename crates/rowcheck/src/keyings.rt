@@ -1,0 +1,155 @@
+//! Keyed papers, and the batches that they belong to.
+//!
+//! Each keyed paper has its batch; then the papers of each batch are read by its columns, and its rounds
+//! are gone through, each keying a run of the rows.
+
+ghost use Rattle.std.specs.Prelude.{◌≡◌, ◌&&◌, true, nat_le, map, is_some, IfSome, string_bytes};
+ghost use Rattle.std.specs.List.{list_all};
+ghost use Rattle.register.specs.Offices.{MapsRise, batch_entry, keyed_entry, batch_at};
+ghost use Rattle.register.specs.Marks.{is_readable};
+ghost use Rattle.register.specs.Papers.{is_its_clerk};
+ghost use Rattle.register.specs.Keyed.{is_whole, are_numbered, is_round_of, are_rounds_to};
+ghost use Rattle.register.specs.Items.{item4};
+ghost use Rattle.rowcheck.specs.States.{state_of};
+ghost use Rattle.rowcheck.specs.Keyings.{are_keyed_for, is_keyed};
+
+use crate::finding::{candidates_of, has_batch, keying_of, papers_of};
+use crate::rows::Rows;
+use paper::Columns;
+use register::keyings::is_its_clerk;
+use register::marks::{columns_of, is_readable};
+use register::papers::differ;
+use register::{Batch, KeyedPaper};
+
+/// Whether there is a batch with this number, where that of another number may be known to be there.
+fn is_there(rows: &Rows, known: Option<u32>, number: u32) -> bool
+    requires rise { MapsRise (state_of rows.now) }
+    requires known { IfSome known (λ n. is_some (batch_at (state_of rows.now) n) ≡ true) }
+    ensures { result ≡ is_some (batch_at (state_of rows.now) number) }
+{
+    match known {
+        Some(known) if known == number => true,
+        _ => has_batch(rows, number),
+    }
+}
+
+/// Whether each keyed paper belongs to a batch that is there. The papers of a batch stand side by side, so
+/// that it is looked up once.
+fn are_of_batches(rows: &Rows, keyings: &[KeyedPaper]) -> bool
+    requires { MapsRise (state_of rows.now) }
+    ensures { result ≡ list_all (λ k. is_some (batch_at (state_of rows.now) k.batch)) keyings.now }
+{
+    let mut known = None;
+    for keyed in keyings {
+        if !is_there(rows, known, keyed.batch) {
+            return false;
+        }
+        known = Some(keyed.batch);
+    }
+    true
+}
+
+/// Whether a paper of a batch is keyed in a round up to its current one, by one of its clerks, with marks
+/// that these columns read.
+fn is_keyed_for(batch: &Batch, columns: Columns, keyed: &KeyedPaper) -> bool
+    ensures { result ≡ (nat_le keyed.now.round batch.now.round && (is_its_clerk keyed.now.clerk (batch_entry batch.now) && is_readable columns (string_bytes keyed.now.marks))) }
+{
+    let in_time = keyed.round <= batch.round;
+    let its_clerk = is_its_clerk(keyed.clerk, batch);
+    in_time & (its_clerk & is_readable(columns, keyed.marks.as_str()))
+}
+
+fn are_papers_for(batch: &Batch, columns: Columns, papers: &[KeyedPaper]) -> bool
+    ensures { result ≡ list_all (λ k. nat_le k.round batch.now.round && (is_its_clerk k.clerk (batch_entry batch.now) && is_readable columns (string_bytes k.marks))) papers.now }
+{
+    papers
+        .iter()
+        .all(|keyed| is_keyed_for(batch, columns, keyed))
+}
+
+/// Whether each paper that is keyed of a batch is keyed as the batch asks.
+fn are_keyed_for(rows: &Rows, batch: &Batch) -> bool
+    requires { MapsRise (state_of rows.now) }
+    ensures { result ≡ are_keyed_for (state_of rows.now) (batch_entry batch.now) }
+{
+    let columns = columns_of(candidates_of(rows, batch.ward));
+    are_papers_for(batch, columns, papers_of(rows, batch.number))
+}
+
+#[tactic(auto, unfolding(register::specs::Keyed::are_numbered))]
+/// Whether papers are numbered from 1 on.
+fn are_numbered(keying: &[KeyedPaper]) -> bool
+    ensures { result ≡ are_numbered 1 (map keyed_entry keying.now) }
+{
+    for (place, keyed) in keying.iter().enumerate() {
+        if keyed.paper as usize != place + 1 {
+            return false;
+        }
+    }
+    true
+}
+
+/// Whether a keying isn't there, or has each of so many papers once.
+fn is_whole(size: u32, keying: &[KeyedPaper]) -> bool
+    ensures { result ≡ is_whole size (map keyed_entry keying.now) }
+{
+    if keying.is_empty() {
+        return true;
+    }
+    let full = keying.len() == size as usize;
+    full & are_numbered(keying)
+}
+
+/// Whether each keying of a round is whole, and in an earlier round than the current one both are there
+/// and unequal.
+fn is_round_of(rows: &Rows, batch: &Batch, round: u32) -> bool
+    requires { MapsRise (state_of rows.now) }
+    ensures { result ≡ is_round_of (state_of rows.now) (batch_entry batch.now) round }
+{
+    let first = keying_of(rows, batch.number, round, batch.first_clerk);
+    let second = keying_of(rows, batch.number, round, batch.second_clerk);
+    let current = batch.round <= round;
+    let first_whole = is_whole(batch.size, first);
+    let second_whole = is_whole(batch.size, second);
+    first_whole & (second_whole & (current | differ(first, second)))
+}
+
+/// Whether each round of a batch is one, from the current one down to the first.
+fn are_rounds(rows: &Rows, batch: &Batch) -> bool
+    requires { MapsRise (state_of rows.now) }
+    ensures { result ≡ are_rounds_to (state_of rows.now) (batch_entry batch.now) batch.now.round }
+{
+    for later in 0..batch.round {
+        if !is_round_of(rows, batch, batch.round - later) {
+            return false;
+        }
+    }
+    true
+}
+
+/// Whether the keyed papers of a batch are as the batch asks, and those of its rounds.
+fn is_keyed(rows: &Rows, batch: &Batch) -> bool
+    requires { MapsRise (state_of rows.now) }
+    ensures { result ≡ is_keyed (state_of rows.now) (batch_entry batch.now) }
+{
+    let papers = are_keyed_for(rows, batch);
+    papers & are_rounds(rows, batch)
+}
+
+fn are_keyed(rows: &Rows, batches: &[Batch]) -> bool
+    requires { MapsRise (state_of rows.now) }
+    ensures { result ≡ list_all (λ b. is_keyed (state_of rows.now) (batch_entry b)) batches.now }
+{
+    batches.iter().all(|batch| is_keyed(rows, batch))
+}
+
+/// Whether papers are keyed of batches that are there, in rounds and by clerks of theirs, with marks that
+/// are read; and each keying is whole, and those of an earlier round differ. The fourth condition on the
+/// rows of an office, whose tables stand in the order of their keys, no key twice.
+pub fn item4(rows: &Rows) -> bool
+    requires { MapsRise (state_of rows.now) }
+    ensures { result ≡ item4 (state_of rows.now) }
+{
+    let owned = are_of_batches(rows, &rows.keyings);
+    owned & are_keyed(rows, &rows.batches)
+}

@@ -1,0 +1,81 @@
+-- Why the tallies of batches are those of the state.
+use Rattle.std.proofs.Common.{◌≡◌, ℕ, ◌+◌, Bool, true, false, cond, List, [], ◌∷◌, ◌++◌, map, filter, length, refl, sym, ap, ◌∙◌, arith}
+use Rattle.std.proofs.lemmas.List.Elements.{filter-append}
+use Rattle.std.proofs.lemmas.List.{length-append}
+use Rattle.register.specs.declared.verdicts.JudgedPaper.{JudgedPaper}
+use Rattle.register.specs.Offices.{BatchEntry, OfficeState, keyed_entry, judged_entry, verdicts_of}
+use Rattle.register.specs.Papers.{are_taken, differ, is_taken, is_differing, is_open, open_in, open_among, first_keying, second_keying}
+use Rattle.register.specs.Standings.{StatusEntry}
+use Rattle.store.specs.declared.standings.Tally.{Tally}
+use Rattle.store.specs.declared.views.papers.Keyings.{Keyings}
+use Rattle.store.specs.Tallies.{tally_by, IsTally}
+
+-- ---- one batch
+
+one_there : (b : BatchEntry) (q : Bool) → cond q 1 0 ≡ length (cond q (b ∷ []) [])
+one_there b true = refl
+one_there b false = refl
+
+open_there : (s : OfficeState) (b : BatchEntry) (q : Bool) → cond q (open_in s b) 0 ≡ open_among s (cond q (b ∷ []) [])
+open_there s b true = plus (open_in s b)
+  where
+    plus : (n : ℕ) → n ≡ n + 0
+    plus n = omega arith
+open_there s b false = refl
+
+-- what a batch comes to by its keyings and verdicts, it comes to in the state
+pub one_tally : (s : OfficeState) (b : BatchEntry) (keyings : Keyings) (verdicts : List JudgedPaper) → map keyed_entry keyings.first.items ≡ first_keying s b → map keyed_entry keyings.second.items ≡ second_keying s b
+    → map judged_entry verdicts ≡ verdicts_of s b.number → IsTally s (b ∷ []) (tally_by keyings verdicts)
+one_tally s b keyings verdicts first second judged =
+    let one = map keyed_entry keyings.first.items in
+    let other = map keyed_entry keyings.second.items in
+    let taken : are_taken one other ≡ is_taken s b = ap (λ ks. are_taken ks other) first ∙ ap (are_taken (first_keying s b)) second in
+    let differing : differ one other ≡ is_differing s b = ap (λ ks. differ ks other) first ∙ ap (differ (first_keying s b)) second in
+    let opens : length (filter (is_open (map judged_entry verdicts)) one) ≡ open_in s b = ap (λ vs. length (filter (is_open vs) one)) judged ∙ ap (λ ks. length (filter (is_open (verdicts_of s b.number)) ks)) first in
+    record {
+      taken = ap (λ q. cond q 1 0) taken ∙ one_there b (is_taken s b);
+      differing = ap (λ q. cond q 1 0) differing ∙ one_there b (is_differing s b);
+      doubtful_open = ap (λ q. cond q (length (filter (is_open (map judged_entry verdicts)) one)) 0) taken ∙ ap (λ n. cond (is_taken s b) n 0) opens ∙ open_there s b (is_taken s b);
+    }
+
+-- ---- some batches
+
+counted : (p : BatchEntry → Bool) (bs cs : List BatchEntry) → length (filter p (bs ++ cs)) ≡ length (filter p bs) + length (filter p cs)
+counted p bs cs = ap length (filter-append p bs cs) ∙ length-append (filter p bs) (filter p cs)
+
+open_both : (s : OfficeState) (bs cs : List BatchEntry) → open_among s (bs ++ cs) ≡ open_among s bs + open_among s cs
+open_both s [] cs = plus (open_among s cs)
+  where
+    plus : (n : ℕ) → n ≡ 0 + n
+    plus n = omega arith
+open_both s (b ∷ bs) cs = let later = open_both s bs cs in omega (arith, later)
+
+pub no_tally : (s : OfficeState) (tally : Tally) → tally.taken ≡ 0 → tally.differing ≡ 0 → tally.doubtful_open ≡ 0 → IsTally s [] tally
+no_tally s tally taken differing doubtful_open = record { taken = taken; differing = differing; doubtful_open = doubtful_open }
+
+-- what some batches come to, and then one more
+pub more_tally : (s : OfficeState) (bs : List BatchEntry) (b : BatchEntry) (some one sum : Tally) → IsTally s bs some → IsTally s (b ∷ []) one
+    → (sum.taken ≡ some.taken + one.taken) × (sum.differing ≡ some.differing + one.differing) × (sum.doubtful_open ≡ some.doubtful_open + one.doubtful_open) → IsTally s (bs ++ b ∷ []) sum
+more_tally s bs b some one sum first last sums =
+    record {
+      taken = sums.0 ∙ both first.taken last.taken ∙ sym (counted (is_taken s) bs (b ∷ []));
+      differing = sums.1 ∙ both first.differing last.differing ∙ sym (counted (is_differing s) bs (b ∷ []));
+      doubtful_open = sums.2 ∙ both first.doubtful_open last.doubtful_open ∙ sym (ap (open_among s) (filter-append (is_taken s) bs (b ∷ [])) ∙ open_both s (filter (is_taken s) bs) (filter (is_taken s) (b ∷ [])));
+    }
+  where
+    both : {k l m n : ℕ} → k ≡ m → l ≡ n → k + l ≡ m + n
+    both {k} {l} {m} {n} h g = omega (arith, h, g)
+
+-- ---- a ward
+
+-- standings with the same numbers are the same
+pub same_status : (x y : StatusEntry) → x.ward ≡ y.ward → x.phase ≡ y.phase → x.candidates ≡ y.candidates → x.batches ≡ y.batches → x.taken ≡ y.taken → x.differing ≡ y.differing → x.doubtful_open ≡ y.doubtful_open → x.stages ≡ y.stages → x ≡ y
+same_status x y ward phase candidates batches taken differing doubtful_open stages =
+    ap (λ v. record x { ward = v }) ward
+    ∙ ap (λ v. record x { ward = y.ward; phase = v }) phase
+    ∙ ap (λ v. record x { ward = y.ward; phase = y.phase; candidates = v }) candidates
+    ∙ ap (λ v. record x { ward = y.ward; phase = y.phase; candidates = y.candidates; batches = v }) batches
+    ∙ ap (λ v. record y { taken = v; differing = x.differing; doubtful_open = x.doubtful_open; stages = x.stages }) taken
+    ∙ ap (λ v. record y { differing = v; doubtful_open = x.doubtful_open; stages = x.stages }) differing
+    ∙ ap (λ v. record y { doubtful_open = v; stages = x.stages }) doubtful_open
+    ∙ ap (λ v. record y { stages = v }) stages

@@ -1,0 +1,38 @@
+-- The parts in which an opening lists the entries of a database.
+use Rattle.std.specs.Prelude.{map}
+use Rattle.std.specs.List.Sorted.{IsStrictlySortedBy}
+use Rattle.sqlite.specs.Effect.{Database}
+use Rattle.register.specs.declared.wards.Ward.{Ward as WardValue}
+use Rattle.register.specs.declared.candidates.Candidate.{Candidate as CandidateValue}
+use Rattle.register.specs.declared.batches.Batch.{Batch as BatchValue}
+use Rattle.register.specs.declared.keyings.KeyedPaper.{KeyedPaper}
+use Rattle.register.specs.declared.verdicts.JudgedPaper.{JudgedPaper}
+use Rattle.register.specs.Offices.{ward_entry, candidate_entry, batch_entry, keyed_entry, judged_entry}
+use Rattle.tables.specs.declared.table.Table.TheVariants.{Ward, Candidate, Batch, Keying, Verdict}
+use Rattle.tables.specs.Rows.{row_cmp}
+use Rattle.tables.specs.Reading.{ListsEntries}
+use Rattle.store.specs.declared.listing.Contests.{Contests}
+use Rattle.store.specs.declared.listing.Papers.{Papers}
+use Rattle.store.specs.EntryRows.{row_of_ward, row_of_candidate, row_of_batch, row_of_keyed, row_of_judged}
+
+-- all rows of the wards and of the candidates
+pub record ListsContests (db : Database) (contests : Contests) : Type 0 where
+  pub wards : ListsEntries Ward db (map (λ (w : WardValue). row_of_ward (ward_entry w)) contests.wards.items)
+  pub candidates : ListsEntries Candidate db (map (λ (c : CandidateValue). row_of_candidate (candidate_entry c)) contests.candidates.items)
+
+-- each row's key is above that of the one before
+pub record ContestsRise (contests : Contests) : Type 0 where
+  pub wards : IsStrictlySortedBy (row_cmp Ward) (map (λ (w : WardValue). row_of_ward (ward_entry w)) contests.wards.items)
+  pub candidates : IsStrictlySortedBy (row_cmp Candidate) (map (λ (c : CandidateValue). row_of_candidate (candidate_entry c)) contests.candidates.items)
+
+-- all rows of the batches, of the keyed papers and of the judged ones
+pub record ListsPapers (db : Database) (papers : Papers) : Type 0 where
+  pub batches : ListsEntries Batch db (map (λ (b : BatchValue). row_of_batch (batch_entry b)) papers.batches.items)
+  pub keyings : ListsEntries Keying db (map (λ (k : KeyedPaper). row_of_keyed (keyed_entry k)) papers.keyings.items)
+  pub verdicts : ListsEntries Verdict db (map (λ (v : JudgedPaper). row_of_judged (judged_entry v)) papers.verdicts.items)
+
+-- each row's key is above that of the one before
+pub record PapersRise (papers : Papers) : Type 0 where
+  pub batches : IsStrictlySortedBy (row_cmp Batch) (map (λ (b : BatchValue). row_of_batch (batch_entry b)) papers.batches.items)
+  pub keyings : IsStrictlySortedBy (row_cmp Keying) (map (λ (k : KeyedPaper). row_of_keyed (keyed_entry k)) papers.keyings.items)
+  pub verdicts : IsStrictlySortedBy (row_cmp Verdict) (map (λ (v : JudgedPaper). row_of_judged (judged_entry v)) papers.verdicts.items)

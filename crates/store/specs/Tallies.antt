@@ -1,0 +1,25 @@
+-- What the batches of a ward come to.
+use Rattle.std.specs.Prelude.{◌≡◌, if◌then◌else◌, List, map, length}
+use Rattle.std.specs.List.{filter}
+use Rattle.register.specs.declared.verdicts.JudgedPaper.{JudgedPaper}
+use Rattle.register.specs.Offices.{BatchEntry, OfficeState, keyed_entry, judged_entry}
+use Rattle.register.specs.Papers.{are_taken, differ, is_open, is_taken, is_differing, open_among}
+use Rattle.store.specs.declared.standings.Tally.{Tally}
+use Rattle.store.specs.declared.views.papers.Keyings.{Keyings}
+
+-- what a batch comes to by its keyings and the verdicts on its papers
+abbrev pub tally_by : Keyings → List JudgedPaper → Tally
+tally_by keyings verdicts =
+    let first = map keyed_entry keyings.first.items in
+    let second = map keyed_entry keyings.second.items in
+    record {
+      taken = if are_taken first second then 1 else 0;
+      differing = if differ first second then 1 else 0;
+      doubtful_open = if are_taken first second then length (filter (is_open (map judged_entry verdicts)) first) else 0;
+    }
+
+-- how many of some batches are taken, how many differ, and how many doubtful papers of the taken ones have no verdict
+pub record IsTally (s : OfficeState) (batches : List BatchEntry) (tally : Tally) : Type 0 where
+  pub taken : tally.taken ≡ length (filter (is_taken s) batches)
+  pub differing : tally.differing ≡ length (filter (is_differing s) batches)
+  pub doubtful_open : tally.doubtful_open ≡ open_among s (filter (is_taken s) batches)

@@ -1,0 +1,59 @@
+//! Batches, as the rows of their table.
+
+ghost use Rattle.std.specs.Prelude.{refl};
+ghost use Rattle.register.specs.Offices.{batch_entry};
+ghost use Rattle.tables.specs.declared.table.Table.TheVariants.{Batch as BatchTable};
+ghost use Rattle.store.specs.EntryRows.{IsBatchRow, row_of_batch};
+
+use register::Batch;
+use sqlite::Row;
+use sqlite_value::value::ValueRef;
+use std::alloc::Global;
+use tables::cells::{number, number_at};
+use tables::{Entries, Fault, Table};
+
+/// The batches, by number.
+pub(crate) struct Batches;
+
+impl Entries for Batches {
+    type Entry = Batch;
+
+    ghost row_of = { λ b. row_of_batch (batch_entry b) };
+
+    ghost is_row = { IsBatchRow };
+
+    ghost TABLE = { BatchTable };
+
+    const TABLE: Table = Table::Batch;
+
+    fn values<'a>(batch: &'a Batch, alloc: Global) -> Result<Vec<ValueRef<'a>>, Fault> {
+        let values = [
+            number(batch.number),
+            number(batch.ward),
+            number(batch.size),
+            number(batch.first_clerk),
+            number(batch.second_clerk),
+            number(batch.round),
+        ];
+        Vec::from_array(alloc, values).map_err(|_| Fault::Memory)
+    }
+
+    fn read(row: &Row) -> Result<Batch, Fault> {
+        let number = number_at(row, 0)?;
+        let ward = number_at(row, 1)?;
+        let size = number_at(row, 2)?;
+        let first_clerk = number_at(row, 3)?;
+        let second_clerk = number_at(row, 4)?;
+        let round = number_at(row, 5)?;
+        Ok(Batch {
+            number,
+            ward,
+            size,
+            first_clerk,
+            second_clerk,
+            round,
+        })
+    }
+
+    ghost typed = { λ b. refl };
+}

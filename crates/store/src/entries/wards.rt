@@ -1,0 +1,71 @@
+//! Wards, as the rows of their table.
+
+ghost use Rattle.std.specs.Prelude.{◌≡◌, ◌⊎◌, pos, IfOk, IfErr, refl};
+ghost use Rattle.sqlite.specs.Order.{column};
+ghost use Rattle.sqlite.specs.declared.types.Value.TheVariants.{Int};
+ghost use Rattle.register.specs.Phases.{phase_number};
+ghost use Rattle.register.specs.Offices.{ward_entry};
+ghost use Rattle.tables.specs.declared.table.Table.TheVariants.{Ward as WardTable};
+ghost use Rattle.store.specs.EntryRows.{IsPhase, IsWardRow, row_of_ward};
+
+use register::{Phase, Ward};
+use sqlite::Row;
+use sqlite_value::value::ValueRef;
+use std::alloc::Global;
+use tables::cells::{number, number_at, text, text_at};
+use tables::{Entries, Fault, Table};
+
+/// The phase in a column; `Damaged` where there is none.
+fn phase_at(row: &Row, place: usize) -> Result<Phase, Fault>
+    ensures phase { IfOk result (λ phase. column row.now place ≡ Int (pos (phase_number phase))) }
+    ensures cause { IfErr result (λ f. (f ≡ Fault.Memory) ⊎ ((f ≡ Fault.Damaged) × ¬ IsPhase (column row.now place))) }
+{
+    let n = number_at(row, place)?;
+    match Phase::from_number(n) {
+        Some(phase) => Ok(phase),
+        None => Err(Fault::Damaged),
+    }
+}
+
+/// The wards, by number.
+pub(crate) struct Wards;
+
+impl Entries for Wards {
+    type Entry = Ward;
+
+    ghost row_of = { λ w. row_of_ward (ward_entry w) };
+
+    ghost is_row = { IsWardRow };
+
+    ghost TABLE = { WardTable };
+
+    const TABLE: Table = Table::Ward;
+
+    fn values<'a>(ward: &'a Ward, alloc: Global) -> Result<Vec<ValueRef<'a>>, Fault> {
+        let values = [
+            number(ward.number),
+            number(ward.seats),
+            number(ward.phase.number()),
+            number(ward.done),
+            text(ward.name.as_str()),
+        ];
+        Vec::from_array(alloc, values).map_err(|_| Fault::Memory)
+    }
+
+    fn read(row: &Row) -> Result<Ward, Fault> {
+        let number = number_at(row, 0)?;
+        let seats = number_at(row, 1)?;
+        let phase = phase_at(row, 2)?;
+        let done = number_at(row, 3)?;
+        let name = text_at(row, 4)?;
+        Ok(Ward {
+            number,
+            seats,
+            phase,
+            done,
+            name,
+        })
+    }
+
+    ghost typed = { λ w. refl };
+}

@@ -1,0 +1,227 @@
+//! How a ward stands, and the columns of a batch's papers, read from the tables.
+
+ghost use Rattle.std.specs.Prelude.{◌≡◌, ◌⊎◌, ◌+◌, if◌then◌else◌, false, [], ◌∷◌, map, option_map, IfOk, IfErr, OnOk, IsTrue};
+ghost use Rattle.sqlite.specs.State.{HasCleanDisk};
+ghost use Rattle.sqlite.specs.Held.{state};
+ghost use Rattle.register.specs.Offices.{OfficeState, ward_entry, batch_entry};
+ghost use Rattle.register.specs.Standings.{status_entry, status_of, status_at, columns_at};
+ghost use Rattle.tables.specs.Reading.{OnlyReads};
+ghost use Rattle.store.specs.Offices.{IsAt};
+ghost use Rattle.store.specs.Tallies.{IsTally, tally_by};
+
+use crate::storage::Store;
+use crate::views::batches::{find_batch, list_batches};
+use crate::views::candidates::list_candidates;
+use crate::views::papers::{Keyings, keyings_of, list_verdicts};
+use crate::views::wards::find_ward;
+use paper::Columns;
+use register::marks::columns_of;
+use register::papers::{are_taken, count_open, differ};
+use register::{Batch, JudgedPaper, Status, Ward};
+use sqlite::{Alter, Connection};
+use std::alloc::Global;
+use tables::Fault;
+
+/// What some batches come to: how many are taken, how many differ, and how many doubtful papers of the
+/// taken ones have no verdict.
+#[derive(Clone, Copy)]
+struct Tally {
+    taken: usize,
+    differing: usize,
+    doubtful_open: usize,
+}
+
+/// One where it is so, and else none.
+fn count_of(it_is: bool) -> usize
+    ensures { result ≡ (if it_is then 1 else 0) }
+{
+    if it_is { 1 } else { 0 }
+}
+
+/// A sum of counts. None is too large in fact: an office has at most 9999 batches, of 500 papers.
+fn sum_of(count: usize, other: usize) -> Result<usize, Fault>
+    ensures value { IfOk result (λ n. n ≡ count + other) }
+    ensures cause { IfErr result (λ f. f ≡ Fault.Memory) }
+{
+    match count.checked_add(other) {
+        Some(n) => Ok(n),
+        None => Err(Fault::Memory),
+    }
+}
+
+/// What some batches and others come to together.
+fn both(some: Tally, others: Tally) -> Result<Tally, Fault>
+    ensures sums { IfOk result (λ t. (t.taken ≡ some.taken + others.taken) × (t.differing ≡ some.differing + others.differing) × (t.doubtful_open ≡ some.doubtful_open + others.doubtful_open)) }
+    ensures cause { IfErr result (λ f. f ≡ Fault.Memory) }
+{
+    let taken = sum_of(some.taken, others.taken)?;
+    let differing = sum_of(some.differing, others.differing)?;
+    let doubtful_open = sum_of(some.doubtful_open, others.doubtful_open)?;
+    Ok(Tally {
+        taken,
+        differing,
+        doubtful_open,
+    })
+}
+
+/// What a batch comes to by its keyings and the verdicts on its papers.
+fn standing(keyings: &Keyings, verdicts: &[JudgedPaper]) -> Tally
+    ensures { result ≡ tally_by keyings.now verdicts.now }
+{
+    let taken = are_taken(&keyings.first, &keyings.second);
+    let differing = differ(&keyings.first, &keyings.second);
+    let doubtful_open = if taken {
+        count_open(&keyings.first, verdicts)
+    } else {
+        0
+    };
+    Tally {
+        taken: count_of(taken),
+        differing: count_of(differing),
+        doubtful_open,
+    }
+}
+
+/// What a batch comes to.
+fn tally_of<S: Alter>(
+    alloc: Global,
+    conn: &mut Connection<S>,
+    batch: &Batch,
+) -> Result<Tally, Fault>
+    requires { conn.old.in_transaction ≡ false }
+    ensures found { HasCleanDisk (state S.Store conn.new) → (s : OfficeState) → IsAt s (state S.Store conn.old) → IfOk result (IsTally s (batch_entry batch.now ∷ [])) }
+    ensures cause { HasCleanDisk (state S.Store conn.new) → (s : OfficeState) → IsAt s (state S.Store conn.old) → IfErr result (λ f. (f ≡ Fault.Memory) ⊎ (f ≡ Fault.Store)) }
+    ensures opens { HasCleanDisk (state S.Store conn.new) → OnOk result (IsTrue (state S.Store conn.new).is_open) }
+    ensures reads { OnlyReads (state S.Store conn.old) (state S.Store conn.new) }
+    ensures outside { conn.new.in_transaction ≡ false }
+{
+    let keyings = keyings_of(alloc, conn, batch)?;
+    let verdicts = list_verdicts(alloc, conn, batch.number)?;
+    Ok(standing(&keyings, &verdicts))
+}
+
+/// What batches come to together, read one after the other.
+fn tally_all<S: Alter>(
+    alloc: Global,
+    conn: &mut Connection<S>,
+    batches: &[Batch],
+) -> Result<Tally, Fault>
+    requires { conn.old.in_transaction ≡ false }
+    ensures found { HasCleanDisk (state S.Store conn.new) → (s : OfficeState) → IsAt s (state S.Store conn.old) → IfOk result (IsTally s (map batch_entry batches.now)) }
+    ensures cause { HasCleanDisk (state S.Store conn.new) → (s : OfficeState) → IsAt s (state S.Store conn.old) → IfErr result (λ f. (f ≡ Fault.Memory) ⊎ (f ≡ Fault.Store)) }
+    ensures opens { HasCleanDisk (state S.Store conn.new) → IsTrue (state S.Store conn.old).is_open → OnOk result (IsTrue (state S.Store conn.new).is_open) }
+    ensures reads { OnlyReads (state S.Store conn.old) (state S.Store conn.new) }
+    ensures outside { conn.new.in_transaction ≡ false }
+{
+    let mut tally = Tally {
+        taken: 0,
+        differing: 0,
+        doubtful_open: 0,
+    };
+    for batch in batches {
+        let one = tally_of(alloc, conn, batch)?;
+        tally = both(tally, one)?;
+    }
+    Ok(tally)
+}
+
+/// How a ward stands.
+fn ward_status<S: Alter>(
+    alloc: Global,
+    conn: &mut Connection<S>,
+    ward: &Ward,
+) -> Result<Status, Fault>
+    requires { conn.old.in_transaction ≡ false }
+    ensures found { HasCleanDisk (state S.Store conn.new) → (s : OfficeState) → IsAt s (state S.Store conn.old) → IfOk result (λ found. status_entry found ≡ status_of s (ward_entry ward.now)) }
+    ensures cause { HasCleanDisk (state S.Store conn.new) → (s : OfficeState) → IsAt s (state S.Store conn.old) → IfErr result (λ f. (f ≡ Fault.Memory) ⊎ (f ≡ Fault.Store)) }
+    ensures opens { HasCleanDisk (state S.Store conn.new) → OnOk result (IsTrue (state S.Store conn.new).is_open) }
+    ensures reads { OnlyReads (state S.Store conn.old) (state S.Store conn.new) }
+    ensures outside { conn.new.in_transaction ≡ false }
+{
+    let candidates = list_candidates(alloc, conn, ward.number)?;
+    let batches = list_batches(alloc, conn, ward.number)?;
+    let tally = tally_all(alloc, conn, &batches)?;
+    Ok(Status {
+        ward: ward.number,
+        phase: ward.phase,
+        candidates: candidates.len(),
+        batches: batches.len(),
+        taken: tally.taken,
+        differing: tally.differing,
+        doubtful_open: tally.doubtful_open,
+        stages: ward.done,
+    })
+}
+
+/// How the ward of this number stands, if there is one.
+fn find_status<S: Alter>(
+    alloc: Global,
+    conn: &mut Connection<S>,
+    ward: u32,
+) -> Result<Option<Status>, Fault>
+    requires { conn.old.in_transaction ≡ false }
+    ensures found { HasCleanDisk (state S.Store conn.new) → (s : OfficeState) → IsAt s (state S.Store conn.old) → IfOk result (λ found. option_map status_entry found ≡ status_at s ward) }
+    ensures cause { HasCleanDisk (state S.Store conn.new) → (s : OfficeState) → IsAt s (state S.Store conn.old) → IfErr result (λ f. (f ≡ Fault.Memory) ⊎ (f ≡ Fault.Store)) }
+    ensures opens { HasCleanDisk (state S.Store conn.new) → OnOk result (IsTrue (state S.Store conn.new).is_open) }
+    ensures reads { OnlyReads (state S.Store conn.old) (state S.Store conn.new) }
+    ensures outside { conn.new.in_transaction ≡ false }
+{
+    let found = find_ward(conn, ward)?;
+    match found {
+        Some(ward) => {
+            let status = ward_status(alloc, conn, &ward)?;
+            Ok(Some(status))
+        }
+        None => Ok(None),
+    }
+}
+
+/// The columns of the papers of the batch with this number, if there is one: those of its ward.
+fn find_columns<S: Alter>(
+    alloc: Global,
+    conn: &mut Connection<S>,
+    batch: u32,
+) -> Result<Option<Columns>, Fault>
+    requires { conn.old.in_transaction ≡ false }
+    ensures found { HasCleanDisk (state S.Store conn.new) → (s : OfficeState) → IsAt s (state S.Store conn.old) → IfOk result (λ found. found ≡ columns_at s batch) }
+    ensures cause { HasCleanDisk (state S.Store conn.new) → (s : OfficeState) → IsAt s (state S.Store conn.old) → IfErr result (λ f. (f ≡ Fault.Memory) ⊎ (f ≡ Fault.Store)) }
+    ensures opens { HasCleanDisk (state S.Store conn.new) → OnOk result (IsTrue (state S.Store conn.new).is_open) }
+    ensures reads { OnlyReads (state S.Store conn.old) (state S.Store conn.new) }
+    ensures outside { conn.new.in_transaction ≡ false }
+{
+    let found = find_batch(conn, batch)?;
+    match found {
+        Some(batch) => {
+            let candidates = list_candidates(alloc, conn, batch.ward)?;
+            Ok(Some(columns_of(&candidates)))
+        }
+        None => Ok(None),
+    }
+}
+
+impl<S: Alter> Store<S> {
+    /// How the ward of this number stands, if there is one. Its batches are read one after the other, each
+    /// with its keyings of the current round and the verdicts on its papers. It changes nothing, and adds
+    /// nothing to what a stop may leave. `Memory` or `Store` where a row can't be read.
+    pub fn load_status(&mut self, ward: u32) -> Result<Option<Status>, Fault>
+        ensures shows { HasCleanDisk (state S.Store self.new) → (s : OfficeState) → IsAt s (state S.Store self.old) → IfOk result (λ found. option_map status_entry found ≡ status_at s ward) }
+        ensures cause { HasCleanDisk (state S.Store self.new) → (s : OfficeState) → IsAt s (state S.Store self.old) → IfErr result (λ f. (f ≡ Fault.Memory) ⊎ (f ≡ Fault.Store)) }
+        ensures opens { HasCleanDisk (state S.Store self.new) → OnOk result (IsTrue (state S.Store self.new).is_open) }
+        ensures reads { OnlyReads (state S.Store self.old) (state S.Store self.new) }
+        ensures keeps { HasCleanDisk (state S.Store self.new) → (s : OfficeState) → IsAt s (state S.Store self.old) → IsAt s (state S.Store self.new) }
+    {
+        find_status(self.alloc, &mut self.conn, ward)
+    }
+
+    /// The columns of the papers of the batch with this number, if there is one. It changes nothing, and
+    /// adds nothing to what a stop may leave. `Memory` or `Store` where a row can't be read.
+    pub fn load_columns(&mut self, batch: u32) -> Result<Option<Columns>, Fault>
+        ensures shows { HasCleanDisk (state S.Store self.new) → (s : OfficeState) → IsAt s (state S.Store self.old) → IfOk result (λ found. found ≡ columns_at s batch) }
+        ensures cause { HasCleanDisk (state S.Store self.new) → (s : OfficeState) → IsAt s (state S.Store self.old) → IfErr result (λ f. (f ≡ Fault.Memory) ⊎ (f ≡ Fault.Store)) }
+        ensures opens { HasCleanDisk (state S.Store self.new) → OnOk result (IsTrue (state S.Store self.new).is_open) }
+        ensures reads { OnlyReads (state S.Store self.old) (state S.Store self.new) }
+        ensures keeps { HasCleanDisk (state S.Store self.new) → (s : OfficeState) → IsAt s (state S.Store self.old) → IsAt s (state S.Store self.new) }
+    {
+        find_columns(self.alloc, &mut self.conn, batch)
+    }
+}

@@ -1,0 +1,73 @@
+//! Candidates, read for a request.
+
+ghost use Rattle.std.specs.Prelude.{◌≡◌, ◌⊎◌, false, map, option_map, IfOk, IfErr, OnOk, IsTrue};
+ghost use Rattle.sqlite.specs.State.{HasCleanDisk};
+ghost use Rattle.sqlite.specs.Held.{state};
+ghost use Rattle.register.specs.Offices.{OfficeState, candidate_entry, ward_at, candidate_at, candidates_of};
+ghost use Rattle.register.specs.Parts.{empty_part, part_entries};
+ghost use Rattle.tables.specs.Reading.{OnlyReads};
+ghost use Rattle.store.specs.Offices.{IsAt};
+
+use crate::entries::candidates::Candidates;
+use crate::views::wards::find_ward;
+use register::{Candidate, Part};
+use sqlite::{Alter, Connection};
+use std::alloc::Global;
+use tables::Fault;
+use tables::cells::number;
+use tables::finding::{entries_beginning, find_entry};
+
+/// The candidate with this number in this ward, if there is one.
+pub(crate) fn find_candidate<S: Alter>(
+    conn: &mut Connection<S>,
+    ward: u32,
+    candidate: u32,
+) -> Result<Option<Candidate>, Fault>
+    requires { conn.old.in_transaction ≡ false }
+    ensures found { HasCleanDisk (state S.Store conn.new) → (s : OfficeState) → IsAt s (state S.Store conn.old) → IfOk result (λ found. option_map candidate_entry found ≡ candidate_at s ward candidate) }
+    ensures cause { HasCleanDisk (state S.Store conn.new) → (s : OfficeState) → IsAt s (state S.Store conn.old) → IfErr result (λ f. (f ≡ Fault.Memory) ⊎ (f ≡ Fault.Store)) }
+    ensures opens { HasCleanDisk (state S.Store conn.new) → OnOk result (IsTrue (state S.Store conn.new).is_open) }
+    ensures reads { OnlyReads (state S.Store conn.old) (state S.Store conn.new) }
+    ensures outside { conn.new.in_transaction ≡ false }
+{
+    find_entry::<Candidates, S>(conn, &[number(ward), number(candidate)])
+}
+
+/// The candidates of a ward, in the order of their numbers.
+pub(crate) fn list_candidates<S: Alter>(
+    alloc: Global,
+    conn: &mut Connection<S>,
+    ward: u32,
+) -> Result<Vec<Candidate>, Fault>
+    requires { conn.old.in_transaction ≡ false }
+    ensures found { HasCleanDisk (state S.Store conn.new) → (s : OfficeState) → IsAt s (state S.Store conn.old) → IfOk result (λ found. map candidate_entry found.items ≡ candidates_of s ward) }
+    ensures cause { HasCleanDisk (state S.Store conn.new) → (s : OfficeState) → IsAt s (state S.Store conn.old) → IfErr result (λ f. (f ≡ Fault.Memory) ⊎ (f ≡ Fault.Store)) }
+    ensures opens { HasCleanDisk (state S.Store conn.new) → OnOk result (IsTrue (state S.Store conn.new).is_open) }
+    ensures reads { OnlyReads (state S.Store conn.old) (state S.Store conn.new) }
+    ensures outside { conn.new.in_transaction ≡ false }
+{
+    entries_beginning::<Candidates, S>(alloc, conn, &[number(ward)])
+}
+
+/// The part of a command that needs a ward and one of its candidates.
+pub(crate) fn candidate_part<S: Alter>(
+    alloc: Global,
+    conn: &mut Connection<S>,
+    number: u32,
+    candidate: u32,
+) -> Result<Part, Fault>
+    requires { conn.old.in_transaction ≡ false }
+    ensures found { HasCleanDisk (state S.Store conn.new) → (s : OfficeState) → IsAt s (state S.Store conn.old) → IfOk result (λ part. part_entries part ≡ record empty_part { ward = ward_at s number; candidate = candidate_at s number candidate }) }
+    ensures cause { HasCleanDisk (state S.Store conn.new) → (s : OfficeState) → IsAt s (state S.Store conn.old) → IfErr result (λ f. (f ≡ Fault.Memory) ⊎ (f ≡ Fault.Store)) }
+    ensures opens { HasCleanDisk (state S.Store conn.new) → OnOk result (IsTrue (state S.Store conn.new).is_open) }
+    ensures reads { OnlyReads (state S.Store conn.old) (state S.Store conn.new) }
+    ensures outside { conn.new.in_transaction ≡ false }
+{
+    let ward = find_ward(conn, number)?;
+    let candidate = find_candidate(conn, number, candidate)?;
+    Ok(Part {
+        ward,
+        candidate,
+        ..Part::empty(alloc)
+    })
+}

@@ -1,0 +1,186 @@
+//! Ballot papers, read for a request.
+
+ghost use Rattle.std.specs.Prelude.{◌≡◌, ◌⊎◌, false, map, option_map, IfOk, IfErr, OnOk, IsTrue};
+ghost use Rattle.sqlite.specs.State.{HasCleanDisk};
+ghost use Rattle.sqlite.specs.Held.{state};
+ghost use Rattle.register.specs.Offices.{OfficeState, batch_entry, keyed_entry, judged_entry, batch_at, keying_of, verdict_at, verdicts_of};
+ghost use Rattle.register.specs.Papers.{first_keying, second_keying};
+ghost use Rattle.register.specs.Batches.{ward_for, candidates_for, first_for, second_for};
+ghost use Rattle.register.specs.Parts.{empty_part, part_entries};
+ghost use Rattle.tables.specs.Reading.{OnlyReads};
+ghost use Rattle.store.specs.Offices.{IsAt};
+
+use crate::entries::keyings::KeyedPapers;
+use crate::entries::verdicts::JudgedPapers;
+use crate::views::batches::{PolledBatch, polled_batch};
+use register::{Batch, JudgedPaper, KeyedPaper, Part};
+use sqlite::{Alter, Connection};
+use std::alloc::Global;
+use tables::Fault;
+use tables::cells::number;
+use tables::finding::{entries_beginning, find_entry};
+
+/// Both keyings of the current round of a batch, each in the order of its papers.
+#[derive(Drop)]
+pub(crate) struct Keyings {
+    pub(crate) first: Vec<KeyedPaper>,
+    pub(crate) second: Vec<KeyedPaper>,
+}
+
+/// The papers that a clerk keyed of a batch in a round, in their order.
+pub(crate) fn list_keying<S: Alter>(
+    alloc: Global,
+    conn: &mut Connection<S>,
+    batch: u32,
+    round: u32,
+    clerk: u32,
+) -> Result<Vec<KeyedPaper>, Fault>
+    requires { conn.old.in_transaction ≡ false }
+    ensures found { HasCleanDisk (state S.Store conn.new) → (s : OfficeState) → IsAt s (state S.Store conn.old) → IfOk result (λ found. map keyed_entry found.items ≡ keying_of s batch round clerk) }
+    ensures cause { HasCleanDisk (state S.Store conn.new) → (s : OfficeState) → IsAt s (state S.Store conn.old) → IfErr result (λ f. (f ≡ Fault.Memory) ⊎ (f ≡ Fault.Store)) }
+    ensures opens { HasCleanDisk (state S.Store conn.new) → OnOk result (IsTrue (state S.Store conn.new).is_open) }
+    ensures reads { OnlyReads (state S.Store conn.old) (state S.Store conn.new) }
+    ensures outside { conn.new.in_transaction ≡ false }
+{
+    entries_beginning::<KeyedPapers, S>(alloc, conn, &[number(batch), number(round), number(clerk)])
+}
+
+/// Both keyings of the current round of a batch.
+pub(crate) fn keyings_of<S: Alter>(
+    alloc: Global,
+    conn: &mut Connection<S>,
+    batch: &Batch,
+) -> Result<Keyings, Fault>
+    requires { conn.old.in_transaction ≡ false }
+    ensures found { HasCleanDisk (state S.Store conn.new) → (s : OfficeState) → IsAt s (state S.Store conn.old)
+        → IfOk result (λ found. (map keyed_entry found.first.items ≡ first_keying s (batch_entry batch.now)) × (map keyed_entry found.second.items ≡ second_keying s (batch_entry batch.now))) }
+    ensures cause { HasCleanDisk (state S.Store conn.new) → (s : OfficeState) → IsAt s (state S.Store conn.old) → IfErr result (λ f. (f ≡ Fault.Memory) ⊎ (f ≡ Fault.Store)) }
+    ensures opens { HasCleanDisk (state S.Store conn.new) → OnOk result (IsTrue (state S.Store conn.new).is_open) }
+    ensures reads { OnlyReads (state S.Store conn.old) (state S.Store conn.new) }
+    ensures outside { conn.new.in_transaction ≡ false }
+{
+    let first = list_keying(alloc, conn, batch.number, batch.round, batch.first_clerk)?;
+    let second = list_keying(alloc, conn, batch.number, batch.round, batch.second_clerk)?;
+    Ok(Keyings { first, second })
+}
+
+/// Both keyings of the current round of a batch, if it is there.
+pub(crate) fn both_keyings<S: Alter>(
+    alloc: Global,
+    conn: &mut Connection<S>,
+    batch: &Option<Batch>,
+) -> Result<Keyings, Fault>
+    requires { conn.old.in_transaction ≡ false }
+    ensures found { HasCleanDisk (state S.Store conn.new) → (s : OfficeState) → IsAt s (state S.Store conn.old)
+        → IfOk result (λ found. (map keyed_entry found.first.items ≡ first_for s (option_map batch_entry batch.now)) × (map keyed_entry found.second.items ≡ second_for s (option_map batch_entry batch.now))) }
+    ensures cause { HasCleanDisk (state S.Store conn.new) → (s : OfficeState) → IsAt s (state S.Store conn.old) → IfErr result (λ f. (f ≡ Fault.Memory) ⊎ (f ≡ Fault.Store)) }
+    ensures opens { HasCleanDisk (state S.Store conn.new) → IsTrue (state S.Store conn.old).is_open → OnOk result (IsTrue (state S.Store conn.new).is_open) }
+    ensures reads { OnlyReads (state S.Store conn.old) (state S.Store conn.new) }
+    ensures outside { conn.new.in_transaction ≡ false }
+{
+    match batch {
+        Some(batch) => keyings_of(alloc, conn, batch),
+        None => Ok(Keyings {
+            first: Vec::new(alloc),
+            second: Vec::new(alloc),
+        }),
+    }
+}
+
+/// The verdict on the paper of this number in this batch, if there is one.
+pub(crate) fn find_verdict<S: Alter>(
+    conn: &mut Connection<S>,
+    batch: u32,
+    paper: u32,
+) -> Result<Option<JudgedPaper>, Fault>
+    requires { conn.old.in_transaction ≡ false }
+    ensures found { HasCleanDisk (state S.Store conn.new) → (s : OfficeState) → IsAt s (state S.Store conn.old) → IfOk result (λ found. option_map judged_entry found ≡ verdict_at s batch paper) }
+    ensures cause { HasCleanDisk (state S.Store conn.new) → (s : OfficeState) → IsAt s (state S.Store conn.old) → IfErr result (λ f. (f ≡ Fault.Memory) ⊎ (f ≡ Fault.Store)) }
+    ensures opens { HasCleanDisk (state S.Store conn.new) → OnOk result (IsTrue (state S.Store conn.new).is_open) }
+    ensures reads { OnlyReads (state S.Store conn.old) (state S.Store conn.new) }
+    ensures outside { conn.new.in_transaction ≡ false }
+{
+    find_entry::<JudgedPapers, S>(conn, &[number(batch), number(paper)])
+}
+
+/// The verdicts on papers of a batch, in the order of the papers.
+pub(crate) fn list_verdicts<S: Alter>(
+    alloc: Global,
+    conn: &mut Connection<S>,
+    batch: u32,
+) -> Result<Vec<JudgedPaper>, Fault>
+    requires { conn.old.in_transaction ≡ false }
+    ensures found { HasCleanDisk (state S.Store conn.new) → (s : OfficeState) → IsAt s (state S.Store conn.old) → IfOk result (λ found. map judged_entry found.items ≡ verdicts_of s batch) }
+    ensures cause { HasCleanDisk (state S.Store conn.new) → (s : OfficeState) → IsAt s (state S.Store conn.old) → IfErr result (λ f. (f ≡ Fault.Memory) ⊎ (f ≡ Fault.Store)) }
+    ensures opens { HasCleanDisk (state S.Store conn.new) → OnOk result (IsTrue (state S.Store conn.new).is_open) }
+    ensures reads { OnlyReads (state S.Store conn.old) (state S.Store conn.new) }
+    ensures outside { conn.new.in_transaction ≡ false }
+{
+    entries_beginning::<JudgedPapers, S>(alloc, conn, &[number(batch)])
+}
+
+/// The part of a clerk's command: the batch, its ward with the candidates, and of the keyings the clerk's
+/// own.
+pub(crate) fn keying_part<S: Alter>(
+    alloc: Global,
+    conn: &mut Connection<S>,
+    batch: u32,
+    round: u32,
+    clerk: u32,
+) -> Result<Part, Fault>
+    requires { conn.old.in_transaction ≡ false }
+    ensures found { HasCleanDisk (state S.Store conn.new) → (s : OfficeState) → IsAt s (state S.Store conn.old)
+        → IfOk result (λ part. part_entries part ≡ record empty_part { ward = ward_for s (batch_at s batch); candidates = candidates_for s (batch_at s batch); batch = batch_at s batch; own = keying_of s batch round clerk }) }
+    ensures cause { HasCleanDisk (state S.Store conn.new) → (s : OfficeState) → IsAt s (state S.Store conn.old) → IfErr result (λ f. (f ≡ Fault.Memory) ⊎ (f ≡ Fault.Store)) }
+    ensures opens { HasCleanDisk (state S.Store conn.new) → OnOk result (IsTrue (state S.Store conn.new).is_open) }
+    ensures reads { OnlyReads (state S.Store conn.old) (state S.Store conn.new) }
+    ensures outside { conn.new.in_transaction ≡ false }
+{
+    let PolledBatch {
+        batch: polled,
+        ward,
+        candidates,
+    } = polled_batch(alloc, conn, batch)?;
+    let own = list_keying(alloc, conn, batch, round, clerk)?;
+    Ok(Part {
+        ward,
+        candidates,
+        batch: polled,
+        own,
+        ..Part::empty(alloc)
+    })
+}
+
+/// The part of a command about a doubtful paper: the batch, its ward with the candidates, both keyings of
+/// its round, and the verdict.
+pub(crate) fn verdict_part<S: Alter>(
+    alloc: Global,
+    conn: &mut Connection<S>,
+    batch: u32,
+    paper: u32,
+) -> Result<Part, Fault>
+    requires { conn.old.in_transaction ≡ false }
+    ensures found { HasCleanDisk (state S.Store conn.new) → (s : OfficeState) → IsAt s (state S.Store conn.old)
+        → IfOk result (λ part. part_entries part ≡ record empty_part { ward = ward_for s (batch_at s batch); candidates = candidates_for s (batch_at s batch); batch = batch_at s batch; first = first_for s (batch_at s batch); second = second_for s (batch_at s batch); verdict = verdict_at s batch paper }) }
+    ensures cause { HasCleanDisk (state S.Store conn.new) → (s : OfficeState) → IsAt s (state S.Store conn.old) → IfErr result (λ f. (f ≡ Fault.Memory) ⊎ (f ≡ Fault.Store)) }
+    ensures opens { HasCleanDisk (state S.Store conn.new) → OnOk result (IsTrue (state S.Store conn.new).is_open) }
+    ensures reads { OnlyReads (state S.Store conn.old) (state S.Store conn.new) }
+    ensures outside { conn.new.in_transaction ≡ false }
+{
+    let PolledBatch {
+        batch: polled,
+        ward,
+        candidates,
+    } = polled_batch(alloc, conn, batch)?;
+    let Keyings { first, second } = both_keyings(alloc, conn, &polled)?;
+    let verdict = find_verdict(conn, batch, paper)?;
+    Ok(Part {
+        ward,
+        candidates,
+        batch: polled,
+        first,
+        second,
+        verdict,
+        ..Part::empty(alloc)
+    })
+}
