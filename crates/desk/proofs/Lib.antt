@@ -1,2 +1,4 @@
 pub mod NumbersRead
+pub mod FrontsRead
 pub mod OrdersNamed
+pub mod SentLemmas

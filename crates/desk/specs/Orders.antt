@@ -1,6 +1,7 @@
 -- The orders of the program: the name and the words of each, and the values that an order has.
-use Rattle.std.specs.Prelude.{ℕ, List, [], ◌∷◌, codes, map}
+use Rattle.std.specs.Prelude.{ℕ, List, [], ◌∷◌, Option, Some, codes, map}
 use Rattle.clap.specs.Words.{Text}
+use Rattle.desk.specs.Verdicts.{Judgement, judgement_of}
 use Rattle.desk.specs.declared.table.Kind.{Kind}
 use Rattle.desk.specs.declared.table.Kind.TheVariants as kind
 use Rattle.desk.specs.declared.table.Word.{Word}
@@ -34,6 +35,10 @@ number name = record { name = name; kind = kind.Number }
 abbrev pub text : Text → WordEntry
 text name = record { name = name; kind = kind.Text }
 
+-- a word that is a verdict
+abbrev pub verdict : Text → WordEntry
+verdict name = record { name = name; kind = kind.Verdict }
+
 -- the id, any text after `--id`
 abbrev pub id : WordEntry
 id = record { name = codes "id"; kind = kind.Id }
@@ -51,18 +56,29 @@ orders =
     ∷ takes (codes "import-candidates") (text (codes "FILE") ∷ id ∷ [])
     ∷ takes (codes "withdraw") (number (codes "WARD") ∷ number (codes "CANDIDATE") ∷ id ∷ [])
     ∷ takes (codes "close") (number (codes "WARD") ∷ id ∷ [])
+    ∷ takes (codes "batch") (number (codes "BATCH") ∷ number (codes "WARD") ∷ number (codes "SIZE") ∷ number (codes "FIRST_CLERK") ∷ number (codes "SECOND_CLERK") ∷ id ∷ [])
+    ∷ takes (codes "import-keying") (number (codes "CLERK") ∷ number (codes "BATCH") ∷ number (codes "ROUND") ∷ text (codes "FILE") ∷ id ∷ [])
+    ∷ takes (codes "again") (number (codes "BATCH") ∷ id ∷ [])
+    ∷ takes (codes "judge") (number (codes "BATCH") ∷ number (codes "PAPER") ∷ verdict (codes "VERDICT") ∷ id ∷ [])
+    ∷ takes (codes "status") (number (codes "WARD") ∷ [])
     ∷ []
 
--- a value of an order
+-- a value of an order; a verdict is none where its word says none
 pub data Value : Type 0 where
   numbered : ℕ → Value
   worded : Text → Value
+  judged : Option Judgement → Value
 
 -- an order's name, and its values in the sequence of its words
 abbrev pub told : Order → Text × List Value
 told order.Init = (codes "init", [])
-told (order.Ward ward seats name id) = (codes "ward", numbered ward ∷ numbered seats ∷ worded name.now ∷ worded id.now ∷ [])
-told (order.Candidate ward candidate name id) = (codes "candidate", numbered ward ∷ numbered candidate ∷ worded name.now ∷ worded id.now ∷ [])
+told (order.Ward w) = (codes "ward", numbered w.ward ∷ numbered w.seats ∷ worded w.name.now ∷ worded w.id.now ∷ [])
+told (order.Candidate c) = (codes "candidate", numbered c.ward ∷ numbered c.candidate ∷ worded c.name.now ∷ worded c.id.now ∷ [])
 told (order.ImportCandidates file id) = (codes "import-candidates", worded file.now ∷ worded id.now ∷ [])
-told (order.Withdraw ward candidate id) = (codes "withdraw", numbered ward ∷ numbered candidate ∷ worded id.now ∷ [])
+told (order.Withdraw w) = (codes "withdraw", numbered w.ward ∷ numbered w.candidate ∷ worded w.id.now ∷ [])
 told (order.Close ward id) = (codes "close", numbered ward ∷ worded id.now ∷ [])
+told (order.Batch b) = (codes "batch", numbered b.batch ∷ numbered b.ward ∷ numbered b.size ∷ numbered b.first_clerk ∷ numbered b.second_clerk ∷ worded b.id.now ∷ [])
+told (order.ImportKeying k) = (codes "import-keying", numbered k.clerk ∷ numbered k.batch ∷ numbered k.round ∷ worded k.file.now ∷ worded k.id.now ∷ [])
+told (order.Again batch id) = (codes "again", numbered batch ∷ worded id.now ∷ [])
+told (order.Judge j) = (codes "judge", numbered j.batch ∷ numbered j.paper ∷ judged (Some (judgement_of j.verdict)) ∷ worded j.id.now ∷ [])
+told (order.Status ward) = (codes "status", numbered ward ∷ [])

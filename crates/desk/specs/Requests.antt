@@ -1,5 +1,5 @@
 -- The requests that orders send to the office.
-use Rattle.std.specs.Prelude.{ℕ, suc, List, [], ◌∷◌, ◌++◌, codes, string_bytes, Option, Some, None, Result, Ok, Err}
+use Rattle.std.specs.Prelude.{ℕ, suc, List, [], ◌∷◌, ◌++◌, codes, map, string_bytes, Option, Some, None, Result, Ok, Err}
 use Rattle.std.specs.Fmt.{decimal}
 use Rattle.clap.specs.Words.{Text}
 use Rattle.register.specs.declared.command.Command.{Command}
@@ -7,8 +7,13 @@ use Rattle.register.specs.declared.command.Command.TheVariants as command
 use Rattle.register.specs.declared.command.Request.{Request}
 use Rattle.register.specs.declared.wards.WardCommand.TheVariants as ward_command
 use Rattle.register.specs.declared.candidates.CandidateCommand.TheVariants as candidate_command
+use Rattle.register.specs.declared.batches.BatchCommand.TheVariants as batch_command
+use Rattle.register.specs.declared.verdicts.Verdict.{Verdict}
+use Rattle.register.specs.declared.verdicts.Verdict.TheVariants as verdict
 use Rattle.keyfile.specs.Candidates.{CandidateEntry}
 use Rattle.keyfile.specs.declared.fault.FileFault.{FileFault}
+use Rattle.desk.specs.Verdicts.{Judgement, accepted, judgement_of, rejected}
+use Rattle.desk.specs.declared.orders.KeyingFile.{KeyingFile}
 use Rattle.desk.specs.declared.orders.Order.{Order}
 use Rattle.desk.specs.declared.orders.Order.TheVariants as order
 use Rattle.desk.specs.declared.tasks.Task.{Task}
@@ -21,6 +26,15 @@ pub data Asked : Type 0 where
   ward_to_close : ℕ → Asked
   candidate_to_add : ℕ → ℕ → Text → Asked
   candidate_to_withdraw : ℕ → ℕ → Asked
+  batch_to_add : ℕ → ℕ → ℕ → ℕ → ℕ → Asked
+  batch_to_key_again : ℕ → Asked
+  keying_to_keep : ℕ → ℕ → List Text → Asked
+  paper_to_judge : ℕ → ℕ → Judgement → Asked
+
+-- the verdict of a command
+abbrev pub judgement_given : Verdict → Judgement
+judgement_given (verdict.Accept marks) = accepted (string_bytes marks)
+judgement_given (verdict.Reject code) = rejected code
 
 -- what a command of the register asks
 abbrev pub asked_by : Command → Asked
@@ -28,6 +42,10 @@ asked_by (command.Ward (ward_command.Add ward seats name)) = ward_to_add ward se
 asked_by (command.Ward (ward_command.Close ward)) = ward_to_close ward
 asked_by (command.Candidate (candidate_command.Add ward candidate name)) = candidate_to_add ward candidate (string_bytes name)
 asked_by (command.Candidate (candidate_command.Withdraw ward candidate)) = candidate_to_withdraw ward candidate
+asked_by (command.Batch (batch_command.Add batch ward size first_clerk second_clerk)) = batch_to_add batch ward size first_clerk second_clerk
+asked_by (command.Batch (batch_command.Again batch)) = batch_to_key_again batch
+asked_by (command.Keying k) = keying_to_keep k.batch k.round (map string_bytes k.papers.items)
+asked_by (command.Verdict v) = paper_to_judge v.batch v.paper (judgement_given v.verdict)
 
 -- a request: who sends it, under which id, and what it asks
 pub record Sent : Type 0 where
@@ -48,30 +66,36 @@ pub data Work : Type 0 where
   making : Work
   sending : Sent → Work
   importing_candidates : Text → Work
+  importing_keying : KeyingFile → Work
+  telling_status : ℕ → Work
 
 -- what a task is
 abbrev pub work_of : Task → Work
 work_of task.Make = making
 work_of (task.Send request) = sending (sent_as request)
 work_of (task.ImportCandidates id) = importing_candidates id.now
+work_of (task.ImportKeying keying) = importing_keying keying
+work_of (task.TellStatus ward) = telling_status ward
 
 -- what each order is done by
 abbrev pub work_for : Order → Work
 work_for order.Init = making
-work_for (order.Ward ward seats name id) = sending (by_office id.now (ward_to_add ward seats name.now))
-work_for (order.Candidate ward candidate name id) = sending (by_office id.now (candidate_to_add ward candidate name.now))
+work_for (order.Ward w) = sending (by_office w.id.now (ward_to_add w.ward w.seats w.name.now))
+work_for (order.Candidate c) = sending (by_office c.id.now (candidate_to_add c.ward c.candidate c.name.now))
 work_for (order.ImportCandidates file id) = importing_candidates id.now
-work_for (order.Withdraw ward candidate id) = sending (by_office id.now (candidate_to_withdraw ward candidate))
+work_for (order.Withdraw w) = sending (by_office w.id.now (candidate_to_withdraw w.ward w.candidate))
 work_for (order.Close ward id) = sending (by_office id.now (ward_to_close ward))
+work_for (order.Batch b) = sending (by_office b.id.now (batch_to_add b.batch b.ward b.size b.first_clerk b.second_clerk))
+work_for (order.ImportKeying keying) = importing_keying keying
+work_for (order.Again batch id) = sending (by_office id.now (batch_to_key_again batch))
+work_for (order.Judge j) = sending (by_office j.id.now (paper_to_judge j.batch j.paper (judgement_of j.verdict)))
+work_for (order.Status ward) = telling_status ward
 
 -- the file that an order names
 abbrev pub file_of : Order → Option Text
-file_of order.Init = None
-file_of (order.Ward ward seats name id) = None
-file_of (order.Candidate ward candidate name id) = None
 file_of (order.ImportCandidates file id) = Some file.now
-file_of (order.Withdraw ward candidate id) = None
-file_of (order.Close ward id) = None
+file_of (order.ImportKeying keying) = Some keying.file.now
+file_of other = None
 
 -- the id of the request for the record of some number: the order's, a hyphen, and that number
 unfoldable pub id_at : Text → ℕ → Text
@@ -90,3 +114,12 @@ requests_from id k (c ∷ cs) = request_at id k c ∷ requests_from id (suc k) c
 abbrev pub requests_for : Text → Result (List CandidateEntry) FileFault → Result (List Sent) FileFault
 requests_for id (Ok rows) = Ok (requests_from id 1 rows)
 requests_for id (Err fault) = Err fault
+
+-- the request that keeps a clerk's keying of a batch, sent by the clerk
+abbrev pub keying_by : KeyingFile → List Text → Sent
+keying_by k papers = record { actor = k.clerk; id = k.id.now; asked = keying_to_keep k.batch k.round papers }
+
+-- the request for the papers of a file
+abbrev pub keying_for : KeyingFile → Result (List Text) FileFault → Result Sent FileFault
+keying_for k (Ok papers) = Ok (keying_by k papers)
+keying_for k (Err fault) = Err fault

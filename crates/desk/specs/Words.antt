@@ -1,16 +1,16 @@
 -- What `clap` takes for the words of an order, and the order that its matches mean, by the table of orders.
-use Rattle.std.specs.Prelude.{ℕ, Bool, true, false, List, [], ◌∷◌, Option, Some, None, pos, codes, map, find, if◌then◌else◌, option_map, unwrap_or}
+use Rattle.std.specs.Prelude.{ℕ, Bool, true, false, List, [], ◌∷◌, Option, Some, None, pos, codes, map, find, if◌then◌else◌, is_none, option_map, unwrap_or}
 use Rattle.std.specs.Option.{option_map_or}
 use Rattle.std.specs.List.{list_any}
 use Rattle.std.specs.Str.{bytes_eq}
-use Rattle.std.specs.Str.Parse.{digits_value, without_leading_plus}
-use Rattle.clap.specs.ValueTests.{accepts}
 use Rattle.clap.specs.Words.{App, Row, Rule, Text, first_of, new_app, new_rule, one_of, with_rule, with_subcommand}
 use Rattle.clap.specs.Simple.{on_top}
 use Rattle.clap.specs.declared.builder.value_parser.ValueParser.TheVariants as parser
 use Rattle.desk.specs.declared.table.Kind.{Kind}
 use Rattle.desk.specs.declared.table.Kind.TheVariants as kind
-use Rattle.desk.specs.Orders.{OrderEntry, Value, WordEntry, numbered, orders, worded}
+use Rattle.desk.specs.Numbers.{number_of}
+use Rattle.desk.specs.Orders.{OrderEntry, Value, WordEntry, judged, numbered, orders, worded}
+use Rattle.desk.specs.Verdicts.{judgement_in}
 
 -- a word that is a number of 0 to 4294967295
 abbrev pub number_rule : Text → Rule
@@ -28,6 +28,7 @@ id_rule name = record (new_rule name) { long = Some name; value_names = 1; requi
 abbrev pub rule_of_kind : Kind → Text → Rule
 rule_of_kind kind.Number = number_rule
 rule_of_kind kind.Text = text_rule
+rule_of_kind kind.Verdict = text_rule
 rule_of_kind kind.Id = id_rule
 
 -- a command, and these words more
@@ -53,10 +54,6 @@ start_words = on_top (λ s. record s { subcommand_required = true; arg_required_
 unfoldable pub office_words : App
 office_words = with_orders start_words orders
 
--- the number that a text is, and 0 where it is none
-abbrev pub number_of : Text → ℕ
-number_of t = if accepts false (parser.Unsigned 0 4294967295) t then digits_value 10 (without_leading_plus t) else 0
-
 -- the number that was matched under a name, and 0 without one
 abbrev pub number_at : Text → List Row → ℕ
 number_at name rows = option_map_or number_of (one_of name rows) 0
@@ -69,6 +66,7 @@ text_at name rows = unwrap_or (first_of name rows) []
 abbrev pub value_of_kind : Kind → List Row → Text → Value
 value_of_kind kind.Number rows name = numbered (number_at name rows)
 value_of_kind kind.Text rows name = worded (text_at name rows)
+value_of_kind kind.Verdict rows name = judged (judgement_in (text_at name rows))
 value_of_kind kind.Id rows name = worded (text_at name rows)
 
 -- an order's name and the values that the matches give its words
@@ -92,3 +90,14 @@ is_order_name name = list_any (λ e. bytes_eq name e.name) orders
 abbrev pub names_order : Option (Text × List Row) → Bool
 names_order None = false
 names_order (Some found) = is_order_name found.0
+
+-- a value is the word of a verdict that says none
+abbrev pub is_bad_verdict : Value → Bool
+is_bad_verdict (numbered n) = false
+is_bad_verdict (worded t) = false
+is_bad_verdict (judged o) = is_none o
+
+-- the matches are an order with a verdict that says none
+abbrev pub has_bad_verdict : Option (Text × List Value) → Bool
+has_bad_verdict None = false
+has_bad_verdict (Some said) = list_any is_bad_verdict said.1

@@ -14,8 +14,10 @@
 #![tactic(auto)]
 
 // Words to an order.
+mod matched;
 pub mod orders;
 mod table;
+mod verdicts;
 pub mod words;
 // An order to what is to be done,
 mod requests;
@@ -26,8 +28,11 @@ pub mod lines;
 pub mod perform;
 pub mod progress;
 mod sending;
+mod standing;
 
 pub use lines::{Failure, tell_failure, tell_words};
-pub use orders::Order;
+pub use orders::{
+    Judging, KeyingFile, NewBatch, NewCandidate, NewWard, Order, VerdictWord, Withdrawal,
+};
 pub use progress::Progress;
 pub use words::{WordsFault, order};

@@ -20,7 +20,7 @@ const LINE: usize = 240;
 pub(crate) enum Outcome {
     /// An office was made.
     Ready,
-    /// A request was accepted, now or before, and this is replied.
+    /// This is replied: to a request that was accepted, now or before, or how a ward stands.
     Replied(Reply),
     /// A request was refused.
     Refused(Refusal),
@@ -145,6 +145,10 @@ pub fn tell_words<O: Sink, E: Sink>(fault: &WordsFault, out: &mut O, err: &mut E
 {
     match fault {
         WordsFault::Memory => tell_failure(Failure::Office(Fault::Memory), err),
+        WordsFault::Verdict => match put_all(err, b"bad verdict word\n") {
+            Ok(()) => 2,
+            Err(Broken) => 3,
+        },
         WordsFault::Words { text, status: 0 } => match put_all(out, text.as_bytes()) {
             Ok(()) => 0,
             Err(Broken) => tell_failure(Failure::Output, err),

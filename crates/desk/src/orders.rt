@@ -3,41 +3,97 @@
 ghost use Rattle.std.specs.Prelude.{◌≡◌, option_map};
 ghost use Rattle.desk.specs.Requests.{file_of};
 
-/// What the program is to do with an office. The numbers are as they were given, in range or not.
+/// A ward to be added.
+#[derive(Debug, Drop)]
+pub struct NewWard<'a> {
+    pub ward: u32,
+    pub seats: u32,
+    pub name: &'a str,
+    pub id: &'a str,
+}
+
+/// A candidate to be added to a ward.
+#[derive(Debug, Drop)]
+pub struct NewCandidate<'a> {
+    pub ward: u32,
+    pub candidate: u32,
+    pub name: &'a str,
+    pub id: &'a str,
+}
+
+/// A candidate to be taken off a ward.
+#[derive(Debug, Drop)]
+pub struct Withdrawal<'a> {
+    pub ward: u32,
+    pub candidate: u32,
+    pub id: &'a str,
+}
+
+/// A batch of a ward's papers to be added, and the two clerks who are to key it.
+#[derive(Debug, Drop)]
+pub struct NewBatch<'a> {
+    pub batch: u32,
+    pub ward: u32,
+    pub size: u32,
+    pub first_clerk: u32,
+    pub second_clerk: u32,
+    pub id: &'a str,
+}
+
+/// A clerk's keying of a batch, which a file holds.
+#[derive(Clone, Copy, Debug)]
+pub struct KeyingFile<'a> {
+    pub clerk: u32,
+    pub batch: u32,
+    pub round: u32,
+    pub file: &'a str,
+    pub id: &'a str,
+}
+
+/// What a verdict on a doubtful paper says.
+#[derive(Debug, Drop)]
+pub enum VerdictWord<'a> {
+    /// The paper counts with these marks.
+    Accept(&'a str),
+    /// The paper is rejected for the reason of this code.
+    Reject(u32),
+}
+
+/// A doubtful paper to be judged.
+#[derive(Debug, Drop)]
+pub struct Judging<'a> {
+    pub batch: u32,
+    pub paper: u32,
+    pub verdict: VerdictWord<'a>,
+    pub id: &'a str,
+}
+
+/// What the program is to do with an office. The numbers are as they were given, in range or not; `id`
+/// is that of the request.
 #[derive(Debug, Drop)]
 pub enum Order<'a> {
     /// Make an office.
     Init,
-    /// Add a ward, under this request's id.
-    Ward {
-        ward: u32,
-        seats: u32,
-        name: &'a str,
-        id: &'a str,
-    },
+    /// Add a ward.
+    Ward(NewWard<'a>),
     /// Add a candidate to a ward.
-    Candidate {
-        ward: u32,
-        candidate: u32,
-        name: &'a str,
-        id: &'a str,
-    },
+    Candidate(NewCandidate<'a>),
     /// Add the candidates of a file, each under this id, a hyphen, and its record's number.
-    ImportCandidates {
-        file: &'a str,
-        id: &'a str,
-    },
+    ImportCandidates { file: &'a str, id: &'a str },
     /// Take a candidate off a ward.
-    Withdraw {
-        ward: u32,
-        candidate: u32,
-        id: &'a str,
-    },
+    Withdraw(Withdrawal<'a>),
     /// Close the nominations of a ward.
-    Close {
-        ward: u32,
-        id: &'a str,
-    },
+    Close { ward: u32, id: &'a str },
+    /// Add a batch.
+    Batch(NewBatch<'a>),
+    /// Keep a clerk's keying.
+    ImportKeying(KeyingFile<'a>),
+    /// Have a batch keyed again, in the next round.
+    Again { batch: u32, id: &'a str },
+    /// Judge a doubtful paper.
+    Judge(Judging<'a>),
+    /// Tell how a ward stands.
+    Status { ward: u32 },
 }
 
 impl<'a> Order<'a> {
@@ -47,6 +103,7 @@ impl<'a> Order<'a> {
     {
         match self {
             Order::ImportCandidates { file, .. } => Some(file),
+            Order::ImportKeying(keying) => Some(keying.file),
             _ => None,
         }
     }

@@ -2,10 +2,11 @@
 
 ghost use Rattle.std.specs.Prelude.{◌≡◌, ◌⊎◌, ◌+◌, ◌-◌, ◌^◌, ◌<◌};
 
-use crate::import::import_candidates;
+use crate::import::{import_candidates, import_keying};
 use crate::lines::{Failure, Outcome, tell, tell_failure};
 use crate::orders::Order;
 use crate::sending::send;
+use crate::standing::tell_standing;
 use crate::tasks::{Task, task_for};
 use office::Office;
 use sqlite::{Alter, Connection};
@@ -36,7 +37,7 @@ fn make_office<S: Alter, O: Sink, E: Sink>(
 /// `file` is the one that the order names, None where it can't be opened or none is named. It is read
 /// after the office was opened, and whole before anything is sent.
 ///
-/// The status is 0 where each reply, or `office ready`, went to `out`; 1 where a request or the file was
+/// The status is 0 where each reply, `office ready` or how a ward stands went to `out`; 1 where a request or the file was
 /// refused and 3 at a fault, which `err` is told; and 3 where one of the two failed. What was replied
 /// before the first refusal or fault stands.
 pub fn perform<S: Alter, R: Read + Drop, O: Sink, E: Sink>(
@@ -55,6 +56,8 @@ pub fn perform<S: Alter, R: Read + Drop, O: Sink, E: Sink>(
         Ok(Task::Make) => make_office(alloc, conn, out, err),
         Ok(Task::Send(request)) => send(alloc, conn, &request, out, err),
         Ok(Task::ImportCandidates { id }) => import_candidates(alloc, conn, id, file, out, err),
+        Ok(Task::ImportKeying(keying)) => import_keying(alloc, conn, keying, file, out, err),
+        Ok(Task::TellStatus { ward }) => tell_standing(alloc, conn, ward, out, err),
         Err(AllocError) => (tell_failure(Failure::Office(Fault::Memory), err), conn),
     }
 }

@@ -2,10 +2,15 @@
 
 ghost use Rattle.std.specs.Prelude.{◌≡◌, map, IfOk, string_bytes};
 ghost use Rattle.keyfile.specs.Candidates.{candidate_entry};
-ghost use Rattle.desk.specs.Requests.{asked_by, by_office, candidate_to_add, candidate_to_withdraw, id_at, request_at, requests_from, sent_as, ward_to_add, ward_to_close};
+ghost use Rattle.desk.specs.Requests.{asked_by, batch_to_add, batch_to_key_again, by_office, candidate_to_add, candidate_to_withdraw, id_at, judgement_given, keying_by, paper_to_judge, request_at, requests_from, sent_as, ward_to_add, ward_to_close};
+ghost use Rattle.desk.specs.Verdicts.{judgement_of};
 
+use crate::orders::{Judging, KeyingFile, NewBatch, NewWard, VerdictWord, Withdrawal};
 use keyfile::CandidateRow;
-use register::{CandidateCommand, Command, Request, WardCommand};
+use register::{
+    BatchCommand, CandidateCommand, Command, KeyingCommand, Request, Verdict, VerdictCommand,
+    WardCommand,
+};
 use std::alloc::{AllocError, Global};
 
 /// Who sends these requests: the office itself.
@@ -23,15 +28,10 @@ pub(crate) fn by_office(id: String, command: Command) -> Request
 }
 
 /// The command that adds a ward, its name copied.
-pub(crate) fn add_ward(
-    alloc: Global,
-    ward: u32,
-    seats: u32,
-    name: &str,
-) -> Result<Command, AllocError>
-    ensures { IfOk result (λ command. asked_by command ≡ ward_to_add ward seats name.now) }
+pub(crate) fn add_ward(alloc: Global, new: &NewWard<'_>) -> Result<Command, AllocError>
+    ensures { IfOk result (λ command. asked_by command ≡ ward_to_add new.now.ward new.now.seats new.now.name.now) }
 {
-    let name = String::from_str(alloc, name)?;
+    let (ward, seats, name) = (new.ward, new.seats, String::from_str(alloc, new.name)?);
     Ok(Command::Ward(WardCommand::Add { ward, seats, name }))
 }
 
@@ -58,10 +58,71 @@ pub(crate) fn add_candidate(
     }))
 }
 
-pub(crate) fn withdraw_candidate(ward: u32, candidate: u32) -> Command
-    ensures { asked_by result ≡ candidate_to_withdraw ward candidate }
+pub(crate) fn withdraw_candidate(withdrawal: &Withdrawal<'_>) -> Command
+    ensures { asked_by result ≡ candidate_to_withdraw withdrawal.now.ward withdrawal.now.candidate }
 {
-    Command::Candidate(CandidateCommand::Withdraw { ward, candidate })
+    Command::Candidate(CandidateCommand::Withdraw {
+        ward: withdrawal.ward,
+        candidate: withdrawal.candidate,
+    })
+}
+
+pub(crate) fn add_batch(new: &NewBatch<'_>) -> Command
+    ensures { asked_by result ≡ batch_to_add new.now.batch new.now.ward new.now.size new.now.first_clerk new.now.second_clerk }
+{
+    Command::Batch(BatchCommand::Add {
+        batch: new.batch,
+        ward: new.ward,
+        size: new.size,
+        first_clerk: new.first_clerk,
+        second_clerk: new.second_clerk,
+    })
+}
+
+pub(crate) fn key_again(batch: u32) -> Command
+    ensures { asked_by result ≡ batch_to_key_again batch }
+{
+    Command::Batch(BatchCommand::Again { batch })
+}
+
+/// The verdict that a word says, its marks copied.
+fn verdict_of(alloc: Global, word: &VerdictWord<'_>) -> Result<Verdict, AllocError>
+    ensures { IfOk result (λ verdict. judgement_given verdict ≡ judgement_of word.now) }
+{
+    match word {
+        VerdictWord::Accept(marks) => Ok(Verdict::Accept(String::from_str(alloc, marks)?)),
+        VerdictWord::Reject(code) => Ok(Verdict::Reject(*code)),
+    }
+}
+
+/// The command that judges a paper, the marks of its verdict copied.
+pub(crate) fn judge_paper(alloc: Global, judging: &Judging<'_>) -> Result<Command, AllocError>
+    ensures { IfOk result (λ command. asked_by command ≡ paper_to_judge judging.now.batch judging.now.paper (judgement_of judging.now.verdict)) }
+{
+    Ok(Command::Verdict(VerdictCommand {
+        batch: judging.batch,
+        paper: judging.paper,
+        verdict: verdict_of(alloc, &judging.verdict)?,
+    }))
+}
+
+/// The request that keeps a clerk's keying of these papers, sent by the clerk.
+pub(crate) fn keying_request(
+    alloc: Global,
+    keying: KeyingFile<'_>,
+    papers: Vec<String>,
+) -> Result<Request, AllocError>
+    ensures { IfOk result (λ request. sent_as request ≡ keying_by keying.entry (map string_bytes papers.items)) }
+{
+    Ok(Request {
+        actor: keying.clerk,
+        id: String::from_str(alloc, keying.id)?,
+        command: Command::Keying(KeyingCommand {
+            batch: keying.batch,
+            round: keying.round,
+            papers,
+        }),
+    })
 }
 
 #[tactic(auto, unfolding(crate::specs::Requests::id_at))]

@@ -1,6 +1,13 @@
 //! Requests sent to an office, and what came of them.
 
-ghost use Rattle.std.specs.Prelude.{◌≡◌, ◌⊎◌, ◌+◌, ◌-◌, ◌^◌, ◌<◌};
+ghost use Rattle.std.specs.Prelude.{◌≡◌, ◌⊎◌, ◌+◌, ◌-◌, ◌^◌, ◌<◌, false};
+ghost use Rattle.sqlite.specs.State.{HasCleanDisk};
+ghost use Rattle.sqlite.specs.Held.{state};
+ghost use Rattle.register.specs.Machine.{after, step_of};
+ghost use Rattle.register.specs.Offices.{OfficeState};
+ghost use Rattle.store.specs.Offices.{IsAt};
+ghost use Rattle.office.specs.Answers.{IsOpenAt};
+ghost use Rattle.desk.specs.Outcomes.{IsOutcomeOf};
 
 use crate::lines::{Failure, Outcome, tell, tell_failure};
 use office::{Answer, Office};
@@ -10,7 +17,11 @@ use std::alloc::Global;
 use votes::Sink;
 
 /// What comes of one request to an office.
-fn outcome_of<S: Alter>(office: &mut Office<S>, request: &Request) -> Outcome {
+pub(crate) fn outcome_of<S: Alter>(office: &mut Office<S>, request: &Request) -> Outcome
+    ensures told { HasCleanDisk (state S.Store office.new.held) → office.old.closed ≡ false → (s : OfficeState) → IsAt s (state S.Store office.old.held)
+        → IsOutcomeOf s (step_of s request.now) result office.new.closed (state S.Store office.new.held) }
+    ensures clean { HasCleanDisk (state S.Store office.new.held) → HasCleanDisk (state S.Store office.old.held) }
+{
     match office.handle(request.actor, request.id.as_str(), &request.command) {
         Ok(Answer::Done(reply) | Answer::Kept(reply)) => Outcome::Replied(reply),
         Ok(Answer::Refused(refusal)) => Outcome::Refused(refusal),
@@ -19,6 +30,8 @@ fn outcome_of<S: Alter>(office: &mut Office<S>, request: &Request) -> Outcome {
 }
 
 /// Sends requests to an office in turn, up to the first that gets no reply, and tells what came of each.
+///
+/// With status 0 each got one, and the office is at the state after them all.
 pub(crate) fn send_all<S: Alter, O: Sink, E: Sink>(
     office: &mut Office<S>,
     requests: &[Request],
@@ -28,6 +41,8 @@ pub(crate) fn send_all<S: Alter, O: Sink, E: Sink>(
     requires out { O.failed out.old < 2 ^ 64 - 1 }
     requires err { E.failed err.old < 2 ^ 64 - 1 }
     ensures broken { (result ≡ 3) ⊎ ((O.failed out.new ≡ O.failed out.old) × (E.failed err.new ≡ E.failed err.old)) }
+    ensures all { HasCleanDisk (state S.Store office.new.held) → office.old.closed ≡ false → (s : OfficeState) → IsAt s (state S.Store office.old.held)
+        → result ≡ 0 → IsOpenAt (after s requests.now) office.new.closed (state S.Store office.new.held) }
 {
     for request in requests {
         let status = tell(&outcome_of(office, request), out, err);

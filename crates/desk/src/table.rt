@@ -1,8 +1,8 @@
 //! The table of orders: the name of each, its words, and its help.
 //!
 //! One order more is a variant of [`Order`](crate::orders::Order), an entry of [`ORDERS`], which says its
-//! words, and an arm of `order_named`, which says what each word is to the order. In specs/Orders.antt it
-//! is an entry of `orders` and a line of `told`.
+//! words, and a function of [`matched`](crate::matched), which says what each word is to the order. In
+//! specs/Orders.antt it is an entry of `orders` and a line of `told`.
 
 ghost use Rattle.std.specs.Prelude.{◌≡◌, map};
 ghost use Rattle.desk.specs.Orders.{entry_of, orders};
@@ -14,6 +14,8 @@ pub(crate) enum Kind {
     Number,
     /// Any text.
     Text,
+    /// A verdict: `accept:` and a marks text, or `reject:` and a number of 0 to 4294967295.
+    Verdict,
     /// Any text, after `--id`.
     Id,
 }
@@ -58,6 +60,54 @@ pub(crate) const CANDIDATE: Word = Word {
     help: "The candidate's number in the ward, 1 to 30",
 };
 
+pub(crate) const BATCH: Word = Word {
+    name: "BATCH",
+    kind: Kind::Number,
+    help: "The batch's number, 1 to 9999",
+};
+
+pub(crate) const SIZE: Word = Word {
+    name: "SIZE",
+    kind: Kind::Number,
+    help: "How many papers it has, 1 to 500",
+};
+
+pub(crate) const FIRST_CLERK: Word = Word {
+    name: "FIRST_CLERK",
+    kind: Kind::Number,
+    help: "A clerk who keys it, 1 to 999",
+};
+
+pub(crate) const SECOND_CLERK: Word = Word {
+    name: "SECOND_CLERK",
+    kind: Kind::Number,
+    help: "The other clerk who keys it",
+};
+
+pub(crate) const CLERK: Word = Word {
+    name: "CLERK",
+    kind: Kind::Number,
+    help: "The clerk who keyed it, 1 to 999",
+};
+
+pub(crate) const ROUND: Word = Word {
+    name: "ROUND",
+    kind: Kind::Number,
+    help: "The round of the batch, 1 to 99",
+};
+
+pub(crate) const PAPER: Word = Word {
+    name: "PAPER",
+    kind: Kind::Number,
+    help: "The paper's number in the batch, 1 to 500",
+};
+
+pub(crate) const VERDICT: Word = Word {
+    name: "VERDICT",
+    kind: Kind::Verdict,
+    help: "accept: and the marks, one field a candidate, or reject: and a code, 3 to 5",
+};
+
 pub(crate) const FILE: Word = Word {
     name: "FILE",
     kind: Kind::Text,
@@ -71,7 +121,7 @@ pub(crate) const ID: Word = Word {
 };
 
 /// All orders, in the sequence of an election.
-const ORDERS: [Entry; 6] = [
+const ORDERS: [Entry; 11] = [
     Entry {
         name: "init",
         words: &[],
@@ -101,6 +151,31 @@ const ORDERS: [Entry; 6] = [
         name: "close",
         words: &[WARD, ID],
         help: "Closes the nominations of a ward:\nclose 7 --id w2",
+    },
+    Entry {
+        name: "batch",
+        words: &[BATCH, WARD, SIZE, FIRST_CLERK, SECOND_CLERK, ID],
+        help: "Adds a batch of papers, which two clerks key:\nbatch 12 7 2 4 9 --id b1",
+    },
+    Entry {
+        name: "import-keying",
+        words: &[CLERK, BATCH, ROUND, FILE, ID],
+        help: "Keeps a clerk's keying of a batch from a file:\nimport-keying 4 12 1 keyed.csv --id k1",
+    },
+    Entry {
+        name: "again",
+        words: &[BATCH, ID],
+        help: "Opens the next round of a batch whose keyings differ:\nagain 12 --id a1",
+    },
+    Entry {
+        name: "judge",
+        words: &[BATCH, PAPER, VERDICT, ID],
+        help: "Judges a doubtful paper:\njudge 12 2 accept:1,,2 --id v1",
+    },
+    Entry {
+        name: "status",
+        words: &[WARD],
+        help: "Tells how a ward stands:\nstatus 7",
     },
 ];
 

@@ -3,8 +3,11 @@
 ghost use Rattle.std.specs.Prelude.{◌≡◌, IfOk};
 ghost use Rattle.desk.specs.Requests.{asked_by, by_office, sending, work_for, work_of};
 
-use crate::orders::Order;
-use crate::requests::{add_candidate, add_ward, by_office, close_ward, withdraw_candidate};
+use crate::orders::{KeyingFile, Order};
+use crate::requests::{
+    add_batch, add_candidate, add_ward, by_office, close_ward, judge_paper, key_again,
+    withdraw_candidate,
+};
 use register::{Command, Request};
 use std::alloc::{AllocError, Global};
 
@@ -17,6 +20,10 @@ pub(crate) enum Task<'a> {
     Send(Request),
     /// A request is to be sent for each candidate of the file, under ids that begin with this one.
     ImportCandidates { id: &'a str },
+    /// The keying of the file is to be sent.
+    ImportKeying(KeyingFile<'a>),
+    /// How this ward stands is to be told.
+    TellStatus { ward: u32 },
 }
 
 /// Sends a command of the office itself.
@@ -33,24 +40,20 @@ pub(crate) fn task_for<'a>(alloc: Global, order: &Order<'a>) -> Result<Task<'a>,
 {
     match order {
         Order::Init => Ok(Task::Make),
-        Order::Ward {
-            ward,
-            seats,
-            name,
-            id,
-        } => sending(alloc, id, add_ward(alloc, *ward, *seats, name)?),
-        Order::Candidate {
-            ward,
-            candidate,
-            name,
-            id,
-        } => sending(alloc, id, add_candidate(alloc, *ward, *candidate, name)?),
+        Order::Ward(new) => sending(alloc, new.id, add_ward(alloc, new)?),
+        Order::Candidate(new) => {
+            let command = add_candidate(alloc, new.ward, new.candidate, new.name)?;
+            sending(alloc, new.id, command)
+        }
         Order::ImportCandidates { id, .. } => Ok(Task::ImportCandidates { id }),
-        Order::Withdraw {
-            ward,
-            candidate,
-            id,
-        } => sending(alloc, id, withdraw_candidate(*ward, *candidate)),
+        Order::Withdraw(withdrawal) => {
+            sending(alloc, withdrawal.id, withdraw_candidate(withdrawal))
+        }
         Order::Close { ward, id } => sending(alloc, id, close_ward(*ward)),
+        Order::Batch(new) => sending(alloc, new.id, add_batch(new)),
+        Order::ImportKeying(keying) => Ok(Task::ImportKeying(*keying)),
+        Order::Again { batch, id } => sending(alloc, id, key_again(*batch)),
+        Order::Judge(judging) => sending(alloc, judging.id, judge_paper(alloc, judging)?),
+        Order::Status { ward } => Ok(Task::TellStatus { ward: *ward }),
     }
 }

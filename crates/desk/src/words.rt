@@ -1,15 +1,16 @@
 //! The words of the command line, read to one order.
 
-ghost use Rattle.std.specs.Prelude.{◌≡◌, true, false, None, Some, map, IfOk, IfErr, IfSome};
-ghost use Rattle.clap.specs.Words.{app_of, found_of, rows_of, subcommand_of, subcommand_rows_of, kind_of, takes, with_rule, with_subcommand};
+ghost use Rattle.std.specs.Prelude.{◌≡◌, ◌⊎◌, true, false, Some, map, IfOk, IfErr};
+ghost use Rattle.clap.specs.Words.{app_of, subcommand_of, kind_of, takes, with_rule, with_subcommand};
 ghost use Rattle.clap.specs.declared.builder.command.Command.TheViews.{out-Command as fields_of};
 ghost use Rattle.desk.specs.Orders.{entry_of, told};
-ghost use Rattle.desk.specs.Words.{id_rule, is_order_name, meaning, meaning_of, names_order, number_at, number_rule, office_words, order_words, rule_of_kind, start_words, text_at, text_rule, with_orders};
+ghost use Rattle.desk.specs.Words.{has_bad_verdict, id_rule, meaning, number_rule, office_words, order_words, rule_of_kind, start_words, text_rule, with_orders};
 
+use crate::matched::{NoOrder, order_in};
 use crate::orders::Order;
-use crate::table::{CANDIDATE, Entry, FILE, ID, Kind, NAME, SEATS, WARD, Word, entries};
+use crate::table::{Entry, Kind, Word, entries};
 use clap::error::ErrorKind;
-use clap::{Arg, ArgMatches, Command, Error, value_parser};
+use clap::{Arg, Command, Error, value_parser};
 use std::alloc::{AllocError, Global};
 
 const USAGE_NAME: &str = "count-office DB";
@@ -17,8 +18,9 @@ const USAGE_NAME: &str = "count-office DB";
 const ABOUT: &str = "Runs the office of an election by the single transferable vote of Scotland.
 
 An office is one database file, DB. It keeps the wards of the election with their
-candidates, and a receipt of each request that it accepted: the same request, sent again
-under the same id, prints the same reply and changes nothing.";
+candidates, their batches of papers as the clerks keyed them, and a receipt of each request
+that it accepted: the same request, sent again under the same id, prints the same reply and
+changes nothing.";
 
 const OUTCOMES: &str = "An example stands under each order. DB comes before it, as in
   count-office town.db ward 7 2 Harbour --id w1
@@ -31,6 +33,8 @@ error, with status 1; words that are not understood with 2, and faults with 3.";
 pub enum WordsFault {
     /// Memory was wanting.
     Memory,
+    /// The word of a verdict says none.
+    Verdict,
     /// The text to print, and the status to end with: 0 where help was asked for, and 2 where the
     /// words are not understood.
     Words { text: String, status: u8 },
@@ -91,7 +95,7 @@ fn with_word<'a>(alloc: Global, command: Command<'a>, word: Word) -> Result<Comm
 {
     match word.kind {
         Kind::Number => with_number(alloc, command, word.name, word.help),
-        Kind::Text => with_text(alloc, command, word.name, word.help),
+        Kind::Text | Kind::Verdict => with_text(alloc, command, word.name, word.help),
         Kind::Id => with_id(alloc, command, word.name, word.help),
     }
 }
@@ -163,66 +167,6 @@ fn office_command<'a>(alloc: Global) -> Result<Command<'a>, AllocError>
     with_orders(alloc, named(start_command(alloc))?, entries())
 }
 
-fn number_in(matches: &ArgMatches<'_>, word: Word) -> u32
-    ensures { result ≡ number_at word.name.now (rows_of (found_of matches.now)) }
-{
-    matches.get_one::<u32>(word.name).unwrap_or(0)
-}
-
-fn text_in<'a>(matches: &ArgMatches<'a>, word: Word) -> &'a str
-    ensures { result.now ≡ text_at word.name.now (rows_of (found_of matches.now)) }
-{
-    match matches.get_str(word.name) {
-        Some(text) => text,
-        None => "",
-    }
-}
-
-#[tactic(auto, unfolding(crate::specs::Orders::orders))]
-/// The order of this name, if there is one, with the values that were matched.
-fn order_named<'a>(name: &str, matches: &ArgMatches<'a>) -> Option<Order<'a>>
-    ensures some { IfSome result (λ o. meaning_of name.now (rows_of (found_of matches.now)) ≡ Some (told o)) }
-    ensures none { result ≡ None → is_order_name name.now ≡ false }
-{
-    match name {
-        "init" => Some(Order::Init),
-        "ward" => Some(Order::Ward {
-            ward: number_in(matches, WARD),
-            seats: number_in(matches, SEATS),
-            name: text_in(matches, NAME),
-            id: text_in(matches, ID),
-        }),
-        "candidate" => Some(Order::Candidate {
-            ward: number_in(matches, WARD),
-            candidate: number_in(matches, CANDIDATE),
-            name: text_in(matches, NAME),
-            id: text_in(matches, ID),
-        }),
-        "import-candidates" => Some(Order::ImportCandidates {
-            file: text_in(matches, FILE),
-            id: text_in(matches, ID),
-        }),
-        "withdraw" => Some(Order::Withdraw {
-            ward: number_in(matches, WARD),
-            candidate: number_in(matches, CANDIDATE),
-            id: text_in(matches, ID),
-        }),
-        "close" => Some(Order::Close {
-            ward: number_in(matches, WARD),
-            id: text_in(matches, ID),
-        }),
-        _ => None,
-    }
-}
-
-fn order_in<'a>(matches: &ArgMatches<'a>) -> Option<Order<'a>>
-    ensures some { IfSome result (λ o. meaning (subcommand_rows_of matches.now) ≡ Some (told o)) }
-    ensures none { result ≡ None → names_order (subcommand_rows_of matches.now) ≡ false }
-{
-    let (name, inner) = matches.subcommand()?;
-    order_named(name, inner)
-}
-
 fn refused(alloc: Global, error: &Error) -> WordsFault
     ensures { kind_of error.now ≡ ErrorKind.OutOfMemory → result ≡ WordsFault.Memory }
 {
@@ -243,10 +187,11 @@ fn refused(alloc: Global, error: &Error) -> WordsFault
 /// Reads the words, of which the first is DB, to one order.
 ///
 /// The order and its values are those that `clap` matches in the words, read by the table of orders.
-/// Words that `clap` takes are refused for want of memory alone.
+/// Words that `clap` takes are refused for want of memory, and for a verdict whose word says none, alone.
 pub fn order<'a>(alloc: Global, words: &'a [&'a str]) -> Result<Order<'a>, WordsFault>
     ensures ok { IfOk result (λ o. meaning (subcommand_of office_words (map (λ s. s.now) words.entry.now)) ≡ Some (told o)) }
-    ensures err { takes office_words (map (λ s. s.now) words.entry.now) ≡ true → IfErr result (λ e. e ≡ WordsFault.Memory) }
+    ensures err { takes office_words (map (λ s. s.now) words.entry.now) ≡ true → IfErr result (λ e. (e ≡ WordsFault.Memory)
+        ⊎ ((e ≡ WordsFault.Verdict) × (has_bad_verdict (meaning (subcommand_of office_words (map (λ s. s.now) words.entry.now))) ≡ true))) }
 {
     let command = match office_command(alloc) {
         Ok(command) => command,
@@ -257,8 +202,9 @@ pub fn order<'a>(alloc: Global, words: &'a [&'a str]) -> Result<Order<'a>, Words
         Err(error) => return Err(refused(alloc, &error)),
     };
     match order_in(&matches) {
-        Some(order) => Ok(order),
-        None => Err(WordsFault::Words {
+        Ok(order) => Ok(order),
+        Err(NoOrder::BadVerdict) => Err(WordsFault::Verdict),
+        Err(NoOrder::Unknown) => Err(WordsFault::Words {
             text: String::new(alloc),
             status: 2,
         }),

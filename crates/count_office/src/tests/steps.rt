@@ -88,6 +88,7 @@ fn give<S: Alter + Drop, O: Sink>(
     let order = match order(alloc, words) {
         Ok(order) => order,
         Err(WordsFault::Memory) => return Err(Fail::from("memory for the words")),
+        Err(WordsFault::Verdict) => return Err(Fail::from("bad verdict word")),
         Err(WordsFault::Words { text, .. }) => return Err(Fail::from(text)),
     };
     let mut err = Vec::new(alloc);

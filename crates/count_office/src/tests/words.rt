@@ -9,32 +9,33 @@ fn read(alloc: Global, words: &[&str]) -> Result<String, AllocError> {
     match order(alloc, words) {
         Ok(order) => format!(in alloc; "{order:?}"),
         Err(WordsFault::Memory) => Err(AllocError),
+        Err(WordsFault::Verdict) => String::from_str(alloc, "bad verdict word"),
         Err(WordsFault::Words { text, status }) => format!(in alloc; "{status} {text}"),
     }
 }
 
 /// Each order once, and what else its words may look like.
-const TAKEN: [(&[&str], &str); 9] = [
+const TAKEN: [(&[&str], &str); 16] = [
     (&["DB", "init"], "Init"),
     (
         &["DB", "ward", "7", "2", "Harbour", "--id", "w1"],
-        "Ward { ward: 7, seats: 2, name: \"Harbour\", id: \"w1\" }",
+        "Ward(NewWard { ward: 7, seats: 2, name: \"Harbour\", id: \"w1\" })",
     ),
     (
         &["DB", "ward", "--id=w1", "007", "+2", "Old Harbour"],
-        "Ward { ward: 7, seats: 2, name: \"Old Harbour\", id: \"w1\" }",
+        "Ward(NewWard { ward: 7, seats: 2, name: \"Old Harbour\", id: \"w1\" })",
     ),
     (
         &["DB", "ward", "4294967295", "0", "", "--id", ""],
-        "Ward { ward: 4294967295, seats: 0, name: \"\", id: \"\" }",
+        "Ward(NewWard { ward: 4294967295, seats: 0, name: \"\", id: \"\" })",
     ),
     (
         &["DB", "ward", "--id", "w1", "--", "7", "2", "-Harbour"],
-        "Ward { ward: 7, seats: 2, name: \"-Harbour\", id: \"w1\" }",
+        "Ward(NewWard { ward: 7, seats: 2, name: \"-Harbour\", id: \"w1\" })",
     ),
     (
         &["DB", "candidate", "7", "1", "Ann", "--id", "c1"],
-        "Candidate { ward: 7, candidate: 1, name: \"Ann\", id: \"c1\" }",
+        "Candidate(NewCandidate { ward: 7, candidate: 1, name: \"Ann\", id: \"c1\" })",
     ),
     (
         &["DB", "import-candidates", "harbour.csv", "--id", "c"],
@@ -42,12 +43,47 @@ const TAKEN: [(&[&str], &str); 9] = [
     ),
     (
         &["DB", "withdraw", "7", "1", "--id", "c3"],
-        "Withdraw { ward: 7, candidate: 1, id: \"c3\" }",
+        "Withdraw(Withdrawal { ward: 7, candidate: 1, id: \"c3\" })",
     ),
     (
         &["DB", "close", "7", "--id", "w2"],
         "Close { ward: 7, id: \"w2\" }",
     ),
+    (
+        &["DB", "batch", "12", "7", "2", "4", "9", "--id", "b1"],
+        "Batch(NewBatch { batch: 12, ward: 7, size: 2, first_clerk: 4, second_clerk: 9, id: \"b1\" })",
+    ),
+    (
+        &["DB", "import-keying", "4", "12", "1", "k.csv", "--id", "k1"],
+        "ImportKeying(KeyingFile { clerk: 4, batch: 12, round: 1, file: \"k.csv\", id: \"k1\" })",
+    ),
+    (
+        &["DB", "again", "12", "--id", "a1"],
+        "Again { batch: 12, id: \"a1\" }",
+    ),
+    (
+        &["DB", "judge", "12", "2", "accept:1,,2", "--id", "v1"],
+        "Judge(Judging { batch: 12, paper: 2, verdict: Accept(\"1,,2\"), id: \"v1\" })",
+    ),
+    (
+        &["DB", "judge", "12", "2", "accept:", "--id", "v1"],
+        "Judge(Judging { batch: 12, paper: 2, verdict: Accept(\"\"), id: \"v1\" })",
+    ),
+    (
+        &["DB", "judge", "12", "2", "reject:4294967295", "--id", "v1"],
+        "Judge(Judging { batch: 12, paper: 2, verdict: Reject(4294967295), id: \"v1\" })",
+    ),
+    (&["DB", "status", "7"], "Status { ward: 7 }"),
+];
+
+/// Words of verdicts that say none.
+const NO_VERDICTS: [&str; 6] = [
+    "maybe",
+    "accept",
+    "Accept:1",
+    "reject:",
+    "reject:x",
+    "reject:4294967296",
 ];
 
 #[test]
@@ -56,15 +92,23 @@ fn words_are_read_to_orders(rt: HostRuntime) -> Result<(), Fail> {
     for (words, wanted) in TAKEN {
         assert_eq!(rt; read(alloc, words)?.as_str(), wanted);
     }
+    for word in NO_VERDICTS {
+        let told = read(alloc, &["DB", "judge", "12", "2", word, "--id", "v1"])?;
+        assert_eq!(rt; told.as_str(), "bad verdict word", "{word}");
+    }
     Ok(())
 }
 
 /// Right words of each order that takes any, and the place of a number among them.
-const RIGHT: [(&[&str], usize); 4] = [
+const RIGHT: [(&[&str], usize); 8] = [
     (&["DB", "ward", "--id=a", "7", "2", "Harbour"], 4),
     (&["DB", "candidate", "--id=a", "7", "1", "Ann"], 4),
     (&["DB", "withdraw", "--id=a", "7", "1"], 4),
     (&["DB", "close", "--id=a", "7"], 3),
+    (&["DB", "batch", "--id=a", "12", "7", "2", "4", "9"], 7),
+    (&["DB", "again", "--id=a", "12"], 3),
+    (&["DB", "judge", "--id=a", "12", "2", "reject:3"], 4),
+    (&["DB", "status", "7"], 2),
 ];
 
 /// Words that are no order are told with a text that holds this, and status 2.
@@ -131,7 +175,7 @@ fn words_that_are_no_order_get_help(rt: HostRuntime) -> Result<(), Fail> {
         (&["DB", "init", "now"], "2 error: ", "'now'"),
         (&["DB", "close", "7"], "2 error: ", "--id <ID>"),
         (&["DB", "wrad", "7"], "2 error: ", "'ward'"),
-        (&["DB", "status", "7"], "2 error: ", "'status'"),
+        (&["DB", "seal", "7"], "2 error: ", "'seal'"),
         (&["DB", "close", "--help"], "0 Closes", "<WARD>"),
         (
             &["DB", "help"],

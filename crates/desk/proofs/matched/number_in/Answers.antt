@@ -4,9 +4,9 @@ use Rattle.std.specs.Option.{option_map_or}
 use Rattle.std.specs.Str.Parse.{ParsesUnsigned, ExplainsUnsignedError, HasUnsignedDigitsIfOk}
 use Rattle.clap.proofs.WalkLemmas.{one_text-rows}
 use Rattle.clap.specs.Words.{found_of, one_text}
-use Rattle.desk.specs.Words.{number_of}
+use Rattle.desk.specs.Numbers.{number_of}
 use Rattle.desk.proofs.NumbersRead.{read_number}
-use Rattle.desk.proofs.words.number_in.Goals as goal
+use Rattle.desk.proofs.matched.number_in.Goals as goal
 
 pub returns : goal.returns
 returns c = c.unwrap_or.ensures ∙ (by (one_text (found_of c.args.matches.now) c.args.word.name.now) refl

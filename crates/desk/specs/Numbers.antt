@@ -1,0 +1,14 @@
+-- The numbers in words.
+use Rattle.std.specs.Prelude.{ℕ, Bool, false, if◌then◌else◌}
+use Rattle.std.specs.Str.Parse.{digits_value, without_leading_plus}
+use Rattle.clap.specs.ValueTests.{accepts}
+use Rattle.clap.specs.Words.{Text}
+use Rattle.clap.specs.declared.builder.value_parser.ValueParser.TheVariants as parser
+
+-- a text is a number of 0 to 4294967295 in digits, behind a plus or not
+abbrev pub is_number : Text → Bool
+is_number t = accepts false (parser.Unsigned 0 4294967295) t
+
+-- the number that a text is, and 0 where it is none
+abbrev pub number_of : Text → ℕ
+number_of t = if is_number t then digits_value 10 (without_leading_plus t) else 0

@@ -1,0 +1,30 @@
+-- How the election of a ward stands, in words.
+use Rattle.std.specs.Prelude.{List, ◌++◌, codes}
+use Rattle.std.specs.Fmt.{decimal}
+use Rattle.clap.specs.Words.{Text}
+use Rattle.register.specs.Standings.{StatusEntry}
+use Rattle.register.specs.declared.phase.Phase.{Phase}
+use Rattle.register.specs.declared.phase.Phase.TheVariants.{Nominations, Keying, Sealed, Declared}
+
+-- a phase in a word
+abbrev pub phase_word : Phase → Text
+phase_word Nominations = codes "nominations"
+phase_word Keying = codes "keying"
+phase_word Sealed = codes "sealed"
+phase_word Declared = codes "declared"
+
+-- the ward, its phase and its candidates
+unfoldable pub ward_words : StatusEntry → Text
+ward_words s = codes "ward " ++ (decimal s.ward ++ (codes " " ++ (phase_word s.phase ++ (codes ": " ++ (decimal s.candidates ++ codes " candidates")))))
+
+-- its batches
+unfoldable pub batch_words : StatusEntry → Text
+batch_words s = decimal s.batches ++ (codes " batches, " ++ (decimal s.taken ++ (codes " taken, " ++ (decimal s.differing ++ codes " differing"))))
+
+-- what is open, and how far its count is
+unfoldable pub count_words : StatusEntry → Text
+count_words s = decimal s.doubtful_open ++ (codes " doubtful open, " ++ (decimal s.stages ++ codes " stages"))
+
+-- the line that tells how a ward stands
+unfoldable pub status_text : StatusEntry → Text
+status_text s = ward_words s ++ (codes ", " ++ (batch_words s ++ (codes ", " ++ count_words s)))

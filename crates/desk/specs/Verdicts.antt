@@ -1,0 +1,35 @@
+-- What the word of a verdict says.
+use Rattle.std.specs.Prelude.{ℕ, nat_eq, drop, length, Option, Some, None, codes, if◌then◌else◌}
+use Rattle.std.specs.List.{starts_with}
+use Rattle.clap.specs.Words.{Text}
+use Rattle.desk.specs.Numbers.{is_number, number_of}
+use Rattle.desk.specs.declared.orders.VerdictWord.{VerdictWord}
+use Rattle.desk.specs.declared.orders.VerdictWord.TheVariants.{Accept, Reject}
+
+-- a verdict on a doubtful paper: it counts with these marks, or it is rejected for the reason of this code
+pub data Judgement : Type 0 where
+  accepted : Text → Judgement
+  rejected : ℕ → Judgement
+
+-- the verdict of an order
+abbrev pub judgement_of : VerdictWord → Judgement
+judgement_of (Accept marks) = accepted marks.now
+judgement_of (Reject code) = rejected code
+
+-- what stands behind a front in a text, where the text begins with it
+abbrev pub behind : Text → Text → Option Text
+behind front t = if starts_with nat_eq t front then Some (drop (length front) t) else None
+
+-- a rejection, by what stands behind `reject:`
+abbrev pub rejection_in : Option Text → Option Judgement
+rejection_in None = None
+rejection_in (Some code) = if is_number code then Some (rejected (number_of code)) else None
+
+-- a verdict, by what stands behind `accept:`, and if nothing does, behind `reject:`
+abbrev pub judged_by : Option Text → Option Text → Option Judgement
+judged_by (Some marks) code = Some (accepted marks)
+judged_by None code = rejection_in code
+
+-- the verdict that a word says: `accept:` and a marks text, or `reject:` and a number
+abbrev pub judgement_in : Text → Option Judgement
+judgement_in t = judged_by (behind (codes "accept:") t) (behind (codes "reject:") t)

@@ -1,0 +1,96 @@
+//! How the election of a ward stands, told in a line.
+
+ghost use Rattle.std.specs.Prelude.{◌≡◌, ◌⊎◌, ◌+◌, ◌-◌, ◌^◌, ◌<◌, IfOk, string_bytes};
+ghost use Rattle.register.specs.Standings.{status_entry};
+ghost use Rattle.desk.specs.Standings.{batch_words, count_words, phase_word, status_text, ward_words};
+
+use crate::lines::{Failure, Outcome, tell, tell_failure};
+use office::{Office, Stop};
+use register::{Phase, Status};
+use sqlite::{Alter, Connection};
+use std::alloc::{AllocError, Global};
+use store::Fault;
+use votes::Sink;
+
+fn phase_word(phase: Phase) -> &'static str
+    ensures { result.now ≡ phase_word phase }
+{
+    match phase {
+        Phase::Nominations => "nominations",
+        Phase::Keying => "keying",
+        Phase::Sealed => "sealed",
+        Phase::Declared => "declared",
+    }
+}
+
+#[tactic(auto, unfolding(crate::specs::Standings::ward_words))]
+/// The ward, its phase and its candidates.
+fn ward_words(alloc: Global, status: &Status) -> Result<String, AllocError>
+    ensures { IfOk result (λ text. string_bytes text ≡ ward_words (status_entry status.now)) }
+{
+    let (ward, phase) = (status.ward, phase_word(status.phase));
+    let candidates = status.candidates;
+    format!(in alloc; "ward {ward} {phase}: {candidates} candidates")
+}
+
+#[tactic(auto, unfolding(crate::specs::Standings::batch_words))]
+/// Its batches.
+fn batch_words(alloc: Global, status: &Status) -> Result<String, AllocError>
+    ensures { IfOk result (λ text. string_bytes text ≡ batch_words (status_entry status.now)) }
+{
+    let (batches, taken, differing) = (status.batches, status.taken, status.differing);
+    format!(in alloc; "{batches} batches, {taken} taken, {differing} differing")
+}
+
+#[tactic(auto, unfolding(crate::specs::Standings::count_words))]
+/// What is open, and how far its count is.
+fn count_words(alloc: Global, status: &Status) -> Result<String, AllocError>
+    ensures { IfOk result (λ text. string_bytes text ≡ count_words (status_entry status.now)) }
+{
+    let (doubtful, stages) = (status.doubtful_open, status.stages);
+    format!(in alloc; "{doubtful} doubtful open, {stages} stages")
+}
+
+#[tactic(auto, unfolding(crate::specs::Standings::status_text))]
+/// The line that tells how a ward stands, without its end.
+pub(crate) fn status_text(alloc: Global, status: &Status) -> Result<String, AllocError>
+    ensures { IfOk result (λ text. string_bytes text ≡ status_text (status_entry status.now)) }
+{
+    let ward = ward_words(alloc, status)?;
+    let batches = batch_words(alloc, status)?;
+    let count = count_words(alloc, status)?;
+    format!(in alloc; "{ward}, {batches}, {count}")
+}
+
+/// How a ward stands, in words; or why that isn't told.
+fn standing_of<S: Alter>(alloc: Global, office: &mut Office<S>, ward: u32) -> Outcome {
+    match office.status(ward) {
+        Ok(status) => match status_text(alloc, &status) {
+            Ok(text) => Outcome::Replied(text),
+            Err(_) => Outcome::Failed(Fault::Memory),
+        },
+        Err(Stop::Refused(refusal)) => Outcome::Refused(refusal),
+        Err(Stop::Fault(fault)) => Outcome::Failed(fault),
+    }
+}
+
+/// Opens the office that the connection has, and tells how a ward stands.
+pub(crate) fn tell_standing<S: Alter, O: Sink, E: Sink>(
+    alloc: Global,
+    conn: Connection<S>,
+    ward: u32,
+    out: &mut O,
+    err: &mut E,
+) -> (u8, Connection<S>)
+    requires out { O.failed out.old < 2 ^ 64 - 1 }
+    requires err { E.failed err.old < 2 ^ 64 - 1 }
+    ensures broken { (result.0 ≡ 3) ⊎ ((O.failed out.new ≡ O.failed out.old) × (E.failed err.new ≡ E.failed err.old)) }
+{
+    match Office::open_from(alloc, conn) {
+        Ok(mut office) => {
+            let outcome = standing_of(alloc, &mut office, ward);
+            (tell(&outcome, out, err), office.into_connection())
+        }
+        Err((fault, conn)) => (tell_failure(Failure::Office(fault), err), conn),
+    }
+}
