@@ -3,7 +3,9 @@
 
     bench/keying.py [PAPERS ...]        10000 where none is given; a multiple of 500 each
 
-The ward, its import files and its papers come from a fixed generator. Each order is timed on a copy of the file, as the
+The ward, its import files and its papers come from a fixed generator. Of a ward with more than 20000 papers the batches are
+filled by the stock sqlite with the rows that the orders would have left, since four hundred imports would take long; the
+program judges them at each opening. Each order is timed on a copy of the file, as the
 shortest of several runs, beside `read_rows`, which opens the same file with the kit's sqlite alone and reads all its rows in
 the order of their keys. Keying 500 papers is timed beside the stock sqlite that Python has, which adds the same rows in one
 transaction. Peaks of memory are the processes' own. Both programs are built first where they have to be.
@@ -71,8 +73,33 @@ def play(folder, town, *words, status=0):
     return run([PROGRAM, town, *words], status)
 
 
+def keep_batches(town, chance, batches):
+    """The rows that batches keyed alike by both clerks leave, with their receipts."""
+    base = sqlite3.connect(town)
+    with base:
+        for batch in range(1, batches + 1):
+            base.execute("INSERT INTO batch VALUES (?, 7, ?, 4, 9, 1)", (batch, BATCH))
+            base.execute("INSERT INTO receipt VALUES (0, ?, ?, ?)", (f"b{batch}", f"batch {batch}", f"batch {batch} added"))
+            texts = list(papers(chance, BATCH))
+            for clerk in (4, 9):
+                rows = [(batch, clerk, number, text) for number, text in enumerate(texts, 1)]
+                base.executemany("INSERT INTO keying VALUES (?, 1, ?, ?, ?)", rows)
+                base.execute("INSERT INTO receipt VALUES (?, ?, ?, ?)", (clerk, f"k{batch}", f"key {batch} 1", f"batch {batch} round 1 keyed"))
+    base.close()
+
+
+def key_batches(folder, town, chance, batches):
+    """Gives out batches and keys them alike by both clerks, order by order."""
+    keying = os.path.join(folder, "keying.csv")
+    for batch in range(1, batches + 1):
+        play(folder, town, "batch", str(batch), "7", str(BATCH), "4", "9", "--id", f"b{batch}")
+        keying_file(keying, papers(chance, BATCH))
+        for clerk in ("4", "9"):
+            play(folder, town, "import-keying", clerk, str(batch), "1", keying, "--id", f"k{batch}")
+
+
 def make_ward(folder, count):
-    """A ward with so many papers, each keyed by two clerks; and one more batch that nobody keyed."""
+    """A ward with so many papers, each keyed by two clerks, and one more batch that nobody keyed, with a file for it."""
     town = os.path.join(folder, f"{count}.db")
     candidates = os.path.join(folder, "candidates.csv")
     with open(candidates, "w", encoding="ascii") as file:
@@ -84,14 +111,14 @@ def make_ward(folder, count):
     play(folder, town, "import-candidates", candidates, "--id", "c")
     play(folder, town, "close", "7", "--id", "n")
     chance = random.Random(7)
-    keying = os.path.join(folder, "keying.csv")
     batches = count // BATCH
-    for batch in range(1, batches + 2):
-        play(folder, town, "batch", str(batch), "7", str(BATCH), "4", "9", "--id", f"b{batch}")
-        keying_file(keying, papers(chance, BATCH))
-        if batch <= batches:
-            for clerk in ("4", "9"):
-                play(folder, town, "import-keying", clerk, str(batch), "1", keying, "--id", f"k{batch}")
+    if count > 20000:
+        keep_batches(town, chance, batches)
+    else:
+        key_batches(folder, town, chance, batches)
+    new = batches + 1
+    play(folder, town, "batch", str(new), "7", str(BATCH), "4", "9", "--id", f"b{new}")
+    keying_file(os.path.join(folder, "keying.csv"), papers(chance, BATCH))
     return town, batches
 
 
