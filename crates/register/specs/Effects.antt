@@ -2,12 +2,13 @@
 use Rattle.std.specs.Prelude.{ℕ, List, map}
 use Rattle.register.specs.declared.phase.Phase.{Phase}
 use Rattle.register.specs.declared.decision.Effect.{Effect}
-use Rattle.register.specs.declared.decision.Effect.TheVariants.{WardAdded, WardMoved, CandidateAdded, CandidateWithdrawn, BatchAdded, BatchReopened, PapersKeyed, PaperJudged}
+use Rattle.register.specs.declared.decision.Effect.TheVariants.{WardAdded, WardMoved, CandidateAdded, CandidateWithdrawn, BatchAdded, BatchReopened, PapersKeyed, PaperJudged, StageCounted, LotDrawn}
 use Rattle.register.specs.declared.decision.Change.{Change}
-use Rattle.register.specs.Offices.{WardEntry, CandidateEntry, BatchEntry, KeyedEntry, JudgedEntry, ReceiptEntry, OfficeState, put, put_each, without, changed, ward_cmp, candidate_cmp, batch_cmp, keyed_cmp, judged_cmp, receipt_cmp, ward_compared, candidate_compared, batch_compared, ward_entry, candidate_entry, batch_entry, keyed_entry, judged_entry, receipt_entry}
+use Rattle.register.specs.Offices.{WardEntry, CandidateEntry, BatchEntry, KeyedEntry, JudgedEntry, LotEntry, ReceiptEntry, OfficeState, put, put_each, without, changed, ward_cmp, candidate_cmp, batch_cmp, keyed_cmp, judged_cmp, lot_cmp, receipt_cmp, ward_compared, candidate_compared, batch_compared, ward_entry, candidate_entry, batch_entry, keyed_entry, judged_entry, lot_entry, receipt_entry}
 
 -- what a command does to the state, beside its receipt: a ward is new, or comes to a phase; a candidate of a ward stands,
--- or stands no longer; a batch is new, or is keyed in another round; papers are keyed; a paper is judged
+-- or stands no longer; a batch is new, or is keyed in another round; papers are keyed; a paper is judged; so many stages of a
+-- ward's count are done; a lot is drawn
 pub data EffectEntry : Type 0 where
   ward_added : WardEntry → EffectEntry
   ward_moved : ℕ → Phase → EffectEntry
@@ -17,6 +18,8 @@ pub data EffectEntry : Type 0 where
   batch_reopened : ℕ → ℕ → EffectEntry
   papers_keyed : List KeyedEntry → EffectEntry
   paper_judged : JudgedEntry → EffectEntry
+  stage_counted : ℕ → ℕ → EffectEntry
+  lot_drawn : LotEntry → EffectEntry
 
 -- all that an accepted request changes
 pub record ChangeEntry : Type 0 where
@@ -26,6 +29,10 @@ pub record ChangeEntry : Type 0 where
 -- the ward in this phase
 abbrev pub in_phase : Phase → WardEntry → WardEntry
 in_phase phase w = record w { phase = phase }
+
+-- the ward with so many stages done
+abbrev pub at_stage : ℕ → WardEntry → WardEntry
+at_stage done w = record w { done = done }
 
 -- the batch in this round
 abbrev pub in_round : ℕ → BatchEntry → BatchEntry
@@ -41,6 +48,8 @@ with_effect (batch_added b) s = record s { batches = put batch_cmp b s.batches }
 with_effect (batch_reopened batch round) s = record s { batches = changed (batch_compared batch) (in_round round) s.batches }
 with_effect (papers_keyed papers) s = record s { keyings = put_each keyed_cmp papers s.keyings }
 with_effect (paper_judged v) s = record s { verdicts = put judged_cmp v s.verdicts }
+with_effect (stage_counted ward done) s = record s { wards = changed (ward_compared ward) (at_stage done) s.wards }
+with_effect (lot_drawn l) s = record s { lots = put lot_cmp l s.lots }
 
 -- the state with a receipt more
 abbrev pub with_receipt : ReceiptEntry → OfficeState → OfficeState
@@ -60,6 +69,8 @@ effect_entry (BatchAdded b) = batch_added (batch_entry b)
 effect_entry (BatchReopened batch round) = batch_reopened batch round
 effect_entry (PapersKeyed papers) = papers_keyed (map keyed_entry papers.items)
 effect_entry (PaperJudged v) = paper_judged (judged_entry v)
+effect_entry (StageCounted ward done) = stage_counted ward done
+effect_entry (LotDrawn l) = lot_drawn (lot_entry l)
 
 -- what a change stands for
 abbrev pub change_entry : Change → ChangeEntry

@@ -2,10 +2,11 @@
 use Rattle.std.specs.Prelude.{◌≡◌, Bool, true, ◌&&◌, ◌||◌, List, ℕ, nat_le, is_some}
 use Rattle.std.specs.List.{list_all}
 use Rattle.std.specs.Str.{is_utf8}
-use Rattle.register.specs.Ranges.{is_office, is_clerk, is_ward_number, is_seat_number, is_candidate_number, is_batch_number, is_paper_number, is_round, is_name, is_id, is_reply}
+use Rattle.register.specs.Ranges.{is_office, is_clerk, is_ward_number, is_seat_number, is_candidate_number, is_batch_number, is_paper_number, is_lot_stage, is_round, is_name, is_id, is_reply}
 use Rattle.register.specs.Subjects.{is_office_subject, is_clerk_subject}
-use Rattle.register.specs.Offices.{WardEntry, CandidateEntry, BatchEntry, KeyedEntry, JudgedEntry, ReceiptEntry, OfficeState, ward_at, candidates_of, batch_at, verdicts_of, MapsRise}
-use Rattle.register.specs.Nominations.{are_enough, is_reached}
+use Rattle.register.specs.Offices.{WardEntry, CandidateEntry, BatchEntry, KeyedEntry, JudgedEntry, LotEntry, ReceiptEntry, OfficeState, ward_at, candidates_of, batch_at, verdicts_of, MapsRise}
+use Rattle.register.specs.Nominations.{are_enough}
+use Rattle.register.specs.Elections.{election_of, is_agreed, is_counted_right}
 use Rattle.register.specs.Keyed.{is_given_out, is_keyed_for, are_rounds_to, is_judged}
 
 -- a ward whose number, seats and name are in range
@@ -28,6 +29,10 @@ is_keyed_paper k = is_batch_number k.batch && (is_round k.round && (is_clerk k.c
 unfoldable pub is_judged_paper : JudgedEntry → Bool
 is_judged_paper v = is_batch_number v.batch && (is_paper_number v.paper && (nat_le v.code 5 && is_utf8 v.marks))
 
+-- a lot whose numbers are in range
+unfoldable pub is_lot : LotEntry → Bool
+is_lot l = is_ward_number l.ward && (is_lot_stage l.stage && is_candidate_number l.candidate)
+
 -- what the office, or a clerk, may ask for
 abbrev pub is_about : ℕ → List ℕ → Bool
 is_about actor subject = (is_office actor && is_office_subject subject) || (is_clerk actor && is_clerk_subject subject)
@@ -40,7 +45,7 @@ is_receipt r = is_about r.actor r.subject && (is_utf8 r.subject && (is_id r.id &
 abbrev pub item1 : OfficeState → Bool
 item1 s =
     list_all is_ward s.wards
-    && (list_all is_candidate s.candidates && (list_all is_batch s.batches && (list_all is_keyed_paper s.keyings && (list_all is_judged_paper s.verdicts && list_all is_receipt s.receipts))))
+    && (list_all is_candidate s.candidates && (list_all is_batch s.batches && (list_all is_keyed_paper s.keyings && (list_all is_judged_paper s.verdicts && (list_all is_lot s.lots && list_all is_receipt s.receipts)))))
 
 -- the second condition: candidates belong to wards that are there, and each ward has those that its phase asks for
 abbrev pub item2 : OfficeState → Bool
@@ -59,9 +64,14 @@ item4 s = list_all (λ k. is_keyed_for s k (batch_at s k.batch)) s.keyings && li
 abbrev pub item5 : OfficeState → Bool
 item5 s = list_all (λ v. is_some (batch_at s v.batch)) s.verdicts && list_all (λ b. is_judged s b (verdicts_of s b.number)) s.batches
 
--- what later commands bring: until then no contested ward is past keying, none is declared, and no stage is done
-abbrev pub are_reached : OfficeState → Bool
-are_reached s = list_all (λ w. is_reached w (candidates_of s w.number)) s.wards
+-- the sixth condition: in a contested ward that has been sealed all batches are taken, and all their doubtful papers have verdicts
+unfoldable pub item6 : OfficeState → Bool
+item6 s = list_all (λ w. is_agreed (election_of s w)) s.wards
+
+-- the seventh condition: lots belong to wards that are there; the stages done and the lots are those of the count, and none where
+-- there is no count yet
+unfoldable pub item7 : OfficeState → Bool
+item7 s = list_all (λ l. is_some (ward_at s l.ward)) s.lots && list_all (λ w. is_counted_right (election_of s w)) s.wards
 
 -- the maps of an office: their entries meet each condition, and stand in the order of their keys
 pub record IsState (s : OfficeState) : Type 0 where
@@ -70,5 +80,6 @@ pub record IsState (s : OfficeState) : Type 0 where
   pub given_out : item3 s ≡ true
   pub keyed : item4 s ≡ true
   pub judged : item5 s ≡ true
-  pub reached : are_reached s ≡ true
+  pub agreed : item6 s ≡ true
+  pub counted : item7 s ≡ true
   pub rise : MapsRise s

@@ -1,4 +1,5 @@
 pub mod Phases
+pub mod Texts
 pub mod Reasons
 pub mod Ranges
 pub mod Subjects
@@ -6,6 +7,8 @@ pub mod Offices
 pub mod Nominations
 pub mod Marks
 pub mod Papers
+pub mod Polls
+pub mod Elections
 pub mod Keyed
 pub mod Standings
 pub mod Items
@@ -16,5 +19,6 @@ pub mod Candidates
 pub mod Batches
 pub mod Keyings
 pub mod Verdicts
+pub mod Counts
 pub mod Machine
 pub mod Views

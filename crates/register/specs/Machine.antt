@@ -4,7 +4,7 @@ use Rattle.std.specs.Str.{bytes_eq}
 use Rattle.register.specs.declared.refusal.Reason.{Reason}
 use Rattle.register.specs.declared.refusal.Reason.TheVariants.{BadId, IdUsed}
 use Rattle.register.specs.declared.command.Command.{Command}
-use Rattle.register.specs.declared.command.Command.TheVariants.{Ward, Candidate, Batch, Keying, Verdict}
+use Rattle.register.specs.declared.command.Command.TheVariants.{Ward, Candidate, Batch, Keying, Verdict, Count}
 use Rattle.register.specs.declared.command.Request.{Request}
 use Rattle.register.specs.Reasons.{first_reason}
 use Rattle.register.specs.Ranges.{is_id}
@@ -16,6 +16,7 @@ use Rattle.register.specs.Candidates as candidates
 use Rattle.register.specs.Batches as batches
 use Rattle.register.specs.Keyings as keyings
 use Rattle.register.specs.Verdicts as verdicts
+use Rattle.register.specs.Counts as counts
 
 -- ---- the commands, by subject
 
@@ -26,6 +27,7 @@ part_of s actor (Candidate command) = candidates.part_of s actor command
 part_of s actor (Batch command) = batches.part_of s actor command
 part_of s actor (Keying command) = keyings.part_of s actor command
 part_of s actor (Verdict command) = verdicts.part_of s actor command
+part_of s actor (Count command) = counts.part_of s actor command
 
 -- what stands against it, in the order of the reasons' numbers
 abbrev pub objections : ℕ → Command → PartEntries → List (Option Reason)
@@ -34,6 +36,7 @@ objections actor (Candidate command) part = candidates.objections actor command 
 objections actor (Batch command) part = batches.objections actor command part
 objections actor (Keying command) part = keyings.objections actor command part
 objections actor (Verdict command) part = verdicts.objections actor command part
+objections actor (Count command) part = counts.objections actor command part
 
 -- what its receipt is about
 abbrev pub subject_of : Command → List ℕ
@@ -42,6 +45,7 @@ subject_of (Candidate command) = candidates.subject_of command
 subject_of (Batch command) = batches.subject_of command
 subject_of (Keying command) = keyings.subject_of command
 subject_of (Verdict command) = verdicts.subject_of command
+subject_of (Count command) = counts.subject_of command
 
 -- what is replied where it is accepted
 abbrev pub reply_to : Command → PartEntries → List ℕ
@@ -50,6 +54,7 @@ reply_to (Candidate command) part = candidates.reply_to command part
 reply_to (Batch command) part = batches.reply_to command part
 reply_to (Keying command) part = keyings.reply_to command
 reply_to (Verdict command) part = verdicts.reply_to command
+reply_to (Count command) part = counts.reply_to command part
 
 -- what it does where it is accepted
 abbrev pub effect_of : ℕ → Command → PartEntries → EffectEntry
@@ -58,6 +63,7 @@ effect_of actor (Candidate command) part = candidates.effect_of command part
 effect_of actor (Batch command) part = batches.effect_of command part
 effect_of actor (Keying command) part = keyings.effect_of actor command
 effect_of actor (Verdict command) part = verdicts.effect_of command
+effect_of actor (Count command) part = counts.effect_of command part
 
 -- ---- what is decided on a view: actor, id, command, receipt, and the part of the state
 

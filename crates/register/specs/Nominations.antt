@@ -1,5 +1,5 @@
 -- What nominations leave of a ward: whether its election is contested, and which candidates each phase asks for.
-use Rattle.std.specs.Prelude.{Bool, true, false, not, ◌&&◌, ◌==◌, nat_lt, List, length}
+use Rattle.std.specs.Prelude.{Bool, true, not, ◌==◌, nat_lt, List, length}
 use Rattle.register.specs.declared.phase.Phase.{Phase}
 use Rattle.register.specs.declared.phase.Phase.TheVariants.{Nominations, Keying, Sealed, Declared}
 use Rattle.register.specs.Offices.{WardEntry, CandidateEntry}
@@ -18,14 +18,3 @@ are_enough Nominations w candidates = true
 are_enough Keying w candidates = is_contested w candidates
 are_enough Sealed w candidates = is_stood_in candidates
 are_enough Declared w candidates = is_stood_in candidates
-
--- how far commands lead a ward yet: closed nominations leave a contested one in keying, and any other sealed
-abbrev pub is_led_to : Phase → WardEntry → List CandidateEntry → Bool
-is_led_to Nominations w candidates = true
-is_led_to Keying w candidates = true
-is_led_to Sealed w candidates = not (is_contested w candidates)
-is_led_to Declared w candidates = false
-
--- a ward that commands lead to: in such a phase, with no stage done
-abbrev pub is_reached : WardEntry → List CandidateEntry → Bool
-is_reached w candidates = (w.done == 0) && is_led_to w.phase w candidates

@@ -11,6 +11,7 @@ use Rattle.register.specs.declared.candidates.Candidate.{Candidate}
 use Rattle.register.specs.declared.batches.Batch.{Batch}
 use Rattle.register.specs.declared.keyings.KeyedPaper.{KeyedPaper}
 use Rattle.register.specs.declared.verdicts.JudgedPaper.{JudgedPaper}
+use Rattle.register.specs.declared.counts.DrawnLot.{DrawnLot}
 use Rattle.register.specs.declared.receipt.Receipt.{Receipt}
 
 -- ---- entries
@@ -54,6 +55,12 @@ pub record JudgedEntry : Type 0 where
   pub code : ℕ
   pub marks : List ℕ
 
+-- a lot that was drawn: of which ward, for which stage of its count, the candidate whose surplus is transferred or who is excluded
+pub record LotEntry : Type 0 where
+  pub ward : ℕ
+  pub stage : ℕ
+  pub candidate : ℕ
+
 -- what an accepted request left: who sent it under which id, what it was about, and what was replied
 pub record ReceiptEntry : Type 0 where
   pub actor : ℕ
@@ -80,6 +87,10 @@ keyed_entry k = record { batch = k.batch; round = k.round; clerk = k.clerk; pape
 -- the entry that a judged paper stands for
 abbrev pub judged_entry : JudgedPaper → JudgedEntry
 judged_entry v = record { batch = v.batch; paper = v.paper; code = v.code; marks = string_bytes v.marks }
+
+-- the entry that a lot stands for
+abbrev pub lot_entry : DrawnLot → LotEntry
+lot_entry l = record { ward = l.ward; stage = l.stage; candidate = l.candidate }
 
 -- the entry that a receipt stands for
 abbrev pub receipt_entry : Receipt → ReceiptEntry
@@ -111,18 +122,19 @@ changed compared change xs = map (λ x. if is_eq (compared x) then change x else
 -- ---- the state
 
 -- the wards by number, the candidates by ward and number, the batches by number, the keyed papers by batch, round, clerk and
--- number, the judged papers by batch and number, the receipts by actor and id
+-- number, the judged papers by batch and number, the lots by ward and stage, the receipts by actor and id
 pub record OfficeState : Type 0 where
   pub wards : List WardEntry
   pub candidates : List CandidateEntry
   pub batches : List BatchEntry
   pub keyings : List KeyedEntry
   pub verdicts : List JudgedEntry
+  pub lots : List LotEntry
   pub receipts : List ReceiptEntry
 
 -- an office where nothing has happened yet
 abbrev pub empty_office : OfficeState
-empty_office = record { wards = []; candidates = []; batches = []; keyings = []; verdicts = []; receipts = [] }
+empty_office = record { wards = []; candidates = []; batches = []; keyings = []; verdicts = []; lots = []; receipts = [] }
 
 -- the order of wards: by number
 abbrev pub ward_cmp : WardEntry → WardEntry → Ordering
@@ -143,6 +155,10 @@ keyed_cmp = then_cmp (on (λ (k : KeyedEntry). k.batch) nat_cmp) (then_cmp (on (
 -- the order of judged papers: by batch, and then by number
 abbrev pub judged_cmp : JudgedEntry → JudgedEntry → Ordering
 judged_cmp = then_cmp (on (λ (v : JudgedEntry). v.batch) nat_cmp) (on (λ (v : JudgedEntry). v.paper) nat_cmp)
+
+-- the order of lots: by ward, and then by stage
+abbrev pub lot_cmp : LotEntry → LotEntry → Ordering
+lot_cmp = then_cmp (on (λ (l : LotEntry). l.ward) nat_cmp) (on (λ (l : LotEntry). l.stage) nat_cmp)
 
 -- the order of receipts: by actor, and then by id
 abbrev pub receipt_cmp : ReceiptEntry → ReceiptEntry → Ordering
@@ -192,6 +208,10 @@ verdict_at s batch paper = entry_at (judged_compared batch paper) s.verdicts
 abbrev pub verdicts_of : OfficeState → ℕ → List JudgedEntry
 verdicts_of s batch = filter (λ (v : JudgedEntry). v.batch == batch) s.verdicts
 
+-- the lots of a ward, in the order of the stages
+abbrev pub lots_of : OfficeState → ℕ → List LotEntry
+lots_of s ward = filter (λ (l : LotEntry). l.ward == ward) s.lots
+
 -- the receipt of this actor and id
 abbrev pub receipt_at : OfficeState → ℕ → List ℕ → Option ReceiptEntry
 receipt_at s actor id = entry_at (λ r. ordering_then (nat_cmp actor r.actor) (slice_cmp nat_cmp id r.id)) s.receipts
@@ -203,4 +223,5 @@ pub record MapsRise (s : OfficeState) : Type 0 where
   pub batches : IsStrictlySortedBy batch_cmp s.batches
   pub keyings : IsStrictlySortedBy keyed_cmp s.keyings
   pub verdicts : IsStrictlySortedBy judged_cmp s.verdicts
+  pub lots : IsStrictlySortedBy lot_cmp s.lots
   pub receipts : IsStrictlySortedBy receipt_cmp s.receipts

@@ -1,5 +1,6 @@
 -- The part of the state that a command needs.
-use Rattle.std.specs.Prelude.{Bool, false, not, ◌==◌, List, [], ◌∷◌, map, Option, Some, None, is_none, option_map}
+use Rattle.std.specs.Prelude.{ℕ, Bool, false, not, ◌==◌, List, [], ◌∷◌, map, Option, Some, None, is_none, option_map}
+use Rattle.count.specs.declared.stages.Due.{Due}
 use Rattle.register.specs.declared.phase.Phase.{Phase}
 use Rattle.register.specs.declared.phase.Phase.TheVariants.{Keying}
 use Rattle.register.specs.declared.view.Part.{Part}
@@ -7,11 +8,13 @@ use Rattle.register.specs.declared.refusal.Reason.{Reason}
 use Rattle.register.specs.declared.refusal.Reason.TheVariants.{NoSuchWard, NoSuchBatch, WrongPhase}
 use Rattle.register.specs.Phases.{phase_number}
 use Rattle.register.specs.Reasons.{objection}
+use Rattle.register.specs.Polls.{PollEntry, poll_entry}
 use Rattle.register.specs.Offices.{WardEntry, CandidateEntry, BatchEntry, KeyedEntry, JudgedEntry, ward_entry, candidate_entry, batch_entry, keyed_entry, judged_entry}
 
 -- what any command may need, each there only where the command needs it: the ward that it names, or that the batch which it
 -- names belongs to; the candidate that it names; the candidates of the ward; the batch that it names; the actor's own keying
--- of it; both clerks' keyings of its current round; the verdict on the paper that it names
+-- of it; both clerks' keyings of its current round; the verdict on the paper that it names; the poll of the ward; what is due
+-- in its count, and who is elected
 pub record PartEntries : Type 0 where
   pub ward : Option WardEntry
   pub candidate : Option CandidateEntry
@@ -21,10 +24,13 @@ pub record PartEntries : Type 0 where
   pub first : List KeyedEntry
   pub second : List KeyedEntry
   pub verdict : Option JudgedEntry
+  pub poll : Option PollEntry
+  pub due : Option Due
+  pub elected : List ℕ
 
 -- no part, to which a command adds what it needs
 abbrev pub empty_part : PartEntries
-empty_part = record { ward = None; candidate = None; candidates = []; batch = None; own = []; first = []; second = []; verdict = None }
+empty_part = record { ward = None; candidate = None; candidates = []; batch = None; own = []; first = []; second = []; verdict = None; poll = None; due = None; elected = [] }
 
 -- the ward is there, in this phase
 abbrev pub is_in_phase : Phase → Option WardEntry → Bool
@@ -46,4 +52,4 @@ passes test (Some b) = test b
 
 -- the entries that a part stands for
 abbrev pub part_entries : Part → PartEntries
-part_entries part = record { ward = option_map ward_entry part.ward; candidate = option_map candidate_entry part.candidate; candidates = map candidate_entry part.candidates.items; batch = option_map batch_entry part.batch; own = map keyed_entry part.own.items; first = map keyed_entry part.first.items; second = map keyed_entry part.second.items; verdict = option_map judged_entry part.verdict }
+part_entries part = record { ward = option_map ward_entry part.ward; candidate = option_map candidate_entry part.candidate; candidates = map candidate_entry part.candidates.items; batch = option_map batch_entry part.batch; own = map keyed_entry part.own.items; first = map keyed_entry part.first.items; second = map keyed_entry part.second.items; verdict = option_map judged_entry part.verdict; poll = option_map poll_entry part.poll; due = part.due; elected = part.elected }

@@ -2,6 +2,8 @@
 use Rattle.std.specs.Prelude.{ℕ, Bool, not, ◌&&◌, ◌||◌, ◌==◌, nat_le, List, length}
 use Rattle.std.specs.List.{list_all}
 use Rattle.std.specs.Str.{is_utf8}
+use Rattle.votes.specs.Units.{max_seats}
+use Rattle.paper.specs.Columns.{max_candidates}
 
 -- from one number to another, both included
 abbrev pub is_between : ℕ → ℕ → ℕ → Bool
@@ -16,14 +18,6 @@ last_clerk = 999
 -- the highest number of a ward
 abbrev pub last_ward : ℕ
 last_ward = 99
-
--- the most seats of a ward
-abbrev pub most_seats : ℕ
-most_seats = 15
-
--- the highest number of a candidate in a ward
-abbrev pub last_candidate : ℕ
-last_candidate = 30
 
 -- the highest number of a batch, over all wards
 abbrev pub last_batch : ℕ
@@ -60,11 +54,11 @@ is_ward_number = is_between 1 last_ward
 
 -- a ward's number of seats
 abbrev pub is_seat_number : ℕ → Bool
-is_seat_number = is_between 1 most_seats
+is_seat_number = is_between 1 max_seats
 
 -- a candidate's number in its ward
 abbrev pub is_candidate_number : ℕ → Bool
-is_candidate_number = is_between 1 last_candidate
+is_candidate_number = is_between 1 max_candidates
 
 -- a batch's number
 abbrev pub is_batch_number : ℕ → Bool
@@ -73,6 +67,10 @@ is_batch_number = is_between 1 last_batch
 -- a batch's number of papers, and the number of a paper in its batch
 abbrev pub is_paper_number : ℕ → Bool
 is_paper_number = is_between 1 most_papers
+
+-- the stage of a lot
+abbrev pub is_lot_stage : ℕ → Bool
+is_lot_stage = is_between first_lot_stage last_lot_stage
 
 -- the round in which a batch is keyed
 abbrev pub is_round : ℕ → Bool

@@ -1,8 +1,9 @@
 -- The reasons for which requests are refused, by number and text.
 use Rattle.std.specs.Prelude.{ℕ, Bool, if◌then◌else◌, List, [], ◌∷◌, ◌++◌, codes, Option, Some, None}
 use Rattle.std.specs.Fmt.{decimal}
+use Rattle.register.specs.Texts.{listed}
 use Rattle.register.specs.declared.refusal.Reason.{Reason}
-use Rattle.register.specs.declared.refusal.Reason.TheVariants.{BadId, IdUsed, NumberOutOfRange, BadName, NoSuchWard, WardExists, NoSuchBatch, BatchExists, WrongPhase, CandidateExists, NoSuchCandidate, NoCandidates, SameClerk, NotItsClerk, NotThisRound, AlreadyKeyed, WrongPaperCount, BadMarks, NoDifference, NotTaken, NotDoubtful, AlreadyJudged, BadVerdict}
+use Rattle.register.specs.declared.refusal.Reason.TheVariants.{BadId, IdUsed, NumberOutOfRange, BadName, NoSuchWard, WardExists, NoSuchBatch, BatchExists, WrongPhase, CandidateExists, NoSuchCandidate, NoCandidates, SameClerk, NotItsClerk, NotThisRound, AlreadyKeyed, WrongPaperCount, BadMarks, NoDifference, NotTaken, NotDoubtful, AlreadyJudged, BadVerdict, NotReady, CountFinished, LotNeeded, NoSuchLot, NotAmong, CountNotFinished}
 
 -- the number that stands for a reason
 abbrev pub reason_number : Reason → ℕ
@@ -29,6 +30,12 @@ reason_number NotTaken = 20
 reason_number NotDoubtful = 21
 reason_number AlreadyJudged = 22
 reason_number BadVerdict = 23
+reason_number NotReady = 24
+reason_number CountFinished = 25
+reason_number (LotNeeded stage among) = 26
+reason_number NoSuchLot = 27
+reason_number NotAmong = 28
+reason_number CountNotFinished = 29
 
 -- the reason in words, before any number that it carries
 abbrev pub reason_words : Reason → List ℕ
@@ -55,10 +62,17 @@ reason_words NotTaken = codes "batch not taken"
 reason_words NotDoubtful = codes "paper not doubtful"
 reason_words AlreadyJudged = codes "already judged"
 reason_words BadVerdict = codes "bad verdict"
+reason_words NotReady = codes "not ready to seal"
+reason_words CountFinished = codes "count finished"
+reason_words (LotNeeded stage among) = codes "lot needed at stage "
+reason_words NoSuchLot = codes "no such lot due"
+reason_words NotAmong = codes "not among the tied"
+reason_words CountNotFinished = codes "count not finished"
 
 -- the numbers that a reason carries
 abbrev pub reason_numbers : Reason → List ℕ
 reason_numbers (BadMarks paper fault) = decimal paper ++ (codes ", fault " ++ decimal fault)
+reason_numbers (LotNeeded stage among) = decimal stage ++ (codes " among " ++ listed among)
 reason_numbers _ = []
 
 -- the reason in words, with the numbers that it carries

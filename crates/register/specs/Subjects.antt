@@ -3,7 +3,8 @@ use Rattle.std.specs.Prelude.{ℕ, Bool, not, ◌&&◌, ◌||◌, ◌==◌, List
 use Rattle.std.specs.List.{list_any, before_first, after_first}
 use Rattle.std.specs.Str.{all_ascii_digits, bytes_eq}
 use Rattle.std.specs.Str.Parse.{digits_value}
-use Rattle.register.specs.Ranges.{is_between, last_ward, last_candidate, last_batch, most_papers, last_round, first_lot_stage, last_lot_stage}
+use Rattle.paper.specs.Columns.{max_candidates}
+use Rattle.register.specs.Ranges.{is_between, last_ward, last_batch, most_papers, last_round, first_lot_stage, last_lot_stage}
 
 -- a number as it is written plainly: digits, the first not 0
 unfoldable pub is_plain_number : ℕ → ℕ → List ℕ → Bool
@@ -27,7 +28,7 @@ is_about_ward = is_about (codes "ward" ∷ codes "close" ∷ codes "seal" ∷ co
 
 -- a candidate of a ward, added or withdrawn
 abbrev pub is_about_candidate : List ℕ → Bool
-is_about_candidate = is_about (codes "candidate" ∷ codes "withdraw" ∷ []) (are_plain_numbers 1 last_ward 1 last_candidate)
+is_about_candidate = is_about (codes "candidate" ∷ codes "withdraw" ∷ []) (are_plain_numbers 1 last_ward 1 max_candidates)
 
 -- the lot of a ward at a stage
 abbrev pub is_about_lot : List ℕ → Bool

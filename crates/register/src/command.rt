@@ -2,6 +2,7 @@
 
 use crate::batches::BatchCommand;
 use crate::candidates::CandidateCommand;
+use crate::counts::CountCommand;
 use crate::keyings::KeyingCommand;
 use crate::verdicts::VerdictCommand;
 use crate::wards::WardCommand;
@@ -19,6 +20,8 @@ pub enum Command {
     Keying(KeyingCommand),
     /// A verdict on a doubtful paper.
     Verdict(VerdictCommand),
+    /// About the count of a ward.
+    Count(CountCommand),
 }
 
 /// A command, with who sends it (0 is the office, 1 to 999 a clerk) and under which id.

@@ -2,6 +2,7 @@
 
 use crate::batches::Batch;
 use crate::candidates::Candidate;
+use crate::counts::DrawnLot;
 use crate::keyings::KeyedPaper;
 use crate::phase::Phase;
 use crate::receipt::Receipt;
@@ -31,6 +32,10 @@ pub enum Effect {
     PapersKeyed(Vec<KeyedPaper>),
     /// This paper is judged.
     PaperJudged(JudgedPaper),
+    /// So many stages of the count of the ward of this number are done.
+    StageCounted { ward: u32, done: u32 },
+    /// This lot is drawn.
+    LotDrawn(DrawnLot),
 }
 
 /// All that an accepted request changes. It is kept whole or not at all.

@@ -28,11 +28,16 @@ pub mod ranges;
 // How marks are read, and when a batch is taken.
 pub mod marks;
 pub mod papers;
-// How a ward stands.
+// How a ward stands, what its papers come to, and what its count rests on.
+pub mod elections;
+pub mod polls;
 pub mod status;
+// Numbers and actions in words.
+mod texts;
 // The commands, by subject.
 pub mod batches;
 pub mod candidates;
+pub mod counts;
 pub mod keyings;
 pub mod verdicts;
 pub mod wards;
@@ -42,10 +47,13 @@ mod machine;
 pub use batches::{Batch, BatchCommand};
 pub use candidates::{Candidate, CandidateCommand};
 pub use command::{Command, Request};
+pub use counts::{CountCommand, DrawnLot};
 pub use decision::{Change, Decision, Effect, Reply};
+pub use elections::Election;
 pub use keyings::{KeyedPaper, KeyingCommand};
 pub use machine::decide;
 pub use phase::Phase;
+pub use polls::{Ballots, Judgement, Poll};
 pub use receipt::Receipt;
 pub use refusal::{Reason, Refusal};
 pub use status::Status;

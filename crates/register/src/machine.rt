@@ -15,7 +15,7 @@ use crate::ranges::is_id;
 use crate::receipt::Receipt;
 use crate::refusal::{Reason, Refusal};
 use crate::view::{Part, View};
-use crate::{batches, candidates, keyings, verdicts, wards};
+use crate::{batches, candidates, counts, keyings, verdicts, wards};
 use std::alloc::{AllocError, Global};
 
 /// What stands against a command: of several reasons the one with the lowest number.
@@ -28,6 +28,7 @@ fn objection_to(actor: u32, command: &Command, part: &Part) -> Option<Reason>
         Command::Batch(command) => batches::objection_to(actor, command, part),
         Command::Keying(command) => keyings::objection_to(actor, command, part),
         Command::Verdict(command) => verdicts::objection_to(actor, command, part),
+        Command::Count(command) => counts::objection_to(actor, command, part),
     }
 }
 
@@ -41,6 +42,7 @@ fn subject_of(alloc: Global, command: &Command) -> Result<String, AllocError>
         Command::Batch(command) => batches::subject_of(alloc, command),
         Command::Keying(command) => keyings::subject_of(alloc, command),
         Command::Verdict(command) => verdicts::subject_of(alloc, command),
+        Command::Count(command) => counts::subject_of(alloc, command),
     }
 }
 
@@ -54,6 +56,7 @@ fn reply_to(alloc: Global, command: &Command, part: &Part) -> Result<String, All
         Command::Batch(command) => batches::reply_to(alloc, command, part),
         Command::Keying(command) => keyings::reply_to(alloc, command),
         Command::Verdict(command) => verdicts::reply_to(alloc, command),
+        Command::Count(command) => counts::reply_to(alloc, command, part),
     }
 }
 
@@ -72,6 +75,7 @@ fn effect_of(
         Command::Batch(command) => Ok(batches::effect_of(command, part)),
         Command::Keying(command) => keyings::effect_of(alloc, actor, command),
         Command::Verdict(command) => verdicts::effect_of(alloc, command),
+        Command::Count(command) => Ok(counts::effect_of(command, part)),
     }
 }
 

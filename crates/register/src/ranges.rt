@@ -2,7 +2,10 @@
 
 ghost use Rattle.std.specs.Prelude.{◌≡◌};
 ghost use Rattle.std.specs.List.{list_all};
-ghost use Rattle.register.specs.Ranges.{is_between, is_clerk, is_ward_number, is_seat_number, is_candidate_number, is_batch_number, is_paper_number, is_round, is_name_byte, is_id_byte, is_line_byte, is_name, is_id, is_reply};
+ghost use Rattle.register.specs.Ranges.{is_between, is_clerk, is_ward_number, is_seat_number, is_candidate_number, is_batch_number, is_paper_number, is_lot_stage, is_round, is_name_byte, is_id_byte, is_line_byte, is_name, is_id, is_reply};
+
+use paper::MAX_CANDIDATES;
+use votes::MAX_SEATS;
 
 /// The highest number of a clerk.
 pub const LAST_CLERK: u32 = 999;
@@ -11,10 +14,10 @@ pub const LAST_CLERK: u32 = 999;
 pub const LAST_WARD: u32 = 99;
 
 /// The most seats of a ward.
-pub const MOST_SEATS: u32 = 15;
+pub const MOST_SEATS: u32 = MAX_SEATS as u32;
 
 /// The highest number of a candidate in a ward.
-pub const LAST_CANDIDATE: u32 = 30;
+pub const LAST_CANDIDATE: u32 = MAX_CANDIDATES as u32;
 
 /// The highest number of a batch, over all wards.
 pub const LAST_BATCH: u32 = 9999;
@@ -90,6 +93,13 @@ pub fn is_paper_number(n: u32) -> bool
     ensures { result ≡ is_paper_number n }
 {
     is_between(1, MOST_PAPERS, n)
+}
+
+/// Whether a number is that of a stage for which a lot may be drawn: 2 to 31.
+pub fn is_lot_stage(n: u32) -> bool
+    ensures { result ≡ is_lot_stage n }
+{
+    is_between(FIRST_LOT_STAGE, LAST_LOT_STAGE, n)
 }
 
 /// Whether a number is that of a round in which a batch is keyed: 1 to 99.

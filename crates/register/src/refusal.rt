@@ -3,6 +3,8 @@
 ghost use Rattle.std.specs.Prelude.{◌≡◌, IfOk, string_bytes};
 ghost use Rattle.register.specs.Reasons.{reason_number, reason_words, reason_text};
 
+use crate::texts::listed;
+use paper::Columns;
 use std::alloc::{AllocError, Global};
 use std::marker::Model;
 
@@ -56,6 +58,18 @@ pub enum Reason {
     /// The paper is accepted as doubtful, or with marks by which it is invalid, or rejected with a code
     /// that isn't 3, 4 or 5.
     BadVerdict,
+    /// A batch of the ward isn't taken, or a doubtful paper has no verdict.
+    NotReady,
+    /// No vacancy is left.
+    CountFinished,
+    /// The count waits for a lot at this stage, counted from 1, among these candidates.
+    LotNeeded { stage: u8, among: Columns },
+    /// The count doesn't wait for a lot at this stage.
+    NoSuchLot,
+    /// The candidate isn't one of those who are tied.
+    NotAmong,
+    /// A vacancy is left.
+    CountNotFinished,
 }
 
 impl Reason {
@@ -88,6 +102,12 @@ impl Reason {
             Reason::NotDoubtful => (21, "paper not doubtful"),
             Reason::AlreadyJudged => (22, "already judged"),
             Reason::BadVerdict => (23, "bad verdict"),
+            Reason::NotReady => (24, "not ready to seal"),
+            Reason::CountFinished => (25, "count finished"),
+            Reason::LotNeeded { .. } => (26, "lot needed at stage "),
+            Reason::NoSuchLot => (27, "no such lot due"),
+            Reason::NotAmong => (28, "not among the tied"),
+            Reason::CountNotFinished => (29, "count not finished"),
         }
     }
 
@@ -99,6 +119,10 @@ impl Reason {
         match self {
             Reason::BadMarks { paper, fault } => {
                 format!(in alloc; "{words}{paper}, fault {fault}")
+            }
+            Reason::LotNeeded { stage, among } => {
+                let candidates = listed(alloc, &among)?;
+                format!(in alloc; "{words}{stage} among {candidates}")
             }
             _ => String::from_str(alloc, words),
         }

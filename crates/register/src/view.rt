@@ -6,16 +6,20 @@ ghost use Rattle.register.specs.Parts.{part_entries, empty_part};
 use crate::batches::Batch;
 use crate::candidates::Candidate;
 use crate::keyings::KeyedPaper;
+use crate::polls::Poll;
 use crate::receipt::Receipt;
 use crate::verdicts::JudgedPaper;
 use crate::wards::Ward;
+use count::Due;
+use paper::Columns;
 use std::alloc::Global;
 
 /// What any command may need of the state, each there only where the command needs it and the state has
 /// it: the ward that it names, or that the batch which it names belongs to; the candidate that it names;
 /// the ward's candidates in the order of their numbers; the batch that it names; the actor's own keying
-/// of it; the first and the second clerk's keyings of its current round; and the verdict on the paper
-/// that it names. A keying is in the order of its papers.
+/// of it; the first and the second clerk's keyings of its current round; the verdict on the paper that it
+/// names; the poll of the ward; what is due in the ward's count by the recorded lots, and who is elected
+/// after the stages done. A keying is in the order of its papers.
 #[derive(Debug, Drop)]
 pub struct Part {
     pub ward: Option<Ward>,
@@ -26,6 +30,9 @@ pub struct Part {
     pub first: Vec<KeyedPaper>,
     pub second: Vec<KeyedPaper>,
     pub verdict: Option<JudgedPaper>,
+    pub poll: Option<Poll>,
+    pub due: Option<Due>,
+    pub elected: Columns,
 }
 
 impl Part {
@@ -42,6 +49,9 @@ impl Part {
             first: Vec::new(alloc),
             second: Vec::new(alloc),
             verdict: None,
+            poll: None,
+            due: None,
+            elected: Columns::empty(),
         }
     }
 }

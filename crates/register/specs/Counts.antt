@@ -1,0 +1,142 @@
+-- The commands about a ward's count: what each needs of the state, what stands against it, what it is about, replies and does.
+use Rattle.std.specs.Prelude.{ℕ, ◌+◌, Bool, false, not, ◌&&◌, ◌==◌, nat_le, if◌then◌else◌, List, [], ◌∷◌, ◌++◌, codes, Option, Some, None, is_none, option_map}
+use Rattle.std.specs.Fmt.{decimal}
+use Rattle.votes.specs.Text.{votes_text}
+use Rattle.count.specs.declared.stages.Due.{Due}
+use Rattle.count.specs.declared.stages.Due.TheVariants.{Act, Lot as lot_due, Finished}
+use Rattle.register.specs.declared.phase.Phase.{Phase}
+use Rattle.register.specs.declared.phase.Phase.TheVariants.{Keying, Sealed, Declared}
+use Rattle.register.specs.declared.refusal.Reason.{Reason}
+use Rattle.register.specs.declared.refusal.Reason.TheVariants.{NumberOutOfRange, NoSuchCandidate, NotReady, CountFinished, LotNeeded, NoSuchLot, NotAmong, CountNotFinished}
+use Rattle.register.specs.declared.counts.CountCommand.{CountCommand}
+use Rattle.register.specs.declared.counts.CountCommand.TheVariants.{Seal, Advance, Lot, Declare}
+use Rattle.register.specs.Reasons.{objection}
+use Rattle.register.specs.Ranges.{last_lot_stage, is_office, is_ward_number, is_candidate_number, is_lot_stage}
+use Rattle.register.specs.Texts.{listed, action_text}
+use Rattle.register.specs.Offices.{WardEntry, OfficeState, ward_at, candidate_at}
+use Rattle.register.specs.Polls.{PollEntry, poll_of, all_rejected}
+use Rattle.register.specs.Elections.{election_of, due_of, elected_of, is_finished, is_tied}
+use Rattle.register.specs.Effects.{EffectEntry, ward_moved, stage_counted, lot_drawn}
+use Rattle.register.specs.Parts.{PartEntries, empty_part, phase_objections}
+
+-- ---- what the state has for a ward that may be there
+
+-- the poll of its papers
+abbrev pub poll_for : OfficeState → Option WardEntry → Option PollEntry
+poll_for s ward = option_map (λ (w : WardEntry). poll_of w.seats (election_of s w).ballots) ward
+
+-- what is due in its count
+abbrev pub due_for : OfficeState → Option WardEntry → Option Due
+due_for s ward = option_map (λ (w : WardEntry). due_of (election_of s w)) ward
+
+-- who is elected
+abbrev pub elected_for : OfficeState → Option WardEntry → List ℕ
+elected_for s None = []
+elected_for s (Some w) = elected_of (election_of s w)
+
+-- ---- the commands
+
+-- the part of the state that each needs
+abbrev pub part_of : OfficeState → ℕ → CountCommand → PartEntries
+part_of s actor (Seal ward) = record empty_part { ward = ward_at s ward; poll = poll_for s (ward_at s ward) }
+part_of s actor (Advance ward) = record empty_part { ward = ward_at s ward; due = due_for s (ward_at s ward); elected = elected_for s (ward_at s ward) }
+part_of s actor (Lot ward stage candidate) =
+    record empty_part { ward = ward_at s ward; candidate = candidate_at s ward candidate; due = due_for s (ward_at s ward); elected = elected_for s (ward_at s ward) }
+part_of s actor (Declare ward) = record empty_part { ward = ward_at s ward; due = due_for s (ward_at s ward); elected = elected_for s (ward_at s ward) }
+
+-- the numbers are in range, and the actor is one who may send it
+abbrev pub is_in_range : ℕ → CountCommand → Bool
+is_in_range actor (Seal ward) = is_office actor && is_ward_number ward
+is_in_range actor (Advance ward) = is_office actor && is_ward_number ward
+is_in_range actor (Lot ward stage candidate) = is_office actor && (is_ward_number ward && (is_lot_stage stage && is_candidate_number candidate))
+is_in_range actor (Declare ward) = is_office actor && is_ward_number ward
+
+-- each batch is settled: taken, with a verdict on each doubtful paper
+abbrev pub is_ready : Option PollEntry → Bool
+is_ready None = false
+is_ready (Some poll) = poll.settled
+
+-- nothing is due any more
+abbrev pub has_finished : Option Due → Bool
+has_finished None = false
+has_finished (Some due) = is_finished due
+
+-- the reason that a lot gives which the count waits for: its stage, and those who are tied
+abbrev pub lot_objection : Option Due → Option Reason
+lot_objection (Some (lot_due stage kind tied)) = Some (LotNeeded stage tied)
+lot_objection (Some (Act action)) = None
+lot_objection (Some Finished) = None
+lot_objection None = None
+
+-- the count waits for a lot at this stage
+abbrev pub waits_at : ℕ → Option Due → Bool
+waits_at stage (Some (lot_due k kind tied)) = k == stage
+waits_at stage (Some (Act action)) = false
+waits_at stage (Some Finished) = false
+waits_at stage None = false
+
+-- the candidate is one of those who are tied
+abbrev pub is_among : ℕ → Option Due → Bool
+is_among c None = false
+is_among c (Some due) = is_tied due c
+
+-- the phase in which the ward has to be
+abbrev pub phase_for : CountCommand → Phase
+phase_for (Seal ward) = Keying
+phase_for (Advance ward) = Sealed
+phase_for (Lot ward stage candidate) = Sealed
+phase_for (Declare ward) = Sealed
+
+-- what stands against a lot beside its numbers and the ward
+abbrev pub draw_objections : ℕ → ℕ → PartEntries → List (Option Reason)
+draw_objections stage candidate part =
+    objection (is_none part.candidate) NoSuchCandidate ∷ objection (not (waits_at stage part.due)) NoSuchLot ∷ objection (not (is_among candidate part.due)) NotAmong ∷ []
+
+-- what stands against each, in the order of the reasons' numbers
+abbrev pub objections : ℕ → CountCommand → PartEntries → List (Option Reason)
+objections actor (Seal ward) part =
+    objection (not (is_in_range actor (Seal ward))) NumberOutOfRange ∷ phase_objections Keying part.ward ++ (objection (not (is_ready part.poll)) NotReady ∷ [])
+objections actor (Advance ward) part =
+    objection (not (is_in_range actor (Advance ward))) NumberOutOfRange ∷ phase_objections Sealed part.ward ++ (objection (has_finished part.due) CountFinished ∷ lot_objection part.due ∷ [])
+objections actor (Lot ward stage candidate) part =
+    objection (not (is_in_range actor (Lot ward stage candidate))) NumberOutOfRange ∷ phase_objections Sealed part.ward ++ draw_objections stage candidate part
+objections actor (Declare ward) part =
+    objection (not (is_in_range actor (Declare ward))) NumberOutOfRange ∷ phase_objections Sealed part.ward ++ (objection (not (has_finished part.due)) CountNotFinished ∷ [])
+
+-- what the receipt is about: the same for two commands that an id may stand for only once
+unfoldable pub subject_of : CountCommand → List ℕ
+subject_of (Seal ward) = codes "seal " ++ decimal ward
+subject_of (Advance ward) = codes "advance " ++ decimal ward
+subject_of (Lot ward stage candidate) = codes "lot " ++ (decimal ward ++ (codes " " ++ decimal stage))
+subject_of (Declare ward) = codes "declare " ++ decimal ward
+
+-- the stage after those done; after the last there is none
+abbrev pub next_stage : Option WardEntry → ℕ
+next_stage None = 1
+next_stage (Some w) = if nat_le last_lot_stage w.done then w.done else w.done + 1
+
+-- what is told of a poll: its valid papers, its rejected ones, and the quota
+abbrev pub poll_told : Option PollEntry → List ℕ
+poll_told None = []
+poll_told (Some poll) = codes " sealed: " ++ (decimal poll.valid ++ (codes " valid, " ++ (decimal (all_rejected poll.rejected) ++ (codes " rejected, quota " ++ votes_text poll.quota))))
+
+-- what is told of an action that comes next
+abbrev pub action_told : Option Due → List ℕ
+action_told None = []
+action_told (Some (Act action)) = action_text action
+action_told (Some (lot_due stage kind tied)) = []
+action_told (Some Finished) = []
+
+-- what is replied where it is accepted
+unfoldable pub reply_to : CountCommand → PartEntries → List ℕ
+reply_to (Seal ward) part = codes "ward " ++ (decimal ward ++ poll_told part.poll)
+reply_to (Advance ward) part = codes "ward " ++ (decimal ward ++ (codes " stage " ++ (decimal (next_stage part.ward) ++ (codes " " ++ action_told part.due))))
+reply_to (Lot ward stage candidate) part = codes "lot at ward " ++ (decimal ward ++ (codes " stage " ++ (decimal stage ++ (codes ": candidate " ++ decimal candidate))))
+reply_to (Declare ward) part = codes "ward " ++ (decimal ward ++ (codes " declared: " ++ listed part.elected))
+
+-- what it does where it is accepted
+abbrev pub effect_of : CountCommand → PartEntries → EffectEntry
+effect_of (Seal ward) part = ward_moved ward Sealed
+effect_of (Advance ward) part = stage_counted ward (next_stage part.ward)
+effect_of (Lot ward stage candidate) part = lot_drawn (record { ward = ward; stage = stage; candidate = candidate })
+effect_of (Declare ward) part = ward_moved ward Declared

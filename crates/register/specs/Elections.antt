@@ -1,0 +1,110 @@
+-- The election in a ward, and its count: what rests on the ward, its candidates, its papers and its lots, and on nothing else.
+use Rattle.std.specs.Prelude.{ℕ, ◌+◌, ◌-◌, Bool, true, false, not, ◌&&◌, ◌||◌, ◌==◌, nat_le, nat_eq, if◌then◌else◌, List, [], ◌∷◌, map, length}
+use Rattle.std.specs.List.{list_all, list_any}
+use Rattle.count.specs.Law.Contest.{Contest, History, contest_for}
+use Rattle.count.specs.Law.Elected.{elected_after}
+use Rattle.count.specs.Law.Due.{due_after}
+use Rattle.count.specs.Law.Count.{stages_to, due_by}
+use Rattle.count.specs.declared.stages.Due.{Due}
+use Rattle.count.specs.declared.stages.Due.TheVariants.{Act, Lot, Finished}
+use Rattle.register.specs.declared.phase.Phase.{Phase}
+use Rattle.register.specs.declared.phase.Phase.TheVariants.{Nominations, Keying, Sealed, Declared}
+use Rattle.register.specs.declared.elections.Election.{Election}
+use Rattle.register.specs.Phases.{phase_number}
+use Rattle.register.specs.Offices.{WardEntry, CandidateEntry, LotEntry, OfficeState, candidates_of, lots_of, ward_entry, candidate_entry}
+use Rattle.register.specs.Nominations.{is_contested}
+use Rattle.register.specs.Marks.{columns_of}
+use Rattle.register.specs.Polls.{BallotsEntry, piles_of, ballots_in, ballots_entry}
+
+-- a ward, its candidates, its papers as far as its batches are taken, and the lots that are recorded: a stage and a candidate each
+pub record ElectionEntry : Type 0 where
+  pub ward : WardEntry
+  pub candidates : List CandidateEntry
+  pub ballots : BallotsEntry
+  pub lots : List (ℕ × ℕ)
+
+-- a lot, as the count takes it
+abbrev pub lot_pair : LotEntry → ℕ × ℕ
+lot_pair l = (l.stage, l.candidate)
+
+-- the election in a ward of a state
+abbrev pub election_of : OfficeState → WardEntry → ElectionEntry
+election_of s w =
+    let candidates = candidates_of s w.number in
+    record { ward = w; candidates = candidates; ballots = ballots_in (columns_of candidates) (piles_of s w.number); lots = map lot_pair (lots_of s w.number) }
+
+-- what an election stands for
+abbrev pub election_entry : Election → ElectionEntry
+election_entry e = record { ward = ward_entry e.ward; candidates = map candidate_entry e.candidates.items; ballots = ballots_entry e.ballots; lots = e.lots.items }
+
+-- ---- the count
+
+-- the election is contested
+abbrev pub has_count : ElectionEntry → Bool
+has_count e = is_contested e.ward e.candidates
+
+-- what the count is held on
+abbrev pub contest_of : ElectionEntry → Contest
+contest_of e = contest_for (columns_of e.candidates) e.ward.seats e.ballots.papers
+
+-- the stages that are done: the first ones of the count, the newest first
+abbrev pub stages_of : ElectionEntry → History
+stages_of e = stages_to (contest_of e) e.lots e.ward.done
+
+-- what is due by the recorded lots after the stages done; the count of an uncontested ward is finished
+abbrev pub due_of : ElectionEntry → Due
+due_of e = if has_count e then due_by (contest_of e) e.lots (stages_of e) else Finished
+
+-- who is elected after the stages done; in an uncontested ward all candidates
+abbrev pub elected_of : ElectionEntry → List ℕ
+elected_of e = if has_count e then elected_after (contest_of e) (stages_of e) else columns_of e.candidates
+
+-- ---- which counts a state may have
+
+-- the phase is that of a ward that has been sealed
+abbrev pub is_counted : Phase → Bool
+is_counted Nominations = false
+is_counted Keying = false
+is_counted Sealed = true
+is_counted Declared = true
+
+-- nothing is due any more
+abbrev pub is_finished : Due → Bool
+is_finished (Act action) = false
+is_finished (Lot stage kind tied) = false
+is_finished Finished = true
+
+-- a lot among the tied is due, and the candidate is one of them
+abbrev pub is_tied : Due → ℕ → Bool
+is_tied (Act action) c = false
+is_tied (Lot stage kind tied) c = list_any (nat_eq c) tied
+is_tied Finished c = false
+
+-- a lot for a stage up to the next one, at which a lot was or is needed, and for one of the tied
+abbrev pub is_drawn_for : ElectionEntry → (ℕ × ℕ) → Bool
+is_drawn_for e lot = nat_le lot.0 (e.ward.done + 1) && is_tied (due_after (contest_of e) (stages_to (contest_of e) e.lots (lot.0 - 1))) lot.1
+
+-- the ward is declared
+abbrev pub is_declared : Phase → Bool
+is_declared phase = phase_number phase == phase_number Declared
+
+-- the count has the stages done, each lot was needed, and in a declared ward it is finished
+abbrev pub is_right_so_far : ElectionEntry → Bool
+is_right_so_far e =
+    (length (stages_of e) == e.ward.done) && (list_all (is_drawn_for e) e.lots && (not (is_declared e.ward.phase) || is_finished (due_after (contest_of e) (stages_of e))))
+
+-- the ward has been sealed, and its election is contested
+abbrev pub is_in_count : ElectionEntry → Bool
+is_in_count e = is_counted e.ward.phase && has_count e
+
+-- no stage is done, and no lot is recorded
+abbrev pub is_uncounted : ElectionEntry → Bool
+is_uncounted e = (e.ward.done == 0) && (length e.lots == 0)
+
+-- each batch is settled once the ward is in count
+abbrev pub is_agreed : ElectionEntry → Bool
+is_agreed e = not (is_in_count e) || e.ballots.settled
+
+-- what is done of a count is right, and before it, or where there is none, nothing is done
+abbrev pub is_counted_right : ElectionEntry → Bool
+is_counted_right e = (if is_in_count e then is_right_so_far e else is_uncounted e)

@@ -1,0 +1,134 @@
+-- The ballot papers of a ward: which are valid, and why the others are rejected.
+use Rattle.std.specs.Prelude.{ℕ, ◌+◌, ◌-◌, Bool, false, ◌&&◌, ◌==◌, if◌then◌else◌, List, [], ◌∷◌, map, length, slice_index, find, Option, Some, None, Result, Ok, Err}
+use Rattle.std.specs.List.{filter, flat_map, list_all}
+use Rattle.votes.specs.Units.{quota_of}
+use Rattle.paper.specs.declared.marks.MarkFault.{MarkFault}
+use Rattle.paper.specs.declared.marked.Keyed.{Keyed}
+use Rattle.paper.specs.declared.marked.Keyed.TheVariants.{Doubtful, Marked}
+use Rattle.paper.specs.declared.validity.Rejection.{Rejection}
+use Rattle.paper.specs.Marking.{Marking}
+use Rattle.paper.specs.MarksText.{reading}
+use Rattle.paper.specs.Numbers.{rejection_code}
+use Rattle.paper.specs.Preferences.{preferences, rejection_of}
+use Rattle.register.specs.declared.polls.Judgement.{Judgement}
+use Rattle.register.specs.declared.polls.Judgement.TheVariants.{Valid, Rejected, Open}
+use Rattle.register.specs.declared.polls.Ballots.{Ballots}
+use Rattle.register.specs.declared.polls.Poll.{Poll}
+use Rattle.register.specs.Offices.{BatchEntry, KeyedEntry, JudgedEntry, OfficeState, verdicts_of}
+use Rattle.register.specs.Papers.{are_taken, is_open, first_keying, second_keying, batches_of}
+
+-- ---- the papers of a batch
+
+-- a batch's two keyings of its current round, and the verdicts on its papers
+pub record Pile : Type 0 where
+  pub first : List KeyedEntry
+  pub second : List KeyedEntry
+  pub verdicts : List JudgedEntry
+
+abbrev pub pile_of : OfficeState → BatchEntry → Pile
+pile_of s b = record { first = first_keying s b; second = second_keying s b; verdicts = verdicts_of s b.number }
+
+-- the batches of a ward, by number
+abbrev pub piles_of : OfficeState → ℕ → List Pile
+piles_of s ward = map (pile_of s) (batches_of s ward)
+
+-- both keyings agree
+abbrev pub is_taken : Pile → Bool
+is_taken pile = are_taken pile.first pile.second
+
+-- both keyings agree, and each doubtful paper has a verdict
+abbrev pub is_settled : Pile → Bool
+is_settled pile = is_taken pile && (length (filter (is_open pile.verdicts) pile.first) == 0)
+
+-- ---- the judgement on a paper
+
+-- by its marks a paper is valid, with its preferences, if the number 1 stands beside exactly one candidate; else it is rejected
+abbrev pub by_rejection : Marking → Option Rejection → Judgement
+by_rejection marking None = Valid (preferences marking)
+by_rejection marking (Some rejection) = Rejected (rejection_code rejection)
+
+-- the judgement by a reading of the marks; where they are doubtful, another one
+abbrev pub by_reading : Judgement → Result Keyed MarkFault → Judgement
+by_reading doubtful (Err fault) = Open
+by_reading doubtful (Ok Doubtful) = doubtful
+by_reading doubtful (Ok (Marked marking)) = by_rejection marking (rejection_of marking)
+
+-- the judgement by a verdict: on the marks that the paper is accepted with, or the code of its rejection
+abbrev pub by_verdict : List ℕ → Option JudgedEntry → Judgement
+by_verdict columns None = Open
+by_verdict columns (Some v) = if v.code == 0 then by_reading Open (reading columns v.marks) else Rejected v.code
+
+-- the judgement on a keyed paper: by its marks, or if it is doubtful by its verdict
+abbrev pub judgement_on : List ℕ → List JudgedEntry → KeyedEntry → Judgement
+judgement_on columns verdicts k = by_reading (by_verdict columns (find (λ (v : JudgedEntry). v.paper == k.paper) verdicts)) (reading columns k.marks)
+
+-- the judgements on the papers of a batch that is taken, in the order of the papers
+abbrev pub judgements_in : List ℕ → Pile → List Judgement
+judgements_in columns pile = (if is_taken pile then map (judgement_on columns pile.verdicts) pile.first else [])
+
+-- and of all batches
+abbrev pub judgements : List ℕ → List Pile → List Judgement
+judgements columns piles = flat_map (judgements_in columns) piles
+
+-- ---- what they come to
+
+-- the preferences of a paper that is valid
+abbrev pub preferences_by : Judgement → List (List ℕ)
+preferences_by (Valid prefs) = prefs ∷ []
+preferences_by (Rejected code) = []
+preferences_by Open = []
+
+-- a paper that is rejected counts for its code
+abbrev pub is_rejected : ℕ → Judgement → Bool
+is_rejected n (Valid prefs) = false
+is_rejected n (Rejected code) = code == n
+is_rejected n Open = false
+
+-- how many papers are rejected with a code
+abbrev pub rejected_with : List Judgement → ℕ → ℕ
+rejected_with js n = length (filter (is_rejected n) js)
+
+-- the numbers of papers rejected, by code 1 to 5, with one more by its judgement
+abbrev pub with_rejected : Judgement → List ℕ → List ℕ
+with_rejected judgement rejected =
+    map (λ n. slice_index rejected (n - 1) + (if is_rejected n judgement then 1 else 0)) (1 ∷ 2 ∷ 3 ∷ 4 ∷ 5 ∷ [])
+
+-- the preferences of each valid paper, in the order of batch and number; how many papers are rejected, by code 1 to 5; and
+-- whether each batch is settled
+pub record BallotsEntry : Type 0 where
+  pub papers : List (List ℕ)
+  pub rejected : List ℕ
+  pub settled : Bool
+
+-- what some batches' papers come to
+abbrev pub ballots_in : List ℕ → List Pile → BallotsEntry
+ballots_in columns piles =
+    let js = judgements columns piles in
+    record {
+      papers = flat_map preferences_by js;
+      rejected = map (rejected_with js) (1 ∷ 2 ∷ 3 ∷ 4 ∷ 5 ∷ []);
+      settled = list_all is_settled piles;
+    }
+
+-- what is told of a ward's papers: how many are valid, how many rejected by each code, the quota, and whether each batch is settled
+pub record PollEntry : Type 0 where
+  pub valid : ℕ
+  pub rejected : List ℕ
+  pub quota : ℕ
+  pub settled : Bool
+
+-- the poll of some papers and seats
+abbrev pub poll_of : ℕ → BallotsEntry → PollEntry
+poll_of seats ballots = record { valid = length ballots.papers; rejected = ballots.rejected; quota = quota_of (length ballots.papers) seats; settled = ballots.settled }
+
+-- how many papers are rejected, by all five codes
+abbrev pub all_rejected : List ℕ → ℕ
+all_rejected rejected = slice_index rejected 0 + (slice_index rejected 1 + (slice_index rejected 2 + (slice_index rejected 3 + slice_index rejected 4)))
+
+-- what ballots stand for
+abbrev pub ballots_entry : Ballots → BallotsEntry
+ballots_entry ballots = record { papers = ballots.papers.items; rejected = ballots.rejected; settled = ballots.settled }
+
+-- what a poll stands for
+abbrev pub poll_entry : Poll → PollEntry
+poll_entry poll = record { valid = poll.valid; rejected = poll.rejected; quota = poll.quota; settled = poll.settled }

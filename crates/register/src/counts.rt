@@ -1,0 +1,310 @@
+//! The count of a ward, and the commands about it.
+
+ghost use Rattle.std.specs.Prelude.{◌≡◌, IfOk, option_map, string_bytes};
+ghost use Rattle.register.specs.Reasons.{first_reason};
+ghost use Rattle.register.specs.Offices.{ward_entry};
+ghost use Rattle.register.specs.Polls.{poll_entry, all_rejected};
+ghost use Rattle.register.specs.Parts.{part_entries};
+ghost use Rattle.register.specs.Effects.{effect_entry};
+ghost use Rattle.register.specs.Counts.{is_in_range, is_ready, has_finished, lot_objection, waits_at, is_among, draw_objections, phase_for, objections, subject_of, next_stage, poll_told, action_told, reply_to, effect_of};
+
+use crate::decision::Effect;
+use crate::phase::Phase;
+use crate::polls::Poll;
+use crate::ranges::{LAST_LOT_STAGE, is_candidate_number, is_lot_stage, is_ward_number};
+use crate::refusal::Reason;
+use crate::texts::{action_text, listed};
+use crate::view::Part;
+use crate::wards::{Ward, phase_objection};
+use count::Due;
+use std::alloc::{AllocError, Global};
+
+/// A lot that was drawn: of which ward (1 to 99), for which stage of its count (2 to 31), and the
+/// candidate (1 to 30) whose surplus is transferred or who is excluded.
+#[derive(Debug, Drop)]
+pub struct DrawnLot {
+    pub ward: u32,
+    pub stage: u32,
+    pub candidate: u32,
+}
+
+/// What the office asks about the count of a ward.
+#[derive(Debug, Drop)]
+pub enum CountCommand {
+    /// All papers are keyed and judged, and the count may begin.
+    Seal {
+        ward: u32,
+    },
+    /// The stage that is due is counted.
+    Advance {
+        ward: u32,
+    },
+    /// A lot that was drawn for this stage, counted from 1, names this candidate.
+    Lot {
+        ward: u32,
+        stage: u32,
+        candidate: u32,
+    },
+    /// The result is declared.
+    Declare {
+        ward: u32,
+    },
+}
+
+/// Whether the command's numbers are in range, and the actor is one who may send it.
+fn is_in_range(actor: u32, command: &CountCommand) -> bool
+    ensures { result ≡ is_in_range actor command.now }
+{
+    let office = actor == 0;
+    match command {
+        CountCommand::Seal { ward } => office & is_ward_number(*ward),
+        CountCommand::Advance { ward } => office & is_ward_number(*ward),
+        CountCommand::Lot {
+            ward,
+            stage,
+            candidate,
+        } => {
+            let numbers = is_lot_stage(*stage) & is_candidate_number(*candidate);
+            office & (is_ward_number(*ward) & numbers)
+        }
+        CountCommand::Declare { ward } => office & is_ward_number(*ward),
+    }
+}
+
+/// Whether each batch is taken, and each doubtful paper has a verdict.
+fn is_ready(poll: &Option<Poll>) -> bool
+    ensures { result ≡ is_ready (option_map poll_entry poll.now) }
+{
+    match poll {
+        Some(poll) => poll.settled,
+        None => false,
+    }
+}
+
+/// Whether no vacancy is left.
+fn has_finished(due: &Option<Due>) -> bool
+    ensures { result ≡ has_finished due.now }
+{
+    match due {
+        Some(Due::Finished) => true,
+        Some(Due::Act(_)) | Some(Due::Lot { .. }) | None => false,
+    }
+}
+
+/// What stands against a stage for which a lot is waited for.
+fn lot_objection(due: &Option<Due>) -> Option<Reason>
+    ensures { result ≡ lot_objection due.now }
+{
+    match due {
+        Some(Due::Lot { stage, among, .. }) => Some(Reason::LotNeeded {
+            stage: *stage,
+            among: *among,
+        }),
+        Some(Due::Act(_)) | Some(Due::Finished) | None => None,
+    }
+}
+
+/// Whether the count waits for a lot at a stage.
+fn waits_at(stage: u32, due: &Option<Due>) -> bool
+    ensures { result ≡ waits_at stage due.now }
+{
+    match due {
+        Some(Due::Lot { stage: due, .. }) => u32::from(*due) == stage,
+        Some(Due::Act(_)) | Some(Due::Finished) | None => false,
+    }
+}
+
+/// Whether a candidate is one of those who are tied.
+fn is_among(candidate: u32, due: &Option<Due>) -> bool
+    ensures { result ≡ is_among candidate due.now }
+{
+    match due {
+        Some(Due::Lot { among, .. }) => {
+            candidate <= u32::from(u8::MAX) && among.has(candidate as u8)
+        }
+        Some(Due::Act(_)) | Some(Due::Finished) | None => false,
+    }
+}
+
+/// What stands against a lot beside its numbers and the ward.
+fn draw_objection(stage: u32, candidate: u32, part: &Part) -> Option<Reason>
+    ensures { result ≡ first_reason (draw_objections stage candidate (part_entries part.now)) }
+{
+    if part.candidate.is_none() {
+        return Some(Reason::NoSuchCandidate);
+    }
+    if !waits_at(stage, &part.due) {
+        return Some(Reason::NoSuchLot);
+    }
+    if !is_among(candidate, &part.due) {
+        return Some(Reason::NotAmong);
+    }
+    None
+}
+
+/// The phase in which the ward has to be.
+fn phase_for(command: &CountCommand) -> Phase
+    ensures { result ≡ phase_for command.now }
+{
+    match command {
+        CountCommand::Seal { .. } => Phase::Keying,
+        CountCommand::Advance { .. } => Phase::Sealed,
+        CountCommand::Lot { .. } => Phase::Sealed,
+        CountCommand::Declare { .. } => Phase::Sealed,
+    }
+}
+
+/// What stands against a command: of several reasons the one with the lowest number.
+pub(crate) fn objection_to(actor: u32, command: &CountCommand, part: &Part) -> Option<Reason>
+    ensures { result ≡ first_reason (objections actor command.now (part_entries part.now)) }
+{
+    if !is_in_range(actor, command) {
+        return Some(Reason::NumberOutOfRange);
+    }
+    if let Some(reason) = phase_objection(phase_for(command), &part.ward) {
+        return Some(reason);
+    }
+    match command {
+        CountCommand::Seal { .. } => {
+            if is_ready(&part.poll) {
+                return None;
+            }
+            Some(Reason::NotReady)
+        }
+        CountCommand::Advance { .. } => {
+            if has_finished(&part.due) {
+                return Some(Reason::CountFinished);
+            }
+            lot_objection(&part.due)
+        }
+        CountCommand::Lot {
+            stage,
+            candidate,
+            ..
+        } => draw_objection(*stage, *candidate, part),
+        CountCommand::Declare { .. } => {
+            if has_finished(&part.due) {
+                return None;
+            }
+            Some(Reason::CountNotFinished)
+        }
+    }
+}
+
+#[tactic(auto, unfolding(crate::specs::Counts::subject_of))]
+/// What the receipt of a command is about.
+pub(crate) fn subject_of(alloc: Global, command: &CountCommand) -> Result<String, AllocError>
+    ensures { IfOk result (λ text. string_bytes text ≡ subject_of command.now) }
+{
+    match command {
+        CountCommand::Seal { ward } => format!(in alloc; "seal {ward}"),
+        CountCommand::Advance { ward } => format!(in alloc; "advance {ward}"),
+        CountCommand::Lot { ward, stage, .. } => format!(in alloc; "lot {ward} {stage}"),
+        CountCommand::Declare { ward } => format!(in alloc; "declare {ward}"),
+    }
+}
+
+/// The stage after those done; after the last there is none.
+fn next_stage(ward: &Option<Ward>) -> u32
+    ensures { result ≡ next_stage (option_map ward_entry ward.now) }
+{
+    match ward {
+        Some(ward) if LAST_LOT_STAGE <= ward.done => ward.done,
+        Some(ward) => ward.done + 1,
+        None => 1,
+    }
+}
+
+/// How many papers are rejected, by all five codes.
+fn all_rejected(poll: &Poll) -> u64
+    ensures { result ≡ all_rejected poll.now.rejected }
+{
+    let [first, second, third, fourth, fifth] = poll.rejected;
+    let others = u64::from(third) + (u64::from(fourth) + u64::from(fifth));
+    u64::from(first) + (u64::from(second) + others)
+}
+
+/// What is told of a poll.
+fn poll_told(alloc: Global, poll: &Option<Poll>) -> Result<String, AllocError>
+    ensures { IfOk result (λ text. string_bytes text ≡ poll_told (option_map poll_entry poll.now)) }
+{
+    match poll {
+        Some(poll) => {
+            let (valid, rejected, quota) = (poll.valid, all_rejected(poll), poll.quota);
+            format!(in alloc; " sealed: {valid} valid, {rejected} rejected, quota {quota}")
+        }
+        None => Ok(String::new(alloc)),
+    }
+}
+
+/// What is told of an action that comes next.
+fn action_told(alloc: Global, due: &Option<Due>) -> Result<String, AllocError>
+    ensures { IfOk result (λ text. string_bytes text ≡ action_told due.now) }
+{
+    match due {
+        Some(Due::Act(action)) => action_text(alloc, *action),
+        Some(Due::Lot { .. }) | Some(Due::Finished) | None => Ok(String::new(alloc)),
+    }
+}
+
+#[tactic(auto, unfolding(crate::specs::Counts::reply_to))]
+/// What is replied where the command is accepted: the poll of a sealed ward, the stage that is counted,
+/// the lot, or who is elected.
+pub(crate) fn reply_to(
+    alloc: Global,
+    command: &CountCommand,
+    part: &Part,
+) -> Result<String, AllocError>
+    ensures { IfOk result (λ text. string_bytes text ≡ reply_to command.now (part_entries part.now)) }
+{
+    match command {
+        CountCommand::Seal { ward } => {
+            let poll = poll_told(alloc, &part.poll)?;
+            format!(in alloc; "ward {ward}{poll}")
+        }
+        CountCommand::Advance { ward } => {
+            let stage = next_stage(&part.ward);
+            let action = action_told(alloc, &part.due)?;
+            format!(in alloc; "ward {ward} stage {stage} {action}")
+        }
+        CountCommand::Lot {
+            ward,
+            stage,
+            candidate,
+        } => format!(in alloc; "lot at ward {ward} stage {stage}: candidate {candidate}"),
+        CountCommand::Declare { ward } => {
+            let elected = listed(alloc, &part.elected)?;
+            format!(in alloc; "ward {ward} declared: {elected}")
+        }
+    }
+}
+
+/// What the command does to the state: a ward comes to a phase, a stage more of its count is done, or a
+/// lot is drawn.
+pub(crate) fn effect_of(command: &CountCommand, part: &Part) -> Effect
+    ensures { effect_entry result ≡ effect_of command.now (part_entries part.now) }
+{
+    match command {
+        CountCommand::Seal { ward } => Effect::WardMoved {
+            ward: *ward,
+            phase: Phase::Sealed,
+        },
+        CountCommand::Advance { ward } => Effect::StageCounted {
+            ward: *ward,
+            done: next_stage(&part.ward),
+        },
+        CountCommand::Lot {
+            ward,
+            stage,
+            candidate,
+        } => Effect::LotDrawn(DrawnLot {
+            ward: *ward,
+            stage: *stage,
+            candidate: *candidate,
+        }),
+        CountCommand::Declare { ward } => Effect::WardMoved {
+            ward: *ward,
+            phase: Phase::Declared,
+        },
+    }
+}

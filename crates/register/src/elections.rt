@@ -1,0 +1,111 @@
+//! What the count of a ward rests on: the ward, its candidates, its ballot papers, and the lots drawn.
+
+ghost use Rattle.std.specs.Prelude.{◌≡◌, [], IfOk, IfSome, IsSome};
+ghost use Rattle.count.specs.Law.Contest.{contest_for, IsContest};
+ghost use Rattle.register.specs.Polls.{poll_of, poll_entry, ballots_entry};
+ghost use Rattle.register.specs.Elections.{election_entry, contest_of, stages_of, due_of, elected_of};
+
+use crate::candidates::Candidate;
+use crate::marks::columns_of;
+use crate::polls::{Ballots, Poll};
+use crate::wards::{Ward, is_contested};
+use count::{CountBook, Due, ParcelBook, count_to, due_by, is_contest};
+use paper::{Columns, Prefs};
+use std::alloc::{AllocError, Global};
+use votes::{MAX_PAPERS, MAX_SEATS, quota};
+
+/// The election in a ward: its candidates in the order of their numbers, its ballot papers as far as its
+/// batches are taken, and the lots that are recorded, each the stage (counted from 1) and the candidate
+/// that it names, in the order of the stages.
+#[derive(Debug, Drop)]
+pub struct Election {
+    pub ward: Ward,
+    pub candidates: Vec<Candidate>,
+    pub ballots: Ballots,
+    pub lots: Vec<(u8, u8)>,
+}
+
+/// Where a count stands: what is due by the recorded lots, and who is elected after the stages done.
+#[derive(Clone, Copy, Debug)]
+pub struct Progress {
+    pub due: Due,
+    pub elected: Columns,
+}
+
+/// A new book of some papers, where a count can be held on them, as it can in each contested ward of an
+/// office. An error is want of memory.
+pub fn book_of<'a>(
+    alloc: Global,
+    columns: Columns,
+    seats: u32,
+    papers: &'a [Prefs],
+) -> Result<Option<ParcelBook<'a>>, AllocError>
+    ensures is { IfOk result (λ found. IfSome found (λ book. book ≡ record { contest = contest_for columns seats papers.now; history = [] })) }
+    ensures some { IfOk result (λ found. IsContest (contest_for columns seats papers.now) → IsSome found) }
+{
+    if seats > u32::from(MAX_SEATS) {
+        return Ok(None);
+    }
+    let seats = seats as u8;
+    if !is_contest(&columns, seats, papers) {
+        return Ok(None);
+    }
+    let book = ParcelBook::new(alloc, columns, seats, papers)?;
+    Ok(Some(book))
+}
+
+impl Election {
+    /// The poll of the ward; none where it has no seats, or more than a ward can have, or too many papers,
+    /// as no ward of an office has. Takes no memory.
+    pub fn poll(&self) -> Option<Poll>
+        ensures { IfSome result (λ poll. poll_entry poll ≡ poll_of self.now.ward.seats (ballots_entry self.now.ballots)) }
+    {
+        let valid = self.ballots.papers.len();
+        if valid > MAX_PAPERS as usize
+            || self.ward.seats < 1
+            || self.ward.seats > u32::from(MAX_SEATS)
+        {
+            return None;
+        }
+        let valid = valid as u32;
+        Some(Poll {
+            valid,
+            rejected: self.ballots.rejected,
+            quota: quota(valid, self.ward.seats as u8),
+            settled: self.ballots.settled,
+        })
+    }
+
+    /// A book with the stages done; none where no count can be held. An error is want of memory.
+    pub fn counted(&self, alloc: Global) -> Result<Option<ParcelBook<'_>>, AllocError>
+        ensures is { IfOk result (λ found. IfSome found (λ book. book ≡ record { contest = contest_of (election_entry self.now); history = stages_of (election_entry self.now) })) }
+        ensures some { IfOk result (λ found. IsContest (contest_of (election_entry self.now)) → IsSome found) }
+    {
+        let columns = columns_of(&self.candidates);
+        let Some(mut book) = book_of(alloc, columns, self.ward.seats, &self.ballots.papers)? else {
+            return Ok(None);
+        };
+        count_to(&mut book, &self.lots, self.ward.done as usize)?;
+        Ok(Some(book))
+    }
+
+    /// Where the count stands; none where it can't be held, as it can in each contested ward of an office.
+    /// The count of an uncontested ward is finished, and all its candidates are elected. An error is want
+    /// of memory.
+    pub fn progress(&self, alloc: Global) -> Result<Option<Progress>, AllocError>
+        ensures is { IfOk result (λ found. IfSome found (λ progress. (progress.due ≡ due_of (election_entry self.now)) × (progress.elected ≡ elected_of (election_entry self.now)))) }
+    {
+        if !is_contested(&self.ward, &self.candidates) {
+            return Ok(Some(Progress {
+                due: Due::Finished,
+                elected: columns_of(&self.candidates),
+            }));
+        }
+        let Some(mut book) = self.counted(alloc)? else {
+            return Ok(None);
+        };
+        let elected = book.elected();
+        let due = due_by(&mut book, &self.lots)?;
+        Ok(Some(Progress { due, elected }))
+    }
+}

@@ -1,0 +1,175 @@
+//! The ballot papers of a ward: which are valid, and why the others are rejected.
+
+ghost use Rattle.std.specs.Prelude.{◌≡◌, ◌++◌, ◌∷◌, [], ◌==◌, Ok as has_read, find, map, option_map, option_copied, IfOk, true};
+ghost use Rattle.paper.specs.MarksText.{reading};
+ghost use Rattle.register.specs.Offices.{keyed_entry, judged_entry};
+ghost use Rattle.register.specs.Polls.{Pile, by_reading, by_verdict, judgement_on, preferences_by, with_rejected, ballots_in, ballots_entry};
+
+use crate::keyings::KeyedPaper;
+use crate::papers::{are_taken, count_open};
+use crate::verdicts::JudgedPaper;
+use paper::{Columns, Keyed, Marked, Marks, Prefs, judge};
+use std::alloc::{AllocError, Global};
+use votes::Votes;
+
+/// How many codes of rejection there are, 1 to this one.
+pub const REJECTIONS: usize = 5;
+
+/// What becomes of a keyed ballot paper.
+#[derive(Clone, Copy, Debug)]
+pub enum Judgement {
+    /// It is valid, with these preferences.
+    Valid(Prefs),
+    /// It is rejected, for the reason of this code: 1 no first preference, 2 more than one, 3 no official
+    /// mark, 4 voter identifiable, 5 void for uncertainty.
+    Rejected(u32),
+    /// It waits for its verdict.
+    Open,
+}
+
+/// The ballot papers of a ward, as far as its batches are taken: the preferences of each valid one, in the
+/// order of batch and number, how many are rejected, by code 1 to 5, and whether each batch is taken and
+/// each doubtful paper has a verdict.
+#[derive(Debug, Drop)]
+pub struct Ballots {
+    pub papers: Vec<Prefs>,
+    pub rejected: [u32; REJECTIONS],
+    pub settled: bool,
+}
+
+/// What is told of a ward's ballot papers: how many are valid, how many rejected, by code 1 to 5, the
+/// quota ("Quota"), and whether each batch is taken and each doubtful paper has a verdict.
+#[derive(Clone, Copy, Debug)]
+pub struct Poll {
+    pub valid: u32,
+    pub rejected: [u32; REJECTIONS],
+    pub quota: Votes,
+    pub settled: bool,
+}
+
+/// The judgement on a paper by the marks that are read of it.
+fn by_marks(marked: &Marked) -> Judgement
+    ensures { (doubtful : _) → result ≡ by_reading doubtful (has_read (Keyed.Marked marked.now)) }
+{
+    match judge(marked) {
+        Ok(prefs) => Judgement::Valid(prefs),
+        Err(rejection) => Judgement::Rejected(rejection.number()),
+    }
+}
+
+/// The judgement by a marks text; where that is doubtful, another one.
+fn by_text(columns: Columns, marks: &str, doubtful: Judgement) -> Judgement
+    ensures { result ≡ by_reading doubtful (reading columns marks.now) }
+{
+    match Marks::read(marks.as_bytes(), columns) {
+        Ok(Keyed::Marked(marked)) => by_marks(&marked),
+        Ok(Keyed::Doubtful) => doubtful,
+        Err(_) => Judgement::Open,
+    }
+}
+
+/// The judgement by a verdict, if there is one.
+fn by_verdict(columns: Columns, verdict: Option<&JudgedPaper>) -> Judgement
+    ensures { result ≡ by_verdict columns (option_map judged_entry (option_copied verdict.now)) }
+{
+    match verdict {
+        None => Judgement::Open,
+        Some(judged) => {
+            if judged.code == 0 {
+                return by_text(columns, judged.marks.as_str(), Judgement::Open);
+            }
+            Judgement::Rejected(judged.code)
+        }
+    }
+}
+
+/// The verdict on the paper of this number, if there is one among some verdicts.
+fn verdict_on(verdicts: &[JudgedPaper], paper: u32) -> Option<&JudgedPaper>
+    ensures { option_map judged_entry (option_copied result) ≡ find (λ v. v.paper == paper) (map judged_entry verdicts.now) }
+{
+    verdicts.iter().find(|judged| judged.paper == paper)
+}
+
+/// The judgement on a keyed paper: by its marks, or if it is doubtful by its verdict.
+fn judgement_on(columns: Columns, verdicts: &[JudgedPaper], keyed: &KeyedPaper) -> Judgement
+    ensures { result ≡ judgement_on columns (map judged_entry verdicts.now) (keyed_entry keyed.now) }
+{
+    let by_verdict = by_verdict(columns, verdict_on(verdicts, keyed.paper));
+    by_text(columns, keyed.marks.as_str(), by_verdict)
+}
+
+impl Ballots {
+    /// The ballot papers of no batch. Takes no memory.
+    pub fn new(alloc: Global) -> Ballots
+        ensures { (columns : _) → ballots_entry result ≡ ballots_in columns [] }
+    {
+        Ballots {
+            papers: Vec::new(alloc),
+            rejected: [0; REJECTIONS],
+            settled: true,
+        }
+    }
+
+    /// Adds the papers of a batch more, from its two keyings of the current round and the verdicts on its
+    /// papers. Nothing comes of one that isn't taken, but that the ward isn't ready. An error is want of
+    /// memory, and the papers before are spoilt then.
+    pub fn add(
+        &mut self,
+        columns: Columns,
+        first: &[KeyedPaper],
+        second: &[KeyedPaper],
+        verdicts: &[JudgedPaper],
+    ) -> Result<(), AllocError>
+        ensures { IfOk result (λ _. (piles : _) → ballots_entry self.old ≡ ballots_in columns piles
+            → ballots_entry self.new ≡ ballots_in columns (piles ++ (record { first = map keyed_entry first.now; second = map keyed_entry second.now; verdicts = map judged_entry verdicts.now } ∷ []))) }
+    {
+        let taken = are_taken(first, second);
+        if !taken {
+            self.settled = false;
+            return Ok(());
+        }
+        if count_open(first, verdicts) > 0 {
+            self.settled = false;
+        }
+        for keyed in first {
+            self.count(judgement_on(columns, verdicts, keyed))?;
+        }
+        Ok(())
+    }
+
+    /// Counts a paper by the judgement on it.
+    fn count(&mut self, judgement: Judgement) -> Result<(), AllocError>
+        ensures papers { IfOk result (λ _. self.new.papers.items ≡ self.old.papers.items ++ preferences_by judgement) }
+        ensures rejected { IfOk result (λ _. self.new.rejected ≡ with_rejected judgement self.old.rejected) }
+        ensures settled { self.new.settled ≡ self.old.settled }
+    {
+        match judgement {
+            Judgement::Valid(prefs) => {
+                self.papers.push(prefs)?;
+                Ok(())
+            }
+            Judgement::Rejected(code) => self.reject(code),
+            Judgement::Open => Ok(()),
+        }
+    }
+
+    /// Counts a paper that is rejected with a code. None is too many in fact: an office has at most 9999
+    /// batches, of 500 papers.
+    fn reject(&mut self, code: u32) -> Result<(), AllocError>
+        ensures papers { self.new.papers ≡ self.old.papers }
+        ensures rejected { IfOk result (λ _. self.new.rejected ≡ with_rejected (Judgement.Rejected code) self.old.rejected) }
+        ensures settled { self.new.settled ≡ self.old.settled }
+    {
+        if code < 1 || code as usize > REJECTIONS {
+            return Ok(());
+        }
+        let place = code as usize - 1;
+        match self.rejected[place].checked_add(1) {
+            Some(more) => {
+                self.rejected[place] = more;
+                Ok(())
+            }
+            None => Err(AllocError),
+        }
+    }
+}

@@ -1,0 +1,43 @@
+//! Numbers and actions in words.
+
+ghost use Rattle.std.specs.Prelude.{◌≡◌, ◌++◌, IfOk, string_bytes};
+ghost use Rattle.register.specs.Texts.{behind, listed, action_text};
+
+use count::Action;
+use paper::Columns;
+use std::alloc::{AllocError, Global};
+
+/// Puts a number behind others: `, 3`.
+fn put_behind(alloc: Global, text: &mut String, number: u8) -> Result<(), AllocError>
+    ensures { IfOk result (λ _. string_bytes text.new ≡ string_bytes text.old ++ behind number) }
+{
+    let told = format!(in alloc; ", {number}")?;
+    text.push_str(told.as_str())
+}
+
+/// Numbers, parted by a comma and a space: `1, 3`.
+#[tactic(auto, unfolding(crate::specs::Texts::listed))]
+pub(crate) fn listed(alloc: Global, numbers: &Columns) -> Result<String, AllocError>
+    ensures { IfOk result (λ text. string_bytes text ≡ listed numbers.now) }
+{
+    let Some((first, others)) = numbers.as_slice().split_first() else {
+        return Ok(String::new(alloc));
+    };
+    let mut text = format!(in alloc; "{first}")?;
+    for number in others {
+        put_behind(alloc, &mut text, *number)?;
+    }
+    Ok(text)
+}
+
+/// What is done at a stage: `exclusion of 2, last vacancies`.
+pub(crate) fn action_text(alloc: Global, action: Action) -> Result<String, AllocError>
+    ensures { IfOk result (λ text. string_bytes text ≡ action_text action) }
+{
+    match action {
+        Action::First => String::from_str(alloc, "first preferences"),
+        Action::Surplus(c) => format!(in alloc; "surplus of {c}"),
+        Action::Exclude(c) => format!(in alloc; "exclusion of {c}"),
+        Action::ExcludeLast(c) => format!(in alloc; "exclusion of {c}, last vacancies"),
+    }
+}
