@@ -1,7 +1,8 @@
 -- The stages that are worked out are the right ones.
-use Rattle.std.proofs.Common.{◌≡◌, ℕ, zero, suc, ◌+◌, true, false, Bool, cond, nat_eq, List, [], ◌∷◌, length, Option, Some, None, refl, sym, ap, ◌∙◌, subst}
+use Rattle.std.proofs.Common.{◌≡◌, ℕ, zero, suc, ◌+◌, true, false, Bool, cond, nat_eq, List, [], ◌∷◌, ◌++◌, length, map, Option, Some, None, refl, sym, ap, ◌∙◌, arith, subst}
 use Rattle.std.specs.Prelude.{IfSome, IfNone}
-use Rattle.std.specs.List.{list_any}
+use Rattle.std.specs.List.{list_any, range_with_len}
+use Rattle.std.proofs.lemmas.List.FromFn.{map-range_with_len_more}
 use Rattle.count.specs.Law.Contest.{Contest, History}
 use Rattle.count.specs.Law.Due.{due_after, drawn, lot_for, next_action, action_on}
 use Rattle.count.specs.Law.Right.{Tells, IsNext, IsRight}
@@ -57,3 +58,21 @@ pub stages_next : (contest : Contest) (lots : List (ℕ × ℕ)) (old new : Hist
 stages_next contest lots old new None is same more =
     more.one_more ∙ ap (λ (t : Stage). t ∷ old) (is_told contest old more.stage more.next.tells) ∙ ap (with_stage contest old) (sym more.next.was_due)
 stages_next contest lots old new (Some e) is same more = same ∙ sym (ap (with_stage contest old) (ended_none contest old (lot_for lots (length old + 1)) (due_after contest old) e (sym is)))
+
+-- one stage more is the next of those before it
+pub stages_more : (contest : Contest) (lots : List (ℕ × ℕ)) (k : ℕ) → stages_to contest lots (k + 1) ≡ with_next contest lots (stages_to contest lots k)
+unfolding stages_to
+stages_more contest lots k = ap (stages_to contest lots) (let more : k + 1 ≡ suc k = omega arith in more)
+
+-- what is due before each stage so far, and then what is due after them
+pub dues_more : (contest now : Contest) (lots : List (ℕ × ℕ)) (k n : ℕ) (stages : History) (due : Due) (dues more : List Due) → now ≡ contest → stages ≡ stages_to contest lots k → due ≡ due_after now stages
+    → dues ≡ map (λ j. due_after contest (stages_to contest lots j)) (range_with_len 0 k) → more ≡ dues ++ due ∷ [] → k + 1 ≡ n
+    → more ≡ map (λ j. due_after contest (stages_to contest lots j)) (range_with_len 0 n)
+dues_more contest now lots k n stages due dues more same counted is all pushed one_more =
+    let at : ℕ → Due = λ j. due_after contest (stages_to contest lots j) in
+    let due_is : due ≡ at k = is ∙ ap (λ (c : Contest). due_after c stages) same ∙ ap (due_after contest) counted in
+    pushed
+    ∙ ap (λ (ds : List Due). ds ++ due ∷ []) all
+    ∙ ap (λ (d : Due). map at (range_with_len 0 k) ++ d ∷ []) due_is
+    ∙ sym (map-range_with_len_more at 0 k k (omega arith))
+    ∙ ap (λ (m : ℕ). map at (range_with_len 0 m)) one_more
