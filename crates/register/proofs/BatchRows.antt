@@ -40,6 +40,7 @@ with_batch phase round papers judged receipts =
       batches = batch_in round ∷ other_batch ∷ [];
       keyings = papers;
       verdicts = judged;
+      lots = [];
       receipts = receipts;
     }
 

@@ -8,11 +8,11 @@ use Rattle.std.proofs.lemmas.Cmp.{nat_cmp_total, on_total, then_total, nat_list_
 use Rattle.register.specs.Ranges.{is_office, is_clerk, is_reply}
 use Rattle.register.specs.Subjects.{is_office_subject, is_clerk_subject}
 use Rattle.register.specs.declared.phase.Phase.TheVariants.{Nominations}
-use Rattle.register.specs.Nominations.{are_enough, is_reached}
-use Rattle.register.specs.Offices.{put, WardEntry, CandidateEntry, BatchEntry, KeyedEntry, JudgedEntry, ReceiptEntry, OfficeState, ward_cmp, candidate_cmp, batch_cmp, keyed_cmp, judged_cmp, receipt_cmp, ward_compared, ward_at, candidates_of, receipt_at}
+use Rattle.register.specs.Nominations.{are_enough}
+use Rattle.register.specs.Offices.{put, WardEntry, CandidateEntry, BatchEntry, KeyedEntry, JudgedEntry, LotEntry, ReceiptEntry, OfficeState, ward_cmp, candidate_cmp, batch_cmp, keyed_cmp, judged_cmp, lot_cmp, receipt_cmp, ward_compared, ward_at, candidates_of, receipt_at}
 use Rattle.register.specs.Keyed.{is_polled, is_given_out, is_round_of, are_rounds_to}
-use Rattle.register.specs.Items.{is_ward, is_candidate, is_batch, is_keyed_paper, is_judged_paper, is_about, is_receipt, item2, item3, item4, item5, are_reached, IsState}
-use Rattle.register.specs.Effects.{EffectEntry, ward_added, ward_moved, candidate_added, candidate_withdrawn, batch_added, batch_reopened, papers_keyed, paper_judged, with_effect, with_receipt}
+use Rattle.register.specs.Items.{is_ward, is_candidate, is_batch, is_keyed_paper, is_judged_paper, is_lot, is_about, is_receipt, item2, item3, item4, item5, item6, item7, IsState}
+use Rattle.register.specs.Effects.{EffectEntry, ward_added, ward_moved, candidate_added, candidate_withdrawn, batch_added, batch_reopened, papers_keyed, paper_judged, stage_counted, lot_drawn, with_effect, with_receipt}
 use Rattle.register.proofs.MapLemmas.{IsMap, list_all_weaker, put_all, put_is_map, found_put_too, found_put_still}
 use Rattle.register.proofs.KeyedLemmas.{rounds_from, with_nominations, IsStill, given_out_still, keyed_still, judged_still}
 
@@ -34,6 +34,9 @@ keyed_total =
 pub judged_total : IsTotalOrder judged_cmp
 judged_total = then_total (on_total (λ (v : JudgedEntry). v.batch) nat_cmp_total) (on_total (λ (v : JudgedEntry). v.paper) nat_cmp_total)
 
+pub lot_total : IsTotalOrder lot_cmp
+lot_total = then_total (on_total (λ (l : LotEntry). l.ward) nat_cmp_total) (on_total (λ (l : LotEntry). l.stage) nat_cmp_total)
+
 pub receipt_total : IsTotalOrder receipt_cmp
 receipt_total = then_total (on_total (λ (r : ReceiptEntry). r.actor) nat_cmp_total) (on_total (λ (r : ReceiptEntry). r.id) nat_list_cmp_total)
 
@@ -44,6 +47,7 @@ pub data MapName : Type 0 where
   batch_map : MapName
   keyed_map : MapName
   judged_map : MapName
+  lot_map : MapName
   receipt_map : MapName
 
 -- what a state says of each of its maps
@@ -53,6 +57,7 @@ Holds candidate_map s = IsMap is_candidate candidate_cmp s.candidates
 Holds batch_map s = IsMap is_batch batch_cmp s.batches
 Holds keyed_map s = IsMap is_keyed_paper keyed_cmp s.keyings
 Holds judged_map s = IsMap is_judged_paper judged_cmp s.verdicts
+Holds lot_map s = IsMap is_lot lot_cmp s.lots
 Holds receipt_map s = IsMap is_receipt receipt_cmp s.receipts
 
 pub maps_of : {s : OfficeState} → IsState s → (m : MapName) → Holds m s
@@ -62,15 +67,17 @@ maps_of {s} is m =
     let third = and_parts _ _ second.1 in
     let fourth = and_parts _ _ third.1 in
     let fifth = and_parts _ _ fourth.1 in
-    go first.0 second.0 third.0 fourth.0 fifth.0 fifth.1 m
+    let sixth = and_parts _ _ fifth.1 in
+    go first.0 second.0 third.0 fourth.0 fifth.0 sixth.0 sixth.1 m
   where
-    go : list_all is_ward s.wards ≡ true → list_all is_candidate s.candidates ≡ true → list_all is_batch s.batches ≡ true → list_all is_keyed_paper s.keyings ≡ true → list_all is_judged_paper s.verdicts ≡ true → list_all is_receipt s.receipts ≡ true → (m : MapName) → Holds m s
-    go wards candidates batches keyings verdicts receipts ward_map = record { in_range = wards; rises = is.rise.wards }
-    go wards candidates batches keyings verdicts receipts candidate_map = record { in_range = candidates; rises = is.rise.candidates }
-    go wards candidates batches keyings verdicts receipts batch_map = record { in_range = batches; rises = is.rise.batches }
-    go wards candidates batches keyings verdicts receipts keyed_map = record { in_range = keyings; rises = is.rise.keyings }
-    go wards candidates batches keyings verdicts receipts judged_map = record { in_range = verdicts; rises = is.rise.verdicts }
-    go wards candidates batches keyings verdicts receipts receipt_map = record { in_range = receipts; rises = is.rise.receipts }
+    go : list_all is_ward s.wards ≡ true → list_all is_candidate s.candidates ≡ true → list_all is_batch s.batches ≡ true → list_all is_keyed_paper s.keyings ≡ true → list_all is_judged_paper s.verdicts ≡ true → list_all is_lot s.lots ≡ true → list_all is_receipt s.receipts ≡ true → (m : MapName) → Holds m s
+    go wards candidates batches keyings verdicts lots receipts ward_map = record { in_range = wards; rises = is.rise.wards }
+    go wards candidates batches keyings verdicts lots receipts candidate_map = record { in_range = candidates; rises = is.rise.candidates }
+    go wards candidates batches keyings verdicts lots receipts batch_map = record { in_range = batches; rises = is.rise.batches }
+    go wards candidates batches keyings verdicts lots receipts keyed_map = record { in_range = keyings; rises = is.rise.keyings }
+    go wards candidates batches keyings verdicts lots receipts judged_map = record { in_range = verdicts; rises = is.rise.verdicts }
+    go wards candidates batches keyings verdicts lots receipts lot_map = record { in_range = lots; rises = is.rise.lots }
+    go wards candidates batches keyings verdicts lots receipts receipt_map = record { in_range = receipts; rises = is.rise.receipts }
 
 -- the conditions of a state beside those of each map alone
 pub record AreJoined (s : OfficeState) : Type 0 where
@@ -78,17 +85,19 @@ pub record AreJoined (s : OfficeState) : Type 0 where
   pub given_out : item3 s ≡ true
   pub keyed : item4 s ≡ true
   pub judged : item5 s ≡ true
-  pub reached : are_reached s ≡ true
+  pub agreed : item6 s ≡ true
+  pub counted : item7 s ≡ true
 
 pub state_from : (s : OfficeState) → ((m : MapName) → Holds m s) → AreJoined s → IsState s
 state_from s maps joined = record {
-  in_range = and_from _ _ (maps ward_map).in_range (and_from _ _ (maps candidate_map).in_range (and_from _ _ (maps batch_map).in_range (and_from _ _ (maps keyed_map).in_range (and_from _ _ (maps judged_map).in_range (maps receipt_map).in_range))));
+  in_range = and_from _ _ (maps ward_map).in_range (and_from _ _ (maps candidate_map).in_range (and_from _ _ (maps batch_map).in_range (and_from _ _ (maps keyed_map).in_range (and_from _ _ (maps judged_map).in_range (and_from _ _ (maps lot_map).in_range (maps receipt_map).in_range)))));
   nominated = joined.nominated;
   given_out = joined.given_out;
   keyed = joined.keyed;
   judged = joined.judged;
-  reached = joined.reached;
-  rise = record { wards = (maps ward_map).rises; candidates = (maps candidate_map).rises; batches = (maps batch_map).rises; keyings = (maps keyed_map).rises; verdicts = (maps judged_map).rises; receipts = (maps receipt_map).rises };
+  agreed = joined.agreed;
+  counted = joined.counted;
+  rise = record { wards = (maps ward_map).rises; candidates = (maps candidate_map).rises; batches = (maps batch_map).rises; keyings = (maps keyed_map).rises; verdicts = (maps judged_map).rises; lots = (maps lot_map).rises; receipts = (maps receipt_map).rises };
 }
 
 -- the rounds of the batches are those of a state with the same batches, keyings and candidates
@@ -181,6 +190,8 @@ same_receipts (batch_added b) s = refl
 same_receipts (batch_reopened batch round) s = refl
 same_receipts (papers_keyed papers) s = refl
 same_receipts (paper_judged v) s = refl
+same_receipts (stage_counted ward done) s = refl
+same_receipts (lot_drawn l) s = refl
 
 -- what a receipt of the office may be about
 pub office_about : (actor : ℕ) (subject : List ℕ) → is_office actor ≡ true → is_office_subject subject ≡ true → is_about actor subject ≡ true

@@ -1,6 +1,6 @@
 //! The ballot papers of a ward: which are valid, and why the others are rejected.
 
-ghost use Rattle.std.specs.Prelude.{◌≡◌, ◌++◌, ◌∷◌, [], ◌==◌, Ok as has_read, find, map, option_map, option_copied, IfOk, true};
+ghost use Rattle.std.specs.Prelude.{◌≡◌, ◌++◌, ◌∷◌, [], ◌==◌, Ok, find, map, option_map, option_copied, IfOk};
 ghost use Rattle.paper.specs.MarksText.{reading};
 ghost use Rattle.register.specs.Offices.{keyed_entry, judged_entry};
 ghost use Rattle.register.specs.Polls.{Pile, by_reading, by_verdict, judgement_on, preferences_by, with_rejected, ballots_in, ballots_entry};
@@ -8,7 +8,7 @@ ghost use Rattle.register.specs.Polls.{Pile, by_reading, by_verdict, judgement_o
 use crate::keyings::KeyedPaper;
 use crate::papers::{are_taken, count_open};
 use crate::verdicts::JudgedPaper;
-use paper::{Columns, Keyed, Marked, Marks, Prefs, judge};
+use paper::{Columns, Keyed, Marks, Prefs, judge};
 use std::alloc::{AllocError, Global};
 use votes::Votes;
 
@@ -47,13 +47,16 @@ pub struct Poll {
     pub settled: bool,
 }
 
-/// The judgement on a paper by the marks that are read of it.
-fn by_marks(marked: &Marked) -> Judgement
-    ensures { (doubtful : _) → result ≡ by_reading doubtful (has_read (Keyed.Marked marked.now)) }
+/// The judgement on a paper as it is keyed; where that is doubtful, another one.
+fn by_keyed(keyed: &Keyed, doubtful: Judgement) -> Judgement
+    ensures { result ≡ by_reading doubtful (Ok keyed.now) }
 {
-    match judge(marked) {
-        Ok(prefs) => Judgement::Valid(prefs),
-        Err(rejection) => Judgement::Rejected(rejection.number()),
+    match keyed {
+        Keyed::Marked(marked) => match judge(marked) {
+            Ok(prefs) => Judgement::Valid(prefs),
+            Err(rejection) => Judgement::Rejected(rejection.number()),
+        },
+        Keyed::Doubtful => doubtful,
     }
 }
 
@@ -62,15 +65,14 @@ fn by_text(columns: Columns, marks: &str, doubtful: Judgement) -> Judgement
     ensures { result ≡ by_reading doubtful (reading columns marks.now) }
 {
     match Marks::read(marks.as_bytes(), columns) {
-        Ok(Keyed::Marked(marked)) => by_marks(&marked),
-        Ok(Keyed::Doubtful) => doubtful,
+        Ok(keyed) => by_keyed(&keyed, doubtful),
         Err(_) => Judgement::Open,
     }
 }
 
 /// The judgement by a verdict, if there is one.
 fn by_verdict(columns: Columns, verdict: Option<&JudgedPaper>) -> Judgement
-    ensures { result ≡ by_verdict columns (option_map judged_entry (option_copied verdict.now)) }
+    ensures { result ≡ by_verdict columns (option_map judged_entry (option_copied verdict)) }
 {
     match verdict {
         None => Judgement::Open,
