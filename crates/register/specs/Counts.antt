@@ -87,21 +87,18 @@ phase_for (Advance ward) = Sealed
 phase_for (Lot ward stage candidate) = Sealed
 phase_for (Declare ward) = Sealed
 
--- what stands against a lot beside its numbers and the ward
-abbrev pub draw_objections : ℕ → ℕ → PartEntries → List (Option Reason)
-draw_objections stage candidate part =
+-- what stands against each beside its numbers and the ward
+abbrev pub own_objections : CountCommand → PartEntries → List (Option Reason)
+own_objections (Seal ward) part = objection (not (is_ready part.poll)) NotReady ∷ []
+own_objections (Advance ward) part = objection (has_finished part.due) CountFinished ∷ lot_objection part.due ∷ []
+own_objections (Lot ward stage candidate) part =
     objection (is_none part.candidate) NoSuchCandidate ∷ objection (not (waits_at stage part.due)) NoSuchLot ∷ objection (not (is_among candidate part.due)) NotAmong ∷ []
+own_objections (Declare ward) part = objection (not (has_finished part.due)) CountNotFinished ∷ []
 
 -- what stands against each, in the order of the reasons' numbers
 abbrev pub objections : ℕ → CountCommand → PartEntries → List (Option Reason)
-objections actor (Seal ward) part =
-    objection (not (is_in_range actor (Seal ward))) NumberOutOfRange ∷ phase_objections Keying part.ward ++ (objection (not (is_ready part.poll)) NotReady ∷ [])
-objections actor (Advance ward) part =
-    objection (not (is_in_range actor (Advance ward))) NumberOutOfRange ∷ phase_objections Sealed part.ward ++ (objection (has_finished part.due) CountFinished ∷ lot_objection part.due ∷ [])
-objections actor (Lot ward stage candidate) part =
-    objection (not (is_in_range actor (Lot ward stage candidate))) NumberOutOfRange ∷ phase_objections Sealed part.ward ++ draw_objections stage candidate part
-objections actor (Declare ward) part =
-    objection (not (is_in_range actor (Declare ward))) NumberOutOfRange ∷ phase_objections Sealed part.ward ++ (objection (not (has_finished part.due)) CountNotFinished ∷ [])
+objections actor command part =
+    objection (not (is_in_range actor command)) NumberOutOfRange ∷ phase_objections (phase_for command) part.ward ++ own_objections command part
 
 -- what the receipt is about: the same for two commands that an id may stand for only once
 unfoldable pub subject_of : CountCommand → List ℕ

@@ -6,7 +6,7 @@ ghost use Rattle.register.specs.Offices.{ward_entry};
 ghost use Rattle.register.specs.Polls.{poll_entry, all_rejected};
 ghost use Rattle.register.specs.Parts.{part_entries};
 ghost use Rattle.register.specs.Effects.{effect_entry};
-ghost use Rattle.register.specs.Counts.{is_in_range, is_ready, has_finished, lot_objection, waits_at, is_among, draw_objections, phase_for, objections, subject_of, next_stage, poll_told, action_told, reply_to, effect_of};
+ghost use Rattle.register.specs.Counts.{is_in_range, is_ready, has_finished, lot_objection, waits_at, is_among, phase_for, own_objections, objections, subject_of, next_stage, poll_told, action_told, reply_to, effect_of};
 
 use crate::decision::Effect;
 use crate::phase::Phase;
@@ -120,26 +120,11 @@ fn is_among(candidate: u32, due: &Option<Due>) -> bool
 {
     match due {
         Some(Due::Lot { among, .. }) => {
-            candidate <= u32::from(u8::MAX) && among.has(candidate as u8)
+            let tied = among.as_slice();
+            tied.iter().any(|c| candidate == u32::from(*c))
         }
         Some(Due::Act(_)) | Some(Due::Finished) | None => false,
     }
-}
-
-/// What stands against a lot beside its numbers and the ward.
-fn draw_objection(stage: u32, candidate: u32, part: &Part) -> Option<Reason>
-    ensures { result ≡ first_reason (draw_objections stage candidate (part_entries part.now)) }
-{
-    if part.candidate.is_none() {
-        return Some(Reason::NoSuchCandidate);
-    }
-    if !waits_at(stage, &part.due) {
-        return Some(Reason::NoSuchLot);
-    }
-    if !is_among(candidate, &part.due) {
-        return Some(Reason::NotAmong);
-    }
-    None
 }
 
 /// The phase in which the ward has to be.
@@ -154,16 +139,10 @@ fn phase_for(command: &CountCommand) -> Phase
     }
 }
 
-/// What stands against a command: of several reasons the one with the lowest number.
-pub(crate) fn objection_to(actor: u32, command: &CountCommand, part: &Part) -> Option<Reason>
-    ensures { result ≡ first_reason (objections actor command.now (part_entries part.now)) }
+/// What stands against a command beside its numbers and the ward.
+fn own_objection_to(command: &CountCommand, part: &Part) -> Option<Reason>
+    ensures { result ≡ first_reason (own_objections command.now (part_entries part.now)) }
 {
-    if !is_in_range(actor, command) {
-        return Some(Reason::NumberOutOfRange);
-    }
-    if let Some(reason) = phase_objection(phase_for(command), &part.ward) {
-        return Some(reason);
-    }
     match command {
         CountCommand::Seal { .. } => {
             if is_ready(&part.poll) {
@@ -181,7 +160,18 @@ pub(crate) fn objection_to(actor: u32, command: &CountCommand, part: &Part) -> O
             stage,
             candidate,
             ..
-        } => draw_objection(*stage, *candidate, part),
+        } => {
+            if part.candidate.is_none() {
+                return Some(Reason::NoSuchCandidate);
+            }
+            if !waits_at(*stage, &part.due) {
+                return Some(Reason::NoSuchLot);
+            }
+            if !is_among(*candidate, &part.due) {
+                return Some(Reason::NotAmong);
+            }
+            None
+        }
         CountCommand::Declare { .. } => {
             if has_finished(&part.due) {
                 return None;
@@ -189,6 +179,19 @@ pub(crate) fn objection_to(actor: u32, command: &CountCommand, part: &Part) -> O
             Some(Reason::CountNotFinished)
         }
     }
+}
+
+/// What stands against a command: of several reasons the one with the lowest number.
+pub(crate) fn objection_to(actor: u32, command: &CountCommand, part: &Part) -> Option<Reason>
+    ensures { result ≡ first_reason (objections actor command.now (part_entries part.now)) }
+{
+    if !is_in_range(actor, command) {
+        return Some(Reason::NumberOutOfRange);
+    }
+    if let Some(reason) = phase_objection(phase_for(command), &part.ward) {
+        return Some(reason);
+    }
+    own_objection_to(command, part)
 }
 
 #[tactic(auto, unfolding(crate::specs::Counts::subject_of))]

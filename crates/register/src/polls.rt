@@ -1,6 +1,6 @@
 //! The ballot papers of a ward: which are valid, and why the others are rejected.
 
-ghost use Rattle.std.specs.Prelude.{◌≡◌, ◌++◌, ◌∷◌, [], ◌==◌, Ok, find, map, option_map, option_copied, IfOk};
+ghost use Rattle.std.specs.Prelude.{◌≡◌, ◌++◌, ◌∷◌, [], ◌==◌, Ok, Some, find, map, IfOk};
 ghost use Rattle.paper.specs.MarksText.{reading};
 ghost use Rattle.register.specs.Offices.{keyed_entry, judged_entry};
 ghost use Rattle.register.specs.Polls.{Pile, by_reading, by_verdict, judgement_on, preferences_by, with_rejected, ballots_in, ballots_entry};
@@ -70,34 +70,34 @@ fn by_text(columns: Columns, marks: &str, doubtful: Judgement) -> Judgement
     }
 }
 
-/// The judgement by a verdict, if there is one.
-fn by_verdict(columns: Columns, verdict: Option<&JudgedPaper>) -> Judgement
-    ensures { result ≡ by_verdict columns (option_map judged_entry (option_copied verdict)) }
+/// The judgement by a verdict: on the marks that the paper is accepted with, or its rejection.
+fn by_verdict(columns: Columns, judged: &JudgedPaper) -> Judgement
+    ensures { result ≡ by_verdict columns (Some (judged_entry judged.now)) }
 {
-    match verdict {
-        None => Judgement::Open,
-        Some(judged) => {
-            if judged.code == 0 {
-                return by_text(columns, judged.marks.as_str(), Judgement::Open);
-            }
-            Judgement::Rejected(judged.code)
-        }
+    if judged.code == 0 {
+        return by_text(columns, judged.marks.as_str(), Judgement::Open);
     }
+    Judgement::Rejected(judged.code)
 }
 
-/// The verdict on the paper of this number, if there is one among some verdicts.
-fn verdict_on(verdicts: &[JudgedPaper], paper: u32) -> Option<&JudgedPaper>
-    ensures { option_map judged_entry (option_copied result) ≡ find (λ v. v.paper == paper) (map judged_entry verdicts.now) }
+/// The judgement by the verdict on the paper of this number, if some verdicts have one.
+fn by_verdicts(columns: Columns, verdicts: &[JudgedPaper], paper: u32) -> Judgement
+    ensures { result ≡ by_verdict columns (find (λ v. v.paper == paper) (map judged_entry verdicts.now)) }
 {
-    verdicts.iter().find(|judged| judged.paper == paper)
+    for judged in verdicts {
+        if judged.paper == paper {
+            return by_verdict(columns, judged);
+        }
+    }
+    Judgement::Open
 }
 
 /// The judgement on a keyed paper: by its marks, or if it is doubtful by its verdict.
 fn judgement_on(columns: Columns, verdicts: &[JudgedPaper], keyed: &KeyedPaper) -> Judgement
     ensures { result ≡ judgement_on columns (map judged_entry verdicts.now) (keyed_entry keyed.now) }
 {
-    let by_verdict = by_verdict(columns, verdict_on(verdicts, keyed.paper));
-    by_text(columns, keyed.marks.as_str(), by_verdict)
+    let doubtful = by_verdicts(columns, verdicts, keyed.paper);
+    by_text(columns, keyed.marks.as_str(), doubtful)
 }
 
 impl Ballots {
