@@ -1,6 +1,7 @@
 //! The count of a ward, and the commands about it.
 
-ghost use Rattle.std.specs.Prelude.{◌≡◌, IfOk, option_map, string_bytes};
+ghost use Rattle.std.specs.Prelude.{◌≡◌, nat_eq, IfOk, option_map, string_bytes};
+ghost use Rattle.std.specs.List.{list_any};
 ghost use Rattle.register.specs.Reasons.{first_reason};
 ghost use Rattle.register.specs.Offices.{ward_entry};
 ghost use Rattle.register.specs.Polls.{poll_entry, all_rejected};
@@ -114,15 +115,24 @@ fn waits_at(stage: u32, due: &Option<Due>) -> bool
     }
 }
 
+/// Whether a candidate is one of some.
+fn has_candidate(candidates: &[u8], candidate: u32) -> bool
+    ensures { result ≡ list_any (nat_eq candidate) candidates.now }
+{
+    for c in candidates {
+        if candidate == u32::from(*c) {
+            return true;
+        }
+    }
+    false
+}
+
 /// Whether a candidate is one of those who are tied.
 fn is_among(candidate: u32, due: &Option<Due>) -> bool
     ensures { result ≡ is_among candidate due.now }
 {
     match due {
-        Some(Due::Lot { among, .. }) => {
-            let tied = among.as_slice();
-            tied.iter().any(|c| candidate == u32::from(*c))
-        }
+        Some(Due::Lot { among, .. }) => has_candidate(among.as_slice(), candidate),
         Some(Due::Act(_)) | Some(Due::Finished) | None => false,
     }
 }

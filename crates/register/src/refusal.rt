@@ -112,8 +112,8 @@ impl Reason {
     }
 
     /// The reason in words, with the numbers that it carries.
-    fn text(self, alloc: Global) -> Result<String, AllocError>
-        ensures { IfOk result (λ text. string_bytes text ≡ reason_text self) }
+    fn text(&self, alloc: Global) -> Result<String, AllocError>
+        ensures { IfOk result (λ text. string_bytes text ≡ reason_text self.now) }
     {
         let (_, words) = self.told();
         match self {
@@ -121,7 +121,7 @@ impl Reason {
                 format!(in alloc; "{words}{paper}, fault {fault}")
             }
             Reason::LotNeeded { stage, among } => {
-                let candidates = listed(alloc, &among)?;
+                let candidates = listed(alloc, among)?;
                 format!(in alloc; "{words}{stage} among {candidates}")
             }
             _ => String::from_str(alloc, words),
