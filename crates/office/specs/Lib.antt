@@ -2,3 +2,4 @@ pub mod Values
 pub mod Answers
 pub mod Runs
 pub mod Reads
+pub mod Sheets

@@ -8,13 +8,16 @@ ghost use Rattle.register.specs.Standings.{status_entry};
 ghost use Rattle.register.specs.declared.refusal.Reason.{Reason};
 ghost use Rattle.tables.specs.Reading.{OnlyReads};
 ghost use Rattle.store.specs.Offices.{IsAt};
+ghost use Rattle.register.specs.Elections.{election_entry};
 ghost use Rattle.office.specs.Reads.{Read, status_told, columns_told, StopsFor};
+ghost use Rattle.office.specs.Sheets.{is_told_in, text_shown, text_told};
 
 use crate::answers::Stop;
 use crate::offices::Office;
+use crate::sheets::{Text, text_of};
 use paper::Columns;
 use register::ranges::{is_batch_number, is_ward_number};
-use register::{Reason, Refusal, Status};
+use register::{Election, Reason, Refusal, Status};
 use sqlite::Alter;
 use std::alloc::Global;
 use store::Fault;
@@ -30,6 +33,16 @@ fn refused(alloc: Global, reason: Reason) -> Stop
 }
 
 impl<S: Alter> Office<S> {
+    /// Tells a fault that a read met. Any but want of memory closes the office.
+    fn failed(&mut self, fault: Fault) -> Stop
+        ensures told { result ≡ Stop.Fault fault }
+        ensures held { self.new.held ≡ self.old.held }
+        ensures closes { self.new.closed ≡ not (is_memory fault) }
+    {
+        self.closed = fault != Fault::Memory;
+        Stop::Fault(fault)
+    }
+
     /// How the election of a ward stands.
     ///
     /// Refused where the number is outside 1 to 99, or no ward has it. Nothing is changed. `Memory` leaves
@@ -49,10 +62,7 @@ impl<S: Alter> Office<S> {
         match self.store.load_status(ward) {
             Ok(Some(status)) => Ok(status),
             Ok(None) => Err(refused(self.alloc, Reason::NoSuchWard)),
-            Err(fault) => {
-                self.closed = fault != Fault::Memory;
-                Err(Stop::Fault(fault))
-            }
+            Err(fault) => Err(self.failed(fault)),
         }
     }
 
@@ -75,10 +85,72 @@ impl<S: Alter> Office<S> {
         match self.store.load_columns(batch) {
             Ok(Some(columns)) => Ok(columns),
             Ok(None) => Err(refused(self.alloc, Reason::NoSuchBatch)),
-            Err(fault) => {
-                self.closed = fault != Fault::Memory;
-                Err(Stop::Fault(fault))
-            }
+            Err(fault) => Err(self.failed(fault)),
+        }
+    }
+
+    /// The stage sheet of a ward: its papers, and the stages that are done, no more. Of an uncontested ward
+    /// its seats.
+    ///
+    /// Refused where the number is outside 1 to 99, no ward has it, or the ward isn't sealed yet. Nothing is
+    /// changed. `Memory` leaves the office open; any other fault closes it. A closed office tells `Closed`.
+    pub fn sheet(&mut self, ward: u32) -> Result<String, Stop>
+        ensures reads { HasCleanDisk (state S.Store self.new.held) → self.old.closed ≡ false → (s : OfficeState) → IsAt s (state S.Store self.old.held)
+            → Read string_bytes s (text_told Text.Sheet s ward) result self.new.closed (state S.Store self.new.held) }
+        ensures same { OnlyReads (state S.Store self.old.held) (state S.Store self.new.held) }
+        ensures closed { self.old.closed ≡ true → (result ≡ Err (Stop.Fault Fault.Closed)) × (self.new ≡ self.old) }
+    {
+        self.text(ward, Text::Sheet)
+    }
+
+    /// The declaration of a ward: who is elected.
+    ///
+    /// Refused where the number is outside 1 to 99, no ward has it, or the ward isn't declared yet. Nothing
+    /// is changed. `Memory` leaves the office open; any other fault closes it. A closed office tells
+    /// `Closed`.
+    pub fn result(&mut self, ward: u32) -> Result<String, Stop>
+        ensures reads { HasCleanDisk (state S.Store self.new.held) → self.old.closed ≡ false → (s : OfficeState) → IsAt s (state S.Store self.old.held)
+            → Read string_bytes s (text_told Text.Declaration s ward) result self.new.closed (state S.Store self.new.held) }
+        ensures same { OnlyReads (state S.Store self.old.held) (state S.Store self.new.held) }
+        ensures closed { self.old.closed ≡ true → (result ≡ Err (Stop.Fault Fault.Closed)) × (self.new ≡ self.old) }
+    {
+        self.text(ward, Text::Declaration)
+    }
+
+    /// A text of a ward.
+    fn text(&mut self, ward: u32, text: Text) -> Result<String, Stop>
+        ensures reads { HasCleanDisk (state S.Store self.new.held) → self.old.closed ≡ false → (s : OfficeState) → IsAt s (state S.Store self.old.held)
+            → Read string_bytes s (text_told text s ward) result self.new.closed (state S.Store self.new.held) }
+        ensures same { OnlyReads (state S.Store self.old.held) (state S.Store self.new.held) }
+        ensures closed { self.old.closed ≡ true → (result ≡ Err (Stop.Fault Fault.Closed)) × (self.new ≡ self.old) }
+    {
+        if self.closed {
+            return Err(Stop::Fault(Fault::Closed));
+        }
+        if !is_ward_number(ward) {
+            return Err(refused(self.alloc, Reason::NumberOutOfRange));
+        }
+        match self.store.load_election(ward) {
+            Ok(Some(election)) => self.text_of(&election, text),
+            Ok(None) => Err(refused(self.alloc, Reason::NoSuchWard)),
+            Err(fault) => Err(self.failed(fault)),
+        }
+    }
+
+    /// A text of the ward of an election that was read.
+    fn text_of(&mut self, election: &Election, text: Text) -> Result<String, Stop>
+        ensures told { IfOk result (λ told. (is_told_in text election.now.ward.phase ≡ true) × (string_bytes told ≡ text_shown text (election_entry election.now))) }
+        ensures stopped { IfErr result (λ stop. StopsText text election.now.ward.phase stop self.new.closed) }
+        ensures held { self.new.held ≡ self.old.held }
+        ensures open_still { OnOk result (self.new.closed ≡ self.old.closed) }
+    {
+        if !text.is_told_in(election.ward.phase) {
+            return Err(refused(self.alloc, Reason::WrongPhase));
+        }
+        match text_of(self.alloc, election, text) {
+            Ok(Some(told)) => Ok(told),
+            Ok(None) => Err(self.failed(Fault::Store)),
+            Err(_) => Err(self.failed(Fault::Memory)),
         }
     }
 }

@@ -1,0 +1,53 @@
+-- The stage sheet and the declaration of a ward, as the state has them.
+use Rattle.std.specs.Prelude.{ℕ, Bool, if◌then◌else◌, List, map, length, reverse, Option, Some, None, Result, Ok, Err}
+use Rattle.sheet.specs.declared.ward.Poll.{Poll}
+use Rattle.sheet.specs.Entries.{SheetEntry}
+use Rattle.sheet.specs.Sheet.{sheet, declaration}
+use Rattle.register.specs.declared.phase.Phase.{Phase}
+use Rattle.register.specs.declared.refusal.Reason.{Reason}
+use Rattle.register.specs.declared.refusal.Reason.TheVariants.{NumberOutOfRange, NoSuchWard, WrongPhase}
+use Rattle.office.specs.declared.sheets.Text.{Text}
+use Rattle.office.specs.declared.sheets.Text.TheVariants.{Sheet, Declaration}
+use Rattle.register.specs.Ranges.{is_ward_number}
+use Rattle.register.specs.Offices.{WardEntry, CandidateEntry, OfficeState, ward_at}
+use Rattle.register.specs.Elections.{ElectionEntry, election_of, has_count, stages_of, elected_of, is_counted, is_declared}
+
+-- a candidate's number and name
+abbrev pub candidate_shown : CandidateEntry → ℕ × List ℕ
+candidate_shown c = (c.number, c.name)
+
+-- the papers of a contested ward
+abbrev pub poll_shown : ElectionEntry → Option Poll
+poll_shown e = if has_count e then Some (record { valid = length e.ballots.papers; rejected = e.ballots.rejected }) else None
+
+-- what the texts tell of an election
+abbrev pub election_shown : ElectionEntry → SheetEntry
+election_shown e =
+    record { number = e.ward.number; name = e.ward.name; seats = e.ward.seats; candidates = map candidate_shown e.candidates; poll = poll_shown e }
+
+-- the stage sheet: the stages that are done, from the first on
+abbrev pub sheet_of : ElectionEntry → List ℕ
+sheet_of e = sheet (election_shown e) (reverse (stages_of e))
+
+-- the declaration: who is elected
+abbrev pub declaration_of : ElectionEntry → List ℕ
+declaration_of e = declaration (election_shown e) (elected_of e)
+
+-- which text is told once the ward is in which phase
+abbrev pub is_told_in : Text → Phase → Bool
+is_told_in Sheet phase = is_counted phase
+is_told_in Declaration phase = is_declared phase
+
+-- the text of an election
+abbrev pub text_shown : Text → ElectionEntry → List ℕ
+text_shown Sheet e = sheet_of e
+text_shown Declaration e = declaration_of e
+
+-- the text of the ward that was found
+abbrev pub text_found : Text → OfficeState → Option WardEntry → Result (List ℕ) Reason
+text_found text s None = Err NoSuchWard
+text_found text s (Some w) = if is_told_in text w.phase then Ok (text_shown text (election_of s w)) else Err WrongPhase
+
+-- what is told where a text of the ward of a number is asked for: the stage sheet once it is sealed, the declaration once it is declared
+abbrev pub text_told : Text → OfficeState → ℕ → Result (List ℕ) Reason
+text_told text s ward = if is_ward_number ward then text_found text s (ward_at s ward) else Err NumberOutOfRange

@@ -1,0 +1,156 @@
+//! The stage sheet and the declaration of a ward, written from its election.
+
+ghost use Rattle.std.specs.Prelude.{◌≡◌, map, IfOk, IfSome, string_bytes};
+ghost use Rattle.register.specs.Offices.{candidate_entry};
+ghost use Rattle.register.specs.Elections.{election_entry};
+ghost use Rattle.sheet.specs.Entries.{shown};
+ghost use Rattle.sheet.specs.Wards.{CanBePrinted};
+ghost use Rattle.office.specs.Sheets.{candidate_shown, poll_shown, election_shown, sheet_of, declaration_of, is_told_in, text_shown};
+
+use count::CountBook;
+use register::wards::is_contested;
+use register::{Candidate, Election, Phase};
+use sheet::{Poll, Ward, can_be_printed, declaration_text, sheet_text};
+use std::alloc::{AllocError, Global};
+
+/// Which text of a ward is told.
+#[derive(Clone, Copy)]
+pub(crate) enum Text {
+    /// The stage sheet, once the ward is sealed.
+    Sheet,
+    /// The declaration, once it is declared.
+    Declaration,
+}
+
+impl Text {
+    /// Whether the text is told in a phase.
+    pub(crate) fn is_told_in(self, phase: Phase) -> bool
+        ensures { result ≡ is_told_in self phase }
+    {
+        match self {
+            Text::Sheet => matches!(phase, Phase::Sealed | Phase::Declared),
+            Text::Declaration => matches!(phase, Phase::Declared),
+        }
+    }
+}
+
+/// A candidate's number and name; none where the number is out of range, as no candidate's of an office is.
+fn candidate_line(candidate: &Candidate) -> Result<Option<(u8, String)>, AllocError>
+    ensures { IfOk result (λ found. IfSome found (λ line. (line.0, string_bytes line.1) ≡ candidate_shown (candidate_entry candidate.now))) }
+{
+    let Ok(number) = u8::try_from(candidate.number) else {
+        return Ok(None);
+    };
+    Ok(Some((number, candidate.name.clone()?)))
+}
+
+/// The numbers and names of candidates, in their order.
+fn candidate_lines(
+    alloc: Global,
+    candidates: &[Candidate],
+) -> Result<Option<Vec<(u8, String)>>, AllocError>
+    ensures { IfOk result (λ found. IfSome found (λ lines. map (λ line. (line.0, string_bytes line.1)) lines.items ≡ map candidate_shown (map candidate_entry candidates.now))) }
+{
+    let mut lines = Vec::new(alloc);
+    for candidate in candidates {
+        let Some(line) = candidate_line(candidate)? else {
+            return Ok(None);
+        };
+        lines.push(line)?;
+    }
+    Ok(Some(lines))
+}
+
+/// What is told of the papers of a contested ward; none where they are too many to be counted, as no
+/// ward's of an office are.
+fn poll_of(election: &Election) -> Option<Option<Poll>>
+    ensures { IfSome result (λ poll. poll ≡ poll_shown (election_entry election.now)) }
+{
+    if !is_contested(&election.ward, &election.candidates) {
+        return Some(None);
+    }
+    let poll = election.poll()?;
+    Some(Some(Poll {
+        valid: poll.valid,
+        rejected: poll.rejected,
+    }))
+}
+
+/// The ward of an election, as the texts show it, with these lines of its candidates; none where a number
+/// is out of range, as none of an office is.
+fn ward_of<'a>(election: &'a Election, candidates: &'a [(u8, String)]) -> Option<Ward<'a>>
+    ensures { map (λ line. (line.0, string_bytes line.1)) candidates.now ≡ map candidate_shown (election_entry election.now).candidates
+        → IfSome result (λ ward. shown ward ≡ election_shown (election_entry election.now)) }
+{
+    let Ok(number) = u8::try_from(election.ward.number) else {
+        return None;
+    };
+    let Ok(seats) = u8::try_from(election.ward.seats) else {
+        return None;
+    };
+    Some(Ward {
+        number,
+        name: election.ward.name.as_str(),
+        seats,
+        candidates,
+        poll: poll_of(election)?,
+    })
+}
+
+/// The stage sheet of a ward, of the stages that are done; none where no count can be held, as it can in
+/// each contested ward of an office. An error is want of memory.
+fn stage_sheet(
+    alloc: Global,
+    election: &Election,
+    ward: &Ward<'_>,
+) -> Result<Option<String>, AllocError>
+    requires { CanBePrinted ward.now }
+    ensures { IfOk result (λ found. shown ward.now ≡ election_shown (election_entry election.now) → IfSome found (λ text. string_bytes text ≡ sheet_of (election_entry election.now))) }
+{
+    if !is_contested(&election.ward, &election.candidates) {
+        return Ok(Some(sheet_text(alloc, ward, &[])?));
+    }
+    let Some(book) = election.counted(alloc)? else {
+        return Ok(None);
+    };
+    Ok(Some(sheet_text(alloc, ward, book.stages())?))
+}
+
+/// The declaration of a ward, by who is elected; none where no count can be held, as it can in each
+/// contested ward of an office. An error is want of memory.
+fn declaration(
+    alloc: Global,
+    election: &Election,
+    ward: &Ward<'_>,
+) -> Result<Option<String>, AllocError>
+    requires { CanBePrinted ward.now }
+    ensures { IfOk result (λ found. shown ward.now ≡ election_shown (election_entry election.now) → IfSome found (λ text. string_bytes text ≡ declaration_of (election_entry election.now))) }
+{
+    let Some(progress) = election.progress(alloc)? else {
+        return Ok(None);
+    };
+    Ok(Some(declaration_text(alloc, ward, progress.elected)?))
+}
+
+/// A text of the ward of an election; none of rows that no office has. An error is want of memory.
+pub(crate) fn text_of(
+    alloc: Global,
+    election: &Election,
+    text: Text,
+) -> Result<Option<String>, AllocError>
+    ensures { IfOk result (λ found. IfSome found (λ told. string_bytes told ≡ text_shown text (election_entry election.now))) }
+{
+    let Some(candidates) = candidate_lines(alloc, &election.candidates)? else {
+        return Ok(None);
+    };
+    let Some(ward) = ward_of(election, &candidates) else {
+        return Ok(None);
+    };
+    if !can_be_printed(&ward) {
+        return Ok(None);
+    }
+    match text {
+        Text::Sheet => stage_sheet(alloc, election, &ward),
+        Text::Declaration => declaration(alloc, election, &ward),
+    }
+}
