@@ -60,7 +60,13 @@ orders =
     ∷ takes (codes "import-keying") (number (codes "CLERK") ∷ number (codes "BATCH") ∷ number (codes "ROUND") ∷ text (codes "FILE") ∷ id ∷ [])
     ∷ takes (codes "again") (number (codes "BATCH") ∷ id ∷ [])
     ∷ takes (codes "judge") (number (codes "BATCH") ∷ number (codes "PAPER") ∷ verdict (codes "VERDICT") ∷ id ∷ [])
+    ∷ takes (codes "seal") (number (codes "WARD") ∷ id ∷ [])
+    ∷ takes (codes "advance") (number (codes "WARD") ∷ id ∷ [])
+    ∷ takes (codes "lot") (number (codes "WARD") ∷ number (codes "STAGE") ∷ number (codes "CANDIDATE") ∷ id ∷ [])
+    ∷ takes (codes "declare") (number (codes "WARD") ∷ id ∷ [])
     ∷ takes (codes "status") (number (codes "WARD") ∷ [])
+    ∷ takes (codes "sheet") (number (codes "WARD") ∷ [])
+    ∷ takes (codes "result") (number (codes "WARD") ∷ [])
     ∷ []
 
 -- a value of an order; a verdict is none where its word says none
@@ -81,4 +87,10 @@ told (order.Batch b) = (codes "batch", numbered b.batch ∷ numbered b.ward ∷ 
 told (order.ImportKeying k) = (codes "import-keying", numbered k.clerk ∷ numbered k.batch ∷ numbered k.round ∷ worded k.file.now ∷ worded k.id.now ∷ [])
 told (order.Again batch id) = (codes "again", numbered batch ∷ worded id.now ∷ [])
 told (order.Judge j) = (codes "judge", numbered j.batch ∷ numbered j.paper ∷ judged (Some (judgement_of j.verdict)) ∷ worded j.id.now ∷ [])
+told (order.Seal ward id) = (codes "seal", numbered ward ∷ worded id.now ∷ [])
+told (order.Advance ward id) = (codes "advance", numbered ward ∷ worded id.now ∷ [])
+told (order.Lot l) = (codes "lot", numbered l.ward ∷ numbered l.stage ∷ numbered l.candidate ∷ worded l.id.now ∷ [])
+told (order.Declare ward id) = (codes "declare", numbered ward ∷ worded id.now ∷ [])
 told (order.Status ward) = (codes "status", numbered ward ∷ [])
+told (order.Sheet ward) = (codes "sheet", numbered ward ∷ [])
+told (order.Result ward) = (codes "result", numbered ward ∷ [])

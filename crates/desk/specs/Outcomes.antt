@@ -22,6 +22,7 @@ status_of_file fault = if is_stop fault.flaw then 3 else 1
 abbrev pub status_of : Outcome → ℕ
 status_of outcome.Ready = 0
 status_of (outcome.Replied reply) = 0
+status_of (outcome.Printed text) = 0
 status_of (outcome.Refused refusal) = 1
 status_of (outcome.Unread fault) = status_of_file fault
 status_of (outcome.Failed fault) = 3
@@ -30,6 +31,7 @@ status_of (outcome.Failed fault) = 3
 abbrev pub IsUnread : {Row : Type 0} → Format Row → List Record → Outcome → Type 0
 IsUnread format records outcome.Ready = ⊥
 IsUnread format records (outcome.Replied reply) = ⊥
+IsUnread format records (outcome.Printed text) = ⊥
 IsUnread format records (outcome.Refused refusal) = ⊥
 IsUnread format records (outcome.Unread fault) = IsFaultOf format records fault
 IsUnread format records (outcome.Failed fault) = fault ≡ Memory
@@ -38,6 +40,7 @@ IsUnread format records (outcome.Failed fault) = fault ≡ Memory
 abbrev pub IsOutcomeOf : OfficeState → Ruled → Outcome → Bool → State → Type 0
 IsOutcomeOf s ruled outcome.Ready closed st = ⊥
 IsOutcomeOf s ruled (outcome.Replied reply) closed st = Handled s ruled (Ok (Done reply)) closed st ⊎ Handled s ruled (Ok (Kept reply)) closed st
+IsOutcomeOf s ruled (outcome.Printed text) closed st = ⊥
 IsOutcomeOf s ruled (outcome.Refused refusal) closed st = Handled s ruled (Ok (Refused refusal)) closed st
 IsOutcomeOf s ruled (outcome.Unread fault) closed st = ⊥
 IsOutcomeOf s ruled (outcome.Failed fault) closed st = Handled s ruled (Err fault) closed st

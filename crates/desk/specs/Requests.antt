@@ -8,6 +8,7 @@ use Rattle.register.specs.declared.command.Request.{Request}
 use Rattle.register.specs.declared.wards.WardCommand.TheVariants as ward_command
 use Rattle.register.specs.declared.candidates.CandidateCommand.TheVariants as candidate_command
 use Rattle.register.specs.declared.batches.BatchCommand.TheVariants as batch_command
+use Rattle.register.specs.declared.counts.CountCommand.TheVariants as count_command
 use Rattle.register.specs.declared.verdicts.Verdict.{Verdict}
 use Rattle.register.specs.declared.verdicts.Verdict.TheVariants as verdict
 use Rattle.keyfile.specs.Candidates.{CandidateEntry}
@@ -30,6 +31,10 @@ pub data Asked : Type 0 where
   batch_to_key_again : ℕ → Asked
   keying_to_keep : ℕ → ℕ → List Text → Asked
   paper_to_judge : ℕ → ℕ → Judgement → Asked
+  ward_to_seal : ℕ → Asked
+  stage_to_count : ℕ → Asked
+  lot_to_record : ℕ → ℕ → ℕ → Asked
+  ward_to_declare : ℕ → Asked
 
 -- the verdict of a command
 abbrev pub judgement_given : Verdict → Judgement
@@ -46,6 +51,10 @@ asked_by (command.Batch (batch_command.Add batch ward size first_clerk second_cl
 asked_by (command.Batch (batch_command.Again batch)) = batch_to_key_again batch
 asked_by (command.Keying k) = keying_to_keep k.batch k.round (map string_bytes k.papers.items)
 asked_by (command.Verdict v) = paper_to_judge v.batch v.paper (judgement_given v.verdict)
+asked_by (command.Count (count_command.Seal ward)) = ward_to_seal ward
+asked_by (command.Count (count_command.Advance ward)) = stage_to_count ward
+asked_by (command.Count (count_command.Lot ward stage candidate)) = lot_to_record ward stage candidate
+asked_by (command.Count (count_command.Declare ward)) = ward_to_declare ward
 
 -- a request: who sends it, under which id, and what it asks
 pub record Sent : Type 0 where
@@ -68,6 +77,8 @@ pub data Work : Type 0 where
   importing_candidates : Text → Work
   importing_keying : KeyingFile → Work
   telling_status : ℕ → Work
+  telling_sheet : ℕ → Work
+  telling_result : ℕ → Work
 
 -- what a task is
 abbrev pub work_of : Task → Work
@@ -76,6 +87,8 @@ work_of (task.Send request) = sending (sent_as request)
 work_of (task.ImportCandidates id) = importing_candidates id.now
 work_of (task.ImportKeying keying) = importing_keying keying
 work_of (task.TellStatus ward) = telling_status ward
+work_of (task.TellSheet ward) = telling_sheet ward
+work_of (task.TellResult ward) = telling_result ward
 
 -- what each order is done by
 abbrev pub work_for : Order → Work
@@ -89,7 +102,13 @@ work_for (order.Batch b) = sending (by_office b.id.now (batch_to_add b.batch b.w
 work_for (order.ImportKeying keying) = importing_keying keying
 work_for (order.Again batch id) = sending (by_office id.now (batch_to_key_again batch))
 work_for (order.Judge j) = sending (by_office j.id.now (paper_to_judge j.batch j.paper (judgement_of j.verdict)))
+work_for (order.Seal ward id) = sending (by_office id.now (ward_to_seal ward))
+work_for (order.Advance ward id) = sending (by_office id.now (stage_to_count ward))
+work_for (order.Lot l) = sending (by_office l.id.now (lot_to_record l.ward l.stage l.candidate))
+work_for (order.Declare ward id) = sending (by_office id.now (ward_to_declare ward))
 work_for (order.Status ward) = telling_status ward
+work_for (order.Sheet ward) = telling_sheet ward
+work_for (order.Result ward) = telling_result ward
 
 -- the file that an order names
 abbrev pub file_of : Order → Option Text

@@ -26,13 +26,14 @@ mod tasks;
 mod import;
 pub mod lines;
 pub mod perform;
+mod printing;
 pub mod progress;
 mod sending;
 mod standing;
 
 pub use lines::{Failure, tell_failure, tell_words};
 pub use orders::{
-    Judging, KeyingFile, NewBatch, NewCandidate, NewWard, Order, VerdictWord, Withdrawal,
+    Drawing, Judging, KeyingFile, NewBatch, NewCandidate, NewWard, Order, VerdictWord, Withdrawal,
 };
 pub use progress::Progress;
 pub use words::{WordsFault, order};

@@ -22,6 +22,8 @@ pub(crate) enum Outcome {
     Ready,
     /// This is replied: to a request that was accepted, now or before, or how a ward stands.
     Replied(Reply),
+    /// This text is told as it is, its lines ended.
+    Printed(String),
     /// A request was refused.
     Refused(Refusal),
     /// The file was refused, or couldn't be read.
@@ -64,6 +66,18 @@ fn tell_text<O: Sink, E: Sink>(text: &str, out: &mut O, err: &mut E) -> u8
     ensures { (result ≡ 3) ⊎ ((result ≡ 0) × (O.failed out.new ≡ O.failed out.old) × (E.failed err.new ≡ E.failed err.old)) }
 {
     match put_line(text, out) {
+        Ok(()) => 0,
+        Err(Broken) => tell_failure(Failure::Output, err),
+    }
+}
+
+/// Prints a text as it is, and gives the status: 0, or 3 where the output fails.
+fn print<O: Sink, E: Sink>(text: &str, out: &mut O, err: &mut E) -> u8
+    requires out { O.failed out.old < 2 ^ 64 - 1 }
+    requires err { E.failed err.old < 2 ^ 64 - 1 }
+    ensures { (result ≡ 3) ⊎ ((result ≡ 0) × (O.failed out.new ≡ O.failed out.old) × (E.failed err.new ≡ E.failed err.old)) }
+{
+    match put_all(out, text.as_bytes()) {
         Ok(()) => 0,
         Err(Broken) => tell_failure(Failure::Output, err),
     }
@@ -130,6 +144,7 @@ pub(crate) fn tell<O: Sink, E: Sink>(outcome: &Outcome, out: &mut O, err: &mut E
     match outcome {
         Outcome::Ready => tell_text("office ready", out, err),
         Outcome::Replied(reply) => tell_text(reply.as_str(), out, err),
+        Outcome::Printed(text) => print(text.as_str(), out, err),
         Outcome::Refused(refusal) => tell_refusal(refusal, err),
         Outcome::Unread(fault) => tell_file_fault(*fault, err),
         Outcome::Failed(fault) => tell_failure(Failure::Office(*fault), err),

@@ -6,10 +6,12 @@ ghost use Rattle.clap.specs.Words.{found_of, rows_of, subcommand_rows_of};
 ghost use Rattle.desk.specs.Orders.{told};
 ghost use Rattle.desk.specs.Words.{has_bad_verdict, is_order_name, meaning, meaning_of, names_order, number_at, text_at};
 
-use crate::orders::{Judging, KeyingFile, NewBatch, NewCandidate, NewWard, Order, Withdrawal};
+use crate::orders::{
+    Drawing, Judging, KeyingFile, NewBatch, NewCandidate, NewWard, Order, Withdrawal,
+};
 use crate::table::{
     BATCH, CANDIDATE, CLERK, FILE, FIRST_CLERK, ID, NAME, PAPER, ROUND, SEATS, SECOND_CLERK, SIZE,
-    VERDICT, WARD, Word,
+    STAGE, VERDICT, WARD, Word,
 };
 use crate::verdicts::verdict_in;
 use clap::ArgMatches;
@@ -137,10 +139,64 @@ fn judge<'a>(matches: &ArgMatches<'a>) -> Result<Order<'a>, NoOrder>
     }))
 }
 
+fn seal<'a>(matches: &ArgMatches<'a>) -> Order<'a>
+    ensures { meaning_of (codes "seal") (rows_of (found_of matches.now)) ≡ Some (told result) }
+{
+    Order::Seal {
+        ward: number_in(matches, WARD),
+        id: text_in(matches, ID),
+    }
+}
+
+fn advance<'a>(matches: &ArgMatches<'a>) -> Order<'a>
+    ensures { meaning_of (codes "advance") (rows_of (found_of matches.now)) ≡ Some (told result) }
+{
+    Order::Advance {
+        ward: number_in(matches, WARD),
+        id: text_in(matches, ID),
+    }
+}
+
+fn lot<'a>(matches: &ArgMatches<'a>) -> Order<'a>
+    ensures { meaning_of (codes "lot") (rows_of (found_of matches.now)) ≡ Some (told result) }
+{
+    Order::Lot(Drawing {
+        ward: number_in(matches, WARD),
+        stage: number_in(matches, STAGE),
+        candidate: number_in(matches, CANDIDATE),
+        id: text_in(matches, ID),
+    })
+}
+
+fn declare<'a>(matches: &ArgMatches<'a>) -> Order<'a>
+    ensures { meaning_of (codes "declare") (rows_of (found_of matches.now)) ≡ Some (told result) }
+{
+    Order::Declare {
+        ward: number_in(matches, WARD),
+        id: text_in(matches, ID),
+    }
+}
+
 fn status<'a>(matches: &ArgMatches<'a>) -> Order<'a>
     ensures { meaning_of (codes "status") (rows_of (found_of matches.now)) ≡ Some (told result) }
 {
     Order::Status {
+        ward: number_in(matches, WARD),
+    }
+}
+
+fn sheet<'a>(matches: &ArgMatches<'a>) -> Order<'a>
+    ensures { meaning_of (codes "sheet") (rows_of (found_of matches.now)) ≡ Some (told result) }
+{
+    Order::Sheet {
+        ward: number_in(matches, WARD),
+    }
+}
+
+fn result<'a>(matches: &ArgMatches<'a>) -> Order<'a>
+    ensures { meaning_of (codes "result") (rows_of (found_of matches.now)) ≡ Some (told result) }
+{
+    Order::Result {
         ward: number_in(matches, WARD),
     }
 }
@@ -162,7 +218,13 @@ fn order_named<'a>(name: &str, matches: &ArgMatches<'a>) -> Result<Order<'a>, No
         "import-keying" => Ok(import_keying(matches)),
         "again" => Ok(again(matches)),
         "judge" => judge(matches),
+        "seal" => Ok(seal(matches)),
+        "advance" => Ok(advance(matches)),
+        "lot" => Ok(lot(matches)),
+        "declare" => Ok(declare(matches)),
         "status" => Ok(status(matches)),
+        "sheet" => Ok(sheet(matches)),
+        "result" => Ok(result(matches)),
         _ => Err(NoOrder::Unknown),
     }
 }

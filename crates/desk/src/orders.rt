@@ -68,6 +68,15 @@ pub struct Judging<'a> {
     pub id: &'a str,
 }
 
+/// A lot that was drawn for a stage of a ward's count.
+#[derive(Debug, Drop)]
+pub struct Drawing<'a> {
+    pub ward: u32,
+    pub stage: u32,
+    pub candidate: u32,
+    pub id: &'a str,
+}
+
 /// What the program is to do with an office. The numbers are as they were given, in range or not; `id`
 /// is that of the request.
 #[derive(Debug, Drop)]
@@ -92,8 +101,20 @@ pub enum Order<'a> {
     Again { batch: u32, id: &'a str },
     /// Judge a doubtful paper.
     Judge(Judging<'a>),
+    /// Seal a ward, so that its count may begin.
+    Seal { ward: u32, id: &'a str },
+    /// Count the stage that is due in a ward.
+    Advance { ward: u32, id: &'a str },
+    /// Record a lot.
+    Lot(Drawing<'a>),
+    /// Declare the result of a ward.
+    Declare { ward: u32, id: &'a str },
     /// Tell how a ward stands.
     Status { ward: u32 },
+    /// Print the stage sheet of a ward.
+    Sheet { ward: u32 },
+    /// Print the declaration of a ward.
+    Result { ward: u32 },
 }
 
 impl<'a> Order<'a> {

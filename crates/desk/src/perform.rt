@@ -6,6 +6,7 @@ use crate::import::{import_candidates, import_keying};
 use crate::lines::{Failure, Outcome, tell, tell_failure};
 use crate::orders::Order;
 use crate::sending::send;
+use crate::printing::{tell_result, tell_sheet};
 use crate::standing::tell_standing;
 use crate::tasks::{Task, task_for};
 use office::Office;
@@ -37,7 +38,8 @@ fn make_office<S: Alter, O: Sink, E: Sink>(
 /// `file` is the one that the order names, None where it can't be opened or none is named. It is read
 /// after the office was opened, and whole before anything is sent.
 ///
-/// The status is 0 where each reply, `office ready` or how a ward stands went to `out`; 1 where a request or the file was
+/// The status is 0 where each reply, `office ready`, how a ward stands, or its sheet or declaration went to
+/// `out`; 1 where a request or the file was
 /// refused and 3 at a fault, which `err` is told; and 3 where one of the two failed. What was replied
 /// before the first refusal or fault stands.
 pub fn perform<S: Alter, R: Read + Drop, O: Sink, E: Sink>(
@@ -58,6 +60,8 @@ pub fn perform<S: Alter, R: Read + Drop, O: Sink, E: Sink>(
         Ok(Task::ImportCandidates { id }) => import_candidates(alloc, conn, id, file, out, err),
         Ok(Task::ImportKeying(keying)) => import_keying(alloc, conn, keying, file, out, err),
         Ok(Task::TellStatus { ward }) => tell_standing(alloc, conn, ward, out, err),
+        Ok(Task::TellSheet { ward }) => tell_sheet(alloc, conn, ward, out, err),
+        Ok(Task::TellResult { ward }) => tell_result(alloc, conn, ward, out, err),
         Err(AllocError) => (tell_failure(Failure::Office(Fault::Memory), err), conn),
     }
 }

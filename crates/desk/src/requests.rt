@@ -2,13 +2,13 @@
 
 ghost use Rattle.std.specs.Prelude.{◌≡◌, map, IfOk, string_bytes};
 ghost use Rattle.keyfile.specs.Candidates.{candidate_entry};
-ghost use Rattle.desk.specs.Requests.{asked_by, batch_to_add, batch_to_key_again, by_office, candidate_to_add, candidate_to_withdraw, id_at, judgement_given, keying_by, paper_to_judge, request_at, requests_from, sent_as, ward_to_add, ward_to_close};
+ghost use Rattle.desk.specs.Requests.{asked_by, batch_to_add, batch_to_key_again, by_office, candidate_to_add, candidate_to_withdraw, id_at, judgement_given, keying_by, lot_to_record, paper_to_judge, request_at, requests_from, sent_as, stage_to_count, ward_to_add, ward_to_close, ward_to_declare, ward_to_seal};
 ghost use Rattle.desk.specs.Verdicts.{judgement_of};
 
-use crate::orders::{Judging, KeyingFile, NewBatch, NewWard, VerdictWord, Withdrawal};
+use crate::orders::{Drawing, Judging, KeyingFile, NewBatch, NewWard, VerdictWord, Withdrawal};
 use keyfile::CandidateRow;
 use register::{
-    BatchCommand, CandidateCommand, Command, KeyingCommand, Request, Verdict, VerdictCommand,
+    BatchCommand, CandidateCommand, Command, CountCommand, KeyingCommand, Request, Verdict, VerdictCommand,
     WardCommand,
 };
 use std::alloc::{AllocError, Global};
@@ -104,6 +104,34 @@ pub(crate) fn judge_paper(alloc: Global, judging: &Judging<'_>) -> Result<Comman
         paper: judging.paper,
         verdict: verdict_of(alloc, &judging.verdict)?,
     }))
+}
+
+pub(crate) fn seal_ward(ward: u32) -> Command
+    ensures { asked_by result ≡ ward_to_seal ward }
+{
+    Command::Count(CountCommand::Seal { ward })
+}
+
+pub(crate) fn count_stage(ward: u32) -> Command
+    ensures { asked_by result ≡ stage_to_count ward }
+{
+    Command::Count(CountCommand::Advance { ward })
+}
+
+pub(crate) fn record_lot(drawing: &Drawing<'_>) -> Command
+    ensures { asked_by result ≡ lot_to_record drawing.now.ward drawing.now.stage drawing.now.candidate }
+{
+    Command::Count(CountCommand::Lot {
+        ward: drawing.ward,
+        stage: drawing.stage,
+        candidate: drawing.candidate,
+    })
+}
+
+pub(crate) fn declare_ward(ward: u32) -> Command
+    ensures { asked_by result ≡ ward_to_declare ward }
+{
+    Command::Count(CountCommand::Declare { ward })
 }
 
 /// The request that keeps a clerk's keying of these papers, sent by the clerk.

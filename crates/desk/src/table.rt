@@ -108,6 +108,12 @@ pub(crate) const VERDICT: Word = Word {
     help: "accept: and the marks, one field a candidate, or reject: and a code, 3 to 5",
 };
 
+pub(crate) const STAGE: Word = Word {
+    name: "STAGE",
+    kind: Kind::Number,
+    help: "The stage of the count that waits for the lot, 2 to 31",
+};
+
 pub(crate) const FILE: Word = Word {
     name: "FILE",
     kind: Kind::Text,
@@ -121,7 +127,7 @@ pub(crate) const ID: Word = Word {
 };
 
 /// All orders, in the sequence of an election.
-const ORDERS: [Entry; 11] = [
+const ORDERS: [Entry; 17] = [
     Entry {
         name: "init",
         words: &[],
@@ -173,9 +179,39 @@ const ORDERS: [Entry; 11] = [
         help: "Judges a doubtful paper:\njudge 12 2 accept:1,,2 --id v1",
     },
     Entry {
+        name: "seal",
+        words: &[WARD, ID],
+        help: "Seals a ward whose papers are all agreed and judged:\nseal 7 --id s1",
+    },
+    Entry {
+        name: "advance",
+        words: &[WARD, ID],
+        help: "Counts the stage that is due in a sealed ward:\nadvance 7 --id n1",
+    },
+    Entry {
+        name: "lot",
+        words: &[WARD, STAGE, CANDIDATE, ID],
+        help: "Records a lot that was drawn for a stage:\nlot 7 2 3 --id l1",
+    },
+    Entry {
+        name: "declare",
+        words: &[WARD, ID],
+        help: "Declares the result of a ward whose count is finished:\ndeclare 7 --id d1",
+    },
+    Entry {
         name: "status",
         words: &[WARD],
         help: "Tells how a ward stands:\nstatus 7",
+    },
+    Entry {
+        name: "sheet",
+        words: &[WARD],
+        help: "Prints the stage sheet of a sealed ward:\nsheet 7",
+    },
+    Entry {
+        name: "result",
+        words: &[WARD],
+        help: "Prints the declaration of a declared ward:\nresult 7",
     },
 ];
 

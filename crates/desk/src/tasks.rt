@@ -5,8 +5,8 @@ ghost use Rattle.desk.specs.Requests.{asked_by, by_office, sending, work_for, wo
 
 use crate::orders::{KeyingFile, Order};
 use crate::requests::{
-    add_batch, add_candidate, add_ward, by_office, close_ward, judge_paper, key_again,
-    withdraw_candidate,
+    add_batch, add_candidate, add_ward, by_office, close_ward, count_stage, declare_ward,
+    judge_paper, key_again, record_lot, seal_ward, withdraw_candidate,
 };
 use register::{Command, Request};
 use std::alloc::{AllocError, Global};
@@ -24,6 +24,10 @@ pub(crate) enum Task<'a> {
     ImportKeying(KeyingFile<'a>),
     /// How this ward stands is to be told.
     TellStatus { ward: u32 },
+    /// The stage sheet of this ward is to be told.
+    TellSheet { ward: u32 },
+    /// The declaration of this ward is to be told.
+    TellResult { ward: u32 },
 }
 
 /// Sends a command of the office itself.
@@ -54,6 +58,12 @@ pub(crate) fn task_for<'a>(alloc: Global, order: &Order<'a>) -> Result<Task<'a>,
         Order::ImportKeying(keying) => Ok(Task::ImportKeying(*keying)),
         Order::Again { batch, id } => sending(alloc, id, key_again(*batch)),
         Order::Judge(judging) => sending(alloc, judging.id, judge_paper(alloc, judging)?),
+        Order::Seal { ward, id } => sending(alloc, id, seal_ward(*ward)),
+        Order::Advance { ward, id } => sending(alloc, id, count_stage(*ward)),
+        Order::Lot(drawing) => sending(alloc, drawing.id, record_lot(drawing)),
+        Order::Declare { ward, id } => sending(alloc, id, declare_ward(*ward)),
         Order::Status { ward } => Ok(Task::TellStatus { ward: *ward }),
+        Order::Sheet { ward } => Ok(Task::TellSheet { ward: *ward }),
+        Order::Result { ward } => Ok(Task::TellResult { ward: *ward }),
     }
 }
