@@ -33,7 +33,7 @@ module _ (harbour quay pier : String Global) (is : string_bytes harbour ≡ code
   unfolding step decided is_id subject_of reply_to digits with_harbour
   used = refl
 
-  capital : step with_harbour 0 (codes "W1") (Ward (Add 8 2 quay)) ≡ refused BadId
+  capital : step with_harbour 0 (codes "QUAY") (Ward (Add 8 2 quay)) ≡ refused BadId
   unfolding step decided is_id
   capital = refl
 
