@@ -3,5 +3,6 @@ pub mod Lines
 pub mod Pieces
 pub mod Writing
 pub mod Wards
+pub mod Entries
 pub mod Stages
 pub mod Sheet

@@ -1,17 +1,17 @@
 -- The stage sheet and the declaration.
-use Rattle.std.specs.Prelude.{ℕ, ◌+◌, if◌then◌else◌, nat_eq, List, [], ◌∷◌, ◌++◌, length, slice_index, codes, decimal, string_bytes, Option, Some, None}
+use Rattle.std.specs.Prelude.{ℕ, ◌+◌, if◌then◌else◌, nat_eq, List, [], ◌∷◌, ◌++◌, length, slice_index, codes, decimal, Option, Some, None}
 use Rattle.std.specs.List.{list_any, flat_map}
 use Rattle.votes.specs.Units.{quota_of}
 use Rattle.votes.specs.Text.{votes_text}
 use Rattle.count.specs.declared.stages.Stage.{Stage}
 use Rattle.sheet.specs.Lines.{line, number_column}
 use Rattle.sheet.specs.Stages.{heading, candidate_line, sum_lines}
-use Rattle.sheet.specs.declared.ward.Ward.{Ward}
+use Rattle.sheet.specs.Entries.{SheetEntry}
 use Rattle.sheet.specs.declared.ward.Poll.{Poll}
 
 -- `Ward 7 Harbour`
-abbrev pub ward_line : Ward → List ℕ
-ward_line ward = line (codes "Ward " ∷ decimal ward.number ∷ codes " " ∷ ward.name.now ∷ [])
+abbrev pub ward_line : SheetEntry → List ℕ
+ward_line ward = line (codes "Ward " ∷ decimal ward.number ∷ codes " " ∷ ward.name ∷ [])
 
 -- `Seats 2, uncontested`
 abbrev pub uncontested_line : ℕ → List ℕ
@@ -32,27 +32,26 @@ rejected_line rejected = line (
     codes ", 5: " ∷ decimal (slice_index rejected 4) ∷ [])
 
 -- the lines of all candidates at a stage
-abbrev pub candidate_lines : Ward → List Stage → Stage → List ℕ
-candidate_lines ward earlier stage =
-    flat_map (λ candidate. candidate_line earlier stage candidate.0 (string_bytes candidate.1)) ward.candidates.now
+abbrev pub candidate_lines : SheetEntry → List Stage → Stage → List ℕ
+candidate_lines ward earlier stage = flat_map (λ candidate. candidate_line earlier stage candidate.0 candidate.1) ward.candidates
 
 -- a stage after earlier ones
-abbrev pub stage_text : Ward → List Stage → Stage → List ℕ
+abbrev pub stage_text : SheetEntry → List Stage → Stage → List ℕ
 stage_text ward earlier stage =
     heading (length earlier + 1) stage.action ++ candidate_lines ward earlier stage ++ sum_lines stage
 
 -- stages after earlier ones
-abbrev pub stages_text : Ward → List Stage → List Stage → List ℕ
+abbrev pub stages_text : SheetEntry → List Stage → List Stage → List ℕ
 stages_text ward earlier [] = []
 stages_text ward earlier (stage ∷ later) = stage_text ward earlier stage ++ stages_text ward (earlier ++ stage ∷ []) later
 
 -- what stands below the ward's line
-abbrev pub below_ward : Ward → Option Poll → List Stage → List ℕ
+abbrev pub below_ward : SheetEntry → Option Poll → List Stage → List ℕ
 below_ward ward None stages = uncontested_line ward.seats
 below_ward ward (Some poll) stages = seats_line ward.seats poll.valid ++ rejected_line poll.rejected ++ stages_text ward [] stages
 
 -- the stage sheet of a ward
-abbrev pub sheet : Ward → List Stage → List ℕ
+abbrev pub sheet : SheetEntry → List Stage → List ℕ
 sheet ward stages = ward_line ward ++ below_ward ward ward.poll stages
 
 -- `Elected`
@@ -64,9 +63,9 @@ abbrev pub elected_line : List ℕ → ℕ → List ℕ → List ℕ
 elected_line elected c name = if list_any (nat_eq c) elected then line (number_column c ∷ codes " " ∷ name ∷ []) else []
 
 -- the lines of all elected candidates
-abbrev pub elected_lines : Ward → List ℕ → List ℕ
-elected_lines ward elected = flat_map (λ candidate. elected_line elected candidate.0 (string_bytes candidate.1)) ward.candidates.now
+abbrev pub elected_lines : SheetEntry → List ℕ → List ℕ
+elected_lines ward elected = flat_map (λ candidate. elected_line elected candidate.0 candidate.1) ward.candidates
 
 -- the declaration of a ward, by the numbers of its elected
-abbrev pub declaration : Ward → List ℕ → List ℕ
+abbrev pub declaration : SheetEntry → List ℕ → List ℕ
 declaration ward elected = ward_line ward ++ elected_heading ++ elected_lines ward elected

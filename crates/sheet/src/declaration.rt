@@ -1,6 +1,7 @@
 //! The declaration of who is elected.
 
 ghost use Rattle.std.specs.Prelude.{◌-◌, ◌^◌, ◌<◌, string_bytes};
+ghost use Rattle.sheet.specs.Entries.{shown};
 ghost use Rattle.sheet.specs.Sheet.{elected_line, elected_lines, declaration};
 ghost use Rattle.sheet.specs.Wards.{CanBePrinted};
 ghost use Rattle.sheet.specs.Writing.{Writes};
@@ -35,7 +36,7 @@ fn write_elected_line<W: Sink>(
 /// Writes the lines of the elected candidates.
 fn write_elected_lines<W: Sink>(sink: &mut W, ward: &Ward, elected: &Columns) -> Result<(), Broken>
     requires { W.failed sink.old < 2 ^ 64 - 1 }
-    ensures { Writes W.taken W.failed sink.old sink.new (elected_lines ward.now elected.now) result }
+    ensures { Writes W.taken W.failed sink.old sink.new (elected_lines (shown ward.now) elected.now) result }
 {
     for candidate in ward.candidates {
         write_elected_line(sink, elected, candidate)?;
@@ -51,7 +52,7 @@ fn write_elected_lines<W: Sink>(sink: &mut W, ward: &Ward, elected: &Columns) ->
 pub fn write_declaration<W: Sink>(sink: &mut W, ward: &Ward, elected: Columns) -> Result<(), Broken>
     requires ward { CanBePrinted ward.now }
     requires failures { W.failed sink.old < 2 ^ 64 - 1 }
-    ensures { Writes W.taken W.failed sink.old sink.new (declaration ward.now elected) result }
+    ensures { Writes W.taken W.failed sink.old sink.new (declaration (shown ward.now) elected) result }
 {
     write_ward_line(sink, ward)?;
     write_line(sink, &[Piece::Text("Elected")])?;

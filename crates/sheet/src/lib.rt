@@ -2,7 +2,8 @@
 //!
 //! A [`Ward`] has what they tell of it, with its [`Poll`] if it is contested. [`write_sheet`] and
 //! [`write_declaration`] write them to a sink, line by line, and take no memory; [`sheet_text`]
-//! gives the sheet as a text. [`can_be_printed`] is the test of what they ask of a ward.
+//! and [`declaration_text`] give them as texts. [`can_be_printed`] is the test of what all four ask of
+//! a ward.
 //!
 //! ```text
 //! let ward = Ward { number: 7, name: "Harbour", seats: 2, candidates: &candidates, poll: Some(poll) };
@@ -23,7 +24,7 @@ mod ward;
 
 pub use declaration::write_declaration;
 pub use fitness::can_be_printed;
-pub use page::sheet_text;
+pub use page::{declaration_text, sheet_text};
 pub use sheets::write_sheet;
 pub use ward::{Poll, Ward};
 

@@ -2,6 +2,7 @@
 
 ghost use Rattle.std.specs.Prelude.{◌-◌, ◌^◌, ◌<◌, ◌≤◌};
 ghost use Rattle.votes.specs.Units.{max_papers, max_seats};
+ghost use Rattle.sheet.specs.Entries.{shown};
 ghost use Rattle.sheet.specs.Sheet.{ward_line, uncontested_line, seats_line, rejected_line};
 ghost use Rattle.sheet.specs.Writing.{Writes};
 
@@ -12,7 +13,7 @@ use votes::{Broken, Sink, quota};
 /// Writes the number and the name of a ward.
 pub fn write_ward_line<W: Sink>(sink: &mut W, ward: &Ward) -> Result<(), Broken>
     requires { W.failed sink.old < 2 ^ 64 - 1 }
-    ensures { Writes W.taken W.failed sink.old sink.new (ward_line ward.now) result }
+    ensures { Writes W.taken W.failed sink.old sink.new (ward_line (shown ward.now)) result }
 {
     let pieces = [
         Piece::Text("Ward "),

@@ -1,12 +1,15 @@
-//! The stage sheet as a text in memory.
+//! The stage sheet and the declaration as texts in memory.
 
 ghost use Rattle.std.specs.Prelude.{◌≡◌, Some, IfOk, string_bytes};
-ghost use Rattle.sheet.specs.Sheet.{sheet};
+ghost use Rattle.sheet.specs.Entries.{shown};
+ghost use Rattle.sheet.specs.Sheet.{sheet, declaration};
 ghost use Rattle.sheet.specs.Wards.{CanBePrinted};
 
+use crate::declaration::write_declaration;
 use crate::sheets::write_sheet;
 use crate::ward::Ward;
 use count::Stage;
+use paper::Columns;
 use std::alloc::{AllocError, Global};
 use votes::{Broken, Sink};
 
@@ -42,13 +45,30 @@ impl Sink for Page {
 /// The only error is want of memory.
 pub fn sheet_text(alloc: Global, ward: &Ward, stages: &[Stage]) -> Result<String, AllocError>
     requires { CanBePrinted ward.now }
-    ensures { IfOk result (λ text. string_bytes text ≡ sheet ward.now stages.now) }
+    ensures { IfOk result (λ text. string_bytes text ≡ sheet (shown ward.now) stages.now) }
 {
     let mut page = Page {
         text: Vec::new(alloc),
         failed: 0,
     };
     if write_sheet(&mut page, ward, stages).is_err() {
+        return Err(AllocError);
+    }
+    Ok(String::from_utf8(page.text).unwrap())
+}
+
+/// The declaration of a ward, as [`write_declaration`] writes it.
+///
+/// The only error is want of memory.
+pub fn declaration_text(alloc: Global, ward: &Ward, elected: Columns) -> Result<String, AllocError>
+    requires { CanBePrinted ward.now }
+    ensures { IfOk result (λ text. string_bytes text ≡ declaration (shown ward.now) elected) }
+{
+    let mut page = Page {
+        text: Vec::new(alloc),
+        failed: 0,
+    };
+    if write_declaration(&mut page, ward, elected).is_err() {
         return Err(AllocError);
     }
     Ok(String::from_utf8(page.text).unwrap())

@@ -2,6 +2,7 @@
 
 ghost use Rattle.std.specs.Prelude.{◌-◌, ◌^◌, ◌<◌, [], map};
 ghost use Rattle.paper.specs.Columns.{IsColumnSet};
+ghost use Rattle.sheet.specs.Entries.{shown};
 ghost use Rattle.sheet.specs.Sheet.{stages_text, below_ward, sheet};
 ghost use Rattle.sheet.specs.Wards.{CanBePrinted};
 ghost use Rattle.sheet.specs.Writing.{Writes};
@@ -18,7 +19,7 @@ use votes::{Broken, Sink};
 fn write_stages<W: Sink>(sink: &mut W, ward: &Ward, stages: &[Stage]) -> Result<(), Broken>
     requires candidate_set { IsColumnSet (map (λ candidate. candidate.0) ward.now.candidates.now) }
     requires failures { W.failed sink.old < 2 ^ 64 - 1 }
-    ensures { Writes W.taken W.failed sink.old sink.new (stages_text ward.now [] stages.now) result }
+    ensures { Writes W.taken W.failed sink.old sink.new (stages_text (shown ward.now) [] stages.now) result }
 {
     for k in 0..stages.len() {
         write_stage(sink, ward, &stages[..k], &stages[k])?;
@@ -30,7 +31,7 @@ fn write_stages<W: Sink>(sink: &mut W, ward: &Ward, stages: &[Stage]) -> Result<
 fn write_below_ward<W: Sink>(sink: &mut W, ward: &Ward, stages: &[Stage]) -> Result<(), Broken>
     requires ward { CanBePrinted ward.now }
     requires failures { W.failed sink.old < 2 ^ 64 - 1 }
-    ensures { Writes W.taken W.failed sink.old sink.new (below_ward ward.now ward.now.poll stages.now) result }
+    ensures { Writes W.taken W.failed sink.old sink.new (below_ward (shown ward.now) ward.now.poll stages.now) result }
 {
     let Some(poll) = ward.poll else {
         return write_uncontested_line(sink, ward.seats);
@@ -48,7 +49,7 @@ fn write_below_ward<W: Sink>(sink: &mut W, ward: &Ward, stages: &[Stage]) -> Res
 pub fn write_sheet<W: Sink>(sink: &mut W, ward: &Ward, stages: &[Stage]) -> Result<(), Broken>
     requires ward { CanBePrinted ward.now }
     requires failures { W.failed sink.old < 2 ^ 64 - 1 }
-    ensures { Writes W.taken W.failed sink.old sink.new (sheet ward.now stages.now) result }
+    ensures { Writes W.taken W.failed sink.old sink.new (sheet (shown ward.now) stages.now) result }
 {
     write_ward_line(sink, ward)?;
     write_below_ward(sink, ward, stages)

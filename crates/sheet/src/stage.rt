@@ -3,6 +3,7 @@
 ghost use Rattle.std.specs.Prelude.{◌≡◌, ◌-◌, ◌^◌, ◌<◌, map, string_bytes};
 ghost use Rattle.paper.specs.Columns.{IsColumnSet, IsColumn};
 ghost use Rattle.count.specs.Law.Elected.{excludes as excludes_of};
+ghost use Rattle.sheet.specs.Entries.{shown};
 ghost use Rattle.sheet.specs.Stages.{is_elected_at as is_elected_of, is_excluded_at as is_excluded_of, letter as letter_of, heading, candidate_line, sum_line, sum_lines};
 ghost use Rattle.sheet.specs.Sheet.{candidate_lines, stage_text};
 ghost use Rattle.sheet.specs.Writing.{Writes};
@@ -114,7 +115,7 @@ fn write_candidate_lines<W: Sink>(
 ) -> Result<(), Broken>
     requires candidate_set { IsColumnSet (map (λ candidate. candidate.0) ward.now.candidates.now) }
     requires failures { W.failed sink.old < 2 ^ 64 - 1 }
-    ensures { Writes W.taken W.failed sink.old sink.new (candidate_lines ward.now earlier.now stage.now) result }
+    ensures { Writes W.taken W.failed sink.old sink.new (candidate_lines (shown ward.now) earlier.now stage.now) result }
 {
     for candidate in ward.candidates {
         write_candidate_line(sink, earlier, stage, candidate)?;
@@ -154,7 +155,7 @@ pub fn write_stage<W: Sink>(
 ) -> Result<(), Broken>
     requires candidate_set { IsColumnSet (map (λ candidate. candidate.0) ward.now.candidates.now) }
     requires failures { W.failed sink.old < 2 ^ 64 - 1 }
-    ensures { Writes W.taken W.failed sink.old sink.new (stage_text ward.now earlier.now stage.now) result }
+    ensures { Writes W.taken W.failed sink.old sink.new (stage_text (shown ward.now) earlier.now stage.now) result }
 {
     write_heading(sink, earlier.len() as u64 + 1, stage.action)?;
     write_candidate_lines(sink, ward, earlier, stage)?;

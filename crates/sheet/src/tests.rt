@@ -1,6 +1,8 @@
 //! Sheets and declarations, byte for byte.
 
-use crate::{Poll, Ward, can_be_printed, sheet_text, write_declaration, write_sheet};
+use crate::{
+    Poll, Ward, can_be_printed, declaration_text, sheet_text, write_declaration, write_sheet,
+};
 use count::{Action, Stage};
 use paper::Columns;
 use std::alloc::{AllocError, Global};
@@ -80,7 +82,7 @@ fn prints_sheet(
     Ok(())
 }
 
-/// Prints the declaration of a ward.
+/// Prints the declaration of a ward: as a text, and to a sink.
 fn prints_declaration(
     rt: &(impl Abort + AllocGlobal),
     ward: &Ward,
@@ -88,6 +90,10 @@ fn prints_declaration(
     declaration: &str,
 ) -> Result<(), Fail> {
     assert!(rt; can_be_printed(ward));
+    assert_eq!(rt;
+        declaration_text(rt.alloc(), ward, elected)?.as_str(),
+        declaration
+    );
     let mut page = Vec::new(rt.alloc());
     write_declaration(&mut Counted::new(&mut page), ward, elected)?;
     assert_eq!(rt; page.as_slice(), declaration.as_bytes());

@@ -1,6 +1,7 @@
 -- Why `write_elected_lines` keeps its promise.
 use Rattle.std.proofs.Common.{string_bytes}
 use Rattle.std.proofs.lemmas.List.{take_all}
+use Rattle.std.proofs.lemmas.List.Folds.{flat_map-map}
 use Rattle.sheet.specs.Sheet.{elected_line}
 use Rattle.sheet.proofs.Writing.{Writes-none, Writes-item, Writes-item_cut}
 use Rattle.sheet.proofs.declaration.write_elected_lines.Goals as goal
@@ -15,8 +16,8 @@ loop-candidate-preserved g c =
 
 pub returns-in_err-write_elected_line : goal.returns-in_err-write_elected_line
 returns-in_err-write_elected_line g c =
-    Writes-item_cut (λ candidate. elected_line c.args.elected.now candidate.0 (string_bytes candidate.1)) c.args.ward.now.candidates.now c.loop-candidate.candidate-index c.candidate-item.result c.from_residual.result
-    c.loop-candidate-test.true c.candidate-item.is c.loop-candidate.invariant c.in_err-write_elected_line.ensures c.from_residual.ensures.0
+    rw flat_map-map (Writes-item_cut (λ candidate. elected_line c.args.elected.now candidate.0 (string_bytes candidate.1)) c.args.ward.now.candidates.now c.loop-candidate.candidate-index c.candidate-item.result c.from_residual.result
+    c.loop-candidate-test.true c.candidate-item.is c.loop-candidate.invariant c.in_err-write_elected_line.ensures c.from_residual.ensures.0)
 
 pub returns : goal.returns
-returns g c = rw (take_all _ _ c.loop-candidate-test.false) at c.loop-candidate.invariant
+returns g c = rw flat_map-map (rw (take_all _ _ c.loop-candidate-test.false) at c.loop-candidate.invariant)

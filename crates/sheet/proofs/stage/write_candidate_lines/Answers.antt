@@ -1,6 +1,7 @@
 -- Why `write_candidate_lines` keeps its promise.
 use Rattle.std.proofs.Common.{string_bytes, sym, subst}
 use Rattle.std.proofs.lemmas.List.{take_all}
+use Rattle.std.proofs.lemmas.List.Folds.{flat_map-map}
 use Rattle.paper.specs.Columns.{IsColumn}
 use Rattle.sheet.specs.Stages.{candidate_line}
 use Rattle.sheet.proofs.Candidates.{IsColumn-candidate}
@@ -22,8 +23,8 @@ loop-candidate-preserved g c =
 
 pub returns-in_err-write_candidate_line : goal.returns-in_err-write_candidate_line
 returns-in_err-write_candidate_line g c =
-    Writes-item_cut (λ candidate. candidate_line c.args.earlier.now c.args.stage.now candidate.0 (string_bytes candidate.1)) c.args.ward.now.candidates.now c.loop-candidate.candidate-index c.candidate-item.result c.from_residual.result
-    c.loop-candidate-test.true c.candidate-item.is c.loop-candidate.invariant c.in_err-write_candidate_line.ensures c.from_residual.ensures.0
+    rw flat_map-map (Writes-item_cut (λ candidate. candidate_line c.args.earlier.now c.args.stage.now candidate.0 (string_bytes candidate.1)) c.args.ward.now.candidates.now c.loop-candidate.candidate-index c.candidate-item.result c.from_residual.result
+    c.loop-candidate-test.true c.candidate-item.is c.loop-candidate.invariant c.in_err-write_candidate_line.ensures c.from_residual.ensures.0)
 
 pub returns : goal.returns
-returns g c = rw (take_all _ _ c.loop-candidate-test.false) at c.loop-candidate.invariant
+returns g c = rw flat_map-map (rw (take_all _ _ c.loop-candidate-test.false) at c.loop-candidate.invariant)

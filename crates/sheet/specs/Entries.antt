@@ -1,0 +1,22 @@
+-- What a sheet and a declaration tell of a ward.
+use Rattle.std.specs.Prelude.{ℕ, List, map, string_bytes, Option}
+use Rattle.sheet.specs.declared.ward.Ward.{Ward}
+use Rattle.sheet.specs.declared.ward.Poll.{Poll}
+
+-- a ward with plain texts: its number, its name, its seats, the number and the name of each candidate, ascending, and its poll if it is contested
+pub record SheetEntry : Type 0 where
+  pub number : ℕ
+  pub name : List ℕ
+  pub seats : ℕ
+  pub candidates : List (ℕ × List ℕ)
+  pub poll : Option Poll
+
+-- what a ward shows
+abbrev pub shown : Ward → SheetEntry
+shown ward = record {
+  number = ward.number;
+  name = ward.name.now;
+  seats = ward.seats;
+  candidates = map (λ candidate. (candidate.0, string_bytes candidate.1)) ward.candidates.now;
+  poll = ward.poll;
+}
