@@ -80,8 +80,9 @@ pub fn dues_to<B: CountBook>(
 {
     let mut dues = Vec::new(alloc);
     for _ in 0..stages {
-        dues.push(book.due())?;
+        let due = book.due();
         advance_by(book, lots)?;
+        dues.push(due)?;
     }
     dues.push(book.due())?;
     Ok(dues)
