@@ -1,13 +1,13 @@
 -- The stages that are worked out are the right ones.
-use Rattle.std.proofs.Common.{◌≡◌, ℕ, zero, suc, ◌+◌, true, false, Bool, cond, nat_eq, List, [], ◌∷◌, ◌++◌, length, map, Option, Some, None, refl, sym, ap, ◌∙◌, arith, subst}
+use Rattle.std.proofs.Common.{◌≡◌, ℕ, zero, suc, ◌+◌, true, false, Bool, cond, nat_eq, List, [], ◌∷◌, ◌++◌, length, map, Option, Some, None, refl, sym, ap, ◌∙◌, arith}
 use Rattle.std.specs.Prelude.{IfSome, IfNone}
 use Rattle.std.specs.List.{list_any, range_with_len}
 use Rattle.std.proofs.lemmas.List.FromFn.{map-range_with_len_more}
 use Rattle.count.specs.Law.Contest.{Contest, History}
 use Rattle.count.specs.Law.Due.{due_after, drawn, lot_for, next_action, action_on}
-use Rattle.count.specs.Law.Right.{Tells, IsNext, IsRight}
-use Rattle.count.specs.Law.Count.{stage_of, with_stage, with_next, stages_to, due_or, due_by}
-use Rattle.count.specs.Advance.{Advances, AdvancesBy, end_of, end_after}
+use Rattle.count.specs.Law.Right.{Tells, IsRight}
+use Rattle.count.specs.Law.Count.{stage_of, with_stage, with_next, stages_to}
+use Rattle.count.specs.Advance.{AdvancesBy, end_of, end_after}
 use Rattle.count.specs.declared.stages.Stage.{Stage}
 use Rattle.count.specs.declared.stages.Action.{Action}
 use Rattle.count.specs.declared.stages.Due.{Due}
