@@ -1,6 +1,6 @@
 //! A count to some stage of it, by the recorded lots.
 
-ghost use Rattle.std.specs.Prelude.{◌≡◌, ◌+◌, ℕ, [], map, length, OnOk, IfOk};
+ghost use Rattle.std.specs.Prelude.{◌≡◌, ◌+◌, ℕ, [], map, length, OnOk, OnErr, IfOk};
 ghost use Rattle.std.specs.List.{range_with_len};
 ghost use Rattle.count.specs.Law.Contest.{History};
 ghost use Rattle.count.specs.Law.Due.{due_after, next_action};
@@ -18,6 +18,7 @@ fn advance_by<B: CountBook>(book: &mut B, lots: &[(u8, u8)]) -> Result<Option<Ac
     ensures same { B.contest book.new ≡ B.contest book.old }
     ensures is { OnOk result (B.history book.new ≡ with_next (B.contest book.old) lots.now (B.history book.old)) }
     ensures action { IfOk result (λ action. action ≡ next_action (B.contest book.old) lots.now (B.history book.old)) }
+    ensures err { OnErr result (B.history book.new ≡ B.history book.old) }
 {
     if step(book, lots)?.is_some() {
         return Ok(None);
@@ -56,6 +57,8 @@ pub fn count_to<B: CountBook>(
 pub fn due_by<B: CountBook>(book: &mut B, lots: &[(u8, u8)]) -> Result<Due, AllocError>
     ensures same { B.contest book.new ≡ B.contest book.old }
     ensures is { IfOk result (λ due. due ≡ due_by_lots (B.contest book.old) lots.now (B.history book.old)) }
+    ensures counted { OnOk result (B.history book.new ≡ with_next (B.contest book.old) lots.now (B.history book.old)) }
+    ensures err { OnErr result (B.history book.new ≡ B.history book.old) }
 {
     let due = book.due();
     match advance_by(book, lots)? {
