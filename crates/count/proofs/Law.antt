@@ -2,6 +2,7 @@
 pub mod ActionLemmas
 pub mod CandidateSums
 pub mod ConservedLemmas
+pub mod CountLemmas
 pub mod CutLemmas
 pub mod DueLemmas
 pub mod FinishLemmas

@@ -5,4 +5,5 @@ pub mod Places
 pub mod Figures
 pub mod Due
 pub mod Right
+pub mod Count
 pub mod Laws

@@ -3,11 +3,13 @@
 ghost use Rattle.std.specs.Prelude.{◌≡◌, ℕ, reverse, OnOk, OnErr, IfSome, IfNone, IsOkUnless};
 ghost use Rattle.count.specs.Law.Contest.{Contest, History, IsContest};
 ghost use Rattle.count.specs.Law.Due.{due_after};
+ghost use Rattle.count.specs.Law.Elected.{elected_after};
 ghost use Rattle.count.specs.Law.Right.{IsRightByItself};
 ghost use Rattle.count.specs.Law.Laws.{IsConserved, IsShort, FillsSeats, OnlyCandidatesHaveVotes, IsAmongSeveral};
 ghost use Rattle.count.specs.Advance.{refusal, Advances};
 
 use crate::stages::{Due, Stage};
+use paper::Columns;
 use thiserror::Error;
 
 /// Why a book didn't advance; it is unchanged.
@@ -54,6 +56,10 @@ pub trait CountBook {
         ensures fair { IsContest (contest self.now) }
         ensures several { IsAmongSeveral result }
         ensures filled { result ≡ Due.Finished → FillsSeats (contest self.now) (history self.now) };
+
+    /// Who is elected after the stages so far ("Quota"; "Filling of last vacancies").
+    fn elected(&self) -> Columns
+        ensures { result ≡ elected_after (contest self.now) (history self.now) };
 
     /// Adds the one stage that is due, with the lot where one is needed; else the lot is ignored.
     ///

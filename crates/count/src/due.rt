@@ -2,6 +2,7 @@
 
 ghost use Rattle.std.specs.Prelude.{◌≡◌, ℕ, ◌<◌, [], length, reverse, IfOk, IfErr, Some};
 ghost use Rattle.count.specs.Law.Due.{due_after, drawn, exclusion as exclusion_of, action_on as action_on_of, among as among_of, due_for as due_for_of};
+ghost use Rattle.count.specs.Law.Elected.{elected_after};
 ghost use Rattle.count.specs.Advance.{refusal};
 ghost use Rattle.count.specs.Books.{contest_of};
 
@@ -76,6 +77,13 @@ pub fn due(terms: &Terms, papers: &[Prefs], stages: &[Stage]) -> Due
             due_for(terms, stages, &group)
         }
     }
+}
+
+/// The candidates who are elected; the papers themselves aren't read.
+pub fn elected_with(terms: &Terms, papers: &[Prefs], stages: &[Stage]) -> Columns
+    ensures { result ≡ elected_after (contest_of terms.now papers.now) (reverse stages.now) }
+{
+    elected(terms, stages)
 }
 
 /// The action that is due, where a lot is handed; the papers themselves aren't read.

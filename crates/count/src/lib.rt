@@ -2,7 +2,8 @@
 //!
 //! A [`CountBook`] is a count that is under way: the stages that are done, what is [`Due`], and
 //! [`CountBook::advance`], which adds the one stage that is due. [`ParcelBook`] keeps the papers in
-//! parcels, as a teller does. [`run_count`] counts to the end with the lots that are recorded.
+//! parcels, as a teller does. [`run_count`] counts to the end with the lots that are recorded, and
+//! [`count_to`] so many stages; [`due_by`] and [`dues_to`] tell what is due by those lots.
 //!
 //! ```text
 //! if is_contest(&candidates, seats, &papers) {
@@ -21,9 +22,10 @@ mod terms;
 mod due;
 mod elected;
 mod ties;
-// a count that is under way, and one to its end
+// a count that is under way, one to its end, and one to a stage
 mod book;
 mod run;
+mod so_far;
 // papers in parcels, and how they are passed on
 mod moving;
 mod parcel;
@@ -41,4 +43,5 @@ pub use book::{AdvanceError, CountBook};
 pub use contest::is_contest;
 pub use parcel_book::ParcelBook;
 pub use run::{CountEnd, run_count};
+pub use so_far::{count_to, due_by, dues_to};
 pub use stages::{Action, Due, Kind, Stage};

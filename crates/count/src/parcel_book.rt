@@ -5,7 +5,7 @@ ghost use Rattle.count.specs.Law.Contest.{contest_for, IsContest};
 
 use crate::act::act;
 use crate::book::{AdvanceError, CountBook};
-use crate::due::{action_by, due};
+use crate::due::{action_by, due, elected_with};
 use crate::parcel::Holding;
 use crate::stages::{Due, Stage};
 use crate::terms::Terms;
@@ -78,6 +78,10 @@ impl<'a> CountBook for ParcelBook<'a> {
     #[tactic(auto, using(crate::proofs::BookLemmas::book_facts))]
     fn due(&self) -> Due {
         due(&self.terms, self.papers, &self.stages)
+    }
+
+    fn elected(&self) -> Columns {
+        elected_with(&self.terms, self.papers, &self.stages)
     }
 
     #[tactic(auto, using(crate::proofs::BookLemmas::book_facts))]

@@ -46,7 +46,7 @@ fn advanced<B: CountBook>(book: &mut B, lot: Option<u8>) -> Result<Option<CountE
 
 /// Adds the stage that is due, or tells why there is none.
 #[tactic(auto, using(crate::proofs::Law::DueLemmas::due_lot))]
-fn step<B: CountBook>(book: &mut B, lots: &[(u8, u8)]) -> Result<Option<CountEnd>, AllocError>
+pub fn step<B: CountBook>(book: &mut B, lots: &[(u8, u8)]) -> Result<Option<CountEnd>, AllocError>
     ensures same { B.contest book.new ≡ B.contest book.old }
     ensures fair { IsContest (B.contest book.old) }
     ensures end { IfOk result (λ end. end ≡ end_after (B.contest book.old) lots.now (B.history book.old)) }

@@ -9,6 +9,7 @@ use Rattle.count.specs.Law.Due.{due_after, drawn, lot_for, next_action, action_o
 use Rattle.count.specs.Law.Figures.{votes_after, non_transferable_after, lost_after, lost_by, value_passed_on, value_with}
 use Rattle.count.specs.Law.Elected.{elected_after, is_elected, is_transferred}
 use Rattle.count.specs.Law.Right.{Tells, IsRight, IsCount, reordered, IsBeginning, BeginsEachRight, EqualsEachCount, IsWholeCount, OneBeginsOther}
+use Rattle.count.specs.Law.Count.{stage_of}
 use Rattle.count.specs.Advance.{AdvancesBy, end_of, end_after}
 use Rattle.count.specs.declared.run.CountEnd.{CountEnd}
 use Rattle.count.specs.declared.run.CountEnd.TheVariants.{LotNotAmong}
@@ -21,21 +22,8 @@ use Rattle.count.specs.declared.stages.Action.{Action}
 use Rattle.count.specs.declared.stages.Action.TheVariants.{First, Surplus, Exclude, ExcludeLast}
 use Rattle.count.proofs.SumLemmas.{sum_by-same}
 
--- What a stage tells is made of its action and the stages before it.
-told : Contest → History → Action → Stage
-told contest before a =
-    let bare : Stage = record { action = a; votes = []; elected = []; non_transferable = 0; lost = 0 } in
-    let counted : Stage = record { action = a; votes = map (votes_after contest (bare ∷ before)) numbers; elected = []; non_transferable = 0; lost = 0 } in
-    record {
-      action = a;
-      votes = map (votes_after contest (bare ∷ before)) numbers;
-      elected = filter (λ c. not (is_elected contest before c)) (elected_after contest (counted ∷ before));
-      non_transferable = non_transferable_after contest (bare ∷ before);
-      lost = lost_after contest (bare ∷ before);
-    }
-
-is_told : (contest : Contest) (before : History) (s : Stage) → Tells contest before s → s ≡ told contest before s.action
-unfolding told
+-- what a stage tells is made of its action and the stages before it
+pub is_told : (contest : Contest) (before : History) (s : Stage) → Tells contest before s → s ≡ stage_of contest before s.action
 is_told contest before s tells =
     let bare : Stage = record { action = s.action; votes = []; elected = []; non_transferable = 0; lost = 0 } in
     let vs : List ℕ = map (votes_after contest (bare ∷ before)) numbers in
@@ -59,7 +47,7 @@ right_same contest lots (x ∷ xs) (y ∷ ys) h k e =
     let before : xs ≡ ys = right_same contest lots xs ys h.0 k.0 (omega (arith, e)) in
     let due_x : drawn contest ys (lot_for lots (length ys + 1)) (due_after contest ys) ≡ Some x.action = rw (← before) h.1.was_due in
     let same : x.action ≡ y.action = some_same _ _ _ due_x k.1.was_due in
-    let head : x ≡ y = is_told contest xs x h.1.tells ∙ ap (λ (b : History). told contest b x.action) before ∙ ap (told contest ys) same ∙ sym (is_told contest ys y k.1.tells) in
+    let head : x ≡ y = is_told contest xs x h.1.tells ∙ ap (λ (b : History). stage_of contest b x.action) before ∙ ap (stage_of contest ys) same ∙ sym (is_told contest ys y k.1.tells) in
     ap (λ (s : Stage). s ∷ xs) head ∙ ap (λ (b : History). y ∷ b) before
 
 same_moved : (contest : Contest) (papers : List (List ℕ)) (before : History) (a : Action) (p : List ℕ) (at at' : Place) →

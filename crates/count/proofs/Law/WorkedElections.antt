@@ -1,6 +1,7 @@
 -- Small elections counted by hand, evaluated against the definitions: a wrong figure, action or tie is refused.
-use Rattle.std.proofs.Common.{◌-◌, ℕ, List, [], ◌∷◌, ◌++◌, replicate, refl, length}
+use Rattle.std.proofs.Common.{◌≡◌, ◌-◌, ℕ, List, [], ◌∷◌, ◌++◌, replicate, refl, length}
 use Rattle.count.specs.Law.Contest.{Contest, History, contest_for}
+use Rattle.count.specs.Law.Count.{stages_to}
 use Rattle.count.specs.Law.Right.{IsRight, IsCount}
 use Rattle.count.specs.declared.stages.Stage.{Stage}
 use Rattle.count.specs.declared.stages.Action.{Action}
@@ -160,6 +161,10 @@ lot_for_surplus_right_5 = (lot_for_surplus_right_4, record { was_due = refl; tel
 
 lot_for_surplus_count : IsCount lot_for_surplus lot_for_surplus_lots lot_for_surplus_5
 lot_for_surplus_count = (lot_for_surplus_right_5, refl)
+
+lot_for_surplus_worked_out : stages_to lot_for_surplus lot_for_surplus_lots 5 ≡ lot_for_surplus_5
+unfolding stages_to
+lot_for_surplus_worked_out = refl
 
 -- One seat: the most recent stage at which two differed decides, and not the first.
 abbrev most_recent_stage : Contest

@@ -1,0 +1,83 @@
+-- The stages that are worked out are the right ones.
+use Rattle.std.proofs.Common.{◌≡◌, ℕ, zero, suc, ◌+◌, true, false, Bool, cond, nat_eq, List, [], ◌∷◌, ◌++◌, length, map, Option, Some, None, refl, sym, ap, ◌∙◌, arith}
+use Rattle.std.specs.Prelude.{IfSome, IfNone}
+use Rattle.std.specs.List.{list_any, range_with_len}
+use Rattle.std.proofs.lemmas.List.FromFn.{map-range_with_len_more}
+use Rattle.count.specs.Law.Contest.{Contest, History}
+use Rattle.count.specs.Law.Due.{due_after, drawn, lot_for, next_action, action_on}
+use Rattle.count.specs.Law.Right.{Tells, IsRight}
+use Rattle.count.specs.Law.Count.{stage_of, with_stage, with_next, stages_to}
+use Rattle.count.specs.Advance.{AdvancesBy, end_of, end_after}
+use Rattle.count.specs.declared.stages.Stage.{Stage}
+use Rattle.count.specs.declared.stages.Action.{Action}
+use Rattle.count.specs.declared.stages.Due.{Due}
+use Rattle.count.specs.declared.stages.Due.TheVariants.{Act, Lot, Finished}
+use Rattle.count.specs.declared.run.CountEnd.{CountEnd}
+use Rattle.count.specs.declared.run.CountEnd.TheVariants.{LotNotAmong as misses_lot}
+use Rattle.count.proofs.Law.RightLemmas.{is_told}
+
+-- a stage that is worked out tells what it should
+told_of : (contest : Contest) (before : History) (action : Action) → Tells contest before (stage_of contest before action)
+told_of contest before action = record { votes_told = refl; elected_told = refl; non_transferable_told = refl; lost_told = refl }
+
+next_right : (contest : Contest) (lots : List (ℕ × ℕ)) (before : History) → IsRight contest lots before → (o : Option Action) → next_action contest lots before ≡ o → IsRight contest lots (with_stage contest before o)
+next_right contest lots before right None is = right
+next_right contest lots before right (Some action) is = (right, record { was_due = is; tells = told_of contest before action })
+
+-- the stages that are worked out are right
+pub stages_right : (contest : Contest) (lots : List (ℕ × ℕ)) (k : ℕ) → IsRight contest lots (stages_to contest lots k)
+unfolding stages_to
+stages_right contest lots zero = tt
+stages_right contest lots (suc k) = next_right contest lots (stages_to contest lots k) (stages_right contest lots k) _ refl
+
+-- and they are the only right ones
+pub stages_only : (contest : Contest) (lots : List (ℕ × ℕ)) (stages : History) → IsRight contest lots stages → stages ≡ stages_to contest lots (length stages)
+unfolding stages_to
+stages_only contest lots [] right = refl
+stages_only contest lots (s ∷ before) right =
+    let earlier : before ≡ stages_to contest lots (length before) = stages_only contest lots before right.0 in
+    ap (λ (t : Stage). t ∷ before) (is_told contest before s right.1.tells)
+    ∙ ap (with_stage contest before) (sym right.1.was_due)
+    ∙ ap (with_next contest lots) earlier
+
+-- where a count ends, no action comes next, and else one does
+ended_none : (contest : Contest) (stages : History) (lot : Option ℕ) (due : Due) (e : CountEnd) → end_of lot due ≡ Some e → drawn contest stages lot due ≡ None
+ended_none contest stages lot (Act action) e is = cc
+ended_none contest stages None Finished e is = refl
+ended_none contest stages (Some c) Finished e is = refl
+ended_none contest stages None (Lot stage kind tied) e is = refl
+ended_none contest stages (Some c) (Lot stage kind tied) e is = go (list_any (nat_eq c) tied) is
+  where
+    go : (b : Bool) → cond b None (Some (misses_lot stage)) ≡ Some e → cond b (Some (action_on contest stages kind c)) None ≡ None
+    go true h = cc
+    go false h = refl
+
+-- a book that advanced by the lots, or ended, has the stages that come next
+pub stages_next : (contest : Contest) (lots : List (ℕ × ℕ)) (old new : History) (end : Option CountEnd) → end ≡ end_after contest lots old → IfSome end (λ _. new ≡ old) → IfNone end (AdvancesBy contest lots old new)
+    → new ≡ with_next contest lots old
+stages_next contest lots old new None is same more =
+    more.one_more ∙ ap (λ (t : Stage). t ∷ old) (is_told contest old more.stage more.next.tells) ∙ ap (with_stage contest old) (sym more.next.was_due)
+stages_next contest lots old new (Some e) is same more = same ∙ sym (ap (with_stage contest old) (ended_none contest old (lot_for lots (length old + 1)) (due_after contest old) e (sym is)))
+
+-- a book with so many stages, and the next one by the lots, has one stage more of the count
+pub counted_more : (contest now : Contest) (lots : List (ℕ × ℕ)) (k : ℕ) (old new : History) → now ≡ contest → old ≡ stages_to contest lots k → new ≡ with_next now lots old → new ≡ stages_to contest lots (k + 1)
+unfolding stages_to
+counted_more contest now lots k old new same counted next =
+    let more : suc k ≡ k + 1 = omega arith in
+    next
+    ∙ ap (λ (c : Contest). with_next c lots old) same
+    ∙ ap (with_next contest lots) counted
+    ∙ ap (stages_to contest lots) more
+
+-- what is due before each stage so far, and then what is due after them
+pub dues_more : (contest now : Contest) (lots : List (ℕ × ℕ)) (k n : ℕ) (stages : History) (due : Due) (dues more : List Due) → now ≡ contest → stages ≡ stages_to contest lots k → due ≡ due_after now stages
+    → dues ≡ map (λ j. due_after contest (stages_to contest lots j)) (range_with_len 0 k) → more ≡ dues ++ due ∷ [] → k + 1 ≡ n
+    → more ≡ map (λ j. due_after contest (stages_to contest lots j)) (range_with_len 0 n)
+dues_more contest now lots k n stages due dues more same counted is all pushed one_more =
+    let at : ℕ → Due = λ j. due_after contest (stages_to contest lots j) in
+    let due_is : due ≡ at k = is ∙ ap (λ (c : Contest). due_after c stages) same ∙ ap (due_after contest) counted in
+    pushed
+    ∙ ap (λ (ds : List Due). ds ++ due ∷ []) all
+    ∙ ap (λ (d : Due). map at (range_with_len 0 k) ++ d ∷ []) due_is
+    ∙ sym (map-range_with_len_more at 0 k k (omega arith))
+    ∙ ap (λ (m : ℕ). map at (range_with_len 0 m)) one_more
