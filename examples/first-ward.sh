@@ -8,7 +8,7 @@ source "$(dirname "$(readlink -f "${BASH_SOURCE[0]}")")/play.bash"
     play town.db ward 7 2 Harbour --id w1
     play town.db ward 7 2 Harbour --id w1
     play town.db ward 8 2 Quay --id w1
-    play town.db ward 8 2 Quay --id W1
+    play town.db ward 8 2 Quay --id QUAY
     play town.db ward 7 3 Pier --id w2
     play town.db ward 0 2 Pier --id w3
     play town.db init

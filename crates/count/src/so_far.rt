@@ -1,6 +1,6 @@
 //! A count to some stage of it, by the recorded lots.
 
-ghost use Rattle.std.specs.Prelude.{◌≡◌, ◌+◌, ℕ, [], map, length, OnOk, IfOk};
+ghost use Rattle.std.specs.Prelude.{◌≡◌, ◌+◌, ℕ, [], map, length, OnOk, OnErr, IfOk};
 ghost use Rattle.std.specs.List.{range_with_len};
 ghost use Rattle.count.specs.Law.Contest.{History};
 ghost use Rattle.count.specs.Law.Due.{due_after, next_action};
@@ -18,6 +18,7 @@ fn advance_by<B: CountBook>(book: &mut B, lots: &[(u8, u8)]) -> Result<Option<Ac
     ensures same { B.contest book.new ≡ B.contest book.old }
     ensures is { OnOk result (B.history book.new ≡ with_next (B.contest book.old) lots.now (B.history book.old)) }
     ensures action { IfOk result (λ action. action ≡ next_action (B.contest book.old) lots.now (B.history book.old)) }
+    ensures err { OnErr result (B.history book.new ≡ B.history book.old) }
 {
     if step(book, lots)?.is_some() {
         return Ok(None);
@@ -32,7 +33,7 @@ fn advance_by<B: CountBook>(book: &mut B, lots: &[(u8, u8)]) -> Result<Option<Ac
 ///
 /// A lot is a pair of a stage, counted from 1, and the candidate that it names; where two are for one
 /// stage, the first counts. These stages are right for the lots, and the only right ones. An error is want
-/// of memory.
+/// of memory; the book has the stages made so far then, and they are right.
 #[tactic(auto, using(crate::proofs::Law::CountLemmas::stages_right, crate::proofs::Law::CountLemmas::stages_only), unfolding(crate::specs::Law::Count::stages_to))]
 pub fn count_to<B: CountBook>(
     book: &mut B,
@@ -42,6 +43,7 @@ pub fn count_to<B: CountBook>(
     requires { B.history book.old ≡ [] }
     ensures same { B.contest book.new ≡ B.contest book.old }
     ensures is { OnOk result (B.history book.new ≡ stages_to (B.contest book.old) lots.now stages) }
+    ensures err { OnErr result (IsRight (B.contest book.old) lots.now (B.history book.new)) }
     ensures right { (k : ℕ) → IsRight (B.contest book.old) lots.now (stages_to (B.contest book.old) lots.now k) }
     ensures only { (h : History) → IsRight (B.contest book.old) lots.now h → h ≡ stages_to (B.contest book.old) lots.now (length h) }
 {
@@ -52,10 +54,13 @@ pub fn count_to<B: CountBook>(
 }
 
 /// What is due by the recorded lots: the action that comes next, or else the lot that is waited for, or
-/// nothing. Where an action comes next, the book has its stage then. An error is want of memory.
+/// nothing. Where an action comes next, the book has its stage then. An error is want of memory, and leaves
+/// the book as it was.
 pub fn due_by<B: CountBook>(book: &mut B, lots: &[(u8, u8)]) -> Result<Due, AllocError>
     ensures same { B.contest book.new ≡ B.contest book.old }
     ensures is { IfOk result (λ due. due ≡ due_by_lots (B.contest book.old) lots.now (B.history book.old)) }
+    ensures counted { OnOk result (B.history book.new ≡ with_next (B.contest book.old) lots.now (B.history book.old)) }
+    ensures err { OnErr result (B.history book.new ≡ B.history book.old) }
 {
     let due = book.due();
     match advance_by(book, lots)? {
@@ -80,8 +85,9 @@ pub fn dues_to<B: CountBook>(
 {
     let mut dues = Vec::new(alloc);
     for _ in 0..stages {
-        dues.push(book.due())?;
+        let due = book.due();
         advance_by(book, lots)?;
+        dues.push(due)?;
     }
     dues.push(book.due())?;
     Ok(dues)

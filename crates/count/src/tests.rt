@@ -3,14 +3,15 @@
 mod worked;
 
 use super::{
-    Action, AdvanceError, CountBook, CountEnd, Due, Kind, ParcelBook, Stage, is_contest, run_count,
+    Action, AdvanceError, CountBook, CountEnd, Due, Kind, ParcelBook, Stage, count_to, due_by,
+    dues_to, is_contest, run_count,
 };
 use paper::{Columns, Prefs};
 use std::alloc::Global;
 use std::process::Abort;
 use std::test::Fail;
 use votes::Votes;
-use worked::{Expected, WORKED};
+use worked::{Expected, WORKED, Worked};
 
 /// The candidates 1 to n.
 fn first_columns(n: u8) -> Columns {
@@ -72,6 +73,52 @@ fn worked_elections(rt: HostRuntime) -> Result<(), Fail> {
     Ok(())
 }
 
+/// A set with some numbers more.
+fn with_all(mut columns: Columns, more: &[u8]) -> Columns {
+    for c in more {
+        if *c >= 1 && *c <= 30 {
+            columns = columns.with(*c);
+        }
+    }
+    columns
+}
+
+/// Counts a worked election to each of its stages in turn, and asks what comes next there.
+fn goes_to_each(
+    rt: &impl Abort,
+    alloc: Global,
+    worked: &Worked,
+    papers: &[Prefs],
+) -> Result<(), Fail> {
+    let candidates = first_columns(worked.candidates);
+    assert!(rt;
+        is_contest(&candidates, worked.seats, papers),
+        "{}",
+        worked.name
+    );
+    let mut elected = Columns::empty();
+    for (stages, expected) in worked.stages.iter().enumerate() {
+        let mut book = ParcelBook::new(alloc, candidates, worked.seats, papers)?;
+        count_to(&mut book, worked.lots, stages)?;
+        assert_eq!(rt; book.stages().len(), stages, "{}", worked.name);
+        assert_eq!(rt; book.elected(), elected, "{}", worked.name);
+        let due = due_by(&mut book, worked.lots)?;
+        assert_eq!(rt; due, Due::Act(expected.action), "{}", worked.name);
+        elected = with_all(elected, expected.elected);
+        assert_eq!(rt; book.elected(), elected, "{}", worked.name);
+    }
+    Ok(())
+}
+
+#[test]
+fn counts_go_to_each_stage(rt: HostRuntime) -> Result<(), Fail> {
+    for worked in &WORKED {
+        let papers = papers_of(rt.alloc(), worked.papers)?;
+        goes_to_each(&rt, rt.alloc(), worked, &papers)?;
+    }
+    Ok(())
+}
+
 #[test]
 fn lots_are_asked_for(rt: HostRuntime) -> Result<(), Fail> {
     let papers = papers_of(rt.alloc(), &[(4, &[1]), (2, &[2]), (2, &[3])])?;
@@ -113,6 +160,39 @@ fn recorded_lots_decide(rt: HostRuntime) -> Result<(), Fail> {
     for (lots, end) in ends {
         let mut book = ParcelBook::new(rt.alloc(), candidates, 1, &papers)?;
         assert_eq!(rt; run_count(&mut book, lots)?, end);
+    }
+    Ok(())
+}
+
+#[test]
+fn what_is_due_by_the_lots(rt: HostRuntime) -> Result<(), Fail> {
+    let papers = papers_of(rt.alloc(), &[(4, &[1]), (2, &[2]), (2, &[3])])?;
+    let candidates = first_columns(3);
+    assert!(rt; is_contest(&candidates, 1, &papers));
+    let lot = Due::Lot {
+        stage: 2,
+        kind: Kind::Exclusion,
+        among: Columns::empty().with(2).with(3),
+    };
+    let dues: [(&[(u8, u8)], Due, &[Due]); 4] = [
+        (&[], lot, &[lot]),
+        (&[(3, 2)], lot, &[lot]),
+        (&[(2, 1)], lot, &[lot]),
+        (
+            &[(2, 3)],
+            Due::Act(Action::Exclude(3)),
+            &[Due::Act(Action::ExcludeLast(2)), Due::Finished],
+        ),
+    ];
+    for (lots, due, later) in dues {
+        let mut book = ParcelBook::new(rt.alloc(), candidates, 1, &papers)?;
+        count_to(&mut book, lots, 1)?;
+        assert_eq!(rt; due_by(&mut book, lots)?, due);
+        let mut book = ParcelBook::new(rt.alloc(), candidates, 1, &papers)?;
+        let told = dues_to(rt.alloc(), &mut book, lots, 3)?;
+        assert_eq!(rt; told.len(), 4);
+        assert!(rt; told.starts_with(&[Due::Act(Action::First), lot]));
+        assert!(rt; told.ends_with(later));
     }
     Ok(())
 }

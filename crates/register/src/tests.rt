@@ -71,7 +71,7 @@ fn each_request_has_its_answer(rt: HostRuntime) -> Result<(), Fail> {
     let cases = [
         (0, "w2", 8, 2, "Quay", "accepted: ward 8 added (w2, ward 8)"),
         (0, "w1", 7, 2, "Harbour", "kept: ward 7 added"),
-        (0, "W1", 8, 2, "Quay", "refused 1: bad id"),
+        (0, "QUAY", 8, 2, "Quay", "refused 1: bad id"),
         (
             0,
             "w1",

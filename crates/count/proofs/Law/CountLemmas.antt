@@ -1,13 +1,13 @@
 -- The stages that are worked out are the right ones.
-use Rattle.std.proofs.Common.{◌≡◌, ℕ, zero, suc, ◌+◌, true, false, Bool, cond, nat_eq, List, [], ◌∷◌, ◌++◌, length, map, Option, Some, None, refl, sym, ap, ◌∙◌, arith, subst}
+use Rattle.std.proofs.Common.{◌≡◌, ℕ, zero, suc, ◌+◌, true, false, Bool, cond, nat_eq, List, [], ◌∷◌, ◌++◌, length, map, Option, Some, None, refl, sym, ap, ◌∙◌, arith}
 use Rattle.std.specs.Prelude.{IfSome, IfNone}
 use Rattle.std.specs.List.{list_any, range_with_len}
 use Rattle.std.proofs.lemmas.List.FromFn.{map-range_with_len_more}
 use Rattle.count.specs.Law.Contest.{Contest, History}
 use Rattle.count.specs.Law.Due.{due_after, drawn, lot_for, next_action, action_on}
-use Rattle.count.specs.Law.Right.{Tells, IsNext, IsRight}
-use Rattle.count.specs.Law.Count.{stage_of, with_stage, with_next, stages_to, due_or, due_by}
-use Rattle.count.specs.Advance.{Advances, AdvancesBy, end_of, end_after}
+use Rattle.count.specs.Law.Right.{Tells, IsRight}
+use Rattle.count.specs.Law.Count.{stage_of, with_stage, with_next, stages_to}
+use Rattle.count.specs.Advance.{AdvancesBy, end_of, end_after}
 use Rattle.count.specs.declared.stages.Stage.{Stage}
 use Rattle.count.specs.declared.stages.Action.{Action}
 use Rattle.count.specs.declared.stages.Due.{Due}
@@ -59,10 +59,15 @@ stages_next contest lots old new None is same more =
     more.one_more ∙ ap (λ (t : Stage). t ∷ old) (is_told contest old more.stage more.next.tells) ∙ ap (with_stage contest old) (sym more.next.was_due)
 stages_next contest lots old new (Some e) is same more = same ∙ sym (ap (with_stage contest old) (ended_none contest old (lot_for lots (length old + 1)) (due_after contest old) e (sym is)))
 
--- one stage more is the next of those before it
-pub stages_more : (contest : Contest) (lots : List (ℕ × ℕ)) (k : ℕ) → stages_to contest lots (k + 1) ≡ with_next contest lots (stages_to contest lots k)
+-- a book with so many stages, and the next one by the lots, has one stage more of the count
+pub counted_more : (contest now : Contest) (lots : List (ℕ × ℕ)) (k : ℕ) (old new : History) → now ≡ contest → old ≡ stages_to contest lots k → new ≡ with_next now lots old → new ≡ stages_to contest lots (k + 1)
 unfolding stages_to
-stages_more contest lots k = ap (stages_to contest lots) (let more : k + 1 ≡ suc k = omega arith in more)
+counted_more contest now lots k old new same counted next =
+    let more : suc k ≡ k + 1 = omega arith in
+    next
+    ∙ ap (λ (c : Contest). with_next c lots old) same
+    ∙ ap (with_next contest lots) counted
+    ∙ ap (stages_to contest lots) more
 
 -- what is due before each stage so far, and then what is due after them
 pub dues_more : (contest now : Contest) (lots : List (ℕ × ℕ)) (k n : ℕ) (stages : History) (due : Due) (dues more : List Due) → now ≡ contest → stages ≡ stages_to contest lots k → due ≡ due_after now stages

@@ -74,7 +74,7 @@ const ANSWERS: [Case<'static>; 21] = [
         (1, "", "refused 2: id used for another subject\n"),
     ),
     (
-        Step::Order(&["DB", "ward", "8", "2", "Quay", "--id", "W1"]),
+        Step::Order(&["DB", "ward", "8", "2", "Quay", "--id", "QUAY"]),
         (1, "", "refused 1: bad id\n"),
     ),
     (
@@ -180,7 +180,7 @@ const CHANGES: [(&str, Told<'static>); 27] = [
     ("UPDATE ward SET phase = 4", DAMAGED),
     ("UPDATE ward SET done = 1", DAMAGED),
     ("UPDATE ward SET name = ''", DAMAGED),
-    ("UPDATE receipt SET id = 'W1'", DAMAGED),
+    ("UPDATE receipt SET id = 'QUAY'", DAMAGED),
     ("UPDATE receipt SET subject = 'ward 07'", DAMAGED),
     ("UPDATE receipt SET actor = 4", DAMAGED),
     ("CREATE TABLE note (text TEXT)", QUAY_ADDED),

@@ -1,26 +1,23 @@
 -- Of the proof of `dues_to`: what is shown by hand.
-use Rattle.std.proofs.Common.{◌≡◌, ◌+◌, ap, sym, ◌∙◌, refl, arith}
-use Rattle.count.specs.Law.Contest.{Contest}
-use Rattle.count.specs.Law.Count.{with_next}
-use Rattle.count.proofs.Law.CountLemmas.{stages_more, dues_more}
+use Rattle.std.proofs.Common.{◌+◌, ◌∙◌, refl, arith}
+use Rattle.count.proofs.Law.CountLemmas.{counted_more, dues_more}
 use Rattle.count.proofs.so_far.dues_to.Goals as goal
 
 pub loop-preserved : goal.loop-preserved
 loop-preserved g c =
     let contest = g.B.CountBook.contest c.args.book.now in
+    let now = g.B.CountBook.contest c.loop.book in
     let stages = g.B.CountBook.history c.loop.book in
     record {
       same = c.advance_by.ensures.same ∙ c.loop.invariant.same;
-      counted =
-        c.in_ok-advance_by.ensures.is
-        ∙ ap (λ (k : Contest). with_next k c.args.lots.now stages) c.loop.invariant.same
-        ∙ ap (with_next contest c.args.lots.now) c.loop.invariant.counted
-        ∙ sym (stages_more contest c.args.lots.now c.loop.counter);
-      all = dues_more contest (g.B.CountBook.contest c.loop.book) c.args.lots.now c.loop.counter (c.loop.counter + 1) stages c.due.result c.loop.dues.items c.push.new.self.items c.loop.invariant.same c.loop.invariant.counted c.due.ensures.is c.loop.invariant.all c.in_ok-push.ensures.items refl;
+      counted = counted_more contest now c.args.lots.now c.loop.counter stages (g.B.CountBook.history c.advance_by.new.book) c.loop.invariant.same c.loop.invariant.counted c.in_ok-advance_by.ensures.is;
+      all =
+          dues_more contest now c.args.lots.now c.loop.counter (c.loop.counter + 1) stages c.due-due.result c.loop.dues.items c.push.new.self.items c.loop.invariant.same c.loop.invariant.counted c.due-due.ensures.is c.loop.invariant.all c.in_ok-push.ensures.items refl;
     }
 
 pub returns-clause-is : goal.returns-clause-is
 returns-clause-is g c =
     let contest = g.B.CountBook.contest c.args.book.now in
+    let now = g.B.CountBook.contest c.loop.book in
     let stages = g.B.CountBook.history c.loop.book in
-    dues_more contest (g.B.CountBook.contest c.loop.book) c.args.lots.now c.loop.counter (c.args.stages + 1) stages c.due-2.result c.loop.dues.items c.push-2.new.self.items c.loop.invariant.same c.loop.invariant.counted c.due-2.ensures.is c.loop.invariant.all c.in_ok-push-2.ensures.items (omega arith)
+    dues_more contest now c.args.lots.now c.loop.counter (c.args.stages + 1) stages c.due.result c.loop.dues.items c.push-2.new.self.items c.loop.invariant.same c.loop.invariant.counted c.due.ensures.is c.loop.invariant.all c.in_ok-push-2.ensures.items (omega arith)
