@@ -5,8 +5,10 @@ mod steps;
 // The one store of these tests.
 mod disks;
 // The tests.
+mod counts;
 mod imports;
 mod keyings;
+mod lots;
 mod nominations;
 mod order_stops;
 mod orders;

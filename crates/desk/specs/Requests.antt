@@ -11,6 +11,8 @@ use Rattle.register.specs.declared.batches.BatchCommand.TheVariants as batch_com
 use Rattle.register.specs.declared.counts.CountCommand.TheVariants as count_command
 use Rattle.register.specs.declared.verdicts.Verdict.{Verdict}
 use Rattle.register.specs.declared.verdicts.Verdict.TheVariants as verdict
+use Rattle.office.specs.declared.sheets.Text.{Text as WardText}
+use Rattle.office.specs.declared.sheets.Text.TheVariants as ward_text
 use Rattle.keyfile.specs.Candidates.{CandidateEntry}
 use Rattle.keyfile.specs.declared.fault.FileFault.{FileFault}
 use Rattle.desk.specs.Verdicts.{Judgement, accepted, judgement_of, rejected}
@@ -77,8 +79,7 @@ pub data Work : Type 0 where
   importing_candidates : Text → Work
   importing_keying : KeyingFile → Work
   telling_status : ℕ → Work
-  telling_sheet : ℕ → Work
-  telling_result : ℕ → Work
+  printing : ℕ → WardText → Work
 
 -- what a task is
 abbrev pub work_of : Task → Work
@@ -87,8 +88,7 @@ work_of (task.Send request) = sending (sent_as request)
 work_of (task.ImportCandidates id) = importing_candidates id.now
 work_of (task.ImportKeying keying) = importing_keying keying
 work_of (task.TellStatus ward) = telling_status ward
-work_of (task.TellSheet ward) = telling_sheet ward
-work_of (task.TellResult ward) = telling_result ward
+work_of (task.Print ward text) = printing ward text
 
 -- what each order is done by
 abbrev pub work_for : Order → Work
@@ -107,8 +107,8 @@ work_for (order.Advance ward id) = sending (by_office id.now (stage_to_count war
 work_for (order.Lot l) = sending (by_office l.id.now (lot_to_record l.ward l.stage l.candidate))
 work_for (order.Declare ward id) = sending (by_office id.now (ward_to_declare ward))
 work_for (order.Status ward) = telling_status ward
-work_for (order.Sheet ward) = telling_sheet ward
-work_for (order.Result ward) = telling_result ward
+work_for (order.Sheet ward) = printing ward ward_text.Sheet
+work_for (order.Result ward) = printing ward ward_text.Declaration
 
 -- the file that an order names
 abbrev pub file_of : Order → Option Text

@@ -6,7 +6,7 @@ use crate::import::{import_candidates, import_keying};
 use crate::lines::{Failure, Outcome, tell, tell_failure};
 use crate::orders::Order;
 use crate::sending::send;
-use crate::printing::{tell_result, tell_sheet};
+use crate::printing::print_text;
 use crate::standing::tell_standing;
 use crate::tasks::{Task, task_for};
 use office::Office;
@@ -60,8 +60,7 @@ pub fn perform<S: Alter, R: Read + Drop, O: Sink, E: Sink>(
         Ok(Task::ImportCandidates { id }) => import_candidates(alloc, conn, id, file, out, err),
         Ok(Task::ImportKeying(keying)) => import_keying(alloc, conn, keying, file, out, err),
         Ok(Task::TellStatus { ward }) => tell_standing(alloc, conn, ward, out, err),
-        Ok(Task::TellSheet { ward }) => tell_sheet(alloc, conn, ward, out, err),
-        Ok(Task::TellResult { ward }) => tell_result(alloc, conn, ward, out, err),
+        Ok(Task::Print { ward, text }) => print_text(alloc, conn, ward, text, out, err),
         Err(AllocError) => (tell_failure(Failure::Office(Fault::Memory), err), conn),
     }
 }

@@ -2,8 +2,8 @@
 
 ghost use Rattle.std.specs.Prelude.{◌≡◌, ◌⊎◌, ◌+◌, ◌-◌, ◌^◌, ◌<◌};
 
-use crate::lines::{Failure, Outcome, tell, tell_failure};
-use office::{Office, Stop};
+use crate::lines::{Outcome, tell as tell_outcome};
+use office::{Stop, Text, tell};
 use sqlite::{Alter, Connection};
 use std::alloc::Global;
 use votes::Sink;
@@ -17,11 +17,12 @@ fn printed(text: Result<String, Stop>) -> Outcome {
     }
 }
 
-/// Opens the office that the connection has, and prints the stage sheet of a ward.
-pub(crate) fn tell_sheet<S: Alter, O: Sink, E: Sink>(
+/// Opens the office that the connection has, and prints a text of a ward.
+pub(crate) fn print_text<S: Alter, O: Sink, E: Sink>(
     alloc: Global,
     conn: Connection<S>,
     ward: u32,
+    text: Text,
     out: &mut O,
     err: &mut E,
 ) -> (u8, Connection<S>)
@@ -29,32 +30,6 @@ pub(crate) fn tell_sheet<S: Alter, O: Sink, E: Sink>(
     requires err { E.failed err.old < 2 ^ 64 - 1 }
     ensures broken { (result.0 ≡ 3) ⊎ ((O.failed out.new ≡ O.failed out.old) × (E.failed err.new ≡ E.failed err.old)) }
 {
-    match Office::open_from(alloc, conn) {
-        Ok(mut office) => {
-            let status = tell(&printed(office.sheet(ward)), out, err);
-            (status, office.into_connection())
-        }
-        Err((fault, conn)) => (tell_failure(Failure::Office(fault), err), conn),
-    }
-}
-
-/// Opens the office that the connection has, and prints the declaration of a ward.
-pub(crate) fn tell_result<S: Alter, O: Sink, E: Sink>(
-    alloc: Global,
-    conn: Connection<S>,
-    ward: u32,
-    out: &mut O,
-    err: &mut E,
-) -> (u8, Connection<S>)
-    requires out { O.failed out.old < 2 ^ 64 - 1 }
-    requires err { E.failed err.old < 2 ^ 64 - 1 }
-    ensures broken { (result.0 ≡ 3) ⊎ ((O.failed out.new ≡ O.failed out.old) × (E.failed err.new ≡ E.failed err.old)) }
-{
-    match Office::open_from(alloc, conn) {
-        Ok(mut office) => {
-            let status = tell(&printed(office.result(ward)), out, err);
-            (status, office.into_connection())
-        }
-        Err((fault, conn)) => (tell_failure(Failure::Office(fault), err), conn),
-    }
+    let (told, conn) = tell(alloc, conn, ward, text);
+    (tell_outcome(&printed(told), out, err), conn)
 }

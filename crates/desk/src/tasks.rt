@@ -8,6 +8,7 @@ use crate::requests::{
     add_batch, add_candidate, add_ward, by_office, close_ward, count_stage, declare_ward,
     judge_paper, key_again, record_lot, seal_ward, withdraw_candidate,
 };
+use office::Text;
 use register::{Command, Request};
 use std::alloc::{AllocError, Global};
 
@@ -24,10 +25,8 @@ pub(crate) enum Task<'a> {
     ImportKeying(KeyingFile<'a>),
     /// How this ward stands is to be told.
     TellStatus { ward: u32 },
-    /// The stage sheet of this ward is to be told.
-    TellSheet { ward: u32 },
-    /// The declaration of this ward is to be told.
-    TellResult { ward: u32 },
+    /// This text of this ward is to be printed.
+    Print { ward: u32, text: Text },
 }
 
 /// Sends a command of the office itself.
@@ -63,7 +62,13 @@ pub(crate) fn task_for<'a>(alloc: Global, order: &Order<'a>) -> Result<Task<'a>,
         Order::Lot(drawing) => sending(alloc, drawing.id, record_lot(drawing)),
         Order::Declare { ward, id } => sending(alloc, id, declare_ward(*ward)),
         Order::Status { ward } => Ok(Task::TellStatus { ward: *ward }),
-        Order::Sheet { ward } => Ok(Task::TellSheet { ward: *ward }),
-        Order::Result { ward } => Ok(Task::TellResult { ward: *ward }),
+        Order::Sheet { ward } => Ok(Task::Print {
+            ward: *ward,
+            text: Text::Sheet,
+        }),
+        Order::Result { ward } => Ok(Task::Print {
+            ward: *ward,
+            text: Text::Declaration,
+        }),
     }
 }

@@ -22,7 +22,10 @@ pub mod offices;
 // what is told of the state
 mod reads;
 mod sheets;
+mod telling;
 
 pub use answers::{Answer, Run, Stop};
 pub use offices::Office;
 pub use register::Status;
+pub use sheets::Text;
+pub use telling::tell;

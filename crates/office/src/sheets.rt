@@ -14,8 +14,8 @@ use sheet::{Poll, Ward, can_be_printed, declaration_text, sheet_text};
 use std::alloc::{AllocError, Global};
 
 /// Which text of a ward is told.
-#[derive(Clone, Copy)]
-pub(crate) enum Text {
+#[derive(Clone, Copy, Debug)]
+pub enum Text {
     /// The stage sheet, once the ward is sealed.
     Sheet,
     /// The declaration, once it is declared.

@@ -24,13 +24,30 @@ const SURPLUS_CUT_BY_FRACTIONS: Worked = Worked {
     size: "9",
     papers: b"paper,1,2,3\n1,1,2,\n2,1,2,\n3,1,2,\n4,1,2,\n5,1,,2\n6,1,,2\n7,,1,\n8,,,1\n9,,,1\n",
     counted: &[
-        (Step::Order(&["DB", "seal", "7", "--id", "s1"]), (0, "ward 7 sealed: 9 valid, 0 rejected, quota 4.00000\n", "")),
-        (Step::Order(&["DB", "sheet", "7"]), (0, "Ward 7 Harbour
+        (
+            Step::Order(&["DB", "seal", "7", "--id", "s1"]),
+            (0, "ward 7 sealed: 9 valid, 0 rejected, quota 4.00000\n", ""),
+        ),
+        (
+            Step::Order(&["DB", "sheet", "7"]),
+            (
+                0,
+                "Ward 7 Harbour
 Seats 2, valid 9, quota 4.00000
 Rejected 1: 0, 2: 0, 3: 0, 4: 0, 5: 0
-", "")),
-        (Step::Order(&["DB", "advance", "7", "--id", "n1"]), (0, "ward 7 stage 1 first preferences\n", "")),
-        (Step::Order(&["DB", "sheet", "7"]), (0, "Ward 7 Harbour
+",
+                "",
+            ),
+        ),
+        (
+            Step::Order(&["DB", "advance", "7", "--id", "n1"]),
+            (0, "ward 7 stage 1 first preferences\n", ""),
+        ),
+        (
+            Step::Order(&["DB", "sheet", "7"]),
+            (
+                0,
+                "Ward 7 Harbour
 Seats 2, valid 9, quota 4.00000
 Rejected 1: 0, 2: 0, 3: 0, 4: 0, 5: 0
 Stage 1: first preferences
@@ -39,9 +56,19 @@ Stage 1: first preferences
  3       2.00000 - Cy
          0.00000 non-transferable
          0.00000 lost by fractions
-", "")),
-        (Step::Order(&["DB", "advance", "7", "--id", "n2"]), (0, "ward 7 stage 2 surplus of 1\n", "")),
-        (Step::Order(&["DB", "sheet", "7"]), (0, "Ward 7 Harbour
+",
+                "",
+            ),
+        ),
+        (
+            Step::Order(&["DB", "advance", "7", "--id", "n2"]),
+            (0, "ward 7 stage 2 surplus of 1\n", ""),
+        ),
+        (
+            Step::Order(&["DB", "sheet", "7"]),
+            (
+                0,
+                "Ward 7 Harbour
 Seats 2, valid 9, quota 4.00000
 Rejected 1: 0, 2: 0, 3: 0, 4: 0, 5: 0
 Stage 1: first preferences
@@ -56,9 +83,19 @@ Stage 2: surplus of 1
  3       2.66666 - Cy
          0.00000 non-transferable
          0.00002 lost by fractions
-", "")),
-        (Step::Order(&["DB", "advance", "7", "--id", "n3"]), (0, "ward 7 stage 3 exclusion of 2, last vacancies\n", "")),
-        (Step::Order(&["DB", "sheet", "7"]), (0, "Ward 7 Harbour
+",
+                "",
+            ),
+        ),
+        (
+            Step::Order(&["DB", "advance", "7", "--id", "n3"]),
+            (0, "ward 7 stage 3 exclusion of 2, last vacancies\n", ""),
+        ),
+        (
+            Step::Order(&["DB", "sheet", "7"]),
+            (
+                0,
+                "Ward 7 Harbour
 Seats 2, valid 9, quota 4.00000
 Rejected 1: 0, 2: 0, 3: 0, 4: 0, 5: 0
 Stage 1: first preferences
@@ -79,14 +116,30 @@ Stage 3: exclusion of 2, last vacancies
  3       2.66666 E Cy
          0.00000 non-transferable
          0.00002 lost by fractions
-", "")),
-        (Step::Order(&["DB", "advance", "7", "--id", "n4"]), (1, "", "refused 25: count finished\n")),
-        (Step::Order(&["DB", "declare", "7", "--id", "d1"]), (0, "ward 7 declared: 1, 3\n", "")),
-        (Step::Order(&["DB", "result", "7"]), (0, "Ward 7 Harbour
+",
+                "",
+            ),
+        ),
+        (
+            Step::Order(&["DB", "advance", "7", "--id", "n4"]),
+            (1, "", "refused 25: count finished\n"),
+        ),
+        (
+            Step::Order(&["DB", "declare", "7", "--id", "d1"]),
+            (0, "ward 7 declared: 1, 3\n", ""),
+        ),
+        (
+            Step::Order(&["DB", "result", "7"]),
+            (
+                0,
+                "Ward 7 Harbour
 Elected
  1 Ann
  3 Cy
-", "")),
+",
+                "",
+            ),
+        ),
     ],
 };
 
@@ -98,13 +151,39 @@ const SECOND_SURPLUS_AT_CUT_VALUES: Worked = Worked {
     size: "15",
     papers: b"paper,1,2,3,4,5\n1,1,2,3,,\n2,1,2,3,,\n3,1,2,3,,\n4,1,2,3,,\n5,1,2,3,,\n6,1,2,3,,\n7,1,2,3,,\n8,1,,,2,\n9,,1,2,,\n10,,1,2,,\n11,,1,2,,\n12,,,1,,\n13,,,,1,\n14,,,,1,\n15,,,,,1\n",
     counted: &[
-        (Step::Order(&["DB", "seal", "7", "--id", "s1"]), (0, "ward 7 sealed: 15 valid, 0 rejected, quota 4.00000\n", "")),
-        (Step::Order(&["DB", "advance", "7", "--id", "n1"]), (0, "ward 7 stage 1 first preferences\n", "")),
-        (Step::Order(&["DB", "advance", "7", "--id", "n2"]), (0, "ward 7 stage 2 surplus of 1\n", "")),
-        (Step::Order(&["DB", "advance", "7", "--id", "n3"]), (0, "ward 7 stage 3 surplus of 2\n", "")),
-        (Step::Order(&["DB", "advance", "7", "--id", "n4"]), (0, "ward 7 stage 4 exclusion of 5\n", "")),
-        (Step::Order(&["DB", "advance", "7", "--id", "n5"]), (0, "ward 7 stage 5 exclusion of 4, last vacancies\n", "")),
-        (Step::Order(&["DB", "sheet", "7"]), (0, "Ward 7 Harbour
+        (
+            Step::Order(&["DB", "seal", "7", "--id", "s1"]),
+            (
+                0,
+                "ward 7 sealed: 15 valid, 0 rejected, quota 4.00000\n",
+                "",
+            ),
+        ),
+        (
+            Step::Order(&["DB", "advance", "7", "--id", "n1"]),
+            (0, "ward 7 stage 1 first preferences\n", ""),
+        ),
+        (
+            Step::Order(&["DB", "advance", "7", "--id", "n2"]),
+            (0, "ward 7 stage 2 surplus of 1\n", ""),
+        ),
+        (
+            Step::Order(&["DB", "advance", "7", "--id", "n3"]),
+            (0, "ward 7 stage 3 surplus of 2\n", ""),
+        ),
+        (
+            Step::Order(&["DB", "advance", "7", "--id", "n4"]),
+            (0, "ward 7 stage 4 exclusion of 5\n", ""),
+        ),
+        (
+            Step::Order(&["DB", "advance", "7", "--id", "n5"]),
+            (0, "ward 7 stage 5 exclusion of 4, last vacancies\n", ""),
+        ),
+        (
+            Step::Order(&["DB", "sheet", "7"]),
+            (
+                0,
+                "Ward 7 Harbour
 Seats 3, valid 15, quota 4.00000
 Rejected 1: 0, 2: 0, 3: 0, 4: 0, 5: 0
 Stage 1: first preferences
@@ -147,15 +226,31 @@ Stage 5: exclusion of 4, last vacancies
  5       0.00000 x Eve
          1.00000 non-transferable
          0.00007 lost by fractions
-", "")),
-        (Step::Order(&["DB", "advance", "7", "--id", "n6"]), (1, "", "refused 25: count finished\n")),
-        (Step::Order(&["DB", "declare", "7", "--id", "d1"]), (0, "ward 7 declared: 1, 2, 3\n", "")),
-        (Step::Order(&["DB", "result", "7"]), (0, "Ward 7 Harbour
+",
+                "",
+            ),
+        ),
+        (
+            Step::Order(&["DB", "advance", "7", "--id", "n6"]),
+            (1, "", "refused 25: count finished\n"),
+        ),
+        (
+            Step::Order(&["DB", "declare", "7", "--id", "d1"]),
+            (0, "ward 7 declared: 1, 2, 3\n", ""),
+        ),
+        (
+            Step::Order(&["DB", "result", "7"]),
+            (
+                0,
+                "Ward 7 Harbour
 Elected
  1 Ann
  2 Bob
  3 Cy
-", "")),
+",
+                "",
+            ),
+        ),
     ],
 };
 
@@ -167,12 +262,35 @@ const TIE_BY_EARLIER_STAGE: Worked = Worked {
     size: "11",
     papers: b"paper,1,2,3,4\n1,1,,,\n2,1,,,\n3,1,,,\n4,1,,,\n5,1,,,\n6,,1,,\n7,,1,,\n8,,1,,\n9,,,1,\n10,,,1,\n11,,,2,1\n",
     counted: &[
-        (Step::Order(&["DB", "seal", "7", "--id", "s1"]), (0, "ward 7 sealed: 11 valid, 0 rejected, quota 6.00000\n", "")),
-        (Step::Order(&["DB", "advance", "7", "--id", "n1"]), (0, "ward 7 stage 1 first preferences\n", "")),
-        (Step::Order(&["DB", "advance", "7", "--id", "n2"]), (0, "ward 7 stage 2 exclusion of 4\n", "")),
-        (Step::Order(&["DB", "advance", "7", "--id", "n3"]), (0, "ward 7 stage 3 exclusion of 3\n", "")),
-        (Step::Order(&["DB", "advance", "7", "--id", "n4"]), (0, "ward 7 stage 4 exclusion of 2, last vacancies\n", "")),
-        (Step::Order(&["DB", "sheet", "7"]), (0, "Ward 7 Harbour
+        (
+            Step::Order(&["DB", "seal", "7", "--id", "s1"]),
+            (
+                0,
+                "ward 7 sealed: 11 valid, 0 rejected, quota 6.00000\n",
+                "",
+            ),
+        ),
+        (
+            Step::Order(&["DB", "advance", "7", "--id", "n1"]),
+            (0, "ward 7 stage 1 first preferences\n", ""),
+        ),
+        (
+            Step::Order(&["DB", "advance", "7", "--id", "n2"]),
+            (0, "ward 7 stage 2 exclusion of 4\n", ""),
+        ),
+        (
+            Step::Order(&["DB", "advance", "7", "--id", "n3"]),
+            (0, "ward 7 stage 3 exclusion of 3\n", ""),
+        ),
+        (
+            Step::Order(&["DB", "advance", "7", "--id", "n4"]),
+            (0, "ward 7 stage 4 exclusion of 2, last vacancies\n", ""),
+        ),
+        (
+            Step::Order(&["DB", "sheet", "7"]),
+            (
+                0,
+                "Ward 7 Harbour
 Seats 1, valid 11, quota 6.00000
 Rejected 1: 0, 2: 0, 3: 0, 4: 0, 5: 0
 Stage 1: first preferences
@@ -203,13 +321,29 @@ Stage 4: exclusion of 2, last vacancies
  4       0.00000 x Dee
          3.00000 non-transferable
          0.00000 lost by fractions
-", "")),
-        (Step::Order(&["DB", "advance", "7", "--id", "n5"]), (1, "", "refused 25: count finished\n")),
-        (Step::Order(&["DB", "declare", "7", "--id", "d1"]), (0, "ward 7 declared: 1\n", "")),
-        (Step::Order(&["DB", "result", "7"]), (0, "Ward 7 Harbour
+",
+                "",
+            ),
+        ),
+        (
+            Step::Order(&["DB", "advance", "7", "--id", "n5"]),
+            (1, "", "refused 25: count finished\n"),
+        ),
+        (
+            Step::Order(&["DB", "declare", "7", "--id", "d1"]),
+            (0, "ward 7 declared: 1\n", ""),
+        ),
+        (
+            Step::Order(&["DB", "result", "7"]),
+            (
+                0,
+                "Ward 7 Harbour
 Elected
  1 Ann
-", "")),
+",
+                "",
+            ),
+        ),
     ],
 };
 
@@ -221,14 +355,43 @@ const TIE_OF_THREE: Worked = Worked {
     size: "21",
     papers: b"paper,1,2,3,4,5,6\n1,1,,,,,\n2,1,,,,,\n3,1,,,,,\n4,1,,,,,\n5,1,,,,,\n6,1,,,,,\n7,1,,,,,\n8,1,,,,,\n9,1,,,,,\n10,,1,,,,\n11,,1,,,,\n12,,,1,,,\n13,,,1,,,\n14,,,1,,,\n15,,,,1,,\n16,,,,1,,\n17,,,,1,,\n18,,,,1,,\n19,,2,,,1,\n20,,2,,,,1\n21,,,2,,,1\n",
     counted: &[
-        (Step::Order(&["DB", "seal", "7", "--id", "s1"]), (0, "ward 7 sealed: 21 valid, 0 rejected, quota 11.00000\n", "")),
-        (Step::Order(&["DB", "advance", "7", "--id", "n1"]), (0, "ward 7 stage 1 first preferences\n", "")),
-        (Step::Order(&["DB", "advance", "7", "--id", "n2"]), (0, "ward 7 stage 2 exclusion of 5\n", "")),
-        (Step::Order(&["DB", "advance", "7", "--id", "n3"]), (0, "ward 7 stage 3 exclusion of 6\n", "")),
-        (Step::Order(&["DB", "advance", "7", "--id", "n4"]), (0, "ward 7 stage 4 exclusion of 2\n", "")),
-        (Step::Order(&["DB", "advance", "7", "--id", "n5"]), (0, "ward 7 stage 5 exclusion of 3\n", "")),
-        (Step::Order(&["DB", "advance", "7", "--id", "n6"]), (0, "ward 7 stage 6 exclusion of 4, last vacancies\n", "")),
-        (Step::Order(&["DB", "sheet", "7"]), (0, "Ward 7 Harbour
+        (
+            Step::Order(&["DB", "seal", "7", "--id", "s1"]),
+            (
+                0,
+                "ward 7 sealed: 21 valid, 0 rejected, quota 11.00000\n",
+                "",
+            ),
+        ),
+        (
+            Step::Order(&["DB", "advance", "7", "--id", "n1"]),
+            (0, "ward 7 stage 1 first preferences\n", ""),
+        ),
+        (
+            Step::Order(&["DB", "advance", "7", "--id", "n2"]),
+            (0, "ward 7 stage 2 exclusion of 5\n", ""),
+        ),
+        (
+            Step::Order(&["DB", "advance", "7", "--id", "n3"]),
+            (0, "ward 7 stage 3 exclusion of 6\n", ""),
+        ),
+        (
+            Step::Order(&["DB", "advance", "7", "--id", "n4"]),
+            (0, "ward 7 stage 4 exclusion of 2\n", ""),
+        ),
+        (
+            Step::Order(&["DB", "advance", "7", "--id", "n5"]),
+            (0, "ward 7 stage 5 exclusion of 3\n", ""),
+        ),
+        (
+            Step::Order(&["DB", "advance", "7", "--id", "n6"]),
+            (0, "ward 7 stage 6 exclusion of 4, last vacancies\n", ""),
+        ),
+        (
+            Step::Order(&["DB", "sheet", "7"]),
+            (
+                0,
+                "Ward 7 Harbour
 Seats 1, valid 21, quota 11.00000
 Rejected 1: 0, 2: 0, 3: 0, 4: 0, 5: 0
 Stage 1: first preferences
@@ -285,13 +448,29 @@ Stage 6: exclusion of 4, last vacancies
  6       0.00000 x Fay
          8.00000 non-transferable
          0.00000 lost by fractions
-", "")),
-        (Step::Order(&["DB", "advance", "7", "--id", "n7"]), (1, "", "refused 25: count finished\n")),
-        (Step::Order(&["DB", "declare", "7", "--id", "d1"]), (0, "ward 7 declared: 1\n", "")),
-        (Step::Order(&["DB", "result", "7"]), (0, "Ward 7 Harbour
+",
+                "",
+            ),
+        ),
+        (
+            Step::Order(&["DB", "advance", "7", "--id", "n7"]),
+            (1, "", "refused 25: count finished\n"),
+        ),
+        (
+            Step::Order(&["DB", "declare", "7", "--id", "d1"]),
+            (0, "ward 7 declared: 1\n", ""),
+        ),
+        (
+            Step::Order(&["DB", "result", "7"]),
+            (
+                0,
+                "Ward 7 Harbour
 Elected
  1 Ann
-", "")),
+",
+                "",
+            ),
+        ),
     ],
 };
 
@@ -303,15 +482,47 @@ const LOT_BETWEEN_SURPLUSES: Worked = Worked {
     size: "14",
     papers: b"paper,1,2,3,4,5\n1,1,,2,,\n2,1,,2,,\n3,1,,2,,\n4,1,,2,,\n5,1,,2,,\n6,,1,,2,\n7,,1,,2,\n8,,1,,2,\n9,,1,,2,\n10,,1,,2,\n11,,,1,,\n12,,,1,,\n13,,,,1,\n14,,,,,1\n",
     counted: &[
-        (Step::Order(&["DB", "seal", "7", "--id", "s1"]), (0, "ward 7 sealed: 14 valid, 0 rejected, quota 4.00000\n", "")),
-        (Step::Order(&["DB", "advance", "7", "--id", "n1"]), (0, "ward 7 stage 1 first preferences\n", "")),
-        (Step::Order(&["DB", "advance", "7", "--id", "n2"]), (1, "", "refused 26: lot needed at stage 2 among 1, 2\n")),
-        (Step::Order(&["DB", "lot", "7", "2", "1", "--id", "l2"]), (0, "lot at ward 7 stage 2: candidate 1\n", "")),
-        (Step::Order(&["DB", "advance", "7", "--id", "n2"]), (0, "ward 7 stage 2 surplus of 1\n", "")),
-        (Step::Order(&["DB", "advance", "7", "--id", "n3"]), (0, "ward 7 stage 3 surplus of 2\n", "")),
-        (Step::Order(&["DB", "advance", "7", "--id", "n4"]), (0, "ward 7 stage 4 exclusion of 5\n", "")),
-        (Step::Order(&["DB", "advance", "7", "--id", "n5"]), (0, "ward 7 stage 5 exclusion of 4, last vacancies\n", "")),
-        (Step::Order(&["DB", "sheet", "7"]), (0, "Ward 7 Harbour
+        (
+            Step::Order(&["DB", "seal", "7", "--id", "s1"]),
+            (
+                0,
+                "ward 7 sealed: 14 valid, 0 rejected, quota 4.00000\n",
+                "",
+            ),
+        ),
+        (
+            Step::Order(&["DB", "advance", "7", "--id", "n1"]),
+            (0, "ward 7 stage 1 first preferences\n", ""),
+        ),
+        (
+            Step::Order(&["DB", "advance", "7", "--id", "n2"]),
+            (1, "", "refused 26: lot needed at stage 2 among 1, 2\n"),
+        ),
+        (
+            Step::Order(&["DB", "lot", "7", "2", "1", "--id", "l2"]),
+            (0, "lot at ward 7 stage 2: candidate 1\n", ""),
+        ),
+        (
+            Step::Order(&["DB", "advance", "7", "--id", "n2"]),
+            (0, "ward 7 stage 2 surplus of 1\n", ""),
+        ),
+        (
+            Step::Order(&["DB", "advance", "7", "--id", "n3"]),
+            (0, "ward 7 stage 3 surplus of 2\n", ""),
+        ),
+        (
+            Step::Order(&["DB", "advance", "7", "--id", "n4"]),
+            (0, "ward 7 stage 4 exclusion of 5\n", ""),
+        ),
+        (
+            Step::Order(&["DB", "advance", "7", "--id", "n5"]),
+            (0, "ward 7 stage 5 exclusion of 4, last vacancies\n", ""),
+        ),
+        (
+            Step::Order(&["DB", "sheet", "7"]),
+            (
+                0,
+                "Ward 7 Harbour
 Seats 3, valid 14, quota 4.00000
 Rejected 1: 0, 2: 0, 3: 0, 4: 0, 5: 0
 Stage 1: first preferences
@@ -354,15 +565,31 @@ Stage 5: exclusion of 4, last vacancies
  5       0.00000 x Eve
          1.00000 non-transferable
          0.00000 lost by fractions
-", "")),
-        (Step::Order(&["DB", "advance", "7", "--id", "n6"]), (1, "", "refused 25: count finished\n")),
-        (Step::Order(&["DB", "declare", "7", "--id", "d1"]), (0, "ward 7 declared: 1, 2, 3\n", "")),
-        (Step::Order(&["DB", "result", "7"]), (0, "Ward 7 Harbour
+",
+                "",
+            ),
+        ),
+        (
+            Step::Order(&["DB", "advance", "7", "--id", "n6"]),
+            (1, "", "refused 25: count finished\n"),
+        ),
+        (
+            Step::Order(&["DB", "declare", "7", "--id", "d1"]),
+            (0, "ward 7 declared: 1, 2, 3\n", ""),
+        ),
+        (
+            Step::Order(&["DB", "result", "7"]),
+            (
+                0,
+                "Ward 7 Harbour
 Elected
  1 Ann
  2 Bob
  3 Cy
-", "")),
+",
+                "",
+            ),
+        ),
     ],
 };
 
@@ -374,9 +601,19 @@ const QUOTA_AT_THE_FIRST_STAGE: Worked = Worked {
     size: "9",
     papers: b"paper,1,2,3\n1,1,,2\n2,1,,2\n3,1,,2\n4,1,,2\n5,,1,2\n6,,1,2\n7,,1,2\n8,,1,2\n9,,,1\n",
     counted: &[
-        (Step::Order(&["DB", "seal", "7", "--id", "s1"]), (0, "ward 7 sealed: 9 valid, 0 rejected, quota 4.00000\n", "")),
-        (Step::Order(&["DB", "advance", "7", "--id", "n1"]), (0, "ward 7 stage 1 first preferences\n", "")),
-        (Step::Order(&["DB", "sheet", "7"]), (0, "Ward 7 Harbour
+        (
+            Step::Order(&["DB", "seal", "7", "--id", "s1"]),
+            (0, "ward 7 sealed: 9 valid, 0 rejected, quota 4.00000\n", ""),
+        ),
+        (
+            Step::Order(&["DB", "advance", "7", "--id", "n1"]),
+            (0, "ward 7 stage 1 first preferences\n", ""),
+        ),
+        (
+            Step::Order(&["DB", "sheet", "7"]),
+            (
+                0,
+                "Ward 7 Harbour
 Seats 2, valid 9, quota 4.00000
 Rejected 1: 0, 2: 0, 3: 0, 4: 0, 5: 0
 Stage 1: first preferences
@@ -385,14 +622,30 @@ Stage 1: first preferences
  3       1.00000 - Cy
          0.00000 non-transferable
          0.00000 lost by fractions
-", "")),
-        (Step::Order(&["DB", "advance", "7", "--id", "n2"]), (1, "", "refused 25: count finished\n")),
-        (Step::Order(&["DB", "declare", "7", "--id", "d1"]), (0, "ward 7 declared: 1, 2\n", "")),
-        (Step::Order(&["DB", "result", "7"]), (0, "Ward 7 Harbour
+",
+                "",
+            ),
+        ),
+        (
+            Step::Order(&["DB", "advance", "7", "--id", "n2"]),
+            (1, "", "refused 25: count finished\n"),
+        ),
+        (
+            Step::Order(&["DB", "declare", "7", "--id", "d1"]),
+            (0, "ward 7 declared: 1, 2\n", ""),
+        ),
+        (
+            Step::Order(&["DB", "result", "7"]),
+            (
+                0,
+                "Ward 7 Harbour
 Elected
  1 Ann
  2 Bob
-", "")),
+",
+                "",
+            ),
+        ),
     ],
 };
 
@@ -404,13 +657,39 @@ const PASSED_OVER_THE_ELECTED: Worked = Worked {
     size: "15",
     papers: b"paper,1,2,3,4,5\n1,1,2,3,,\n2,1,2,3,,\n3,1,2,3,,\n4,1,2,3,,\n5,1,2,3,,\n6,1,2,3,,\n7,,1,,,\n8,,1,,,\n9,,1,,,\n10,,1,,,\n11,,1,,,\n12,,,1,,\n13,,,,1,\n14,,,,1,\n15,,,,,1\n",
     counted: &[
-        (Step::Order(&["DB", "seal", "7", "--id", "s1"]), (0, "ward 7 sealed: 15 valid, 0 rejected, quota 4.00000\n", "")),
-        (Step::Order(&["DB", "advance", "7", "--id", "n1"]), (0, "ward 7 stage 1 first preferences\n", "")),
-        (Step::Order(&["DB", "advance", "7", "--id", "n2"]), (0, "ward 7 stage 2 surplus of 1\n", "")),
-        (Step::Order(&["DB", "advance", "7", "--id", "n3"]), (0, "ward 7 stage 3 surplus of 2\n", "")),
-        (Step::Order(&["DB", "advance", "7", "--id", "n4"]), (0, "ward 7 stage 4 exclusion of 5\n", "")),
-        (Step::Order(&["DB", "advance", "7", "--id", "n5"]), (0, "ward 7 stage 5 exclusion of 4, last vacancies\n", "")),
-        (Step::Order(&["DB", "sheet", "7"]), (0, "Ward 7 Harbour
+        (
+            Step::Order(&["DB", "seal", "7", "--id", "s1"]),
+            (
+                0,
+                "ward 7 sealed: 15 valid, 0 rejected, quota 4.00000\n",
+                "",
+            ),
+        ),
+        (
+            Step::Order(&["DB", "advance", "7", "--id", "n1"]),
+            (0, "ward 7 stage 1 first preferences\n", ""),
+        ),
+        (
+            Step::Order(&["DB", "advance", "7", "--id", "n2"]),
+            (0, "ward 7 stage 2 surplus of 1\n", ""),
+        ),
+        (
+            Step::Order(&["DB", "advance", "7", "--id", "n3"]),
+            (0, "ward 7 stage 3 surplus of 2\n", ""),
+        ),
+        (
+            Step::Order(&["DB", "advance", "7", "--id", "n4"]),
+            (0, "ward 7 stage 4 exclusion of 5\n", ""),
+        ),
+        (
+            Step::Order(&["DB", "advance", "7", "--id", "n5"]),
+            (0, "ward 7 stage 5 exclusion of 4, last vacancies\n", ""),
+        ),
+        (
+            Step::Order(&["DB", "sheet", "7"]),
+            (
+                0,
+                "Ward 7 Harbour
 Seats 3, valid 15, quota 4.00000
 Rejected 1: 0, 2: 0, 3: 0, 4: 0, 5: 0
 Stage 1: first preferences
@@ -453,37 +732,75 @@ Stage 5: exclusion of 4, last vacancies
  5       0.00000 x Eve
          2.00000 non-transferable
          0.00002 lost by fractions
-", "")),
-        (Step::Order(&["DB", "advance", "7", "--id", "n6"]), (1, "", "refused 25: count finished\n")),
-        (Step::Order(&["DB", "declare", "7", "--id", "d1"]), (0, "ward 7 declared: 1, 2, 3\n", "")),
-        (Step::Order(&["DB", "result", "7"]), (0, "Ward 7 Harbour
+",
+                "",
+            ),
+        ),
+        (
+            Step::Order(&["DB", "advance", "7", "--id", "n6"]),
+            (1, "", "refused 25: count finished\n"),
+        ),
+        (
+            Step::Order(&["DB", "declare", "7", "--id", "d1"]),
+            (0, "ward 7 declared: 1, 2, 3\n", ""),
+        ),
+        (
+            Step::Order(&["DB", "result", "7"]),
+            (
+                0,
+                "Ward 7 Harbour
 Elected
  1 Ann
  2 Bob
  3 Cy
-", "")),
+",
+                "",
+            ),
+        ),
     ],
 };
 
 /// Plays an election from its nominations to its declaration. Each order opens the office anew.
 fn play_whole(rt: &(impl Abort + AllocGlobal), worked: &Worked) -> Result<(), Fail> {
     let ward = ["DB", "ward", "7", worked.seats, "Harbour", "--id", "w1"];
-    let batch = ["DB", "batch", "12", "7", worked.size, "4", "9", "--id", "b1"];
+    let batch = [
+        "DB",
+        "batch",
+        "12",
+        "7",
+        worked.size,
+        "4",
+        "9",
+        "--id",
+        "b1",
+    ];
     let before: [Case<'_>; 7] = [
         (INIT, READY),
         (Step::Order(&ward), (0, "ward 7 added\n", "")),
         (
-            Step::FileOrder(&["DB", "import-candidates", "FILE", "--id", "c"], worked.candidates),
+            Step::FileOrder(
+                &["DB", "import-candidates", "FILE", "--id", "c"],
+                worked.candidates,
+            ),
             (0, worked.added, ""),
         ),
-        (Step::Order(&["DB", "close", "7", "--id", "n0"]), (0, "ward 7 polled\n", "")),
+        (
+            Step::Order(&["DB", "close", "7", "--id", "n0"]),
+            (0, "ward 7 polled\n", ""),
+        ),
         (Step::Order(&batch), (0, "batch 12 added\n", "")),
         (
-            Step::FileOrder(&["DB", "import-keying", "4", "12", "1", "FILE", "--id", "k1"], worked.papers),
+            Step::FileOrder(
+                &["DB", "import-keying", "4", "12", "1", "FILE", "--id", "k1"],
+                worked.papers,
+            ),
             (0, "batch 12 round 1 keyed\n", ""),
         ),
         (
-            Step::FileOrder(&["DB", "import-keying", "9", "12", "1", "FILE", "--id", "k1"], worked.papers),
+            Step::FileOrder(
+                &["DB", "import-keying", "9", "12", "1", "FILE", "--id", "k1"],
+                worked.papers,
+            ),
             (0, "batch 12 round 1 keyed\n", ""),
         ),
     ];
