@@ -65,63 +65,126 @@ fn stop_each(
     Err(Fail::from("no run was long enough"))
 }
 
-/// The orders of one request each from nominations to verdicts, each stopped at each call, one after the
-/// other. (An import of candidates is a request a record, so a stop may leave some of them.)
-fn stop_orders(rt: &(impl Abort + AllocGlobal), file: File) -> Result<(), Fail> {
-    let keying = b"paper,1,2,3\n1,D,,\n";
-    let cases: [Case<'_>; 7] = [
-        (
-            Step::Order(&["DB", "withdraw", "7", "3", "--id", "x1"]),
-            (0, "candidate 3 of ward 7 withdrawn\n", ""),
+/// A ward with its candidates.
+const NOMINATED: [Case<'static>; 3] = [
+    (INIT, READY),
+    (HARBOUR, ADDED),
+    (CANDIDATES, CANDIDATES_ADDED),
+];
+
+const ONE_PAPER: &[u8] = b"paper,1,2,3\n1,D,,\n";
+
+/// The orders of one request each from nominations to verdicts. (An import of candidates is a request a
+/// record, so a stop may leave some of them.)
+const TO_VERDICTS: [Case<'static>; 7] = [
+    (
+        Step::Order(&["DB", "withdraw", "7", "3", "--id", "x1"]),
+        (0, "candidate 3 of ward 7 withdrawn\n", ""),
+    ),
+    (
+        Step::Order(&["DB", "candidate", "7", "3", "Cy", "--id", "c4"]),
+        (0, "candidate 3 of ward 7 added\n", ""),
+    ),
+    (CLOSE, POLLED),
+    (
+        Step::Order(&["DB", "batch", "12", "7", "1", "4", "9", "--id", "b1"]),
+        (0, "batch 12 added\n", ""),
+    ),
+    (
+        Step::FileOrder(
+            &["DB", "import-keying", "4", "12", "1", "FILE", "--id", "k1"],
+            ONE_PAPER,
         ),
-        (
-            Step::Order(&["DB", "candidate", "7", "3", "Cy", "--id", "c4"]),
-            (0, "candidate 3 of ward 7 added\n", ""),
+        (0, "batch 12 round 1 keyed\n", ""),
+    ),
+    (
+        Step::FileOrder(
+            &["DB", "import-keying", "9", "12", "1", "FILE", "--id", "k1"],
+            ONE_PAPER,
         ),
-        (CLOSE, POLLED),
-        (
-            Step::Order(&["DB", "batch", "12", "7", "1", "4", "9", "--id", "b1"]),
-            (0, "batch 12 added\n", ""),
-        ),
-        (
-            Step::FileOrder(
-                &["DB", "import-keying", "4", "12", "1", "FILE", "--id", "k1"],
-                keying,
-            ),
-            (0, "batch 12 round 1 keyed\n", ""),
-        ),
-        (
-            Step::FileOrder(
-                &["DB", "import-keying", "9", "12", "1", "FILE", "--id", "k1"],
-                keying,
-            ),
-            (0, "batch 12 round 1 keyed\n", ""),
-        ),
-        (
-            Step::Order(&["DB", "judge", "12", "1", "reject:3", "--id", "j1"]),
-            (0, "batch 12 paper 1 rejected 3\n", ""),
-        ),
-    ];
-    let begun = [
-        (INIT, READY),
-        (HARBOUR, ADDED),
-        (CANDIDATES, CANDIDATES_ADDED),
-    ];
-    let mut disks = Disks::lasting(rt.alloc()).hear(rt, &begun)?;
+        (0, "batch 12 round 1 keyed\n", ""),
+    ),
+    (
+        Step::Order(&["DB", "judge", "12", "1", "reject:3", "--id", "j1"]),
+        (0, "batch 12 paper 1 rejected 3\n", ""),
+    ),
+];
+
+/// A ward of one seat whose papers are those of no batch.
+const POLLED_FOR_ONE: [Case<'static>; 4] = [
+    (INIT, READY),
+    (
+        Step::Order(&["DB", "ward", "7", "1", "Harbour", "--id", "w1"]),
+        ADDED,
+    ),
+    (CANDIDATES, CANDIDATES_ADDED),
+    (CLOSE, POLLED),
+];
+
+/// The orders from its seal to its declaration.
+const TO_DECLARATION: [Case<'static>; 7] = [
+    (
+        Step::Order(&["DB", "seal", "7", "--id", "s1"]),
+        (0, "ward 7 sealed: 0 valid, 0 rejected, quota 1.00000\n", ""),
+    ),
+    (
+        Step::Order(&["DB", "advance", "7", "--id", "a1"]),
+        (0, "ward 7 stage 1 first preferences\n", ""),
+    ),
+    (
+        Step::Order(&["DB", "lot", "7", "2", "1", "--id", "l1"]),
+        (0, "lot at ward 7 stage 2: candidate 1\n", ""),
+    ),
+    (
+        Step::Order(&["DB", "advance", "7", "--id", "a2"]),
+        (0, "ward 7 stage 2 exclusion of 1\n", ""),
+    ),
+    (
+        Step::Order(&["DB", "lot", "7", "3", "2", "--id", "l2"]),
+        (0, "lot at ward 7 stage 3: candidate 2\n", ""),
+    ),
+    (
+        Step::Order(&["DB", "advance", "7", "--id", "a3"]),
+        (0, "ward 7 stage 3 exclusion of 2, last vacancies\n", ""),
+    ),
+    (
+        Step::Order(&["DB", "declare", "7", "--id", "d1"]),
+        (0, "ward 7 declared: 3\n", ""),
+    ),
+];
+
+/// Orders, each stopped at each call, one after the other.
+fn stop_orders(
+    rt: &(impl Abort + AllocGlobal),
+    begun: &[Case<'_>],
+    cases: &[Case<'_>],
+    file: File,
+) -> Result<(), Fail> {
+    let mut disks = Disks::lasting(rt.alloc()).hear(rt, begun)?;
     for case in cases {
-        disks = stop_each(rt, disks, case, file)?;
+        disks = stop_each(rt, disks, *case, file)?;
     }
     Ok(())
 }
 
 #[test]
 fn an_order_stops_whole_at_its_log(rt: HostRuntime) -> Result<(), Fail> {
-    stop_orders(&rt, File::Log)
+    stop_orders(&rt, &NOMINATED, &TO_VERDICTS, File::Log)
 }
 
 #[test]
 fn an_order_stops_whole_at_its_database(rt: HostRuntime) -> Result<(), Fail> {
-    stop_orders(&rt, File::Database)
+    stop_orders(&rt, &NOMINATED, &TO_VERDICTS, File::Database)
+}
+
+#[test]
+fn a_count_stops_whole_at_its_log(rt: HostRuntime) -> Result<(), Fail> {
+    stop_orders(&rt, &POLLED_FOR_ONE, &TO_DECLARATION, File::Log)
+}
+
+#[test]
+fn a_count_stops_whole_at_its_database(rt: HostRuntime) -> Result<(), Fail> {
+    stop_orders(&rt, &POLLED_FOR_ONE, &TO_DECLARATION, File::Database)
 }
 
 /// A keying of as many papers as a batch may have.
