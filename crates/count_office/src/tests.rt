@@ -8,6 +8,7 @@ mod disks;
 mod counts;
 mod imports;
 mod keyings;
+mod lists;
 mod lots;
 mod nominations;
 mod order_stops;

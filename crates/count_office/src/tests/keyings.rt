@@ -3,8 +3,6 @@
 use super::disks::{Disks, File};
 use super::orders::{ADDED, DAMAGED, HARBOUR, INIT, QUAY, QUAY_ADDED, READY};
 use super::steps::{Case, Step, Told};
-use register::{BatchCommand, CandidateCommand, Command, KeyingCommand, Request, WardCommand};
-use std::alloc::{AllocError, Global};
 use std::test::Fail;
 
 pub const CANDIDATES: Step<'static> = Step::FileOrder(
@@ -22,7 +20,7 @@ pub const CLOSE: Step<'static> = Step::Order(&["DB", "close", "7", "--id", "n1"]
 
 pub const POLLED: Told<'static> = (0, "ward 7 polled\n", "");
 
-const STATUS: Step<'static> = Step::Order(&["DB", "status", "7"]);
+pub const STATUS: Step<'static> = Step::Order(&["DB", "status", "7"]);
 
 const TWELVE: Step<'static> = Step::Order(&["DB", "batch", "12", "7", "2", "4", "9", "--id", "b1"]);
 
@@ -534,91 +532,5 @@ fn damaged_keyings_are_found(rt: HostRuntime) -> Result<(), Fail> {
             .copied(rt.alloc(), File::Log, u64::MAX)?
             .hear(&rt, &cases)?;
     }
-    Ok(())
-}
-
-/// What the office asks under an id.
-fn office_asks(alloc: Global, id: &str, command: Command) -> Result<Request, AllocError> {
-    Ok(Request {
-        actor: 0,
-        id: String::from_str(alloc, id)?,
-        command,
-    })
-}
-
-/// A clerk's keying of two papers of batch 12, the second of which is doubtful.
-fn keying(alloc: Global, clerk: u32, id: &str, marks: &str) -> Result<Request, AllocError> {
-    let papers = vec![in alloc;
-        String::from_str(alloc, marks)?,
-        String::from_str(alloc, "D")?,
-    ]?;
-    Ok(Request {
-        actor: clerk,
-        id: String::from_str(alloc, id)?,
-        command: Command::Keying(KeyingCommand {
-            batch: 12,
-            round: 1,
-            papers,
-        }),
-    })
-}
-
-/// Ward 7 with three candidates, and batch 12 of it.
-fn begun(alloc: Global) -> Result<Vec<Request>, AllocError> {
-    let ward = WardCommand::Add {
-        ward: 7,
-        seats: 2,
-        name: String::from_str(alloc, "Harbour")?,
-    };
-    let batch = BatchCommand::Add {
-        batch: 12,
-        ward: 7,
-        size: 2,
-        first_clerk: 4,
-        second_clerk: 9,
-    };
-    let mut requests = vec![in alloc; office_asks(alloc, "w1", Command::Ward(ward))?]?;
-    for (candidate, name, id) in [(1, "Ann", "c1"), (2, "Bob", "c2"), (3, "Cy", "c3")] {
-        let add = CandidateCommand::Add {
-            ward: 7,
-            candidate,
-            name: String::from_str(alloc, name)?,
-        };
-        requests.push(office_asks(alloc, id, Command::Candidate(add))?)?;
-    }
-    let close = Command::Ward(WardCommand::Close { ward: 7 });
-    requests.push(office_asks(alloc, "n1", close)?)?;
-    requests.push(office_asks(alloc, "b1", Command::Batch(batch))?)?;
-    Ok(requests)
-}
-
-/// What a list of requests up to two equal keyings is answered, one of them sent twice with other papers.
-const ANSWERS: &str = "done: ward 7 added
-done: candidate 1 of ward 7 added
-done: candidate 2 of ward 7 added
-done: candidate 3 of ward 7 added
-done: ward 7 polled
-done: batch 12 added
-done: batch 12 round 1 keyed
-kept: batch 12 round 1 keyed
-refused 16: already keyed
-done: batch 12 round 1 keyed
-";
-
-#[test]
-fn a_list_of_keyings_is_answered(rt: HostRuntime) -> Result<(), Fail> {
-    let alloc = rt.alloc();
-    let mut requests = begun(alloc)?;
-    requests.push(keying(alloc, 4, "k1", "1,2,")?)?;
-    requests.push(keying(alloc, 4, "k1", "2,1,")?)?;
-    requests.push(keying(alloc, 4, "k2", "1,2,")?)?;
-    requests.push(keying(alloc, 9, "k1", "1,2,")?)?;
-    let taken =
-        "ward 7 keying: 3 candidates, 1 batches, 1 taken, 0 differing, 1 doubtful open, 0 stages\n";
-    let cases = [
-        (Step::List(requests.as_slice()), (0, ANSWERS, "")),
-        (STATUS, (0, taken, "")),
-    ];
-    Disks::lasting(alloc).hear(&rt, &cases)?;
     Ok(())
 }
