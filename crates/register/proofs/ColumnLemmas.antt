@@ -77,20 +77,23 @@ each_of ward (c ∷ cs) = go (c.ward == ward) refl (each_of ward cs)
     go true is later = and_from _ _ is later
     go false is later = later
 
--- at a state the columns of a ward are its candidates' numbers
-pub columns_are : (s : OfficeState) (ward : ℕ) → IsState s → columns_of (candidates_of s ward) ≡ map (λ c. c.number) (candidates_of s ward)
-columns_are s ward is =
-    let candidates = maps_of is candidate_map in
+-- where the candidates are in range and in order, the columns of a ward are its candidates' numbers
+pub columns_at : (s : OfficeState) (ward : ℕ) → list_all is_candidate s.candidates ≡ true → IsStrictlySortedBy candidate_cmp s.candidates → columns_of (candidates_of s ward) ≡ map (λ c. c.number) (candidates_of s ward)
+columns_at s ward fine up =
     let of = λ (c : CandidateEntry). c.ward == ward in
     columns_after
     ward
     []
     (candidates_of s ward)
     (each_of ward s.candidates)
-    (kept_all is_candidate of s.candidates candidates.in_range)
-    (IsStrictlySortedBy-filter candidate_cmp of s.candidates candidates.rises)
+    (kept_all is_candidate of s.candidates fine)
+    (IsStrictlySortedBy-filter candidate_cmp of s.candidates up)
     (none_below (candidates_of s ward))
   where
     none_below : (cs : List CandidateEntry) → AreAbove [] cs
     none_below [] = tt
     none_below (c ∷ cs) = (tt, none_below cs)
+
+-- as they are at a state
+pub columns_are : (s : OfficeState) (ward : ℕ) → IsState s → columns_of (candidates_of s ward) ≡ map (λ c. c.number) (candidates_of s ward)
+columns_are s ward is = let candidates = maps_of is candidate_map in columns_at s ward candidates.in_range candidates.rises

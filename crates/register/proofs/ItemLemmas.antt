@@ -11,9 +11,12 @@ use Rattle.register.specs.declared.phase.Phase.TheVariants.{Nominations}
 use Rattle.register.specs.Nominations.{are_enough}
 use Rattle.register.specs.Offices.{put, WardEntry, CandidateEntry, BatchEntry, KeyedEntry, JudgedEntry, LotEntry, ReceiptEntry, OfficeState, ward_cmp, candidate_cmp, batch_cmp, keyed_cmp, judged_cmp, lot_cmp, receipt_cmp, ward_compared, ward_at, candidates_of, receipt_at}
 use Rattle.register.specs.Keyed.{is_polled, is_given_out, is_round_of, are_rounds_to}
-use Rattle.register.specs.Items.{is_ward, is_candidate, is_batch, is_keyed_paper, is_judged_paper, is_lot, is_about, is_receipt, item2, item3, item4, item5, item6, item7, IsState}
+use Rattle.register.specs.Items.{is_ward, is_candidate, is_batch, is_keyed_paper, is_judged_paper, is_lot, is_about, is_receipt, item2, item3, item4, item5, IsState}
+use Rattle.register.specs.Elections.{election_of, is_uncounted}
 use Rattle.register.specs.Effects.{EffectEntry, ward_added, ward_moved, candidate_added, candidate_withdrawn, batch_added, batch_reopened, papers_keyed, paper_judged, stage_counted, lot_drawn, with_effect, with_receipt}
 use Rattle.register.proofs.MapLemmas.{IsMap, list_all_weaker, put_all, put_is_map, found_put_too, found_put_still}
+use Rattle.register.proofs.ElectionLemmas.{is_sound, are_sound, are_lots_placed, sound_of, lots_placed_of, agreed_from, counted_from, no_lots_of, sound_before, unsealed}
+use Rattle.register.proofs.KeyedLemmas.{rounds_from, with_nominations, IsStill, given_out_still, keyed_still, judged_still}
 
 pub ward_total : IsTotalOrder ward_cmp
 ward_total = on_total (λ (w : WardEntry). w.number) nat_cmp_total
@@ -84,8 +87,8 @@ pub record AreJoined (s : OfficeState) : Type 0 where
   pub given_out : item3 s ≡ true
   pub keyed : item4 s ≡ true
   pub judged : item5 s ≡ true
-  pub agreed : item6 s ≡ true
-  pub counted : item7 s ≡ true
+  pub lots_placed : are_lots_placed s ≡ true
+  pub sound : are_sound s ≡ true
 
 pub state_from : (s : OfficeState) → ((m : MapName) → Holds m s) → AreJoined s → IsState s
 state_from s maps joined = record {
@@ -94,10 +97,85 @@ state_from s maps joined = record {
   given_out = joined.given_out;
   keyed = joined.keyed;
   judged = joined.judged;
-  agreed = joined.agreed;
-  counted = joined.counted;
+  agreed = agreed_from s joined.sound;
+  counted = counted_from s joined.lots_placed joined.sound;
   rise = record { wards = (maps ward_map).rises; candidates = (maps candidate_map).rises; batches = (maps batch_map).rises; keyings = (maps keyed_map).rises; verdicts = (maps judged_map).rises; lots = (maps lot_map).rises; receipts = (maps receipt_map).rises };
 }
+
+-- the rounds of the batches are those of a state with the same batches, keyings and candidates
+pub rounds_still : (s t : OfficeState) (bs : List BatchEntry) → ((b : BatchEntry) (m : ℕ) → is_round_of s b m ≡ true → is_round_of t b m ≡ true) → list_all (λ b. are_rounds_to s b b.round) bs ≡ true
+    → list_all (λ b. are_rounds_to t b b.round) bs ≡ true
+rounds_still s t bs each all = list_all_weaker _ _ bs (λ b rounds. rounds_from s t b b b.round (each b) rounds) all
+
+-- ---- wards and their candidates
+
+-- whether the candidates of a state belong to wards that are there
+abbrev pub are_placed : OfficeState → Bool
+are_placed s = list_all (λ c. is_some (ward_at s c.ward)) s.candidates
+
+-- what a test of a ward and its candidates says of each ward
+abbrev pub are_all : (WardEntry → List CandidateEntry → Bool) → OfficeState → Bool
+are_all test s = list_all (λ w. test w (candidates_of s w.number)) s.wards
+
+-- whether a ward has the candidates that its phase asks for
+abbrev pub has_enough : WardEntry → List CandidateEntry → Bool
+has_enough w candidates = are_enough w.phase w candidates
+
+-- a ward in range, in its nominations, of a number that is new
+pub ward_stays : (s : OfficeState) (w : WardEntry) → is_ward w ≡ true → w.phase ≡ Nominations → w.done ≡ 0 → ward_at s w.number ≡ None → IsState s → IsState (with_effect (ward_added w) s)
+ward_stays s w good phase done new is =
+    let placed = and_parts (are_placed s) (are_all has_enough s) is.nominated in
+    let enough : has_enough w (candidates_of s w.number) ≡ true = rw phase refl in
+    let none : is_uncounted (election_of s w) ≡ true = rw (done, no_lots_of s w.number (lots_placed_of is) new) refl in
+    let sound = sound_before (election_of s w) (unsealed (election_of s w) (rw phase refl)) none in
+    state_from
+    (with_effect (ward_added w) s)
+    maps
+    (record {
+      nominated = and_from _ _ (still_placed s.candidates placed.0) (put_all ward_cmp (λ x. has_enough x (candidates_of s x.number)) w s.wards enough placed.1);
+      given_out = given_out_still s (put ward_cmp w s.wards) s.candidates is past;
+      keyed = keyed_still s (put ward_cmp w s.wards) s.candidates is past;
+      judged = judged_still s (put ward_cmp w s.wards) s.candidates is past;
+      lots_placed = list_all_weaker _ _ s.lots (λ l there. found_put_too ward_cmp (ward_compared l.ward) w s.wards there) (lots_placed_of is);
+      sound = put_all ward_cmp (λ x. is_sound (election_of s x)) w s.wards sound (sound_of is);
+    })
+  where
+    maps : (m : MapName) → Holds m (with_effect (ward_added w) s)
+    maps ward_map = put_is_map ward_total w s.wards good new (maps_of is ward_map)
+    maps m = maps_of is m
+
+    still_placed : (cs : List CandidateEntry) → list_all (λ c. is_some (ward_at s c.ward)) cs ≡ true → list_all (λ c. is_some (ward_at (with_effect (ward_added w) s) c.ward)) cs ≡ true
+    still_placed cs placed = list_all_weaker _ _ cs (λ c there. found_put_too ward_cmp (ward_compared c.ward) w s.wards there) placed
+
+    polled : (n : ℕ) (cs : List CandidateEntry) (o : Option WardEntry) → ward_at s n ≡ o → is_polled o cs ≡ true → is_polled (ward_at (with_effect (ward_added w) s) n) cs ≡ true
+    polled n cs None found is = absurd (cc)
+    polled n cs (Some x) found is = rw (found_put_still (λ (x : WardEntry). x.number) s.wards w n x new found) is
+
+    past : (b : BatchEntry) → is_given_out s b ≡ true → IsStill s (with_nominations (put ward_cmp w s.wards) s.candidates s) b
+    past b out = record {
+      given_out = let parts = and_parts (not (b.first_clerk == b.second_clerk)) (is_polled (ward_at s b.ward) (candidates_of s b.ward)) out in and_from _ _ parts.0 (polled b.ward (candidates_of s b.ward) (ward_at s b.ward) refl parts.1);
+      candidates = refl;
+    }
+
+-- a receipt in range, of an actor and id that have none
+pub receipt_stays : (s : OfficeState) (r : ReceiptEntry) → is_receipt r ≡ true → receipt_at s r.actor r.id ≡ None → IsState s → IsState (with_receipt r s)
+receipt_stays s r good new is =
+    let parts = and_parts _ _ is.keyed in
+    state_from
+    (with_receipt r s)
+    maps
+    (record {
+      nominated = is.nominated;
+      given_out = is.given_out;
+      keyed = and_from _ _ parts.0 (rounds_still s (with_receipt r s) s.batches (λ b m round. round) parts.1);
+      judged = is.judged;
+      lots_placed = lots_placed_of is;
+      sound = sound_of is;
+    })
+  where
+    maps : (m : MapName) → Holds m (with_receipt r s)
+    maps receipt_map = put_is_map receipt_total r s.receipts good new (maps_of is receipt_map)
+    maps m = maps_of is m
 
 -- An effect that leads to a state again, with a subject and a reply that its actor's receipt may have: what each command
 -- comes to where nothing stands against it.

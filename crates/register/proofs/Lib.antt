@@ -1,8 +1,28 @@
 pub mod MapLemmas
 mod LineLemmas
 mod ObjectionLemmas
+mod ElectionLemmas
+mod StageLemmas
+mod ProgressLemmas
+mod KeyedLemmas
+mod ElsewhereLemmas
 mod ItemLemmas
+mod NominationLemmas
+mod WardLemmas
+mod CandidateLemmas
+mod BatchLemmas
+mod KeyingLemmas
+mod VerdictLemmas
 mod ColumnLemmas
 mod PaperLemmas
+mod PollLemmas
+pub mod ContestLemmas
+mod TellLemmas
+mod CountLemmas
+mod TotalLemmas
 pub mod MachineLemmas
 pub mod ListLaws
+mod Rows
+mod NominationRows
+mod BatchRows
+mod CountRows

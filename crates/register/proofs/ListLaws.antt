@@ -6,8 +6,9 @@ use Rattle.std.proofs.lemmas.Bool.{true≢false}
 use Rattle.register.specs.declared.command.Request.{Request}
 use Rattle.std.specs.List.Sorted.{IsStrictlySortedBy}
 use Rattle.register.specs.Offices.{OfficeState, empty_office}
-use Rattle.register.specs.Items.{IsState}
+use Rattle.register.specs.Items.{item6, item7, IsState}
 use Rattle.register.specs.Machine.{Outcome, accepted, kept, refused, step_of, state_after, is_accepted, after_one, after, accepted_of}
+use Rattle.register.proofs.MachineLemmas.{step_stays}
 use Rattle.std.specs.Prelude.{string_bytes}
 
 -- what isn't accepted changes nothing
@@ -29,3 +30,12 @@ after-accepted_of s (r ∷ rs) = go (is_accepted (step_of s r)) refl (after-acce
 -- one request more
 pub after-more : (s : OfficeState) (rs : List Request) (i : ℕ) (d : Request) → i < length rs → after s (take (i + 1) rs) ≡ after_one (after s (take i rs)) (get_or rs i d)
 after-more s rs i d within = ap (after s) (take_more rs i d within) ∙ fold_push after_one s (take i rs) (get_or rs i d)
+
+-- after any requests there is a state again
+pub after_stays : (s : OfficeState) (rs : List Request) → IsState s → IsState (after s rs)
+after_stays s [] is = is
+after_stays s (r ∷ rs) is = after_stays (after_one s r) rs (step_stays s r.actor (string_bytes r.id) r.command is)
+
+pub empty_is_a_state : IsState empty_office
+unfolding IsStrictlySortedBy item6 item7
+empty_is_a_state = record { in_range = refl; nominated = refl; given_out = refl; keyed = refl; judged = refl; agreed = refl; counted = refl; rise = record { wards = tt; candidates = tt; batches = tt; keyings = tt; verdicts = tt; lots = tt; receipts = tt } }

@@ -18,7 +18,24 @@ use Rattle.register.specs.Parts.{PartEntries}
 use Rattle.register.specs.Machine.{keeps, refuses, part_of, objections, subject_of, reply_to, effect_of, receipt_for, judged, answered, decided, outcome_at, step, state_after, IsKeptAgain}
 use Rattle.register.specs.Views.{IsToldAlike}
 use Rattle.register.proofs.MapLemmas.{found_put}
-use Rattle.register.proofs.ItemLemmas.{receipt_total, same_receipts}
+use Rattle.register.proofs.ItemLemmas.{IsFit, receipt_total, receipt_stays, same_receipts}
+use Rattle.register.proofs.WardLemmas.{ward_fits}
+use Rattle.register.proofs.CandidateLemmas.{candidate_fits}
+use Rattle.register.proofs.BatchLemmas.{batch_fits}
+use Rattle.register.proofs.KeyingLemmas.{keying_fits}
+use Rattle.register.proofs.VerdictLemmas.{verdict_fits}
+use Rattle.register.proofs.CountLemmas.{count_fits}
+
+-- ---- the commands, by subject
+
+fits : (s : OfficeState) (actor : ℕ) (command : Command) → IsState s → first_reason (objections actor command (part_of s actor command)) ≡ None
+    → IsFit s actor (effect_of actor command (part_of s actor command)) (subject_of command) (reply_to command (part_of s actor command))
+fits s actor (Ward command) is none = ward_fits s actor command is none
+fits s actor (Candidate command) is none = candidate_fits s actor command is none
+fits s actor (Batch command) is none = batch_fits s actor command is none
+fits s actor (Keying command) is none = keying_fits s actor command is none
+fits s actor (Verdict command) is none = verdict_fits s actor command is none
+fits s actor (Count command) is none = count_fits s actor command is none
 
 -- ---- a request at a state
 
@@ -32,6 +49,24 @@ module _ (s : OfficeState) (actor : ℕ) (id : List ℕ) (command : Command) whe
   -- an actor and an id without a receipt have none after the effect either
   still_new : receipt_at s actor id ≡ None → receipt_at (with_effect (effect_of actor command (part_of s actor command)) s) actor id ≡ None
   still_new new = ap (entry_at (λ (r : ReceiptEntry). ordering_then (nat_cmp actor r.actor) (slice_cmp nat_cmp id r.id))) (same_receipts (effect_of actor command (part_of s actor command)) s) ∙ new
+
+  judged_stays : IsState s → is_id id ≡ true → receipt_at s actor id ≡ None → (o : Option Reason) → first_reason (objections actor command (part_of s actor command)) ≡ o
+      → IsState (state_after s (outcome_at s (judged actor id command (part_of s actor command) o)))
+  unfolding is_receipt
+  judged_stays is good new (Some why) told = is
+  judged_stays is good new None told =
+      let fit = fits s actor command is told in
+      receipt_stays (with_effect (effect_of actor command (part_of s actor command)) s) (receipt_for actor id command (part_of s actor command)) (and_from _ _ fit.about (and_from _ _ fit.text (and_from _ _ good fit.line))) (still_new new) fit.state
+
+  -- after each step there is a state again
+  pub step_stays : IsState s → IsState (state_after s (step s actor id command))
+  unfolding step decided
+  step_stays is = go (is_id id) refl (receipt_at s actor id) refl
+    where
+      go : (b : Bool) → is_id id ≡ b → (o : Option ReceiptEntry) → receipt_at s actor id ≡ o → IsState (state_after s (outcome_at s (cond b (answered actor id command o (part_of s actor command)) (refuses BadId))))
+      go false good o found = is
+      go true good (Some r) found = elim (bytes_eq r.subject (subject_of command)) as (λ b. IsState (state_after s (outcome_at s (cond b (keeps r.reply) (refuses IdUsed))))) [ true ↦ is | false ↦ is ]
+      go true good None found = judged_stays is good found (first_reason (objections actor command (part_of s actor command))) refl
 
   judged_again : is_id id ≡ true → receipt_at s actor id ≡ None → (o : Option Reason) → IsKeptAgain actor id command (outcome_at s (judged actor id command (part_of s actor command) o))
   unfolding step decided

@@ -62,9 +62,13 @@ by_verdict columns (Some v) = if v.code == 0 then by_reading Open (reading colum
 abbrev pub judgement_on : List ℕ → List JudgedEntry → KeyedEntry → Judgement
 judgement_on columns verdicts k = by_reading (by_verdict columns (find (λ (v : JudgedEntry). v.paper == k.paper) verdicts)) (reading columns k.marks)
 
--- the judgements on the papers of a batch that is taken, in the order of the papers
+-- the judgements on the papers of a keying, in the order of the papers
+abbrev pub judgements_on : List ℕ → List JudgedEntry → List KeyedEntry → List Judgement
+judgements_on columns verdicts keying = map (judgement_on columns verdicts) keying
+
+-- and on those of a batch that is taken
 abbrev pub judgements_in : List ℕ → Pile → List Judgement
-judgements_in columns pile = (if is_taken pile then map (judgement_on columns pile.verdicts) pile.first else [])
+judgements_in columns pile = (if is_taken pile then judgements_on columns pile.verdicts pile.first else [])
 
 -- and of all batches
 abbrev pub judgements : List ℕ → List Pile → List Judgement
@@ -92,6 +96,10 @@ rejected_with js n = length (filter (is_rejected n) js)
 abbrev pub with_rejected : Judgement → List ℕ → List ℕ
 with_rejected judgement rejected =
     map (λ n. slice_index rejected (n - 1) + (if is_rejected n judgement then 1 else 0)) (1 ∷ 2 ∷ 3 ∷ 4 ∷ 5 ∷ [])
+
+-- the same, of a paper more
+abbrev pub and_rejected : List ℕ → Judgement → List ℕ
+and_rejected rejected judgement = with_rejected judgement rejected
 
 -- the preferences of each valid paper, in the order of batch and number; how many papers are rejected, by code 1 to 5; and
 -- whether each batch is settled

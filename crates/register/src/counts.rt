@@ -18,6 +18,7 @@ use crate::texts::{action_text, listed};
 use crate::view::Part;
 use crate::wards::{Ward, phase_objection};
 use count::Due;
+use paper::Columns;
 use std::alloc::{AllocError, Global};
 
 /// A lot that was drawn: of which ward (1 to 99), for which stage of its count (2 to 31), and the
@@ -115,12 +116,12 @@ fn waits_at(stage: u32, due: &Option<Due>) -> bool
     }
 }
 
-/// Whether a candidate is one of some.
-fn has_candidate(candidates: &[u8], candidate: u32) -> bool
-    ensures { result ≡ list_any (nat_eq candidate) candidates.now }
+/// Whether a candidate is one of a set.
+fn is_one_of(candidate: u32, columns: &Columns) -> bool
+    ensures { result ≡ list_any (nat_eq candidate) columns.now }
 {
-    for c in candidates {
-        if candidate == u32::from(*c) {
+    for column in columns.as_slice() {
+        if candidate == u32::from(*column) {
             return true;
         }
     }
@@ -132,7 +133,7 @@ fn is_among(candidate: u32, due: &Option<Due>) -> bool
     ensures { result ≡ is_among candidate due.now }
 {
     match due {
-        Some(Due::Lot { among, .. }) => has_candidate(among.as_slice(), candidate),
+        Some(Due::Lot { among, .. }) => is_one_of(candidate, among),
         Some(Due::Act(_)) | Some(Due::Finished) | None => false,
     }
 }

@@ -1,15 +1,15 @@
 //! What the count of a ward rests on: the ward, its candidates, its ballot papers, and the lots drawn.
 
-ghost use Rattle.std.specs.Prelude.{◌≡◌, [], map, true, IfOk, IfSome, IsSome};
-ghost use Rattle.std.specs.List.{list_all};
+ghost use Rattle.std.specs.Prelude.{◌≡◌, ◌+◌, true, length, sum_by, [], Some, IfOk, IfSome, IsSome};
 ghost use Rattle.count.specs.Law.Contest.{contest_for, IsContest};
-ghost use Rattle.register.specs.Polls.{poll_of, poll_entry, ballots_entry};
-ghost use Rattle.register.specs.Offices.{lot_entry};
-ghost use Rattle.register.specs.Items.{is_lot};
-ghost use Rattle.register.specs.Elections.{lot_pair, election_entry, contest_of, stages_of, due_of, elected_of};
+ghost use Rattle.register.specs.Papers.{batches_of};
+ghost use Rattle.register.specs.Polls.{all_rejected, poll_of, poll_entry, ballots_entry};
+ghost use Rattle.register.specs.Offices.{WardEntry, OfficeState, MapsRise, ward_at, candidates_of};
+ghost use Rattle.register.specs.Nominations.{is_contested};
+ghost use Rattle.register.specs.Elections.{election_entry, election_of, contest_of, stages_of, due_of, elected_of};
+ghost use Rattle.register.specs.Items.{item1, item4, IsState};
 
 use crate::candidates::Candidate;
-use crate::counts::DrawnLot;
 use crate::marks::columns_of;
 use crate::polls::{Ballots, Poll};
 use crate::wards::{Ward, is_contested};
@@ -36,14 +36,16 @@ pub struct Progress {
     pub elected: Columns,
 }
 
-/// Lots as the count takes them, in their order. None where a number is out of range, as none of an office
-/// is. An error is want of memory.
-pub fn lot_pairs(alloc: Global, lots: &[DrawnLot]) -> Result<Option<Vec<(u8, u8)>>, AllocError>
-    ensures is { IfOk result (λ found. IfSome found (λ pairs. pairs.items ≡ map lot_pair (map lot_entry lots.now))) }
-    ensures some { IfOk result (λ found. list_all is_lot (map lot_entry lots.now) ≡ true → IsSome found) }
-{
-    Err(AllocError)
-}
+/// The laws of the elections of an office, for its callers. Where numbers are in range, keyings are whole
+/// and entries stand in the order of their keys, each contested ward has an election that can be counted.
+/// At a state, once each batch of a ward is settled, its valid papers and its rejected ones are all the
+/// papers of its batches.
+pub fn elections_are_fair()
+    ensures fair { (s : OfficeState) (w : WardEntry) → item1 s ≡ true → item4 s ≡ true → MapsRise s → ward_at s w.number ≡ Some w
+        → is_contested w (candidates_of s w.number) ≡ true → IsContest (contest_of (election_of s w)) }
+    ensures adds_up { (s : OfficeState) (w : WardEntry) → IsState s → (election_of s w).ballots.settled ≡ true
+        → length (election_of s w).ballots.papers + all_rejected (election_of s w).ballots.rejected ≡ sum_by (λ b. b.size) (batches_of s w.number) }
+{}
 
 /// A new book of some papers, where a count can be held on them, as it can in each contested ward of an
 /// office. An error is want of memory.

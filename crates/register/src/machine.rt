@@ -138,6 +138,7 @@ pub fn decide(alloc: Global, view: &View<'_>, command: &Command) -> Result<Decis
     ensures decides { IfOk result (λ decision. (s : OfficeState) → IsViewOf s command.now view.now → outcome_of s decision ≡ step s view.now.actor view.now.id.now command.now) }
     ensures told_alike { IfOk result (λ decision. IsToldAlike command.now (ruling_of decision)) }
     ensures kept_again { (s : OfficeState) → IsKeptAgain view.now.actor view.now.id.now command.now (step s view.now.actor view.now.id.now command.now) }
+    ensures stays_a_state { (s : OfficeState) → IsState s → IsState (state_after s (step s view.now.actor view.now.id.now command.now)) }
 {
     decided(alloc, view, command)
 }

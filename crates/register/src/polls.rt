@@ -1,9 +1,10 @@
 //! The ballot papers of a ward: which are valid, and why the others are rejected.
 
-ghost use Rattle.std.specs.Prelude.{◌≡◌, ◌++◌, ◌∷◌, [], ◌==◌, Ok, Some, find, map, IfOk};
+ghost use Rattle.std.specs.Prelude.{◌≡◌, ◌++◌, ◌∷◌, [], ◌==◌, Ok, Some, find, map, fold, IfOk};
+ghost use Rattle.std.specs.List.{flat_map};
 ghost use Rattle.paper.specs.MarksText.{reading};
 ghost use Rattle.register.specs.Offices.{keyed_entry, judged_entry};
-ghost use Rattle.register.specs.Polls.{Pile, by_reading, by_verdict, judgement_on, preferences_by, with_rejected, ballots_in, ballots_entry};
+ghost use Rattle.register.specs.Polls.{Pile, by_reading, by_verdict, judgement_on, judgements_on, preferences_by, with_rejected, and_rejected, ballots_in, ballots_entry};
 
 use crate::keyings::KeyedPaper;
 use crate::papers::{are_taken, count_open};
@@ -125,13 +126,35 @@ impl Ballots {
         ensures { IfOk result (λ _. (piles : _) → ballots_entry self.old ≡ ballots_in columns piles
             → ballots_entry self.new ≡ ballots_in columns (piles ++ (record { first = map keyed_entry first.now; second = map keyed_entry second.now; verdicts = map judged_entry verdicts.now } ∷ []))) }
     {
-        Err(AllocError)
+        if !are_taken(first, second) {
+            self.settled = false;
+            return Ok(());
+        }
+        self.settled &= count_open(first, verdicts) == 0;
+        self.count_each(columns, verdicts, first)
+    }
+
+    /// Counts each paper of a keying by the judgement on it.
+    fn count_each(
+        &mut self,
+        columns: Columns,
+        verdicts: &[JudgedPaper],
+        keying: &[KeyedPaper],
+    ) -> Result<(), AllocError>
+        ensures papers { IfOk result (λ _. self.new.papers.items ≡ self.old.papers.items ++ flat_map preferences_by (judgements_on columns (map judged_entry verdicts.now) (map keyed_entry keying.now))) }
+        ensures rejected { IfOk result (λ _. self.new.rejected ≡ fold and_rejected self.old.rejected (judgements_on columns (map judged_entry verdicts.now) (map keyed_entry keying.now))) }
+        ensures settled { self.new.settled ≡ self.old.settled }
+    {
+        for keyed in keying {
+            self.count(judgement_on(columns, verdicts, keyed))?;
+        }
+        Ok(())
     }
 
     /// Counts a paper by the judgement on it.
     fn count(&mut self, judgement: Judgement) -> Result<(), AllocError>
         ensures papers { IfOk result (λ _. self.new.papers.items ≡ self.old.papers.items ++ preferences_by judgement) }
-        ensures rejected { IfOk result (λ _. self.new.rejected ≡ with_rejected judgement self.old.rejected) }
+        ensures rejected { IfOk result (λ _. self.new.rejected ≡ and_rejected self.old.rejected judgement) }
         ensures settled { self.new.settled ≡ self.old.settled }
     {
         match judgement {

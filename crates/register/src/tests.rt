@@ -20,6 +20,8 @@ use crate::wards::{Ward, WardCommand};
 use std::alloc::{AllocError, Global};
 use std::test::Fail;
 
+mod counts;
+
 fn add(alloc: Global, ward: u32, seats: u32, name: &str) -> Result<Command, AllocError> {
     Ok(Command::Ward(WardCommand::Add {
         ward,

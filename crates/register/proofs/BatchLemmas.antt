@@ -1,0 +1,354 @@
+-- The commands about batches, where nothing stands against them, lead from a state to a state, and leave a receipt in range.
+use Rattle.std.proofs.Common.{rules, inl, inr, ◌≡◌, ℕ, suc, Bool, true, false, cond, not, ◌&&◌, ◌||◌, ◌==◌, ◌++◌, nat_le, codes, List, [], map, Option, Some, None, is_some, option_map, refl, sym, ap, subst, ◌∙◌, arith}
+use Rattle.std.specs.Fmt.{decimal}
+use Rattle.std.specs.List.{list_all}
+use Rattle.std.specs.Ordering.{is_eq}
+use Rattle.std.specs.Cmp.{unsigned_tied}
+use Rattle.std.proofs.lemmas.Bool.{and_parts, and_from, or_cases, or_right, eqb-true, leb-true, leb-false, le-leb, not-true, cases_order}
+use Rattle.std.proofs.lemmas.List.Folds.{list_all-map}
+use Rattle.std.proofs.Math.Nat.{le_refl}
+use Rattle.register.specs.declared.phase.Phase.{Phase}
+use Rattle.register.specs.declared.phase.Phase.TheVariants.{Keying}
+use Rattle.register.specs.declared.refusal.Reason.TheVariants.{NumberOutOfRange, NoSuchBatch, BatchExists, WrongPhase, SameClerk, NoDifference}
+use Rattle.register.specs.declared.batches.BatchCommand.{BatchCommand}
+use Rattle.register.specs.declared.batches.BatchCommand.TheVariants.{Add, Again}
+use Rattle.register.specs.Reasons.{first_reason}
+use Rattle.register.specs.Ranges.{last_batch, last_round, is_office, is_clerk, is_ward_number, is_batch_number, is_paper_number, is_round}
+use Rattle.register.specs.Subjects.{is_office_subject}
+use Rattle.register.specs.Offices.{WardEntry, BatchEntry, KeyedEntry, JudgedEntry, OfficeState, put, changed, batch_cmp, ward_compared, batch_compared, ward_at, candidates_of, batch_at, keying_of, verdicts_of, lots_of}
+use Rattle.register.specs.Polls.{pile_of}
+use Rattle.register.specs.Elections.{is_counted}
+use Rattle.register.specs.Nominations.{are_enough}
+use Rattle.register.specs.Papers.{is_keyed, same_marks, differ, is_taken, is_its_clerk, first_keying, second_keying}
+use Rattle.register.specs.Marks.{is_readable}
+use Rattle.register.specs.Keyed.{columns_for, is_polled, is_given_out, is_keyed_for, is_round_of, are_rounds_to, is_judged}
+use Rattle.register.specs.Items.{is_batch, IsState}
+use Rattle.register.specs.Effects.{batch_added, batch_reopened, in_round, with_effect}
+use Rattle.register.specs.Parts.{passes}
+use Rattle.register.specs.Batches.{ward_for, first_for, second_for, part_of, is_in_last_round, is_in_range, objections, next_round, subject_of, reply_to, effect_of}
+use Rattle.register.proofs.LineLemmas.{lower, is_plain-decimal, words, line_append, line_number, line_reply, line_text}
+use Rattle.register.proofs.ObjectionLemmas.{none_objects, asked, unasked, absent, present, there}
+use Rattle.register.proofs.MapLemmas.{Keeps, list_all_weaker, filter_none, filter_put, put_all, put_is_map, found_put_too, found_put_still, changed_is_map, changed_at, found_changed, found_key, found_passes, found_number, same_number, all_but_number}
+use Rattle.register.proofs.ElectionLemmas.{lots_placed_of, same_election}
+use Rattle.register.proofs.ElsewhereLemmas.{sound_elsewhere, batches_elsewhere, changed_elsewhere}
+use Rattle.register.proofs.KeyedLemmas.{rounds_from, found_given_out, no_verdicts}
+use Rattle.register.proofs.ItemLemmas.{MapName, batch_map, Holds, maps_of, state_from, rounds_still, batch_total, are_placed, are_all, has_enough, IsFit, office_about}
+
+-- ---- numbers in range
+
+-- the numbers of a batch, each in range
+pub record BatchParts (b : BatchEntry) : Type 0 where
+  pub number : is_batch_number b.number ≡ true
+  pub ward : is_ward_number b.ward ≡ true
+  pub size : is_paper_number b.size ≡ true
+  pub first_clerk : is_clerk b.first_clerk ≡ true
+  pub second_clerk : is_clerk b.second_clerk ≡ true
+  pub round : is_round b.round ≡ true
+
+pub batch_parts : (b : BatchEntry) → is_batch b ≡ true → BatchParts b
+unfolding is_batch
+batch_parts b good =
+    let first = and_parts (is_batch_number b.number) (is_ward_number b.ward && (is_paper_number b.size && (is_clerk b.first_clerk && (is_clerk b.second_clerk && is_round b.round)))) good in
+    let second = and_parts _ _ first.1 in
+    let third = and_parts _ _ second.1 in
+    let fourth = and_parts _ _ third.1 in
+    let fifth = and_parts _ _ fourth.1 in
+    record { number = first.0; ward = second.0; size = third.0; first_clerk = fourth.0; second_clerk = fifth.0; round = fifth.1 }
+
+-- a batch that is found is in range
+pub found_in_range : {s : OfficeState} → IsState s → (n : ℕ) (b : BatchEntry) → batch_at s n ≡ Some b → BatchParts b
+found_in_range {s} is n b found = let batches = maps_of is batch_map in batch_parts b (found_passes (batch_compared n) is_batch b s.batches batches.in_range found)
+
+-- ---- a new batch
+
+module _ (s : OfficeState) (b : BatchEntry) (is : IsState s) (new : batch_at s b.number ≡ None) where
+  -- no paper is keyed of it
+  unkeyed : (round clerk : ℕ) → keying_of s b.number round clerk ≡ []
+  unkeyed round clerk = filter_none _ s.keyings (list_all_weaker _ _ s.keyings (λ k keyed. go k (k.batch == b.number) refl keyed) (and_parts _ _ is.keyed).0)
+    where
+      go : (k : KeyedEntry) (same : Bool) → (k.batch == b.number) ≡ same → is_keyed_for s k (batch_at s k.batch) ≡ true → not ((k.batch == b.number) && ((k.round == round) && (k.clerk == clerk))) ≡ true
+      go k false other keyed = rw other refl
+      go k true same keyed =
+          let none : batch_at s k.batch ≡ None = ap (batch_at s) (eqb-true k.batch b.number same) ∙ new in
+          absurd (let lost = rw none at keyed in cc)
+
+  -- and none of its papers is judged
+  unjudged : verdicts_of s b.number ≡ []
+  unjudged = filter_none _ s.verdicts (list_all_weaker _ _ s.verdicts (λ v placed. go v (v.batch == b.number) refl placed) (and_parts _ _ is.judged).0)
+    where
+      go : (v : JudgedEntry) (same : Bool) → (v.batch == b.number) ≡ same → is_some (batch_at s v.batch) ≡ true → not (v.batch == b.number) ≡ true
+      go v false other placed = rw other refl
+      go v true same placed =
+          let none : batch_at s v.batch ≡ None = ap (batch_at s) (eqb-true v.batch b.number same) ∙ new in
+          absurd (let lost = rw none at placed in cc)
+
+  keyed_for_too : (k : KeyedEntry) → is_keyed_for s k (batch_at s k.batch) ≡ true → is_keyed_for s k (batch_at (with_effect (batch_added b) s) k.batch) ≡ true
+  keyed_for_too k = go (batch_at s k.batch) refl
+    where
+      go : (o : Option BatchEntry) → batch_at s k.batch ≡ o → is_keyed_for s k o ≡ true → is_keyed_for s k (batch_at (with_effect (batch_added b) s) k.batch) ≡ true
+      go None found keyed = absurd (cc)
+      go (Some x) found keyed = rw (found_put_still (λ (x : BatchEntry). x.number) s.batches b k.batch x new found) keyed
+
+  first_round : b.round ≡ 1 → are_rounds_to (with_effect (batch_added b) s) b b.round ≡ true
+  unfolding are_rounds_to
+  first_round first = rw first (rw (unkeyed 1 b.first_clerk) (rw (unkeyed 1 b.second_clerk) refl))
+
+  -- a batch in range, in its first round, of a number that is new, given out
+  pub added_stays : (w : WardEntry) → ward_at s b.ward ≡ Some w → is_counted w.phase ≡ false → is_batch b ≡ true → b.round ≡ 1 → is_given_out s b ≡ true → IsState (with_effect (batch_added b) s)
+  added_stays w found open_ good first out =
+      let keyed = and_parts _ _ is.keyed in
+      let judged = and_parts _ _ is.judged in
+      state_from
+      (with_effect (batch_added b) s)
+      maps
+      (record {
+        nominated = is.nominated;
+        given_out = put_all batch_cmp (is_given_out s) b s.batches out is.given_out;
+        keyed = and_from
+            _
+            _
+            (list_all_weaker _ _ s.keyings keyed_for_too keyed.0)
+            (put_all batch_cmp (λ x. are_rounds_to (with_effect (batch_added b) s) x x.round) b s.batches (first_round first) (rounds_still s (with_effect (batch_added b) s) s.batches (λ x m round. round) keyed.1));
+        judged = and_from
+            _
+            _
+            (list_all_weaker _ _ s.verdicts (λ v placed. found_put_too batch_cmp (batch_compared v.batch) b s.batches placed) judged.0)
+            (put_all batch_cmp (λ x. is_judged s x (verdicts_of s x.number)) b s.batches (rw unjudged refl) judged.1);
+        lots_placed = lots_placed_of is;
+        sound = sound_elsewhere s b.ward w s.candidates (put batch_cmp b s.batches) s.keyings s.verdicts found open_
+            (λ x other. same_election x _ (candidates_of s x.number) _ _ _ (lots_of s x.number) refl (ap (map (pile_of s)) (filter_put batch_cmp (λ (y : BatchEntry). y.ward == x.number) b s.batches other)) refl) is;
+      })
+    where
+      maps : (m : MapName) → Holds m (with_effect (batch_added b) s)
+      maps batch_map = put_is_map batch_total b s.batches good new (maps_of is batch_map)
+      maps m = maps_of is m
+
+-- ---- a batch in its next round
+
+-- in whichever round, a batch has its number, and is in range where it was
+in_range_still : (round : ℕ) → is_round round ≡ true → (x : BatchEntry) → is_batch x ≡ true → is_batch (in_round round x) ≡ true
+unfolding is_batch
+in_range_still round good x fine =
+    let parts = batch_parts x fine in
+    and_from _ _ parts.number (and_from _ _ parts.ward (and_from _ _ parts.size (and_from _ _ parts.first_clerk (and_from _ _ parts.second_clerk good))))
+
+same_batch : (round : ℕ) → is_round round ≡ true → Keeps is_batch batch_cmp (in_round round)
+same_batch round good = record { passes = in_range_still round good; before = λ x y. refl; behind = λ x y. refl }
+
+module _ (s : OfficeState) (n : ℕ) (b : BatchEntry) (is : IsState s) (found : batch_at s n ≡ Some b) (unequal : differ (first_keying s b) (second_keying s b) ≡ true) where
+  -- no paper is keyed in the next round yet
+  unopened : (clerk : ℕ) → keying_of s b.number (suc b.round) clerk ≡ []
+  unopened clerk = filter_none _ s.keyings (list_all_weaker _ _ s.keyings (λ k keyed. go k (k.batch == b.number) refl (k.round == suc b.round) refl keyed) (and_parts _ _ is.keyed).0)
+    where
+      go : (k : KeyedEntry) (same : Bool) → (k.batch == b.number) ≡ same → (then : Bool) → (k.round == suc b.round) ≡ then → is_keyed_for s k (batch_at s k.batch) ≡ true
+          → not ((k.batch == b.number) && ((k.round == suc b.round) && (k.clerk == clerk))) ≡ true
+      go k false other then at keyed = rw other refl
+      go k true same false earlier keyed = rw (same, earlier) refl
+      go k true same true next keyed =
+          let place : k.batch ≡ n = eqb-true k.batch b.number same ∙ sym (found_number (λ (x : BatchEntry). x.number) s.batches n b found) in
+          let own : batch_at s k.batch ≡ Some b = ap (batch_at s) place ∙ found in
+          let kept : is_keyed_for s k (Some b) ≡ true = ap (is_keyed_for s k) (sym own) ∙ keyed in
+          let up = leb-true k.round b.round (and_parts _ _ kept).0 in
+          let round = eqb-true k.round (suc b.round) next in
+          absurd (omega (arith, up, round))
+
+  -- the rounds before the next one are whole, and differ
+  module _ (bs : List BatchEntry) where
+    earlier_round : (m : ℕ) → is_round_of s b m ≡ true → is_round_of (record s { batches = bs }) (in_round (suc b.round) b) m ≡ true
+    earlier_round m holds =
+        let first = and_parts _ _ holds in
+        let second = and_parts _ _ first.1 in
+        and_from _ _ first.0 (and_from _ _ second.0 (go second.1))
+      where
+        both : Bool
+        both = differ (keying_of s b.number m b.first_clerk) (keying_of s b.number m b.second_clerk)
+
+        past : nat_le b.round m ≡ true → (nat_le (suc b.round) m || differ (keying_of s b.number m b.first_clerk) (keying_of s b.number m b.second_clerk)) ≡ true
+        past up = elim (cases_order b.round m) [
+          | inl same ↦ or_right (nat_le (suc b.round) m) _ (subst (λ (r : ℕ). differ (keying_of s b.number r b.first_clerk) (keying_of s b.number r b.second_clerk) ≡ true) same unequal)
+          | inr (inl below) ↦ rw (le-leb (suc b.round) m (omega (arith, below))) refl
+          | inr (inr above) ↦ absurd (let low = leb-true b.round m up in omega (arith, low, above))
+        ]
+
+        go : (nat_le b.round m || differ (keying_of s b.number m b.first_clerk) (keying_of s b.number m b.second_clerk)) ≡ true
+            → (nat_le (suc b.round) m || differ (keying_of s b.number m b.first_clerk) (keying_of s b.number m b.second_clerk)) ≡ true
+        go either = elim (or_cases (nat_le b.round m) (differ (keying_of s b.number m b.first_clerk) (keying_of s b.number m b.second_clerk)) either) [
+          | inl up ↦ past up
+          | inr other ↦ or_right (nat_le (suc b.round) m) _ other
+        ]
+
+    next_rounds : are_rounds_to (record s { batches = bs }) (in_round (suc b.round) b) (suc b.round) ≡ true
+    unfolding are_rounds_to
+    next_rounds =
+        let own : are_rounds_to s b b.round ≡ true = found_passes (batch_compared n) (λ (x : BatchEntry). are_rounds_to s x x.round) b s.batches (and_parts _ _ is.keyed).1 found in
+        let reached = le-leb (suc b.round) (suc b.round) (le_refl (suc b.round)) in
+        and_from _ _ (rw (unopened b.first_clerk) (rw (unopened b.second_clerk) (rw reached refl))) (rounds_from s (record s { batches = bs }) b (in_round (suc b.round) b) b.round earlier_round own)
+
+  -- the batch isn't taken, so none of its papers is judged
+  untaken : is_taken s b ≡ false
+  untaken = go (is_keyed (first_keying s b)) (is_keyed (second_keying s b)) (same_marks (first_keying s b) (second_keying s b)) unequal
+    where
+      go : (f g m : Bool) → (f && (g && not m)) ≡ true → (f && (g && m)) ≡ false
+      go true true true is = absurd (cc)
+      go true true false is = refl
+      go true false m is = absurd (cc)
+      go false g m is = absurd (cc)
+
+  -- papers that were keyed of it are of a round up to the next one
+  keyed_for_next : (k : KeyedEntry) → is_keyed_for s k (batch_at s k.batch) ≡ true → is_keyed_for s k (batch_at (with_effect (batch_reopened n (suc b.round)) s) k.batch) ≡ true
+  keyed_for_next k = rw (changed_at (batch_compared n) (batch_compared k.batch) (in_round (suc b.round)) (λ x. refl) s.batches) (go (batch_at s k.batch) refl)
+    where
+      up : (x : BatchEntry) → batch_at s k.batch ≡ Some x → (same : Bool) → is_eq (batch_compared n x) ≡ same → is_keyed_for s k (Some x) ≡ true
+          → is_keyed_for s k (Some (cond same (in_round (suc b.round) x) x)) ≡ true
+      up x at false other keyed = keyed
+      up x at true same keyed =
+          let place : n ≡ k.batch = same_number n x.number same ∙ sym (found_number (λ (x : BatchEntry). x.number) s.batches k.batch x at) in
+          let both : Some x ≡ Some b = sym at ∙ ap (batch_at s) (sym place) ∙ found in
+          let own : x ≡ b = cc in
+          let round : x.round ≡ b.round = ap (λ (y : BatchEntry). y.round) own in
+          let parts = and_parts (nat_le k.round x.round) (is_its_clerk k.clerk x && is_readable (columns_for s x) k.marks) keyed in
+          let low = leb-true k.round x.round parts.0 in
+          and_from _ _ (le-leb k.round (suc b.round) (omega (arith, low, round))) parts.1
+
+      go : (o : Option BatchEntry) → batch_at s k.batch ≡ o → is_keyed_for s k o ≡ true → is_keyed_for s k (option_map (λ x. cond (is_eq (batch_compared n x)) (in_round (suc b.round) x) x) o) ≡ true
+      go None at keyed = keyed
+      go (Some x) at keyed = up x at (is_eq (batch_compared n x)) refl keyed
+
+  -- what holds of each other batch as it is, and of it in its next round, holds of each
+  next_all : (p q : BatchEntry → Bool) → q (in_round (suc b.round) b) ≡ true → ((x : BatchEntry) → p x ≡ true → q x ≡ true) → list_all p s.batches ≡ true
+      → list_all q (changed (batch_compared n) (in_round (suc b.round)) s.batches) ≡ true
+  next_all p q good others all =
+      list_all-map q (λ x. cond (is_eq (batch_compared n x)) (in_round (suc b.round) x) x) s.batches
+      ∙ all_but_number (λ (x : BatchEntry). x.number) s.batches n b p (λ x. q (cond (is_eq (batch_compared n x)) (in_round (suc b.round) x) x)) is.rise.batches found here there all
+    where
+      here : n ≡ b.number → q (cond (is_eq (batch_compared n b)) (in_round (suc b.round) b) b) ≡ true
+      here same = rw (found_key (batch_compared n) b s.batches found) good
+
+      there : (x : BatchEntry) → (n == x.number) ≡ false → p x ≡ true → q (cond (is_eq (batch_compared n x)) (in_round (suc b.round) x) x) ≡ true
+      there x other holds = rw (unsigned_tied n x.number ∙ other) (others x holds)
+
+  unjudged_yet : is_judged s (in_round (suc b.round) b) (verdicts_of s b.number) ≡ true
+  unjudged_yet =
+      let parts = and_parts (list_all (λ v. is_some (batch_at s v.batch)) s.verdicts) (list_all (λ x. is_judged s x (verdicts_of s x.number)) s.batches) is.judged in
+      let own = found_passes (batch_compared n) (λ (x : BatchEntry). is_judged s x (verdicts_of s x.number)) b s.batches parts.1 found in
+      rw (no_verdicts s b untaken (verdicts_of s b.number) own) refl
+
+  -- the batch in its next round, which is in range
+  next_stays : (w : WardEntry) → ward_at s b.ward ≡ Some w → is_counted w.phase ≡ false → is_round (suc b.round) ≡ true → IsState (with_effect (batch_reopened n (suc b.round)) s)
+  next_stays w its_ward open_ good =
+      let keyed = and_parts _ _ is.keyed in
+      let judged = and_parts _ _ is.judged in
+      state_from
+      (with_effect (batch_reopened n (suc b.round)) s)
+      maps
+      (record {
+        nominated = is.nominated;
+        given_out = next_all (is_given_out s) (is_given_out s) (found_given_out is n b found) (λ x out. out) is.given_out;
+        keyed = and_from
+            _
+            _
+            (list_all_weaker _ _ s.keyings keyed_for_next keyed.0)
+            (next_all (λ x. are_rounds_to s x x.round) (λ x. are_rounds_to (with_effect (batch_reopened n (suc b.round)) s) x x.round) (next_rounds (with_effect (batch_reopened n (suc b.round)) s).batches) (λ x rounds. rounds_from s (with_effect (batch_reopened n (suc b.round)) s) x x x.round (λ m round. round) rounds) keyed.1);
+        judged = and_from
+            _
+            _
+            (list_all_weaker _ _ s.verdicts placed judged.0)
+            (next_all (λ x. is_judged s x (verdicts_of s x.number)) (λ x. is_judged s x (verdicts_of s x.number)) unjudged_yet (λ x judged. judged) judged.1);
+        lots_placed = lots_placed_of is;
+        sound = sound_elsewhere s b.ward w s.candidates (changed (batch_compared n) (in_round (suc b.round)) s.batches) s.keyings s.verdicts its_ward open_
+            (λ x other. same_election x _ (candidates_of s x.number) _ _ _ (lots_of s x.number) refl
+            (ap (map (pile_of s)) (changed_elsewhere n x.number (in_round (suc b.round)) (λ y. refl) s.batches (batches_elsewhere s n b x.number is found other))) refl) is;
+      })
+    where
+      placed : (v : JudgedEntry) → is_some (batch_at s v.batch) ≡ true → is_some (batch_at (with_effect (batch_reopened n (suc b.round)) s) v.batch) ≡ true
+      placed v belongs = found_changed (batch_compared n) (batch_compared v.batch) (in_round (suc b.round)) (λ x. refl) s.batches ∙ belongs
+
+      maps : (m : MapName) → Holds m (with_effect (batch_reopened n (suc b.round)) s)
+      maps batch_map = changed_is_map (batch_compared n) (in_round (suc b.round)) (same_batch (suc b.round) good) s.batches (maps_of is batch_map)
+      maps m = maps_of is m
+
+  pub reopened_stays : (w : WardEntry) → ward_at s b.ward ≡ Some w → is_counted w.phase ≡ false → (round : ℕ) → round ≡ suc b.round → is_round round ≡ true → IsState (with_effect (batch_reopened n round) s)
+  reopened_stays w its_ward open_ round next good = subst (λ (r : ℕ). IsState (with_effect (batch_reopened n r) s)) (sym next) (next_stays w its_ward open_ (ap is_round (sym next) ∙ good))
+
+-- ---- each command
+
+-- what the receipt of a batch's command may be about
+batch_about : (n : ℕ) → is_batch_number n ≡ true → is_office_subject (codes "batch " ++ decimal n) ≡ true
+unfolding is_office_subject
+batch_about n h = rw (is_plain-decimal last_batch n (omega arith) h) refl
+
+again_about : (n : ℕ) → is_batch_number n ≡ true → is_office_subject (codes "again " ++ decimal n) ≡ true
+unfolding is_office_subject
+again_about n h = rw (is_plain-decimal last_batch n (omega arith) h) refl
+
+-- a ward in keying is contested, so a batch of it with two clerks is given out
+keying_given_out : (s : OfficeState) (ward : ℕ) (w : WardEntry) (first second : ℕ) → IsState s → ward_at s ward ≡ Some w → w.phase ≡ Keying → (first == second) ≡ false
+    → (not (first == second) && is_polled (ward_at s ward) (candidates_of s ward)) ≡ true
+keying_given_out s ward w first second is found phased other =
+    let enough = found_passes (ward_compared ward) (λ x. has_enough x (candidates_of s x.number)) w s.wards (and_parts (are_placed s) (are_all has_enough s) is.nominated).1 found in
+    let same = found_number (λ (x : WardEntry). x.number) s.wards ward w found in
+    let contested : are_enough Keying w (candidates_of s ward) ≡ true = ap (λ (n : ℕ). are_enough Keying w (candidates_of s n)) same ∙ ap (λ (p : Phase). are_enough p w (candidates_of s w.number)) (sym phased) ∙ enough in
+    rw (other, found) (rw phased contested)
+
+-- the round after one that isn't the last
+next_after : (b : BatchEntry) → not (is_in_last_round b) ≡ true → next_round (Some b) ≡ suc b.round
+next_after b more = rw (not-true (is_in_last_round b) more) (omega arith)
+
+next_in_range : (b : BatchEntry) (round : ℕ) → round ≡ suc b.round → BatchParts b → not (is_in_last_round b) ≡ true → is_round round ≡ true
+next_in_range b round next parts more =
+    let low = lower 1 last_round b.round parts.round in
+    let high = leb-false last_round b.round (not-true (is_in_last_round b) more) in
+    and_from _ _ (le-leb 1 round (omega (arith, next))) (le-leb round last_round (omega (arith, next, high)))
+
+-- a new batch's numbers are in range
+batch_from : (batch ward size first_clerk second_clerk : ℕ) → (is_batch_number batch && (is_ward_number ward && (is_paper_number size && (is_clerk first_clerk && is_clerk second_clerk)))) ≡ true
+    → is_batch (record { number = batch; ward = ward; size = size; first_clerk = first_clerk; second_clerk = second_clerk; round = 1 }) ≡ true
+unfolding is_batch
+batch_from batch ward size first_clerk second_clerk good =
+    let first = and_parts (is_batch_number batch) (is_ward_number ward && (is_paper_number size && (is_clerk first_clerk && is_clerk second_clerk))) good in
+    let second = and_parts (is_ward_number ward) (is_paper_number size && (is_clerk first_clerk && is_clerk second_clerk)) first.1 in
+    let third = and_parts (is_paper_number size) (is_clerk first_clerk && is_clerk second_clerk) second.1 in
+    let fourth = and_parts (is_clerk first_clerk) (is_clerk second_clerk) third.1 in
+    and_from _ _ first.0 (and_from _ _ second.0 (and_from _ _ third.0 (and_from _ _ fourth.0 (and_from (is_clerk second_clerk) (is_round 1) fourth.1 refl))))
+
+pub batch_fits : (s : OfficeState) (actor : ℕ) (command : BatchCommand) → IsState s → first_reason (objections actor command (part_of s actor command)) ≡ None
+    → IsFit s actor (effect_of command (part_of s actor command)) (subject_of command) (reply_to command (part_of s actor command))
+unfolding subject_of reply_to is_batch
+batch_fits s actor (Add batch ward size first_clerk second_clerk) is none =
+    let command = Add batch ward size first_clerk second_clerk in
+    let each = none_objects (objections actor command (part_of s actor command)) none in
+    let others = ((each.1).1).1 in
+    let range = and_parts (is_office actor) (is_batch_number batch && (is_ward_number ward && (is_paper_number size && (is_clerk first_clerk && is_clerk second_clerk)))) (asked (is_in_range actor command (part_of s actor command)) NumberOutOfRange each.0) in
+    let numbers = and_parts _ _ range.1 in
+    let found = there Keying (ward_at s ward) WrongPhase others.0 in
+    let new = absent (batch_at s batch) BatchExists ((each.1).1).0 in
+    let other = unasked (first_clerk == second_clerk) SameClerk (others.1).0 in
+    let digits = line_number last_batch batch (omega arith) numbers.0 in
+    record {
+      state = added_stays s _ is new found.ward found.is (rw found.phased refl) (batch_from batch ward size first_clerk second_clerk range.1) refl (keying_given_out s ward found.ward first_clerk second_clerk is found.is found.phased other);
+      about = office_about actor _ range.0 (batch_about batch numbers.0);
+      text = line_text (line_append (words (codes "batch ") (search rules) refl) digits);
+      line = line_reply (line_append (words (codes "batch ") (search rules) refl) (line_append digits (words (codes " added") (search rules) refl))) (omega arith);
+    }
+batch_fits s actor (Again batch) is none =
+    let command = Again batch in
+    let part = part_of s actor command in
+    let each = none_objects (objections actor command part) none in
+    let range = and_parts (is_office actor) (is_batch_number batch && not (passes is_in_last_round (batch_at s batch))) (asked (is_in_range actor command part) NumberOutOfRange each.0) in
+    let numbers = and_parts (is_batch_number batch) (not (passes is_in_last_round (batch_at s batch))) range.1 in
+    let found = present (batch_at s batch) NoSuchBatch (each.1).0 in
+    let b = found.it in
+    let its = there Keying (ward_for s (batch_at s batch)) WrongPhase ((each.1).1).0 in
+    let its_ward : ward_at s b.ward ≡ Some its.ward = ap (ward_for s) (sym found.is) ∙ its.is in
+    let unequal : differ (first_keying s b) (second_keying s b) ≡ true = ap (λ (o : Option BatchEntry). differ (first_for s o) (second_for s o)) (sym found.is) ∙ asked (differ part.first part.second) NoDifference (((each.1).1).1).0 in
+    let more : not (is_in_last_round b) ≡ true = ap (λ (o : Option BatchEntry). not (passes is_in_last_round o)) (sym found.is) ∙ numbers.1 in
+    let next : next_round (batch_at s batch) ≡ suc b.round = ap next_round found.is ∙ next_after b more in
+    let good = next_in_range b (next_round (batch_at s batch)) next (found_in_range is batch b found.is) more in
+    let digits = line_number last_batch batch (omega arith) numbers.0 in
+    let told = line_append (words (codes " round ") (search rules) refl) (line_append (line_number last_round (next_round (batch_at s batch)) (omega arith) good) (words (codes " open") (search rules) refl)) in
+    record {
+      state = reopened_stays s batch b is found.is unequal its.ward its_ward (rw its.phased refl) (next_round (batch_at s batch)) next good;
+      about = office_about actor _ range.0 (again_about batch numbers.0);
+      text = line_text (line_append (words (codes "again ") (search rules) refl) digits);
+      line = line_reply (line_append (words (codes "batch ") (search rules) refl) (line_append digits told)) (omega arith);
+    }

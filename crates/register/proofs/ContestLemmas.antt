@@ -1,0 +1,272 @@
+-- The contest of a ward is one that the rules of the count speak of.
+use Rattle.std.proofs.Common.{◌≡◌, ℕ, zero, suc, ◌+◌, ◌*◌, ◌<◌, ◌≤◌, ◌==◌, ◌&&◌, ◌||◌, nat_eq, nat_le, nat_lt, Bool, true, false, not, cond, List, [], ◌∷◌, ◌++◌, length, map, filter, find, fold, Option, Some, None, Result, Ok, Err, codes, refl, sym, ap, subst, ◌∙◌, arith, length-append}
+use Rattle.std.specs.List.{AllByRecursion, list_all, list_any, flat_map, zip}
+use Rattle.std.specs.Str.{bytes_eq}
+use Rattle.std.specs.List.Sorted.{IsStrictlySortedBy}
+use Rattle.std.specs.declared.cmp.Ordering.TheVariants.{Less}
+use Rattle.std.specs.Ordering.{nat_cmp}
+use Rattle.std.proofs.lemmas.Bool.{and_parts, leb-true, ltb-true, eqb-true, eq-eqb, or_left, or_right, cases_cond}
+use Rattle.std.proofs.lemmas.Cmp.{ranked}
+use Rattle.std.proofs.lemmas.List.Kept.{IsStrictlySortedBy-filter}
+use Rattle.votes.specs.Units.{max_seats, max_papers}
+use Rattle.paper.specs.Columns.{IsColumnSet, with_column}
+use Rattle.paper.specs.Marking.{Marking, marked_with}
+use Rattle.paper.specs.MarksText.{reading, fields, beside, marks_in}
+use Rattle.paper.specs.Preferences.{if_alone, preferences_from, preferences, rejection_of}
+use Rattle.paper.specs.declared.marked.Keyed.{Keyed}
+use Rattle.paper.specs.declared.marked.Keyed.TheVariants.{Doubtful}
+use Rattle.paper.specs.declared.marks.MarkFault.TheVariants.{FieldCount}
+use Rattle.paper.specs.declared.marks.MarkFault.{MarkFault}
+use Rattle.paper.specs.declared.validity.Rejection.{Rejection}
+use Rattle.paper.proofs.ColumnSets.{columns_from_ascends, with_column-IsColumnSet}
+use Rattle.count.specs.Law.Contest.{In, AreForCandidates, IsContest}
+use Rattle.count.proofs.ContestLemmas.{contest-is}
+use Rattle.register.specs.declared.polls.Judgement.{Judgement}
+use Rattle.register.specs.declared.polls.Judgement.TheVariants.{Valid, Rejected, Open}
+use Rattle.register.specs.Ranges.{is_ward_number, is_seat_number, is_candidate_number, is_batch_number, is_paper_number, is_clerk, is_round, is_name, most_papers, last_batch}
+use Rattle.register.specs.Offices.{WardEntry, CandidateEntry, BatchEntry, KeyedEntry, JudgedEntry, OfficeState, MapsRise, batch_cmp, ward_compared, ward_at, candidates_of, keying_of}
+use Rattle.register.specs.Nominations.{is_contested}
+use Rattle.register.specs.Marks.{and_column, columns_of}
+use Rattle.register.specs.Papers.{is_keyed, first_keying, second_keying, batches_of}
+use Rattle.register.specs.Keyed.{is_whole, are_numbered, is_round_of, are_rounds_to}
+use Rattle.register.specs.Items.{is_ward, is_candidate, is_batch, item1, item3, item4}
+use Rattle.register.specs.Polls.{Pile, pile_of, piles_of, is_taken, by_rejection, by_reading, by_verdict, judgement_on, judgements_in, judgements, preferences_by, ballots_in}
+use Rattle.register.specs.Elections.{election_of, contest_of}
+use Rattle.register.proofs.MapLemmas.{kept_all, found_passes}
+use Rattle.register.proofs.ColumnLemmas.{columns_at}
+
+-- ---- the candidates
+
+columns_set : (columns : List ℕ) (cs : List CandidateEntry) → IsColumnSet columns → IsColumnSet (fold and_column columns cs)
+columns_set columns [] set = set
+columns_set columns (c ∷ cs) set = columns_set (and_column columns c) cs (go (is_candidate_number c.number) refl)
+  where
+    go : (b : Bool) → is_candidate_number c.number ≡ b → IsColumnSet (cond b (with_column columns c.number) columns)
+    go true is =
+        let parts = and_parts _ _ is in
+        with_column-IsColumnSet columns c.number (leb-true 1 c.number parts.0) (leb-true c.number 30 parts.1) set
+    go false is = set
+
+-- the columns of any candidates are a set of candidates' numbers
+pub columns_are_set : (cs : List CandidateEntry) → IsColumnSet (columns_of cs)
+columns_are_set cs = columns_set [] cs (columns_from_ascends 0 [] tt)
+
+-- ---- each preference is for a candidate
+
+-- numbers that are all among some columns
+abbrev AreAmong : List ℕ → List ℕ → Type 0
+AreAmong columns cs = AllByRecursion (λ c. In c columns) cs
+
+each_append : {X : Type 0} (P : X → Type 0) (xs ys : List X) → AllByRecursion P xs → AllByRecursion P ys → AllByRecursion P (xs ++ ys)
+each_append P [] ys first second = second
+each_append P (x ∷ xs) ys first second = (first.0, each_append P xs ys first.1 second)
+
+-- one beside whom a number stands has a column
+marked_in : (columns marks : List ℕ) (n c : ℕ) → In c (marked_with n (zip columns marks)) → In c columns
+marked_in [] marks n c found = found
+marked_in (column ∷ columns) [] n c found = absurd (cc)
+marked_in (column ∷ columns) (mark ∷ marks) n c found = by_mark (mark == n) found (marked_in columns marks n c)
+  where
+    by_head : (h : Bool) → (In c (marked_with n (zip columns marks)) → In c columns) → (h || list_any (nat_eq c) (marked_with n (zip columns marks))) ≡ true → (h || list_any (nat_eq c) columns) ≡ true
+    by_head true later is = refl
+    by_head false later is = later is
+
+    by_mark : (b : Bool) → In c (map (λ (k : ℕ × ℕ). k.0) (cond b ((column, mark) ∷ filter (λ (k : ℕ × ℕ). k.1 == n) (zip columns marks)) (filter (λ (k : ℕ × ℕ). k.1 == n) (zip columns marks))))
+        → (In c (marked_with n (zip columns marks)) → In c columns) → In c (column ∷ columns)
+    by_mark true is later = by_head (nat_eq c column) later is
+    by_mark false is later = or_right (nat_eq c column) _ (later is)
+
+preferred_in : (columns marks : List ℕ) (most n : ℕ) → AreAmong columns (preferences_from most n (zip columns marks))
+unfolding preferences_from
+preferred_in columns marks zero n = tt
+preferred_in columns marks (suc most) n = go (marked_with n (zip columns marks)) (marked_in columns marks n) (preferred_in columns marks most (n + 1))
+  where
+    go : (cs : List ℕ) → ((c : ℕ) → In c cs → In c columns) → AreAmong columns (preferences_from most (n + 1) (zip columns marks))
+        → AreAmong columns (if_alone cs (preferences_from most (n + 1) (zip columns marks)))
+    go [] each behind = tt
+    go (c ∷ []) each behind = (each c (or_left (nat_eq c c) false (eq-eqb c c refl)), behind)
+    go (c ∷ d ∷ cs) each behind = tt
+
+-- the preferences that a judgement gives are for candidates
+abbrev IsFair : List ℕ → Judgement → Type 0
+IsFair columns judgement = AllByRecursion (AreAmong columns) (preferences_by judgement)
+
+fair_marking : (columns marks : List ℕ) (o : Option Rejection) → IsFair columns (by_rejection (zip columns marks) o)
+fair_marking columns marks None = (preferred_in columns marks 30 1, tt)
+fair_marking columns marks (Some rejection) = tt
+
+fair_reading : (columns marks : List ℕ) (doubtful : Judgement) → IsFair columns doubtful → IsFair columns (by_reading doubtful (reading columns marks))
+fair_reading columns marks doubtful fair = by_letter (bytes_eq marks (codes "D"))
+  where
+    by_marks : (r : Result (List ℕ) MarkFault) → IsFair columns (by_reading doubtful (beside columns r))
+    by_marks (Err fault) = tt
+    by_marks (Ok numbers) = fair_marking columns numbers (rejection_of (zip columns numbers))
+
+    by_count : (b : Bool) → IsFair columns (by_reading doubtful (cond b (beside columns (marks_in (fields marks))) (Err FieldCount)))
+    by_count true = by_marks (marks_in (fields marks))
+    by_count false = tt
+
+    by_letter : (b : Bool) → IsFair columns (by_reading doubtful (cond b (Ok Doubtful) (cond (length (fields marks) == length columns) (beside columns (marks_in (fields marks))) (Err FieldCount))))
+    by_letter true = fair
+    by_letter false = by_count (length (fields marks) == length columns)
+
+fair_verdict : (columns : List ℕ) (o : Option JudgedEntry) → IsFair columns (by_verdict columns o)
+fair_verdict columns None = tt
+fair_verdict columns (Some v) = go (v.code == 0)
+  where
+    go : (b : Bool) → IsFair columns (cond b (by_reading Open (reading columns v.marks)) (Rejected v.code))
+    go true = fair_reading columns v.marks Open tt
+    go false = tt
+
+fair_each : (columns : List ℕ) (verdicts : List JudgedEntry) (ks : List KeyedEntry) → AllByRecursion (IsFair columns) (map (judgement_on columns verdicts) ks)
+fair_each columns verdicts [] = tt
+fair_each columns verdicts (k ∷ ks) = (fair_reading columns k.marks _ (fair_verdict columns (find (λ (v : JudgedEntry). v.paper == k.paper) verdicts)), fair_each columns verdicts ks)
+
+fair_pile : (columns : List ℕ) (pile : Pile) → AllByRecursion (IsFair columns) (judgements_in columns pile)
+fair_pile columns pile = go (is_taken pile)
+  where
+    go : (b : Bool) → AllByRecursion (IsFair columns) (cond b (map (judgement_on columns pile.verdicts) pile.first) [])
+    go true = fair_each columns pile.verdicts pile.first
+    go false = tt
+
+fair_piles : (columns : List ℕ) (piles : List Pile) → AllByRecursion (IsFair columns) (judgements columns piles)
+fair_piles columns [] = tt
+fair_piles columns (pile ∷ piles) = each_append (IsFair columns) (judgements_in columns pile) (judgements columns piles) (fair_pile columns pile) (fair_piles columns piles)
+
+fair_papers : (columns : List ℕ) (js : List Judgement) → AllByRecursion (IsFair columns) js → AreForCandidates columns (flat_map preferences_by js)
+fair_papers columns [] fair = tt
+fair_papers columns (j ∷ js) fair = each_append (AreAmong columns) (preferences_by j) (flat_map preferences_by js) fair.0 (fair_papers columns js fair.1)
+
+-- each preference of a ward's papers is for one of its candidates
+pub papers_are_fair : (columns : List ℕ) (piles : List Pile) → AreForCandidates columns (ballots_in columns piles).papers
+papers_are_fair columns piles = fair_papers columns (judgements columns piles) (fair_piles columns piles)
+
+-- ---- the papers are not too many
+
+few_by : (js : List Judgement) → length (flat_map preferences_by js) ≤ length js
+few_by [] = omega arith
+few_by (j ∷ js) = omega (arith, length-append (preferences_by j) (flat_map preferences_by js), one j, few_by js)
+  where
+    one : (k : Judgement) → length (preferences_by k) ≤ 1
+    one (Valid prefs) = omega arith
+    one (Rejected code) = omega arith
+    one Open = omega arith
+
+-- a keying of a batch has at most as many papers as the batch
+whole_few : (size : ℕ) (ks : List KeyedEntry) → is_whole size ks ≡ true → length ks ≤ size
+whole_few size [] whole = omega arith
+whole_few size (k ∷ ks) whole = omega (arith, eqb-true (length (k ∷ ks)) size (and_parts _ _ whole).0)
+
+-- what a batch in range has
+record InRange (b : BatchEntry) : Type 0 where
+  number : is_batch_number b.number ≡ true
+  size : is_paper_number b.size ≡ true
+  round : is_round b.round ≡ true
+
+in_range : (b : BatchEntry) → is_batch b ≡ true → InRange b
+unfolding is_batch
+in_range b fine =
+    let clerks = is_clerk b.first_clerk && (is_clerk b.second_clerk && is_round b.round) in
+    let first = and_parts (is_batch_number b.number) (is_ward_number b.ward && (is_paper_number b.size && clerks)) fine in
+    let second = and_parts (is_ward_number b.ward) (is_paper_number b.size && clerks) first.1 in
+    let third = and_parts (is_paper_number b.size) clerks second.1 in
+    let fourth = and_parts (is_clerk b.first_clerk) (is_clerk b.second_clerk && is_round b.round) third.1 in
+    let fifth = and_parts (is_clerk b.second_clerk) (is_round b.round) fourth.1 in
+    record { number = first.0; size = third.0; round = fifth.1 }
+
+-- its keyings of the current round are whole
+pub round_now : (s : OfficeState) (b : BatchEntry) → is_batch b ≡ true → are_rounds_to s b b.round ≡ true → is_round_of s b b.round ≡ true
+unfolding are_rounds_to
+round_now s b fine rounds = go b.round (and_parts (nat_le 1 b.round) (nat_le b.round 99) (in_range b fine).round).0 rounds
+  where
+    go : (n : ℕ) → nat_le 1 n ≡ true → are_rounds_to s b n ≡ true → is_round_of s b n ≡ true
+    go zero some all = absurd (cc)
+    go (suc n) some all = (and_parts (is_round_of s b (suc n)) (are_rounds_to s b n) all).0
+
+size_few : (b : BatchEntry) → is_batch b ≡ true → b.size ≤ 500
+size_few b fine = leb-true b.size 500 (and_parts (nat_le 1 b.size) (nat_le b.size 500) (in_range b fine).size).1
+
+number_few : (b : BatchEntry) → is_batch b ≡ true → b.number ≤ 9999
+number_few b fine = leb-true b.number 9999 (and_parts (nat_le 1 b.number) (nat_le b.number 9999) (in_range b fine).number).1
+
+number_some : (b : BatchEntry) → is_batch b ≡ true → 0 < b.number
+number_some b fine = omega (arith, leb-true 1 b.number (and_parts (nat_le 1 b.number) (nat_le b.number 9999) (in_range b fine).number).0)
+
+pub length_map : {X Y : Type 0} (f : X → Y) (xs : List X) → length (map f xs) ≡ length xs
+length_map f [] = refl
+length_map f (x ∷ xs) = ap suc (length_map f xs)
+
+few_in : (columns : List ℕ) (pile : Pile) → length (judgements_in columns pile) ≤ length pile.first
+few_in columns pile = go (is_taken pile)
+  where
+    go : (b : Bool) → length (cond b (map (judgement_on columns pile.verdicts) pile.first) []) ≤ length pile.first
+    go true = omega (arith, length_map (judgement_on columns pile.verdicts) pile.first)
+    go false = omega arith
+
+pub few_among : (s : OfficeState) (columns : List ℕ) (bs : List BatchEntry) → list_all is_batch bs ≡ true → list_all (λ b. are_rounds_to s b b.round) bs ≡ true → length (judgements columns (map (pile_of s) bs)) ≤ 500 * length bs
+few_among s columns [] fine rounds = omega arith
+few_among s columns (b ∷ bs) fine rounds =
+    let good = and_parts _ _ fine in
+    let all = and_parts _ _ rounds in
+    let round = round_now s b good.0 all.0 in
+    omega
+    (arith, length-append (judgements_in columns (pile_of s b)) (judgements columns (map (pile_of s) bs)), few_in columns (pile_of s b), whole_few b.size (first_keying s b) (and_parts _ _ round).0, size_few b good.0, few_among s columns bs good.1 all.1)
+
+-- numbers that rise are not more than the highest
+few_rising : (low : ℕ) (bs : List BatchEntry) → low ≤ 9999 → AllByRecursion (λ b. low < b.number) bs → list_all is_batch bs ≡ true → IsStrictlySortedBy batch_cmp bs → low + length bs ≤ 9999
+unfolding IsStrictlySortedBy
+few_rising low [] few above fine up = omega (arith, few)
+few_rising low (b ∷ bs) few above fine up =
+    let good = and_parts (is_batch b) (list_all is_batch bs) fine in
+    omega (arith, above.0, few_rising b.number bs (number_few b good.0) (numbers bs up.0) good.1 up.1)
+  where
+    numbers : (cs : List BatchEntry) → AllByRecursion (λ c. batch_cmp b c ≡ Less) cs → AllByRecursion (λ c. b.number < c.number) cs
+    numbers [] less = tt
+    numbers (c ∷ cs) less = (ranked b.number c.number Less (sym less.0), numbers cs less.1)
+
+pub few_batches : (bs : List BatchEntry) → list_all is_batch bs ≡ true → IsStrictlySortedBy batch_cmp bs → length bs ≤ 9999
+few_batches bs fine up = omega (arith, few_rising 0 bs (omega arith) (some bs fine) fine up)
+  where
+    some : (cs : List BatchEntry) → list_all is_batch cs ≡ true → AllByRecursion (λ c. 0 < c.number) cs
+    some [] good = tt
+    some (c ∷ cs) good = (number_some c (and_parts _ _ good).0, some cs (and_parts _ _ good).1)
+
+-- a ward has no more papers than 9999 batches of 500
+pub papers_are_few : (s : OfficeState) (columns : List ℕ) (ward : ℕ) → list_all is_batch s.batches ≡ true → list_all (λ b. are_rounds_to s b b.round) s.batches ≡ true → IsStrictlySortedBy batch_cmp s.batches
+    → length (ballots_in columns (piles_of s ward)).papers ≤ max_papers
+papers_are_few s columns ward fine rounds up =
+    let of = λ (b : BatchEntry). b.ward == ward in
+    let own = batches_of s ward in
+    let good = kept_all is_batch of s.batches fine in
+    omega
+    (arith, few_by (judgements columns (piles_of s ward)), few_among s columns own good (kept_all (λ b. are_rounds_to s b b.round) of s.batches rounds), few_batches own good (IsStrictlySortedBy-filter batch_cmp of s.batches up))
+
+-- ---- the contest
+
+-- What is in range, keyed as it has to be, and in the order of its keys, has contests that the rules speak of.
+pub contest_is_fair : (s : OfficeState) (w : WardEntry) → item1 s ≡ true → item4 s ≡ true → MapsRise s → ward_at s w.number ≡ Some w → is_contested w (candidates_of s w.number) ≡ true → IsContest (contest_of (election_of s w))
+unfolding is_ward
+contest_is_fair s w first fourth rise there contested =
+    let wards = and_parts _ _ first in
+    let candidates = and_parts _ _ wards.1 in
+    let batches = and_parts _ _ candidates.1 in
+    let own = found_passes (ward_compared w.number) is_ward w s.wards wards.0 there in
+    let named = and_parts (is_ward_number w.number) (is_seat_number w.seats && is_name w.name) own in
+    let seated = and_parts (is_seat_number w.seats) (is_name w.name) named.1 in
+    let seats = and_parts (nat_le 1 w.seats) (nat_le w.seats 15) seated.0 in
+    let cs = candidates_of s w.number in
+    let columns = columns_of cs in
+    let numbers = columns_at s w.number candidates.0 rise.candidates in
+    contest-is
+    columns
+    w.seats
+    (ballots_in columns (piles_of s w.number)).papers
+    (columns_are_set cs)
+    (leb-true 1 w.seats seats.0)
+    (leb-true w.seats 15 seats.1)
+    (omega (arith, ltb-true w.seats (length cs) contested, ap length numbers, length_map (λ (c : CandidateEntry). c.number) cs))
+    (papers_are_few s columns w.number batches.0 (and_parts _ _ fourth).1 rise.batches)
+    (papers_are_fair columns (piles_of s w.number))
+
+pub fair_contest : (s : OfficeState) (w : WardEntry) → item1 s ≡ true → item3 s ≡ true → item4 s ≡ true → MapsRise s → ward_at s w.number ≡ Some w → is_contested w (candidates_of s w.number) ≡ true → IsContest (contest_of (election_of s w))
+fair_contest s w first third fourth rise there contested = contest_is_fair s w first fourth rise there contested

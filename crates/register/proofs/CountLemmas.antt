@@ -1,0 +1,293 @@
+-- The commands about a count, where nothing stands against them, lead from a state to a state, and leave a receipt in range.
+use Rattle.std.proofs.Common.{◌≡◌, ℕ, zero, suc, ◌+◌, ◌<◌, ◌≤◌, Bool, true, false, cond, not, ◌&&◌, ◌==◌, ◌++◌, nat_le, nat_lt, nat_eq, codes, List, [], ◌∷◌, length, filter, Option, Some, None, is_some, refl, sym, ap, subst, ◌∙◌, arith}
+use Rattle.std.specs.Fmt.{decimal}
+use Rattle.std.specs.List.{list_all, list_any}
+use Rattle.std.specs.Ordering.{nat_cmp}
+use Rattle.std.proofs.lemmas.Bool.{and_parts, and_from, both_ways, eqb-true, eq-eqb, ne_eqb, ltb-true}
+use Rattle.paper.specs.Columns.{max_candidates}
+use Rattle.paper.proofs.ColumnSets.{length_columns}
+use Rattle.count.specs.Law.Contest.{IsContest}
+use Rattle.count.specs.Law.Due.{lot_for}
+use Rattle.count.specs.Law.Elected.{is_elected, elected_after}
+use Rattle.count.specs.declared.stages.Action.{Action}
+use Rattle.count.specs.declared.stages.Kind.{Kind}
+use Rattle.count.specs.declared.stages.Due.{Due}
+use Rattle.count.specs.declared.stages.Due.TheVariants.{Act, Lot as lot_due, Finished}
+use Rattle.count.proofs.Law.CountLemmas.{stages_right}
+use Rattle.register.specs.declared.phase.Phase.{Phase}
+use Rattle.register.specs.declared.phase.Phase.TheVariants.{Nominations, Keying, Sealed, Declared}
+use Rattle.register.specs.declared.refusal.Reason.{Reason}
+use Rattle.register.specs.declared.refusal.Reason.TheVariants.{NumberOutOfRange, WrongPhase, NotReady, CountFinished, NoSuchLot, NotAmong, CountNotFinished}
+use Rattle.register.specs.declared.counts.CountCommand.{CountCommand}
+use Rattle.register.specs.declared.counts.CountCommand.TheVariants.{Seal, Advance, Lot, Declare}
+use Rattle.register.specs.Reasons.{first_reason}
+use Rattle.register.specs.Ranges.{last_ward, first_lot_stage, last_lot_stage, is_office, is_ward_number, is_lot_stage, is_candidate_number}
+use Rattle.register.specs.Subjects.{is_office_subject}
+use Rattle.register.specs.Texts.{listed}
+use Rattle.register.specs.Offices.{WardEntry, LotEntry, OfficeState, put, entry_at, lot_cmp, ward_compared, ward_at, candidates_of, lots_of}
+use Rattle.register.specs.Nominations.{is_contested, is_stood_in, are_enough}
+use Rattle.register.specs.Marks.{columns_of}
+use Rattle.register.specs.Polls.{piles_of}
+use Rattle.register.specs.Elections.{ElectionEntry, election_of, has_count, contest_of, stages_of, due_of, elected_of, is_finished, is_tied}
+use Rattle.register.specs.Items.{is_lot, IsState}
+use Rattle.register.specs.Effects.{in_phase, at_stage, stage_counted, lot_drawn, with_effect}
+use Rattle.register.specs.Counts.{poll_for, due_for, elected_for, part_of, is_in_range, is_ready, has_finished, lot_objection, waits_at, is_among, objections, subject_of, next_stage, poll_told, action_told, reply_to, effect_of}
+use Rattle.register.proofs.LineLemmas.{upper, is_plain-decimal, are_plain-from, IsLine, given, line_append, line_decimal, line_number, line_within, line_reply, line_text}
+use Rattle.register.proofs.ObjectionLemmas.{none_objects, asked, unasked, there}
+use Rattle.register.proofs.MapLemmas.{list_all_weaker, put_all, put_is_map, filter_put, filter_put_in, found_filter, found_passes, found_number, same_number, both_equal, kept_all, all_but_number}
+use Rattle.register.proofs.ElectionLemmas.{is_sound, are_sound, sound_of, lots_placed_of, election_with, same_election, right_in}
+use Rattle.register.proofs.StageLemmas.{acted}
+use Rattle.register.proofs.ProgressLemmas.{with_lots, IsHeld, held, in_count, sound_sealed, sound_advanced, sound_declared, lot_new, sound_drawn}
+use Rattle.register.proofs.ItemLemmas.{MapName, lot_map, Holds, maps_of, state_from, rounds_still, lot_total, are_placed, are_all, has_enough, IsFit, office_about}
+use Rattle.register.proofs.NominationLemmas.{moved, staged, changed_stays}
+use Rattle.register.proofs.ContestLemmas.{fair_contest, columns_are_set}
+use Rattle.register.proofs.TellLemmas.{are_small, columns_are_small, length_kept, listed_line, action_line, stages_are_few, judgements_are_few, poll_line}
+
+-- ---- what the receipts may be about
+
+seal_about : (n : ℕ) → is_ward_number n ≡ true → is_office_subject (codes "seal " ++ decimal n) ≡ true
+unfolding is_office_subject
+seal_about n h = rw (is_plain-decimal last_ward n (omega arith) h) refl
+
+advance_about : (n : ℕ) → is_ward_number n ≡ true → is_office_subject (codes "advance " ++ decimal n) ≡ true
+unfolding is_office_subject
+advance_about n h = rw (is_plain-decimal last_ward n (omega arith) h) refl
+
+declare_about : (n : ℕ) → is_ward_number n ≡ true → is_office_subject (codes "declare " ++ decimal n) ≡ true
+unfolding is_office_subject
+declare_about n h = rw (is_plain-decimal last_ward n (omega arith) h) refl
+
+lot_about : (m n : ℕ) → is_ward_number m ≡ true → is_lot_stage n ≡ true → is_office_subject (codes "lot " ++ (decimal m ++ (codes " " ++ decimal n))) ≡ true
+unfolding is_office_subject
+lot_about m n h k = rw (are_plain-from last_ward first_lot_stage last_lot_stage m n (omega arith) (omega arith) (omega arith) h k) refl
+
+-- ---- the ward of a count
+
+module _ (s : OfficeState) (n : ℕ) (w : WardEntry) (is : IsState s) (found : ward_at s n ≡ Some w) where
+  number : n ≡ w.number
+  number = found_number (λ (x : WardEntry). x.number) s.wards n w found
+
+  own_sound : is_sound (election_of s w) ≡ true
+  own_sound = found_passes (ward_compared n) (λ x. is_sound (election_of s x)) w s.wards (sound_of is) found
+
+  own_enough : (phase : Phase) → w.phase ≡ phase → are_enough phase w (candidates_of s w.number) ≡ true
+  own_enough phase phased =
+      ap (λ (p : Phase). are_enough p w (candidates_of s w.number)) (sym phased) ∙ found_passes (ward_compared n) (λ x. has_enough x (candidates_of s x.number)) w s.wards (and_parts (are_placed s) (are_all has_enough s) is.nominated).1 found
+
+  -- the contest of a contested ward is one that the rules speak of
+  own_fair : has_count (election_of s w) ≡ true → IsContest (contest_of (election_of s w))
+  own_fair contested = fair_contest s w is.in_range is.given_out is.keyed is.rise (ap (ward_at s) (sym number) ∙ found) contested
+
+  -- ---- sealed
+
+  stood_in : (seats candidates : ℕ) → nat_lt seats candidates ≡ true → not (candidates == 0) ≡ true
+  stood_in seats zero more = absurd (let few = ltb-true seats 0 more in omega (arith, few))
+  stood_in seats (suc k) more = ap not (ne_eqb (suc k) 0 (λ same. omega (arith, same)))
+
+  sealed_stays : w.phase ≡ Keying → (election_of s w).ballots.settled ≡ true → IsState (with_effect (effect_of (Seal n) (part_of s 0 (Seal n))) s)
+  sealed_stays phased settled =
+      changed_stays s n w (in_phase Sealed) found (moved Sealed refl) (stood_in w.seats (length (candidates_of s w.number)) (own_enough Keying phased)) (sound_sealed (election_of s w) phased settled own_sound) is
+
+  sealed_told : IsLine 80 (poll_told (poll_for s (ward_at s n)))
+  sealed_told =
+      subst (λ (o : Option WardEntry). IsLine 80 (poll_told (poll_for s o))) (sym found) (poll_line (columns_of (candidates_of s w.number)) (piles_of s w.number) w.seats (judgements_are_few is (columns_of (candidates_of s w.number)) w.number))
+
+  -- ---- advanced
+
+  advanced_stays : (action : Action) → w.phase ≡ Sealed → due_of (election_of s w) ≡ Act action → IsState (with_effect (stage_counted n (next_stage (ward_at s n))) s)
+  advanced_stays action phased due = subst (λ (o : Option WardEntry). IsState (with_effect (stage_counted n (next_stage o)) s)) (sym found) (go (nat_le last_lot_stage w.done))
+    where
+      enough : (done : ℕ) → has_enough (at_stage done w) (candidates_of s w.number) ≡ true
+      enough done = ap (λ (p : Phase). are_enough p (at_stage done w) (candidates_of s w.number)) phased ∙ own_enough Sealed phased
+
+      go : (b : Bool) → IsState (with_effect (stage_counted n (cond b w.done (w.done + 1))) s)
+      go true = changed_stays s n w (at_stage w.done) found (staged w.done) (enough w.done) own_sound is
+      go false = changed_stays s n w (at_stage (w.done + 1)) found (staged (w.done + 1)) (enough (w.done + 1)) (sound_advanced (election_of s w) action phased due own_sound) is
+
+  few_done : (action : Action) → w.phase ≡ Sealed → due_of (election_of s w) ≡ Act action → w.done ≤ 61
+  few_done action phased due =
+      let e = election_of s w in
+      let h = held e (Act action) due refl in
+      let right = right_in e (in_count e phased h.contested) own_sound in
+      let few = stages_are_few (contest_of e) _ (stages_of e) (own_fair h.contested) (stages_right (contest_of e) e.lots w.done) in
+      let same = right.stages in
+      omega (arith, few, same)
+
+  stage_told : (action : Action) → w.phase ≡ Sealed → due_of (election_of s w) ≡ Act action → IsLine 10 (decimal (next_stage (ward_at s n)))
+  stage_told action phased due = subst (λ (o : Option WardEntry). IsLine 10 (decimal (next_stage o))) (sym found) (go (nat_le last_lot_stage w.done) (few_done action phased due))
+    where
+      go : (b : Bool) → w.done ≤ 61 → IsLine 10 (decimal (cond b w.done (w.done + 1)))
+      go true few = line_decimal 10 w.done (omega arith) (omega (arith, few)) (omega (arith, few))
+      go false few = line_decimal 10 (w.done + 1) (omega arith) (omega (arith, few)) (omega (arith, few))
+
+  own_action_told : (action : Action) → due_of (election_of s w) ≡ Act action → IsLine 40 (action_told (due_for s (ward_at s n)))
+  own_action_told action due =
+      let e = election_of s w in
+      let h = held e (Act action) due refl in
+      let fair = own_fair h.contested in
+      subst (λ (o : Option WardEntry). IsLine 40 (action_told (due_for s o))) (sym found)
+      (subst (λ (d : Due). IsLine 40 (action_told (Some d))) (sym due) (action_line (contest_of e) (stages_of e) _ action fair.candidate_set (acted (contest_of e) e.lots (stages_of e) action h.is)))
+
+  -- ---- declared
+
+  declared_stays : w.phase ≡ Sealed → is_finished (due_of (election_of s w)) ≡ true → IsState (with_effect (effect_of (Declare n) (part_of s 0 (Declare n))) s)
+  declared_stays phased finished = changed_stays s n w (in_phase Declared) found (moved Declared refl) (own_enough Sealed phased) (sound_declared (election_of s w) phased finished own_sound) is
+
+  elected_told : IsLine 120 (listed (elected_for s (ward_at s n)))
+  elected_told = subst (λ (o : Option WardEntry). IsLine 120 (listed (elected_for s o))) (sym found) (go (has_count (election_of s w)))
+    where
+      columns : List ℕ
+      columns = columns_of (candidates_of s w.number)
+
+      few : length columns ≤ max_candidates
+      few = length_columns columns (columns_are_set (candidates_of s w.number))
+
+      go : (b : Bool) → IsLine 120 (listed (cond b (elected_after (contest_of (election_of s w)) (stages_of (election_of s w))) columns))
+      go true =
+          let test = is_elected (contest_of (election_of s w)) (stages_of (election_of s w)) in
+          let kept = length_kept test columns in
+          line_within (listed_line (filter test columns) (kept_all (λ n. nat_le n max_candidates) test columns (columns_are_small (candidates_of s w.number)))) (omega (arith, kept, few))
+      go false = line_within (listed_line columns (columns_are_small (candidates_of s w.number))) (omega (arith, few))
+
+-- ---- what is due
+
+-- an action is
+pub record IsAct (due : Due) : Type 0 where
+  pub action : Action
+  pub is : due ≡ Act action
+
+acts : (due : Due) → is_finished due ≡ false → lot_objection (Some due) ≡ None → IsAct due
+acts (Act action) open_ none = record { action = action; is = refl }
+acts (lot_due stage kind tied) open_ none = absurd (cc)
+acts Finished open_ none = absurd (cc)
+
+-- a lot at a stage is, among some of whom a candidate is one
+pub record IsLotAt (due : Due) (stage candidate : ℕ) : Type 0 where
+  pub kind : Kind
+  pub tied : List ℕ
+  pub is : due ≡ lot_due stage kind tied
+  pub among : list_any (nat_eq candidate) tied ≡ true
+
+waits : (due : Due) (stage candidate : ℕ) → waits_at stage (Some due) ≡ true → is_among candidate (Some due) ≡ true → IsLotAt due stage candidate
+waits (Act action) stage candidate at among = absurd (cc)
+waits (lot_due k kind tied) stage candidate at among = record { kind = kind; tied = tied; is = ap (λ (n : ℕ). lot_due n kind tied) (eqb-true k stage at); among = among }
+waits Finished stage candidate at among = absurd (cc)
+
+-- ---- a lot drawn
+
+drawn_stays : (s : OfficeState) (l : LotEntry) (w : WardEntry) → is_lot l ≡ true → ward_at s l.ward ≡ Some w → w.phase ≡ Sealed → IsLotAt (due_of (election_of s w)) l.stage l.candidate → IsState s → IsState (with_effect (lot_drawn l) s)
+drawn_stays s l w good found phased due is =
+    let keyed = and_parts _ _ is.keyed in
+    let belongs : is_some (ward_at s l.ward) ≡ true = rw found refl in
+    state_from
+    (with_effect (lot_drawn l) s)
+    maps
+    (record {
+      nominated = is.nominated;
+      given_out = is.given_out;
+      keyed = and_from _ _ keyed.0 (rounds_still s (with_effect (lot_drawn l) s) s.batches (λ b m round. round) keyed.1);
+      judged = is.judged;
+      lots_placed = put_all lot_cmp (λ x. is_some (ward_at s x.ward)) l s.lots belongs (lots_placed_of is);
+      sound = all_but_number (λ (x : WardEntry). x.number) s.wards l.ward w (λ x. is_sound (election_of s x)) (λ x. is_sound (election_of (with_effect (lot_drawn l) s) x)) is.rise.wards found here there_too (sound_of is);
+    })
+  where
+    own : is_sound (election_of s w) ≡ true
+    own = own_sound s l.ward w is found
+
+    same : l.ward ≡ w.number
+    same = number s l.ward w is found
+
+    here : l.ward ≡ w.number → is_sound (election_of (with_effect (lot_drawn l) s) w) ≡ true
+    here at =
+        let in_place = filter_put_in lot_total (λ (x : LotEntry). x.ward == w.number) l s.lots (eq-eqb l.ward w.number at) is.rise.lots in
+        ap (λ (ls : List LotEntry). is_sound (with_lots ls (election_of s w))) in_place ∙ sound_drawn (election_of s w) (lots_of s w.number) l due.kind due.tied refl phased due.is own due.among
+
+    there_too : (x : WardEntry) → (l.ward == x.number) ≡ false → is_sound (election_of s x) ≡ true → is_sound (election_of (with_effect (lot_drawn l) s) x) ≡ true
+    there_too x other sound = ap (λ (ls : List LotEntry). is_sound (with_lots ls (election_of s x))) (filter_put lot_cmp (λ (y : LotEntry). y.ward == x.number) l s.lots other) ∙ sound
+
+    -- no lot of its ward and stage is there
+    new : entry_at (lot_cmp l) s.lots ≡ None
+    new =
+        sym (found_filter (lot_cmp l) (λ (x : LotEntry). x.ward == w.number) s.lots (λ x tied. eq-eqb x.ward w.number (sym (same_number l.ward x.ward (both_equal (nat_cmp l.ward x.ward) (nat_cmp l.stage x.stage) tied).0) ∙ same)))
+        ∙ lot_new (election_of s w) (lots_of s w.number) l due.kind due.tied refl phased due.is own
+
+    maps : (m : MapName) → Holds m (with_effect (lot_drawn l) s)
+    maps lot_map = put_is_map lot_total l s.lots good new (maps_of is lot_map)
+    maps m = maps_of is m
+
+-- ---- each command
+
+lot_stage_line : (stage : ℕ) → is_lot_stage stage ≡ true → IsLine 10 (decimal stage)
+lot_stage_line stage good = let high = upper first_lot_stage last_lot_stage stage good in line_decimal 10 stage (omega arith) (omega (arith, high)) (omega (arith, high))
+
+pub count_fits : (s : OfficeState) (actor : ℕ) (command : CountCommand) → IsState s → first_reason (objections actor command (part_of s actor command)) ≡ None
+    → IsFit s actor (effect_of command (part_of s actor command)) (subject_of command) (reply_to command (part_of s actor command))
+unfolding subject_of reply_to is_lot
+count_fits s actor (Seal ward) is none =
+    let part = part_of s actor (Seal ward) in
+    let each = none_objects (objections actor (Seal ward) part) none in
+    let range = and_parts (is_office actor) (is_ward_number ward) (asked (is_in_range actor (Seal ward)) NumberOutOfRange each.0) in
+    let found = there Keying (ward_at s ward) WrongPhase ((each.1).1).0 in
+    let ready : (election_of s found.ward).ballots.settled ≡ true = ap (λ (o : Option WardEntry). is_ready (poll_for s o)) (sym found.is) ∙ asked (is_ready part.poll) NotReady (((each.1).1).1).0 in
+    let digits = line_number last_ward ward (omega arith) range.1 in
+    record {
+      state = sealed_stays s ward found.ward is found.is found.phased ready;
+      about = office_about actor _ range.0 (seal_about ward range.1);
+      text = line_text (line_append (given (codes "seal ") refl) digits);
+      line = line_reply (line_append (given (codes "ward ") refl) (line_append digits (sealed_told s ward found.ward is found.is))) (omega arith);
+    }
+count_fits s actor (Advance ward) is none =
+    let part = part_of s actor (Advance ward) in
+    let each = none_objects (objections actor (Advance ward) part) none in
+    let range = and_parts (is_office actor) (is_ward_number ward) (asked (is_in_range actor (Advance ward)) NumberOutOfRange each.0) in
+    let found = there Sealed (ward_at s ward) WrongPhase ((each.1).1).0 in
+    let others = ((each.1).1).1 in
+    let open_ : is_finished (due_of (election_of s found.ward)) ≡ false = ap (λ (o : Option WardEntry). has_finished (due_for s o)) (sym found.is) ∙ unasked (has_finished part.due) CountFinished others.0 in
+    let no_lot : lot_objection (Some (due_of (election_of s found.ward))) ≡ None = ap (λ (o : Option WardEntry). lot_objection (due_for s o)) (sym found.is) ∙ (others.1).0 in
+    let act = acts (due_of (election_of s found.ward)) open_ no_lot in
+    let digits = line_number last_ward ward (omega arith) range.1 in
+    let stage = stage_told s ward found.ward is found.is act.action found.phased act.is in
+    let action = own_action_told s ward found.ward is found.is act.action act.is in
+    let told = line_append (given (codes " stage ") refl) (line_append stage (line_append (given (codes " ") refl) action)) in
+    record {
+      state = advanced_stays s ward found.ward is found.is act.action found.phased act.is;
+      about = office_about actor _ range.0 (advance_about ward range.1);
+      text = line_text (line_append (given (codes "advance ") refl) digits);
+      line = line_reply (line_append (given (codes "ward ") refl) (line_append digits told)) (omega arith);
+    }
+count_fits s actor (Lot ward stage candidate) is none =
+    let command = Lot ward stage candidate in
+    let part = part_of s actor command in
+    let each = none_objects (objections actor command part) none in
+    let range = and_parts (is_office actor) (is_ward_number ward && (is_lot_stage stage && is_candidate_number candidate)) (asked (is_in_range actor command) NumberOutOfRange each.0) in
+    let numbers = and_parts (is_ward_number ward) (is_lot_stage stage && is_candidate_number candidate) range.1 in
+    let own = and_parts (is_lot_stage stage) (is_candidate_number candidate) numbers.1 in
+    let found = there Sealed (ward_at s ward) WrongPhase ((each.1).1).0 in
+    let others = (((each.1).1).1).1 in
+    let waited : waits_at stage (Some (due_of (election_of s found.ward))) ≡ true = ap (λ (o : Option WardEntry). waits_at stage (due_for s o)) (sym found.is) ∙ asked (waits_at stage part.due) NoSuchLot others.0 in
+    let among : is_among candidate (Some (due_of (election_of s found.ward))) ≡ true = ap (λ (o : Option WardEntry). is_among candidate (due_for s o)) (sym found.is) ∙ asked (is_among candidate part.due) NotAmong (others.1).0 in
+    let lot : LotEntry = record { ward = ward; stage = stage; candidate = candidate } in
+    let good : is_lot lot ≡ true = range.1 in
+    let wards = line_number last_ward ward (omega arith) numbers.0 in
+    let stages = lot_stage_line stage own.0 in
+    let candidates = line_number max_candidates candidate (omega arith) own.1 in
+    let told = line_append (given (codes " stage ") refl) (line_append stages (line_append (given (codes ": candidate ") refl) candidates)) in
+    record {
+      state = drawn_stays s lot found.ward good found.is found.phased (waits (due_of (election_of s found.ward)) stage candidate waited among) is;
+      about = office_about actor _ range.0 (lot_about ward stage numbers.0 own.0);
+      text = line_text (line_append (given (codes "lot ") refl) (line_append wards (line_append (given (codes " ") refl) stages)));
+      line = line_reply (line_append (given (codes "lot at ward ") refl) (line_append wards told)) (omega arith);
+    }
+count_fits s actor (Declare ward) is none =
+    let part = part_of s actor (Declare ward) in
+    let each = none_objects (objections actor (Declare ward) part) none in
+    let range = and_parts (is_office actor) (is_ward_number ward) (asked (is_in_range actor (Declare ward)) NumberOutOfRange each.0) in
+    let found = there Sealed (ward_at s ward) WrongPhase ((each.1).1).0 in
+    let finished : is_finished (due_of (election_of s found.ward)) ≡ true = ap (λ (o : Option WardEntry). has_finished (due_for s o)) (sym found.is) ∙ asked (has_finished part.due) CountNotFinished (((each.1).1).1).0 in
+    let digits = line_number last_ward ward (omega arith) range.1 in
+    record {
+      state = declared_stays s ward found.ward is found.is found.phased finished;
+      about = office_about actor _ range.0 (declare_about ward range.1);
+      text = line_text (line_append (given (codes "declare ") refl) digits);
+      line = line_reply (line_append (given (codes "ward ") refl) (line_append digits (line_append (given (codes " declared: ") refl) (elected_told s ward found.ward is found.is)))) (omega arith);
+    }

@@ -1,0 +1,353 @@
+-- The command of a clerk, where nothing stands against it, leads from a state to a state, and leaves a receipt in range.
+use Rattle.std.proofs.Common.{rules, inl, inr, ◌≡◌, ℕ, suc, ◌+◌, ◌<◌, ◌≤◌, Bool, true, false, not, ◌&&◌, ◌||◌, ◌==◌, ◌++◌, nat_le, codes, List, [], ◌∷◌, length, map, filter, Option, Some, None, Result, Ok, Err, string_bytes, refl, sym, ap, ◌∙◌, arith}
+use Rattle.std.specs.Fmt.{decimal}
+use Rattle.std.specs.List.{AllByRecursion, list_all}
+use Rattle.std.specs.Str.{is_utf8}
+use Rattle.std.specs.declared.string.String.{String}
+use Rattle.std.specs.declared.alloc.Global.{Global}
+use Rattle.std.specs.declared.cmp.Ordering.TheVariants.{Equal, Greater}
+use Rattle.std.specs.Ordering.{nat_cmp, is_lt, is_eq, ordering_then}
+use Rattle.std.specs.Cmp.{nat_cmp_is}
+use Rattle.std.proofs.Math.Nat.{le_refl}
+use Rattle.std.proofs.lemmas.Bool.{and_parts, and_from, and_left, and_right, or_cases, or_right, eqb-true, eq-eqb, le-leb}
+use Rattle.std.proofs.lemmas.List.{append_assoc, append-nil}
+use Rattle.std.proofs.lemmas.Str.{IsUtf8-string_bytes, is_utf8-from_IsUtf8}
+use Rattle.paper.specs.declared.marks.MarkFault.{MarkFault}
+use Rattle.paper.specs.declared.marked.Keyed.{Keyed}
+use Rattle.paper.specs.MarksText.{reading}
+use Rattle.register.specs.declared.phase.Phase.TheVariants.{Keying}
+use Rattle.register.specs.declared.refusal.Reason.{Reason}
+use Rattle.register.specs.declared.refusal.Reason.TheVariants.{NumberOutOfRange, NoSuchBatch, WrongPhase, NotItsClerk, NotThisRound, AlreadyKeyed, WrongPaperCount}
+use Rattle.register.specs.declared.keyings.KeyingCommand.{KeyingCommand}
+use Rattle.register.specs.Reasons.{first_reason}
+use Rattle.register.specs.Subjects.{is_clerk_subject}
+use Rattle.register.specs.Batches.{ward_for, candidates_for}
+use Rattle.register.specs.Parts.{passes}
+use Rattle.register.specs.Marks.{columns_of, is_read, is_readable, fault_told, marks_objection, first_bad_marks, or_reason}
+use Rattle.register.specs.Ranges.{last_batch, last_round, most_papers, is_clerk, is_batch_number, is_paper_number, is_round}
+use Rattle.register.specs.Offices.{WardEntry, BatchEntry, KeyedEntry, JudgedEntry, OfficeState, put, put_each, entry_at, keyed_cmp, batch_compared, ward_at, candidates_of, batch_at, keying_of, verdicts_of, lots_of}
+use Rattle.register.specs.Polls.{Pile, pile_of}
+use Rattle.register.specs.Elections.{is_counted}
+use Rattle.register.specs.Papers.{is_keyed, differ, are_taken, is_taken, is_its_clerk, first_keying, second_keying}
+use Rattle.register.specs.Keyed.{columns_for, is_keyed_for, are_numbered, is_whole, is_round_of, are_rounds_to, is_verdict_on, is_judged}
+use Rattle.register.specs.Items.{is_keyed_paper, IsState}
+use Rattle.register.specs.Effects.{papers_keyed, with_effect}
+use Rattle.register.specs.Keyings.{texts_of, part_of, is_in_range, objections, subject_of, reply_to, papers_from, effect_of}
+use Rattle.register.proofs.LineLemmas.{upper, are_plain-decimals, words, line_append, line_number, line_reply, line_text}
+use Rattle.register.proofs.ObjectionLemmas.{none_objects, asked, unasked, present, there}
+use Rattle.register.proofs.MapLemmas.{IsMap, put_each_all, put_is_map, filter_put_in, filter_put_each, put_last, found_filter, found_none, each_weaker, found_passes, found_number, same_number, both_equal, all_but_number}
+use Rattle.register.proofs.ElectionLemmas.{lots_placed_of, same_election}
+use Rattle.register.proofs.ElsewhereLemmas.{sound_elsewhere, batches_elsewhere, piles_elsewhere}
+use Rattle.register.proofs.KeyedLemmas.{rounds_from, no_verdicts}
+use Rattle.register.proofs.ItemLemmas.{MapName, keyed_map, Holds, maps_of, state_from, keyed_total, IsFit, clerk_about}
+use Rattle.register.proofs.BatchLemmas.{found_in_range}
+
+-- ---- the papers of a keying
+
+-- a paper of a batch, keyed in a round by a clerk
+abbrev is_of : ℕ → ℕ → ℕ → KeyedEntry → Bool
+is_of batch round clerk k = (k.batch == batch) && ((k.round == round) && (k.clerk == clerk))
+
+-- papers of a keying with numbers below one
+abbrev AreBelow : ℕ → ℕ → ℕ → ℕ → List KeyedEntry → Type 0
+AreBelow batch round clerk paper ks = AllByRecursion (λ k. (is_of batch round clerk k ≡ true) × (k.paper < paper)) ks
+
+module _ (batch round clerk : ℕ) where
+  -- a keying has a paper for each marks text,
+  pub length-papers : (paper : ℕ) (texts : List (List ℕ)) → length (papers_from batch round clerk paper texts) ≡ length texts
+  unfolding papers_from
+  length-papers paper [] = refl
+  length-papers paper (marks ∷ others) = ap suc (length-papers (paper + 1) others)
+
+  -- numbered one after the other,
+  pub numbered : (paper : ℕ) (texts : List (List ℕ)) → are_numbered paper (papers_from batch round clerk paper texts) ≡ true
+  unfolding papers_from are_numbered
+  numbered paper [] = refl
+  numbered paper (marks ∷ others) = and_from _ _ (eq-eqb paper paper refl) (numbered (paper + 1) others)
+
+  -- none of them of another keying,
+  pub of_no_other : (test : ℕ → ℕ → ℕ → Bool) → test batch round clerk ≡ false → (paper : ℕ) (texts : List (List ℕ)) → list_all (λ k. not (test k.batch k.round k.clerk)) (papers_from batch round clerk paper texts) ≡ true
+  unfolding papers_from
+  of_no_other test other paper [] = refl
+  of_no_other test other paper (marks ∷ others) = and_from _ _ (ap not other) (of_no_other test other (paper + 1) others)
+
+  -- in range,
+  papers_in_range : is_batch_number batch ≡ true → is_round round ≡ true → is_clerk clerk ≡ true → (paper : ℕ) (texts : List (List ℕ)) → 1 ≤ paper → paper + length texts ≤ suc most_papers → list_all is_utf8 texts ≡ true
+      → list_all is_keyed_paper (papers_from batch round clerk paper texts) ≡ true
+  unfolding papers_from is_keyed_paper
+  papers_in_range a b c paper [] low high written = refl
+  papers_in_range a b c paper (marks ∷ others) low high written =
+      let text = and_parts (is_utf8 marks) (list_all is_utf8 others) written in
+      let number : is_paper_number paper ≡ true = and_from _ _ (le-leb 1 paper low) (le-leb paper most_papers (omega (arith, high))) in
+      and_from _ _ (and_from _ _ a (and_from _ _ b (and_from _ _ c (and_from _ _ number text.0)))) (papers_in_range a b c (paper + 1) others (omega (arith, low)) (omega (arith, high)) text.1)
+
+  -- and with marks that are read, where none is told to be bad
+  papers_read : (columns : List ℕ) (paper : ℕ) (texts : List (List ℕ)) → first_bad_marks columns paper texts ≡ None → list_all (λ k. is_readable columns k.marks) (papers_from batch round clerk paper texts) ≡ true
+  unfolding papers_from first_bad_marks
+  papers_read columns paper [] none = refl
+  papers_read columns paper (marks ∷ others) none =
+      let parts = neither (marks_objection columns paper marks) (first_bad_marks columns (paper + 1) others) none in
+      and_from _ _ (readable (reading columns marks) parts.0) (papers_read columns (paper + 1) others parts.1)
+    where
+      neither : (o p : Option Reason) → or_reason o p ≡ None → (o ≡ None) × (p ≡ None)
+      neither None p none = (refl, none)
+      neither (Some why) p none = absurd (cc)
+
+      readable : (r : Result Keyed MarkFault) → fault_told paper r ≡ None → is_read r ≡ true
+      readable (Ok keyed) none = refl
+      readable (Err fault) none = absurd (cc)
+
+  -- ---- put into the map
+
+  -- a paper behind those of its keying
+  behind : (paper : ℕ) (marks : List ℕ) (k : KeyedEntry) → is_of batch round clerk k ≡ true → k.paper < paper → keyed_cmp (record { batch = batch; round = round; clerk = clerk; paper = paper; marks = marks }) k ≡ Greater
+  behind paper marks k of below =
+      let first = and_parts (k.batch == batch) ((k.round == round) && (k.clerk == clerk)) of in
+      let second = and_parts (k.round == round) (k.clerk == clerk) first.1 in
+      rw
+      (eqb-true k.batch batch first.0, eqb-true k.round round second.0, eqb-true k.clerk clerk second.1)
+      (rw (sym (nat_cmp_is batch batch Equal refl), sym (nat_cmp_is round round Equal refl), sym (nat_cmp_is clerk clerk Equal refl)) (sym (nat_cmp_is paper k.paper Greater below)))
+
+  more_below : (paper : ℕ) (marks : List ℕ) (ks : List KeyedEntry) → AreBelow batch round clerk paper ks
+      → AreBelow batch round clerk (paper + 1) (ks ++ (record { batch = batch; round = round; clerk = clerk; paper = paper; marks = marks } ∷ []))
+  more_below paper marks [] below = ((and_from _ _ (eq-eqb batch batch refl) (and_from _ _ (eq-eqb round round refl) (eq-eqb clerk clerk refl)), omega arith), tt)
+  more_below paper marks (k ∷ ks) below = let low = (below.0).1 in (((below.0).0, omega (arith, low)), more_below paper marks ks below.1)
+
+  -- what has the key of a paper is of its keying
+  own_of : (paper : ℕ) (marks : List ℕ) (k : KeyedEntry) → is_eq (keyed_cmp (record { batch = batch; round = round; clerk = clerk; paper = paper; marks = marks }) k) ≡ true → is_of batch round clerk k ≡ true
+  own_of paper marks k tied =
+      let first = both_equal (nat_cmp batch k.batch) (ordering_then (nat_cmp round k.round) (ordering_then (nat_cmp clerk k.clerk) (nat_cmp paper k.paper))) tied in
+      let second = both_equal (nat_cmp round k.round) (ordering_then (nat_cmp clerk k.clerk) (nat_cmp paper k.paper)) first.1 in
+      let third = both_equal (nat_cmp clerk k.clerk) (nat_cmp paper k.paper) second.1 in
+      let equal = λ (m n : ℕ) (same : is_eq (nat_cmp m n) ≡ true). eq-eqb n m (sym (same_number m n same)) in
+      and_from _ _ (equal batch k.batch first.0) (and_from _ _ (equal round k.round second.0) (equal clerk k.clerk third.0))
+
+  -- the map with the papers, which are all of their keying
+  pub record IsPut (ys zs : List KeyedEntry) : Type 0 where
+    pub map : IsMap is_keyed_paper keyed_cmp ys
+    pub keying : filter (is_of batch round clerk) ys ≡ zs
+
+  -- papers behind those of their keying that are there
+  pub put_papers : (paper : ℕ) (texts : List (List ℕ)) (ys zs : List KeyedEntry) → list_all is_keyed_paper (papers_from batch round clerk paper texts) ≡ true → AreBelow batch round clerk paper zs → IsPut ys zs
+      → IsPut (put_each keyed_cmp (papers_from batch round clerk paper texts) ys) (zs ++ papers_from batch round clerk paper texts)
+  unfolding papers_from
+  put_papers paper [] ys zs good below is = record { map = is.map; keying = is.keying ∙ sym (append-nil zs) }
+  put_papers paper (marks ∷ others) ys zs good below is =
+      let x : KeyedEntry = record { batch = batch; round = round; clerk = clerk; paper = paper; marks = marks } in
+      let ranges = and_parts (is_keyed_paper x) (list_all is_keyed_paper (papers_from batch round clerk (paper + 1) others)) good in
+      let above : AllByRecursion (λ k. keyed_cmp x k ≡ Greater) zs = each_weaker _ _ zs (λ k low. behind paper marks k low.0 low.1) below in
+      let others_there : AllByRecursion (λ k. is_eq (keyed_cmp x k) ≡ false) zs = each_weaker _ _ zs (λ k g. ap is_eq g) above in
+      let last : AllByRecursion (λ k. is_lt (keyed_cmp x k) ≡ false) zs = each_weaker _ _ zs (λ k g. ap is_lt g) above in
+      let new : entry_at (keyed_cmp x) ys ≡ None = sym (found_filter (keyed_cmp x) (is_of batch round clerk) ys (own_of paper marks)) ∙ ap (entry_at (keyed_cmp x)) is.keying ∙ found_none (keyed_cmp x) zs others_there in
+      let own : is_of batch round clerk x ≡ true = and_from _ _ (eq-eqb batch batch refl) (and_from _ _ (eq-eqb round round refl) (eq-eqb clerk clerk refl)) in
+      let map = is.map in
+      let kept : filter (is_of batch round clerk) (put keyed_cmp x ys) ≡ zs ++ (x ∷ []) = filter_put_in keyed_total (is_of batch round clerk) x ys own map.rises ∙ ap (put keyed_cmp x) is.keying ∙ put_last keyed_cmp x zs last in
+      let next = put_papers (paper + 1) others (put keyed_cmp x ys) (zs ++ (x ∷ [])) ranges.1 (more_below paper marks zs below) (record { map = put_is_map keyed_total x ys ranges.0 new map; keying = kept }) in
+      record { map = next.map; keying = next.keying ∙ append_assoc zs (x ∷ []) (papers_from batch round clerk (paper + 1) others) }
+
+-- ---- a keying that is kept
+
+-- the papers of a keying of a batch's current round
+abbrev papers_for : BatchEntry → ℕ → List (List ℕ) → List KeyedEntry
+papers_for b actor texts = papers_from b.number b.round actor 1 texts
+
+-- the state with them
+abbrev with_papers : OfficeState → BatchEntry → ℕ → List (List ℕ) → OfficeState
+with_papers s b actor texts = with_effect (papers_keyed (papers_for b actor texts)) s
+
+-- a round by its two keyings
+abbrev is_round_by : BatchEntry → ℕ → List KeyedEntry → List KeyedEntry → Bool
+is_round_by b round first second = is_whole b.size first && (is_whole b.size second && (nat_le b.round round || differ first second))
+
+-- verdicts by the two keyings of the current round
+abbrev is_judged_by : OfficeState → BatchEntry → List KeyedEntry → List KeyedEntry → List JudgedEntry → Bool
+is_judged_by s b first second [] = true
+is_judged_by s b first second (v ∷ vs) = are_taken first second && list_all (is_verdict_on (columns_for s b) first) (v ∷ vs)
+
+judged_by : (s t : OfficeState) (b : BatchEntry) (vs : List JudgedEntry) → first_keying t b ≡ first_keying s b → second_keying t b ≡ second_keying s b → is_judged s b vs ≡ true
+    → is_judged_by s b (first_keying t b) (second_keying t b) vs ≡ true
+judged_by s t b [] first second judged = refl
+judged_by s t b (v ∷ vs) first second judged =
+    ap (λ (ks : List KeyedEntry). is_judged_by s b ks (second_keying t b) (v ∷ vs)) first ∙ ap (λ (ks : List KeyedEntry). is_judged_by s b (first_keying s b) ks (v ∷ vs)) second ∙ judged
+
+module _ (s : OfficeState) (b : BatchEntry) (actor : ℕ) (texts : List (List ℕ)) (is : IsState s) (found : batch_at s b.number ≡ Some b) (its : is_its_clerk actor b ≡ true)
+    (unkeyed : keying_of s b.number b.round actor ≡ []) (size : b.size ≡ length texts) where
+  -- each other keying is as it was
+  other_keying : (n m clerk : ℕ) → ((b.number == n) && ((b.round == m) && (actor == clerk))) ≡ false → keying_of (with_papers s b actor texts) n m clerk ≡ keying_of s n m clerk
+  other_keying n m clerk other =
+      filter_put_each keyed_cmp (is_of n m clerk) (papers_for b actor texts) s.keyings (of_no_other b.number b.round actor (λ x y z. (x == n) && ((y == m) && (z == clerk))) other 1 texts)
+
+  -- so the rounds of each other batch are, and its verdicts
+  other_round : (x : BatchEntry) → (b.number == x.number) ≡ false → (m : ℕ) → is_round_of s x m ≡ true → is_round_of (with_papers s b actor texts) x m ≡ true
+  other_round x other m holds =
+      let same = λ (clerk : ℕ). other_keying x.number m clerk (and_left _ _ other) in
+      ap (λ (ks : List KeyedEntry). is_round_by x m ks (keying_of (with_papers s b actor texts) x.number m x.second_clerk)) (same x.first_clerk)
+      ∙ ap (λ (ks : List KeyedEntry). is_round_by x m (keying_of s x.number m x.first_clerk) ks) (same x.second_clerk)
+      ∙ holds
+
+  other_judged : (x : BatchEntry) → (b.number == x.number) ≡ false → (vs : List JudgedEntry) → is_judged s x vs ≡ true → is_judged (with_papers s b actor texts) x vs ≡ true
+  other_judged x other vs judged =
+      let same = λ (clerk : ℕ). other_keying x.number x.round clerk (and_left _ _ other) in
+      judged_by s (with_papers s b actor texts) x vs (same x.first_clerk) (same x.second_clerk) judged
+
+  other_pile : (x : BatchEntry) → (b.number == x.number) ≡ false → pile_of (with_papers s b actor texts) x ≡ pile_of s x
+  other_pile x other =
+      let same = λ (clerk : ℕ). other_keying x.number x.round clerk (and_left _ _ other) in
+      ap (λ (ks : List KeyedEntry). pile_with ks (second_keying (with_papers s b actor texts) x)) (same x.first_clerk) ∙ ap (pile_with (first_keying s x)) (same x.second_clerk)
+    where
+      pile_with : List KeyedEntry → List KeyedEntry → Pile
+      pile_with first second = record { first = first; second = second; verdicts = verdicts_of s x.number }
+
+  -- the batch isn't taken, so none of its papers is judged
+  untaken : is_taken s b ≡ false
+  untaken = elim (or_cases (actor == b.first_clerk) (actor == b.second_clerk) its) [
+    | inl same ↦ let first : first_keying s b ≡ [] = ap (keying_of s b.number b.round) (sym (eqb-true actor b.first_clerk same)) ∙ unkeyed in rw first refl
+    | inr same ↦ let second : second_keying s b ≡ [] = ap (keying_of s b.number b.round) (sym (eqb-true actor b.second_clerk same)) ∙ unkeyed in rw second (and_right (is_keyed (first_keying s b)) false refl)
+  ]
+
+  module _ (clerk : is_clerk actor ≡ true) (written : list_all is_utf8 texts ≡ true) where
+    papers_good : list_all is_keyed_paper (papers_for b actor texts) ≡ true
+    papers_good =
+        let parts = found_in_range is b.number b found in
+        let high = upper 1 most_papers b.size parts.size in
+        papers_in_range b.number b.round actor parts.number parts.round clerk 1 texts (omega arith) (omega (arith, high, size)) written
+
+    put_there : IsPut b.number b.round actor (put_each keyed_cmp (papers_for b actor texts) s.keyings) (papers_for b actor texts)
+    put_there = put_papers b.number b.round actor 1 texts s.keyings [] papers_good tt (record { map = maps_of is keyed_map; keying = unkeyed })
+
+    -- each keying of the batch is whole still
+    whole_still : (m clerk : ℕ) → is_whole b.size (keying_of s b.number m clerk) ≡ true → is_whole b.size (keying_of (with_papers s b actor texts) b.number m clerk) ≡ true
+    whole_still m clerk holds = go ((b.round == m) && (actor == clerk)) refl
+      where
+        go : (same : Bool) → ((b.round == m) && (actor == clerk)) ≡ same → is_whole b.size (keying_of (with_papers s b actor texts) b.number m clerk) ≡ true
+        go false other = ap (is_whole b.size) (other_keying b.number m clerk (and_right (b.number == b.number) _ other)) ∙ holds
+        go true same =
+            let parts = and_parts (b.round == m) (actor == clerk) same in
+            let there = put_there in
+            let own : keying_of (with_papers s b actor texts) b.number m clerk ≡ papers_for b actor texts =
+            ap (λ (r : ℕ). keying_of (with_papers s b actor texts) b.number r clerk) (sym (eqb-true b.round m parts.0))
+            ∙ ap (keying_of (with_papers s b actor texts) b.number b.round) (sym (eqb-true actor clerk parts.1))
+            ∙ there.keying
+            in
+            let long : length (papers_for b actor texts) ≡ b.size = length-papers b.number b.round actor 1 texts ∙ sym size in
+            let full = and_from _ _ (eq-eqb (length (papers_for b actor texts)) b.size long) (numbered b.number b.round actor 1 texts) in
+            ap (is_whole b.size) own ∙ or_right (not (is_keyed (papers_for b actor texts))) ((length (papers_for b actor texts) == b.size) && are_numbered 1 (papers_for b actor texts)) full
+
+    own_round : (m : ℕ) → is_round_of s b m ≡ true → is_round_of (with_papers s b actor texts) b m ≡ true
+    own_round m holds =
+        let first = and_parts (is_whole b.size (keying_of s b.number m b.first_clerk)) _ holds in
+        let second = and_parts (is_whole b.size (keying_of s b.number m b.second_clerk)) _ first.1 in
+        and_from _ _ (whole_still m b.first_clerk first.0) (and_from _ _ (whole_still m b.second_clerk second.0) (go (b.round == m) refl second.1))
+      where
+        go : (same : Bool) → (b.round == m) ≡ same → (nat_le b.round m || differ (keying_of s b.number m b.first_clerk) (keying_of s b.number m b.second_clerk)) ≡ true
+            → (nat_le b.round m || differ (keying_of (with_papers s b actor texts) b.number m b.first_clerk) (keying_of (with_papers s b actor texts) b.number m b.second_clerk)) ≡ true
+        go true same either = let round = eqb-true b.round m same in rw (le-leb b.round m (omega (arith, round))) refl
+        go false other either =
+            let same = λ (clerk : ℕ). other_keying b.number m clerk (and_right (b.number == b.number) _ (and_left (b.round == m) (actor == clerk) other)) in
+            ap (λ (ks : List KeyedEntry). nat_le b.round m || differ ks (keying_of (with_papers s b actor texts) b.number m b.second_clerk)) (same b.first_clerk)
+            ∙ ap (λ (ks : List KeyedEntry). nat_le b.round m || differ (keying_of s b.number m b.first_clerk) ks) (same b.second_clerk)
+            ∙ either
+
+    -- what holds of each other batch still, and of this one, holds of each
+    still : (p q : BatchEntry → Bool) → (p b ≡ true → q b ≡ true) → ((x : BatchEntry) → (b.number == x.number) ≡ false → p x ≡ true → q x ≡ true) → list_all p s.batches ≡ true → list_all q s.batches ≡ true
+    still p q own others all = all_but_number (λ (x : BatchEntry). x.number) s.batches b.number b p q is.rise.batches found (λ same. own (found_passes (batch_compared b.number) p b s.batches all found)) others all
+
+    -- the papers are keyed of a batch that is there, in its round, by its clerk, with marks that are read
+    keyed_for_each : (paper : ℕ) (others : List (List ℕ)) → list_all (λ k. is_readable (columns_for s b) k.marks) (papers_from b.number b.round actor paper others) ≡ true
+        → list_all (λ k. is_keyed_for s k (batch_at s k.batch)) (papers_from b.number b.round actor paper others) ≡ true
+    unfolding papers_from
+    keyed_for_each paper [] read = refl
+    keyed_for_each paper (marks ∷ others) read =
+        let parts = and_parts (is_readable (columns_for s b) marks) (list_all (λ k. is_readable (columns_for s b) k.marks) (papers_from b.number b.round actor (paper + 1) others)) read in
+        and_from _ _ (rw found (and_from _ _ (le-leb b.round b.round (le_refl b.round)) (and_from _ _ its parts.0))) (keyed_for_each (paper + 1) others parts.1)
+
+    -- the state with a whole keying of the batch's round, by a clerk of it who had none there
+    pub keyed_stays : (w : WardEntry) → ward_at s b.ward ≡ Some w → is_counted w.phase ≡ false → first_bad_marks (columns_for s b) 1 texts ≡ None → IsState (with_papers s b actor texts)
+    keyed_stays w its_ward open_ none =
+        let keyed = and_parts _ _ is.keyed in
+        let judged = and_parts _ _ is.judged in
+        let read = papers_read b.number b.round actor (columns_for s b) 1 texts none in
+        state_from
+        (with_papers s b actor texts)
+        maps
+        (record {
+          nominated = is.nominated;
+          given_out = is.given_out;
+          keyed = and_from
+              _
+              _
+              (put_each_all keyed_cmp (λ k. is_keyed_for s k (batch_at s k.batch)) (papers_for b actor texts) s.keyings (keyed_for_each 1 texts read) keyed.0)
+              (still (λ x. are_rounds_to s x x.round) (λ x. are_rounds_to (with_papers s b actor texts) x x.round) (rounds_from s (with_papers s b actor texts) b b b.round own_round) (λ x other rounds. rounds_from s (with_papers s b actor texts) x x x.round (other_round x other) rounds) keyed.1);
+          judged = and_from
+              _
+              _
+              judged.0
+              (still (λ x. is_judged s x (verdicts_of s x.number)) (λ x. is_judged (with_papers s b actor texts) x (verdicts_of s x.number)) unjudged (λ x other verdicts. other_judged x other (verdicts_of s x.number) verdicts) judged.1);
+          lots_placed = lots_placed_of is;
+          sound = sound_elsewhere s b.ward w s.candidates s.batches (put_each keyed_cmp (papers_for b actor texts) s.keyings) s.verdicts its_ward open_
+              (λ x other. same_election x _ (candidates_of s x.number) _ _ _ (lots_of s x.number) refl (piles_elsewhere s (with_papers s b actor texts) b.number x.number s.batches other_pile (batches_elsewhere s b.number b x.number is found other)) refl) is;
+        })
+      where
+        unjudged : is_judged s b (verdicts_of s b.number) ≡ true → is_judged (with_papers s b actor texts) b (verdicts_of s b.number) ≡ true
+        unjudged verdicts = rw (no_verdicts s b untaken (verdicts_of s b.number) verdicts) refl
+
+        maps : (m : MapName) → Holds m (with_papers s b actor texts)
+        maps keyed_map = let there = put_there in there.map
+        maps m = maps_of is m
+
+-- ---- the command
+
+-- texts are UTF-8
+all_written : (texts : List (String Global)) → list_all is_utf8 (map string_bytes texts) ≡ true
+all_written [] = refl
+all_written (text ∷ texts) = and_from _ _ (is_utf8-from_IsUtf8 (string_bytes text) (IsUtf8-string_bytes text)) (all_written texts)
+
+not_keyed : (keying : List KeyedEntry) → is_keyed keying ≡ false → keying ≡ []
+not_keyed [] none = refl
+not_keyed (k ∷ ks) none = absurd (cc)
+
+-- what the receipt of a keying may be about
+key_about : (m n : ℕ) → is_batch_number m ≡ true → is_round n ≡ true → is_clerk_subject (codes "key " ++ (decimal m ++ (codes " " ++ decimal n))) ≡ true
+unfolding is_clerk_subject
+key_about m n h k = rw (are_plain-decimals last_batch last_round m n (omega arith) (omega arith) h k) refl
+
+-- what the batch that is found passes
+found_is : (s : OfficeState) (n : ℕ) (b : BatchEntry) → batch_at s n ≡ Some b → (test : BatchEntry → Bool) → passes test (batch_at s n) ≡ true → test b ≡ true
+found_is s n b found test passing = ap (passes test) (sym found) ∙ passing
+
+under_same : (s : OfficeState) (b : BatchEntry) (actor : ℕ) (texts : List (List ℕ)) (n round : ℕ) → n ≡ b.number → round ≡ b.round → IsState (with_papers s b actor texts)
+    → IsState (with_effect (papers_keyed (papers_from n round actor 1 texts)) s)
+under_same s b actor texts n round number same is = rw (number, same) is
+
+pub keying_fits : (s : OfficeState) (actor : ℕ) (command : KeyingCommand) → IsState s → first_reason (objections actor command (part_of s actor command)) ≡ None
+    → IsFit s actor (effect_of actor command) (subject_of command) (reply_to command)
+unfolding subject_of reply_to
+keying_fits s actor command is none =
+    let part = part_of s actor command in
+    let each = none_objects (objections actor command part) none in
+    let range = and_parts (is_clerk actor) (is_batch_number command.batch && is_round command.round) (asked (is_in_range actor command) NumberOutOfRange each.0) in
+    let numbers = and_parts (is_batch_number command.batch) (is_round command.round) range.1 in
+    let found = present (batch_at s command.batch) NoSuchBatch (each.1).0 in
+    let b = found.it in
+    let others = ((each.1).1).1 in
+    let in_ward = there Keying (ward_for s (batch_at s command.batch)) WrongPhase ((each.1).1).0 in
+    let its_ward : ward_at s b.ward ≡ Some in_ward.ward = ap (ward_for s) (sym found.is) ∙ in_ward.is in
+    let its = found_is s command.batch b found.is (is_its_clerk actor) (asked (passes (is_its_clerk actor) part.batch) NotItsClerk others.0) in
+    let now = found_is s command.batch b found.is (λ x. x.round == command.round) (asked (passes (λ x. x.round == command.round) part.batch) NotThisRound (others.1).0) in
+    let none_own = not_keyed part.own (unasked (is_keyed part.own) AlreadyKeyed ((others.1).1).0) in
+    let long = found_is s command.batch b found.is (λ x. x.size == length (texts_of command)) (asked (passes (λ x. x.size == length (texts_of command)) part.batch) WrongPaperCount (((others.1).1).1).0) in
+    let good : first_bad_marks (columns_for s b) 1 (texts_of command) ≡ None =
+    ap (λ (o : Option BatchEntry). first_bad_marks (columns_of (candidates_for s o)) 1 (texts_of command)) (sym found.is) ∙ ((((others.1).1).1).1).0
+    in
+    let number : command.batch ≡ b.number = found_number (λ (x : BatchEntry). x.number) s.batches command.batch b found.is in
+    let round : command.round ≡ b.round = sym (eqb-true b.round command.round now) in
+    let own : batch_at s b.number ≡ Some b = ap (batch_at s) (sym number) ∙ found.is in
+    let unkeyed : keying_of s b.number b.round actor ≡ [] = ap (λ (n : ℕ). keying_of s n b.round actor) (sym number) ∙ ap (λ (r : ℕ). keying_of s command.batch r actor) (sym round) ∙ none_own in
+    let digits = line_number last_batch command.batch (omega arith) numbers.0 in
+    let rounds = line_number last_round command.round (omega arith) numbers.1 in
+    record {
+      state = under_same s b actor (texts_of command) command.batch command.round number round (keyed_stays s b actor (texts_of command) is own its unkeyed (eqb-true b.size (length (texts_of command)) long) range.0 (all_written command.papers.items) in_ward.ward its_ward (rw in_ward.phased refl) good);
+      about = clerk_about actor _ range.0 (key_about command.batch command.round numbers.0 numbers.1);
+      text = line_text (line_append (words (codes "key ") (search rules) refl) (line_append digits (line_append (words (codes " ") (search rules) refl) rounds)));
+      line = line_reply (line_append (words (codes "batch ") (search rules) refl) (line_append digits (line_append (words (codes " round ") (search rules) refl) (line_append rounds (words (codes " keyed") (search rules) refl))))) (omega arith);
+    }

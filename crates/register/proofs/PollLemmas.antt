@@ -1,0 +1,65 @@
+-- The papers of a ward with a batch more.
+use Rattle.std.proofs.Common.{◌≡◌, ℕ, ◌+◌, ◌==◌, ◌&&◌, Bool, true, false, cond, List, [], ◌∷◌, ◌++◌, length, map, filter, fold, refl, sym, ap, ◌∙◌, arith, append-nil, append_assoc}
+use Rattle.std.specs.List.{flat_map, list_all}
+use Rattle.std.proofs.lemmas.List.Concat.{flat_map-append}
+use Rattle.std.proofs.lemmas.List.Folds.{list_all-append}
+use Rattle.register.specs.declared.polls.Judgement.{Judgement}
+use Rattle.register.specs.Papers.{is_open}
+use Rattle.register.specs.Polls.{Pile, BallotsEntry, is_taken, is_settled, judgements_on, judgements_in, judgements, preferences_by, is_rejected, rejected_with, and_rejected, ballots_in}
+
+-- the codes of rejection
+abbrev five : List ℕ
+five = 1 ∷ 2 ∷ 3 ∷ 4 ∷ 5 ∷ []
+
+judgements_more : (columns : List ℕ) (piles : List Pile) (pile : Pile) → judgements columns (piles ++ pile ∷ []) ≡ judgements columns piles ++ judgements_in columns pile
+judgements_more columns piles pile = flat_map-append (judgements_in columns) piles (pile ∷ []) ∙ ap (λ js. judgements columns piles ++ js) (append-nil (judgements_in columns pile))
+
+-- one judgement more is counted for its code
+counted_more : (n : ℕ) (js : List Judgement) (k : Judgement) → rejected_with js n + cond (is_rejected n k) 1 0 ≡ rejected_with (js ++ k ∷ []) n
+counted_more n [] k = go (is_rejected n k)
+  where
+    go : (b : Bool) → 0 + cond b 1 0 ≡ length (cond b (k ∷ []) [])
+    go true = refl
+    go false = refl
+counted_more n (j ∷ js) k = go (is_rejected n j) (counted_more n js k)
+  where
+    go : (b : Bool) → rejected_with js n + cond (is_rejected n k) 1 0 ≡ rejected_with (js ++ k ∷ []) n
+        → length (cond b (j ∷ filter (is_rejected n) js) (filter (is_rejected n) js)) + cond (is_rejected n k) 1 0 ≡ length (cond b (j ∷ filter (is_rejected n) (js ++ k ∷ [])) (filter (is_rejected n) (js ++ k ∷ [])))
+    go true later = omega (arith, later)
+    go false later = later
+
+rejected_one : (js : List Judgement) (k : Judgement) → and_rejected (map (rejected_with js) five) k ≡ map (rejected_with (js ++ k ∷ [])) five
+rejected_one js k = rw (counted_more 1 js k, counted_more 2 js k, counted_more 3 js k, counted_more 4 js k, counted_more 5 js k) refl
+
+rejected_more : (js ks : List Judgement) → fold and_rejected (map (rejected_with js) five) ks ≡ map (rejected_with (js ++ ks)) five
+rejected_more js [] = ap (λ (ls : List Judgement). map (rejected_with ls) five) (sym (append-nil js))
+rejected_more js (k ∷ ks) =
+    ap (λ (rejected : List ℕ). fold and_rejected rejected ks) (rejected_one js k)
+    ∙ (rejected_more (js ++ k ∷ []) ks ∙ ap (λ (ls : List Judgement). map (rejected_with ls) five) (append_assoc js (k ∷ []) ks))
+
+-- what a batch that is taken adds to the papers, to the numbers of the rejected, and to what is settled
+pub added : (columns : List ℕ) (piles : List Pile) (pile : Pile) (old new : BallotsEntry) → old ≡ ballots_in columns piles → is_taken pile ≡ true
+    → new.papers ≡ old.papers ++ flat_map preferences_by (judgements_on columns pile.verdicts pile.first)
+    → new.rejected ≡ fold and_rejected old.rejected (judgements_on columns pile.verdicts pile.first)
+    → new.settled ≡ (old.settled && (length (filter (is_open pile.verdicts) pile.first) == 0)) → new ≡ ballots_in columns (piles ++ pile ∷ [])
+added columns piles pile old new was taken papers rejected settled =
+    let js = judgements columns piles in
+    let ks = judgements_on columns pile.verdicts pile.first in
+    let own : judgements_in columns pile ≡ ks = rw taken refl in
+    let more : js ++ ks ≡ judgements columns (piles ++ pile ∷ []) = ap (λ (ls : List Judgement). js ++ ls) (sym own) ∙ sym (judgements_more columns piles pile) in
+    same
+    new
+    (ballots_in columns (piles ++ pile ∷ []))
+    (papers ∙ ap (λ (b : BallotsEntry). b.papers ++ flat_map preferences_by ks) was ∙ sym (flat_map-append preferences_by js ks) ∙ ap (flat_map preferences_by) more)
+    (rejected ∙ ap (λ (b : BallotsEntry). fold and_rejected b.rejected ks) was ∙ rejected_more js ks ∙ ap (λ (ls : List Judgement). map (rejected_with ls) five) more)
+    (settled ∙ ap (λ (b : BallotsEntry). b.settled && (length (filter (is_open pile.verdicts) pile.first) == 0)) was ∙ last ∙ sym (list_all-append is_settled piles (pile ∷ [])))
+  where
+    same : (b c : BallotsEntry) → b.papers ≡ c.papers → b.rejected ≡ c.rejected → b.settled ≡ c.settled → b ≡ c
+    same b c p r t = rw (p, r, t) refl
+
+    end : (b : Bool) → b ≡ (b && true)
+    end true = refl
+    end false = refl
+
+    last : (list_all is_settled piles && (length (filter (is_open pile.verdicts) pile.first) == 0)) ≡ (list_all is_settled piles && list_all is_settled (pile ∷ []))
+    last = rw taken (ap (λ b. list_all is_settled piles && b) (end (length (filter (is_open pile.verdicts) pile.first) == 0)))

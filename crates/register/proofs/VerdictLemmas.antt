@@ -1,0 +1,170 @@
+-- The command about a doubtful paper, where nothing stands against it, leads from a state to a state, and leaves a receipt in
+-- range.
+use Rattle.std.proofs.Common.{rules, ◌≡◌, ℕ, Bool, true, false, ◌&&◌, ◌==◌, ◌++◌, codes, List, [], ◌∷◌, filter, Option, Some, None, is_some, string_bytes, refl, sym, ap, ◌∙◌, arith, cond}
+use Rattle.std.specs.Fmt.{decimal}
+use Rattle.std.specs.List.{list_all}
+use Rattle.std.specs.declared.cmp.Ordering.{Ordering}
+use Rattle.std.specs.Ordering.{is_lt}
+use Rattle.std.proofs.lemmas.Bool.{and_parts, and_from, or_right, le-leb}
+use Rattle.std.proofs.lemmas.Str.{IsUtf8-nil, IsUtf8-string_bytes, is_utf8-from_IsUtf8}
+use Rattle.register.specs.declared.phase.Phase.TheVariants.{Keying}
+use Rattle.register.specs.declared.refusal.Reason.TheVariants.{NumberOutOfRange, NoSuchBatch, WrongPhase, NotTaken, NotDoubtful, AlreadyJudged, BadVerdict}
+use Rattle.register.specs.declared.verdicts.Verdict.{Verdict}
+use Rattle.register.specs.declared.verdicts.Verdict.TheVariants.{Accept, Reject}
+use Rattle.register.specs.declared.verdicts.VerdictCommand.{VerdictCommand}
+use Rattle.register.specs.Reasons.{first_reason}
+use Rattle.register.specs.Ranges.{last_batch, most_papers, is_office, is_batch_number, is_paper_number}
+use Rattle.register.specs.Subjects.{is_office_subject}
+use Rattle.register.specs.Offices.{WardEntry, BatchEntry, KeyedEntry, JudgedEntry, OfficeState, put, judged_cmp, batch_compared, ward_at, candidates_of, batch_at, verdict_at, verdicts_of, lots_of}
+use Rattle.register.specs.Polls.{Pile, pile_of}
+use Rattle.register.specs.Elections.{is_counted}
+use Rattle.register.specs.Marks.{columns_of, is_valid}
+use Rattle.register.specs.Papers.{are_taken, has_doubtful, is_taken, first_keying, second_keying}
+use Rattle.register.specs.Keyed.{columns_for, is_verdict_on, is_judged}
+use Rattle.register.specs.Items.{is_judged_paper, IsState}
+use Rattle.register.specs.Effects.{paper_judged, with_effect}
+use Rattle.register.specs.Batches.{ward_for, candidates_for, first_for, second_for}
+use Rattle.register.specs.Verdicts.{part_of, is_in_range, is_verdict, objections, subject_of, verdict_word, reply_to, judged_as, effect_of}
+use Rattle.register.proofs.LineLemmas.{lower, upper, are_plain-decimals, IsLine, words, line_append, line_number, line_reply, line_text}
+use Rattle.register.proofs.ObjectionLemmas.{none_objects, asked, absent, present, there}
+use Rattle.register.proofs.MapLemmas.{put_all, put_is_map, filter_put, found_passes, all_but_number}
+use Rattle.register.proofs.ElectionLemmas.{lots_placed_of, same_election}
+use Rattle.register.proofs.ElsewhereLemmas.{sound_elsewhere, batches_elsewhere, piles_elsewhere}
+use Rattle.register.proofs.ItemLemmas.{MapName, judged_map, Holds, maps_of, state_from, rounds_still, judged_total, IsFit, office_about}
+
+-- what passes a test of each that is left, and of the entry that is put in
+put_kept : {X : Type 0} (cmp : X → X → Ordering) (p q : X → Bool) (x : X) (ys : List X) → p x ≡ true → list_all p (filter q ys) ≡ true → list_all p (filter q (put cmp x ys)) ≡ true
+put_kept {X} cmp p q x [] good all = elim (q x) as (λ b. list_all p (cond b (x ∷ []) []) ≡ true) [ true ↦ and_from _ _ good refl | false ↦ refl ]
+put_kept {X} cmp p q x (y ∷ ys) good all = elim (is_lt (cmp x y)) as (λ b. list_all p (filter q (cond b (x ∷ y ∷ ys) (y ∷ put cmp x ys))) ≡ true) [
+  | true ↦ elim (q x) as (λ b. list_all p (cond b (x ∷ filter q (y ∷ ys)) (filter q (y ∷ ys))) ≡ true) [ true ↦ and_from _ _ good all | false ↦ all ]
+  | false ↦ go (q y) (λ each. put_kept cmp p q x ys good each) all
+]
+  where
+    go : (b : Bool) → (list_all p (filter q ys) ≡ true → list_all p (filter q (put cmp x ys)) ≡ true) → list_all p (cond b (y ∷ filter q ys) (filter q ys)) ≡ true
+        → list_all p (cond b (y ∷ filter q (put cmp x ys)) (filter q (put cmp x ys))) ≡ true
+    go true later each = and_from _ _ (and_parts _ _ each).0 (later (and_parts _ _ each).1)
+    go false later each = later each
+
+-- verdicts on doubtful papers of a taken batch
+judged_from : (s : OfficeState) (b : BatchEntry) (vs : List JudgedEntry) → is_taken s b ≡ true → list_all (is_verdict_on (columns_for s b) (first_keying s b)) vs ≡ true → is_judged s b vs ≡ true
+judged_from s b [] taken all = refl
+judged_from s b (v ∷ vs) taken all = and_from _ _ taken all
+
+all_judged : (s : OfficeState) (b : BatchEntry) (vs : List JudgedEntry) → is_judged s b vs ≡ true → list_all (is_verdict_on (columns_for s b) (first_keying s b)) vs ≡ true
+all_judged s b [] judged = refl
+all_judged s b (v ∷ vs) judged = (and_parts _ _ judged).1
+
+-- a verdict in range on a doubtful paper of a taken batch, which has none
+judged_stays : (s : OfficeState) (v : JudgedEntry) (b : BatchEntry) → is_judged_paper v ≡ true → batch_at s v.batch ≡ Some b → is_taken s b ≡ true → is_verdict_on (columns_for s b) (first_keying s b) v ≡ true
+    → verdict_at s v.batch v.paper ≡ None → (w : WardEntry) → ward_at s b.ward ≡ Some w → is_counted w.phase ≡ false → IsState s → IsState (with_effect (paper_judged v) s)
+judged_stays s v b good found taken on new w its_ward open_ is =
+    let keyed = and_parts _ _ is.keyed in
+    let judged = and_parts _ _ is.judged in
+    let belongs : is_some (batch_at s v.batch) ≡ true = rw found refl in
+    state_from
+    (with_effect (paper_judged v) s)
+    maps
+    (record {
+      nominated = is.nominated;
+      given_out = is.given_out;
+      keyed = and_from _ _ keyed.0 (rounds_still s (with_effect (paper_judged v) s) s.batches (λ x m round. round) keyed.1);
+      judged = and_from
+          _
+          _
+          (put_all judged_cmp (λ x. is_some (batch_at s x.batch)) v s.verdicts belongs judged.0)
+          (all_but_number (λ (x : BatchEntry). x.number) s.batches v.batch b (λ x. is_judged s x (verdicts_of s x.number)) (λ x. is_judged s x (verdicts_of (with_effect (paper_judged v) s) x.number)) is.rise.batches found (here judged.1) there judged.1);
+      lots_placed = lots_placed_of is;
+      sound = sound_elsewhere s b.ward w s.candidates s.batches s.keyings (put judged_cmp v s.verdicts) its_ward open_
+          (λ x other. same_election x _ (candidates_of s x.number) _ _ _ (lots_of s x.number) refl (piles_elsewhere s (with_effect (paper_judged v) s) v.batch x.number s.batches other_pile (batches_elsewhere s v.batch b x.number is found other)) refl) is;
+    })
+  where
+    other_pile : (x : BatchEntry) → (v.batch == x.number) ≡ false → pile_of (with_effect (paper_judged v) s) x ≡ pile_of s x
+    other_pile x other = ap (λ (vs : List JudgedEntry). pile_with (first_keying s x) (second_keying s x) vs) (filter_put judged_cmp (λ (y : JudgedEntry). y.batch == x.number) v s.verdicts other)
+      where
+        pile_with : List KeyedEntry → List KeyedEntry → List JudgedEntry → Pile
+        pile_with first second verdicts = record { first = first; second = second; verdicts = verdicts }
+
+    here : list_all (λ x. is_judged s x (verdicts_of s x.number)) s.batches ≡ true → v.batch ≡ b.number → is_judged s b (verdicts_of (with_effect (paper_judged v) s) b.number) ≡ true
+    here all same =
+        let own = all_judged s b (verdicts_of s b.number) (found_passes (batch_compared v.batch) (λ x. is_judged s x (verdicts_of s x.number)) b s.batches all found) in
+        judged_from
+        s
+        b
+        (verdicts_of (with_effect (paper_judged v) s) b.number)
+        taken
+        (put_kept judged_cmp (is_verdict_on (columns_for s b) (first_keying s b)) (λ (x : JudgedEntry). x.batch == b.number) v s.verdicts on own)
+
+    there : (x : BatchEntry) → (v.batch == x.number) ≡ false → is_judged s x (verdicts_of s x.number) ≡ true → is_judged s x (verdicts_of (with_effect (paper_judged v) s) x.number) ≡ true
+    there x other judged = ap (is_judged s x) (filter_put judged_cmp (λ (y : JudgedEntry). y.batch == x.number) v s.verdicts other) ∙ judged
+
+    maps : (m : MapName) → Holds m (with_effect (paper_judged v) s)
+    maps judged_map = put_is_map judged_total v s.verdicts good new (maps_of is judged_map)
+    maps m = maps_of is m
+
+-- ---- the command
+
+-- a verdict as it is kept leads to a state
+verdict_stays : (s : OfficeState) (batch paper : ℕ) (verdict : Verdict) (b : BatchEntry) → is_batch_number batch ≡ true → is_paper_number paper ≡ true → batch_at s batch ≡ Some b → is_taken s b ≡ true
+    → has_doubtful (first_keying s b) paper ≡ true → is_verdict (columns_for s b) verdict ≡ true → verdict_at s batch paper ≡ None → (w : WardEntry) → ward_at s b.ward ≡ Some w → is_counted w.phase ≡ false → IsState s → IsState (with_effect (paper_judged (judged_as batch paper verdict)) s)
+unfolding is_judged_paper
+verdict_stays s batch paper (Accept marks) b number numbered found taken doubtful valid new w its_ward open_ is =
+    let text = is_utf8-from_IsUtf8 (string_bytes marks) (IsUtf8-string_bytes marks) in
+    judged_stays s _ b (and_from _ _ number (and_from _ _ numbered text)) found taken (and_from _ _ doubtful (rw valid refl)) new w its_ward open_ is
+verdict_stays s batch paper (Reject code) b number numbered found taken doubtful good new w its_ward open_ is =
+    let low = upper 3 5 code good in
+    judged_stays
+    s
+    _
+    b
+    (and_from _ _ number (and_from _ _ numbered (and_from _ _ (le-leb code 5 low) (is_utf8-from_IsUtf8 [] IsUtf8-nil))))
+    found
+    taken
+    (and_from _ _ doubtful (or_right ((code == 0) && is_valid (columns_for s b) []) _ (and_from _ _ good refl)))
+    new
+    w
+    its_ward
+    open_
+    is
+
+-- what is told of a verdict is a line
+told : (columns : List ℕ) (verdict : Verdict) → is_verdict columns verdict ≡ true → IsLine 20 (verdict_word verdict)
+told columns (Accept marks) good = record { ascii = search rules; short = omega arith; plain = refl }
+told columns (Reject code) good =
+    let low = lower 3 5 code good in
+    let high = upper 3 5 code good in
+    line_append (words (codes " rejected ") (search rules) refl) (line_number 5 code (omega arith) (and_from _ _ (le-leb 1 code (omega (arith, low))) (le-leb code 5 high)))
+
+-- what the receipt of a verdict may be about
+judge_about : (m n : ℕ) → is_batch_number m ≡ true → is_paper_number n ≡ true → is_office_subject (codes "judge " ++ (decimal m ++ (codes " " ++ decimal n))) ≡ true
+unfolding is_office_subject
+judge_about m n h k = rw (are_plain-decimals last_batch most_papers m n (omega arith) (omega arith) h k) refl
+
+pub verdict_fits : (s : OfficeState) (actor : ℕ) (command : VerdictCommand) → IsState s → first_reason (objections actor command (part_of s actor command)) ≡ None
+    → IsFit s actor (effect_of command) (subject_of command) (reply_to command)
+unfolding subject_of reply_to
+verdict_fits s actor command is none =
+    let part = part_of s actor command in
+    let each = none_objects (objections actor command part) none in
+    let range = and_parts (is_office actor) (is_batch_number command.batch && is_paper_number command.paper) (asked (is_in_range actor command) NumberOutOfRange each.0) in
+    let numbers = and_parts (is_batch_number command.batch) (is_paper_number command.paper) range.1 in
+    let found = present (batch_at s command.batch) NoSuchBatch (each.1).0 in
+    let b = found.it in
+    let others = (((each.1).1).1).1 in
+    let its = there Keying (ward_for s (batch_at s command.batch)) WrongPhase ((each.1).1).0 in
+    let its_ward : ward_at s b.ward ≡ Some its.ward = ap (ward_for s) (sym found.is) ∙ its.is in
+    let taken : is_taken s b ≡ true = ap (λ (o : Option BatchEntry). are_taken (first_for s o) (second_for s o)) (sym found.is) ∙ asked (are_taken part.first part.second) NotTaken others.0 in
+    let doubtful : has_doubtful (first_keying s b) command.paper ≡ true =
+    ap (λ (o : Option BatchEntry). has_doubtful (first_for s o) command.paper) (sym found.is) ∙ asked (has_doubtful part.first command.paper) NotDoubtful (others.1).0
+    in
+    let new = absent part.verdict AlreadyJudged ((others.1).1).0 in
+    let valid : is_verdict (columns_for s b) command.verdict ≡ true =
+    ap (λ (o : Option BatchEntry). is_verdict (columns_of (candidates_for s o)) command.verdict) (sym found.is) ∙ asked (is_verdict (columns_of part.candidates) command.verdict) BadVerdict (((others.1).1).1).0
+    in
+    let digits = line_number last_batch command.batch (omega arith) numbers.0 in
+    let papers = line_number most_papers command.paper (omega arith) numbers.1 in
+    record {
+      state = verdict_stays s command.batch command.paper command.verdict b numbers.0 numbers.1 found.is taken doubtful valid new its.ward its_ward (rw its.phased refl) is;
+      about = office_about actor _ range.0 (judge_about command.batch command.paper numbers.0 numbers.1);
+      text = line_text (line_append (words (codes "judge ") (search rules) refl) (line_append digits (line_append (words (codes " ") (search rules) refl) papers)));
+      line = line_reply (line_append (words (codes "batch ") (search rules) refl) (line_append digits (line_append (words (codes " paper ") (search rules) refl) (line_append papers (told (columns_for s b) command.verdict valid))))) (omega arith);
+    }
