@@ -26,7 +26,7 @@ mod verdicts;
 
 pub use batches::item3;
 pub use keyings::item4;
-pub use nominations::{are_reached, item2};
+pub use nominations::item2;
 pub use ranges::item1;
 pub use rows::Rows;
 pub use verdicts::item5;
