@@ -5,3 +5,4 @@ pub mod FindingLemmas
 pub mod NominationLemmas
 pub mod KeyingLemmas
 pub mod VerdictLemmas
+pub mod PollLemmas
