@@ -6,3 +6,5 @@ pub mod NominationLemmas
 pub mod KeyingLemmas
 pub mod VerdictLemmas
 pub mod PollLemmas
+pub mod CountLemmas
+pub mod FairLemmas

@@ -17,6 +17,7 @@ mod runs;
 mod finding;
 // The conditions, and what they read: subjects of receipts, and numbers in them.
 mod batches;
+mod counts;
 mod keyings;
 mod nominations;
 mod polls;
@@ -26,6 +27,7 @@ mod subjects;
 mod verdicts;
 
 pub use batches::item3;
+pub use counts::item7;
 pub use keyings::item4;
 pub use nominations::item2;
 pub use polls::item6;
