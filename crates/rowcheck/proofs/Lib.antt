@@ -5,3 +5,6 @@ pub mod FindingLemmas
 pub mod NominationLemmas
 pub mod KeyingLemmas
 pub mod VerdictLemmas
+pub mod PollLemmas
+pub mod CountLemmas
+pub mod FairLemmas

@@ -7,12 +7,10 @@ use Rattle.std.specs.Ordering.{nat_cmp, ordering_then}
 use Rattle.std.proofs.lemmas.Bool.{and_parts}
 use Rattle.register.specs.Offices.{WardEntry, CandidateEntry, MapsRise, ward_entry, candidate_entry, candidate_cmp, ward_at, candidates_of}
 use Rattle.register.specs.Nominations.{are_enough}
-use Rattle.register.specs.Items.{item2, are_reached}
+use Rattle.register.specs.Items.{item2}
 use Rattle.rowcheck.specs.declared.rows.Rows.{Rows}
-use Rattle.rowcheck.specs.declared.nominations.Asked.{Asked}
-use Rattle.rowcheck.specs.declared.nominations.Asked.TheVariants.{Enough, Reached}
 use Rattle.rowcheck.specs.States.{state_of}
-use Rattle.rowcheck.specs.Nominations.{meets, meet_by_run}
+use Rattle.rowcheck.specs.Nominations.{are_nominated}
 use Rattle.rowcheck.proofs.RunLemmas.{by_run_map, below_from, equal_from, walk_tells}
 
 -- candidates in the order of their keys are in the order of their wards
@@ -24,19 +22,8 @@ ward_order c d less = go (nat_cmp c.ward d.ward) refl less
     go Equal is told = let e = equal_from c.ward d.ward is in omega (arith, e)
     go Greater is told = absurd (cc)
 
--- the walk tells whether each candidate has its ward, and each ward meets what is asked
-walked : (asked : Asked) (rows : Rows) → MapsRise (state_of rows)
-    → meet_by_run asked rows.wards.items rows.candidates.items
-    ≡ (list_all (λ c. is_some (ward_at (state_of rows) c.ward)) (state_of rows).candidates && list_all (λ w. meets asked w (candidates_of (state_of rows) w.number)) (state_of rows).wards)
-walked asked rows rise =
-    by_run_map ward_entry candidate_entry (λ (w : WardEntry). w.number) (λ (c : CandidateEntry). c.ward) (meets asked) rows.wards.items rows.candidates.items
-    ∙ walk_tells (λ (w : WardEntry). w.number) (λ (c : CandidateEntry). c.ward) candidate_cmp ward_order (meets asked) (map ward_entry rows.wards.items) (map candidate_entry rows.candidates.items) rise.wards rise.candidates
-
-pub walked_enough : (rows : Rows) → MapsRise (state_of rows) → meet_by_run Enough rows.wards.items rows.candidates.items ≡ item2 (state_of rows)
-walked_enough rows rise = walked Enough rows rise
-
-pub walked_reached : (rows : Rows) → MapsRise (state_of rows) → item2 (state_of rows) ≡ true → meet_by_run Reached rows.wards.items rows.candidates.items ≡ are_reached (state_of rows)
-walked_reached rows rise nominated =
-    let s = state_of rows in
-    let placed = (and_parts (list_all (λ c. is_some (ward_at s c.ward)) s.candidates) (list_all (λ w. are_enough w.phase w (candidates_of s w.number)) s.wards) nominated).0 in
-    walked Reached rows rise ∙ rw placed refl
+-- the walk tells whether each candidate has its ward, and each ward has the candidates that its phase asks for
+pub walked : (rows : Rows) → MapsRise (state_of rows) → are_nominated rows.wards.items rows.candidates.items ≡ item2 (state_of rows)
+walked rows rise =
+    by_run_map ward_entry candidate_entry (λ (w : WardEntry). w.number) (λ (c : CandidateEntry). c.ward) (λ w candidates. are_enough w.phase w candidates) rows.wards.items rows.candidates.items
+    ∙ walk_tells (λ (w : WardEntry). w.number) (λ (c : CandidateEntry). c.ward) candidate_cmp ward_order (λ w candidates. are_enough w.phase w candidates) (map ward_entry rows.wards.items) (map candidate_entry rows.candidates.items) rise.wards rise.candidates

@@ -75,7 +75,7 @@ nothing false = refl
 pub less_differs : (m n : ℕ) → m < n → (m == n) ≡ false
 less_differs m n less = elim (eqb_tells m n) [ inl same ↦ absurd (let e = same.1 in omega (arith, e, less)) | inr other ↦ other.0 ]
 
-more_differs : (m n : ℕ) → n < m → (m == n) ≡ false
+pub more_differs : (m n : ℕ) → n < m → (m == n) ≡ false
 more_differs m n more = elim (eqb_tells m n) [ inl same ↦ absurd (let e = same.1 in omega (arith, e, more)) | inr other ↦ other.0 ]
 
 -- a number compared as equal is equal

@@ -13,5 +13,5 @@ abbrev pub are_keyed_for : OfficeState → BatchEntry → Bool
 are_keyed_for s b = list_all (λ k. is_keyed_for s k (Some b)) (papers_of s b.number)
 
 -- and they are those of its rounds
-abbrev pub is_keyed : OfficeState → BatchEntry → Bool
-is_keyed s b = are_keyed_for s b && are_rounds_to s b b.round
+abbrev pub is_rightly_keyed : OfficeState → BatchEntry → Bool
+is_rightly_keyed s b = are_keyed_for s b && are_rounds_to s b b.round

@@ -1,6 +1,6 @@
 -- The maps that rows stand for.
 use Rattle.std.specs.Prelude.{map}
-use Rattle.register.specs.Offices.{OfficeState, ward_entry, candidate_entry, batch_entry, keyed_entry, judged_entry, receipt_entry}
+use Rattle.register.specs.Offices.{OfficeState, ward_entry, candidate_entry, batch_entry, keyed_entry, judged_entry, lot_entry, receipt_entry}
 use Rattle.rowcheck.specs.declared.rows.Rows.{Rows}
 
 -- the maps of the rows, entry by entry: a state only where they meet each condition
@@ -12,5 +12,6 @@ state_of rows =
       batches = map batch_entry rows.batches.items;
       keyings = map keyed_entry rows.keyings.items;
       verdicts = map judged_entry rows.verdicts.items;
+      lots = map lot_entry rows.lots.items;
       receipts = map receipt_entry rows.receipts.items;
     }

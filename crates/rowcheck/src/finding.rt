@@ -2,13 +2,13 @@
 
 ghost use Rattle.std.specs.Prelude.{◌≡◌, ◌==◌, map, find, is_some, option_map, option_copied};
 ghost use Rattle.std.specs.Ordering.{nat_cmp, ordering_then};
-ghost use Rattle.register.specs.Offices.{MapsRise, ward_entry, candidate_entry, batch_entry, keyed_entry, judged_entry, ward_at, candidates_of, batch_at, keying_of, verdicts_of};
+ghost use Rattle.register.specs.Offices.{MapsRise, ward_entry, candidate_entry, batch_entry, keyed_entry, judged_entry, lot_entry, ward_at, candidates_of, batch_at, keying_of, verdicts_of, lots_of};
 ghost use Rattle.rowcheck.specs.States.{state_of};
 ghost use Rattle.rowcheck.specs.Keyings.{papers_of};
 
 use crate::rows::Rows;
 use crate::runs::{Row, run_of};
-use register::{Batch, Candidate, JudgedPaper, KeyedPaper, Ward};
+use register::{Batch, Candidate, DrawnLot, JudgedPaper, KeyedPaper, Ward};
 use std::cmp::Ordering;
 
 /// The key of a keying: what a clerk keyed of a batch in a round.
@@ -89,12 +89,28 @@ impl Row<u32> for JudgedPaper {
     }
 }
 
+impl Row<u32> for DrawnLot {
+    ghost compared = { λ l ward. nat_cmp l.ward ward };
+
+    fn compared(&self, ward: &u32) -> Ordering {
+        self.ward.cmp(ward)
+    }
+}
+
 /// The ward with this number.
 pub(crate) fn ward_at(rows: &Rows, number: u32) -> Option<&Ward>
     requires { MapsRise (state_of rows.now) }
     ensures { option_map ward_entry (option_copied result) ≡ ward_at (state_of rows.now) number }
 {
     run_of(&rows.wards, &number).first()
+}
+
+/// Whether there is a ward with this number.
+pub(crate) fn has_ward(rows: &Rows, number: u32) -> bool
+    requires { MapsRise (state_of rows.now) }
+    ensures { result ≡ is_some (ward_at (state_of rows.now) number) }
+{
+    ward_at(rows, number).is_some()
 }
 
 /// The candidates of a ward, in the order of their numbers.
@@ -154,4 +170,12 @@ pub(crate) fn verdicts_of(rows: &Rows, batch: u32) -> &[JudgedPaper]
     ensures { map judged_entry result.now ≡ verdicts_of (state_of rows.now) batch }
 {
     run_of(&rows.verdicts, &batch)
+}
+
+/// The lots of a ward, in the order of the stages.
+pub(crate) fn lots_of(rows: &Rows, ward: u32) -> &[DrawnLot]
+    requires { MapsRise (state_of rows.now) }
+    ensures { map lot_entry result.now ≡ lots_of (state_of rows.now) ward }
+{
+    run_of(&rows.lots, &ward)
 }

@@ -11,7 +11,7 @@ ghost use Rattle.register.specs.Papers.{is_its_clerk};
 ghost use Rattle.register.specs.Keyed.{is_whole, are_numbered, is_round_of, are_rounds_to};
 ghost use Rattle.register.specs.Items.{item4};
 ghost use Rattle.rowcheck.specs.States.{state_of};
-ghost use Rattle.rowcheck.specs.Keyings.{are_keyed_for, is_keyed};
+ghost use Rattle.rowcheck.specs.Keyings.{are_keyed_for, is_rightly_keyed};
 
 use crate::finding::{candidates_of, has_batch, keying_of, papers_of};
 use crate::rows::Rows;
@@ -128,19 +128,19 @@ fn are_rounds(rows: &Rows, batch: &Batch) -> bool
 }
 
 /// Whether the keyed papers of a batch are as the batch asks, and those of its rounds.
-fn is_keyed(rows: &Rows, batch: &Batch) -> bool
+fn is_rightly_keyed(rows: &Rows, batch: &Batch) -> bool
     requires { MapsRise (state_of rows.now) }
-    ensures { result ≡ is_keyed (state_of rows.now) (batch_entry batch.now) }
+    ensures { result ≡ is_rightly_keyed (state_of rows.now) (batch_entry batch.now) }
 {
     let papers = are_keyed_for(rows, batch);
     papers & are_rounds(rows, batch)
 }
 
-fn are_keyed(rows: &Rows, batches: &[Batch]) -> bool
+fn are_rightly_keyed(rows: &Rows, batches: &[Batch]) -> bool
     requires { MapsRise (state_of rows.now) }
-    ensures { result ≡ list_all (λ b. is_keyed (state_of rows.now) (batch_entry b)) batches.now }
+    ensures { result ≡ list_all (λ b. is_rightly_keyed (state_of rows.now) (batch_entry b)) batches.now }
 {
-    batches.iter().all(|batch| is_keyed(rows, batch))
+    batches.iter().all(|batch| is_rightly_keyed(rows, batch))
 }
 
 /// Whether papers are keyed of batches that are there, in rounds and by clerks of theirs, with marks that
@@ -151,5 +151,5 @@ pub fn item4(rows: &Rows) -> bool
     ensures { result ≡ item4 (state_of rows.now) }
 {
     let owned = are_of_batches(rows, &rows.keyings);
-    owned & are_keyed(rows, &rows.batches)
+    owned & are_rightly_keyed(rows, &rows.batches)
 }

@@ -17,16 +17,20 @@ mod runs;
 mod finding;
 // The conditions, and what they read: subjects of receipts, and numbers in them.
 mod batches;
+mod counts;
 mod keyings;
 mod nominations;
+mod polls;
 mod plain;
 mod ranges;
 mod subjects;
 mod verdicts;
 
 pub use batches::item3;
+pub use counts::item7;
 pub use keyings::item4;
-pub use nominations::{are_reached, item2};
+pub use nominations::item2;
+pub use polls::item6;
 pub use ranges::item1;
 pub use rows::Rows;
 pub use verdicts::item5;

@@ -2,17 +2,17 @@
 
 ghost use Rattle.std.specs.Prelude.{◌≡◌};
 ghost use Rattle.std.specs.List.{list_all};
-ghost use Rattle.register.specs.Offices.{ward_entry, candidate_entry, batch_entry, keyed_entry, judged_entry, receipt_entry};
-ghost use Rattle.register.specs.Items.{is_ward, is_candidate, is_batch, is_keyed_paper, is_judged_paper, is_receipt, item1};
+ghost use Rattle.register.specs.Offices.{ward_entry, candidate_entry, batch_entry, keyed_entry, judged_entry, lot_entry, receipt_entry};
+ghost use Rattle.register.specs.Items.{is_ward, is_candidate, is_batch, is_keyed_paper, is_judged_paper, is_lot, is_receipt, item1};
 ghost use Rattle.rowcheck.specs.States.{state_of};
 
 use crate::rows::Rows;
 use crate::subjects::{is_clerk_subject, is_office_subject};
 use register::ranges::{
-    is_batch_number, is_candidate_number, is_clerk, is_id, is_name, is_paper_number, is_reply,
-    is_round, is_seat_number, is_ward_number,
+    is_batch_number, is_candidate_number, is_clerk, is_id, is_lot_stage, is_name, is_paper_number,
+    is_reply, is_round, is_seat_number, is_ward_number,
 };
-use register::{Batch, Candidate, JudgedPaper, KeyedPaper, Receipt, Ward};
+use register::{Batch, Candidate, DrawnLot, JudgedPaper, KeyedPaper, Receipt, Ward};
 
 /// The highest code of a verdict.
 const LAST_CODE: u32 = 5;
@@ -64,6 +64,14 @@ fn is_judged_paper(judged: &JudgedPaper) -> bool
     batch & (paper & (judged.code <= LAST_CODE))
 }
 
+fn is_lot(lot: &DrawnLot) -> bool
+    ensures { result ≡ is_lot (lot_entry lot.now) }
+{
+    let ward = is_ward_number(lot.ward);
+    let stage = is_lot_stage(lot.stage);
+    ward & (stage & is_candidate_number(lot.candidate))
+}
+
 fn is_receipt(receipt: &Receipt) -> bool
     ensures { result ≡ is_receipt (receipt_entry receipt.now) }
 {
@@ -106,6 +114,12 @@ fn are_judged_papers(verdicts: &[JudgedPaper]) -> bool
     verdicts.iter().all(|judged| is_judged_paper(judged))
 }
 
+fn are_lots(lots: &[DrawnLot]) -> bool
+    ensures { result ≡ list_all (λ l. is_lot (lot_entry l)) lots.now }
+{
+    lots.iter().all(|lot| is_lot(lot))
+}
+
 fn are_receipts(receipts: &[Receipt]) -> bool
     ensures { result ≡ list_all (λ r. is_receipt (receipt_entry r)) receipts.now }
 {
@@ -122,6 +136,7 @@ pub fn item1(rows: &Rows) -> bool
     let batches = are_batches(&rows.batches);
     let keyings = are_keyed_papers(&rows.keyings);
     let verdicts = are_judged_papers(&rows.verdicts);
+    let lots = are_lots(&rows.lots);
     let receipts = are_receipts(&rows.receipts);
-    wards & (candidates & (batches & (keyings & (verdicts & receipts))))
+    wards & (candidates & (batches & (keyings & (verdicts & (lots & receipts)))))
 }

@@ -1,6 +1,6 @@
 //! Rows, as the values that they hold.
 
-use register::{Batch, Candidate, JudgedPaper, KeyedPaper, Receipt, Ward};
+use register::{Batch, Candidate, DrawnLot, JudgedPaper, KeyedPaper, Receipt, Ward};
 
 /// The rows of an office, each table's in the order of its keys. Their numbers and texts are in range
 /// only where `item1` says so.
@@ -11,5 +11,6 @@ pub struct Rows {
     pub batches: Vec<Batch>,
     pub keyings: Vec<KeyedPaper>,
     pub verdicts: Vec<JudgedPaper>,
+    pub lots: Vec<DrawnLot>,
     pub receipts: Vec<Receipt>,
 }

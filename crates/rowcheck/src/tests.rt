@@ -6,7 +6,7 @@ ghost use Rattle.rowcheck.specs.States.{state_of};
 
 use crate::batches::item3;
 use crate::keyings::item4;
-use crate::nominations::{are_reached, item2};
+use crate::nominations::item2;
 use crate::ranges::item1;
 use crate::rows::Rows;
 use crate::verdicts::item5;
@@ -31,6 +31,7 @@ fn only_ward(alloc: Global, numbers: [u32; 3], phase: Phase, name: &str) -> Resu
         batches: Vec::new(alloc),
         keyings: Vec::new(alloc),
         verdicts: Vec::new(alloc),
+        lots: Vec::new(alloc),
         receipts: Vec::new(alloc),
     })
 }
@@ -59,6 +60,7 @@ fn only_receipt(alloc: Global, actor: u32, subject: &str) -> Result<Rows, AllocE
         batches: Vec::new(alloc),
         keyings: Vec::new(alloc),
         verdicts: Vec::new(alloc),
+        lots: Vec::new(alloc),
         receipts: vec![in alloc; receipt]?,
     })
 }
@@ -92,6 +94,7 @@ fn nominated(alloc: Global, phase: Phase, done: u32, ward: u32) -> Result<Rows, 
         batches: rows.batches,
         keyings: rows.keyings,
         verdicts: rows.verdicts,
+        lots: rows.lots,
         receipts: rows.receipts,
     })
 }
@@ -100,21 +103,15 @@ fn nominated(alloc: Global, phase: Phase, done: u32, ward: u32) -> Result<Rows, 
 fn candidates_of_wards(rt: HostRuntime) -> Result<(), Fail> {
     let alloc = rt.alloc();
     let cases = [
-        (Phase::Nominations, 0, 7, true, true),
-        (Phase::Nominations, 1, 7, true, false),
-        (Phase::Keying, 0, 7, true, true),
-        (Phase::Sealed, 0, 7, true, false),
-        (Phase::Declared, 0, 7, true, false),
-        (Phase::Nominations, 0, 8, false, false),
-        (Phase::Keying, 0, 6, false, false),
+        (Phase::Nominations, 7, true),
+        (Phase::Keying, 7, true),
+        (Phase::Sealed, 7, true),
+        (Phase::Declared, 7, true),
+        (Phase::Nominations, 8, false),
+        (Phase::Keying, 6, false),
     ];
-    for (phase, done, ward, enough, reached) in cases {
-        let rows = nominated(alloc, phase, done, ward)?;
-        let found = item2(&rows);
-        assert_eq!(rt; found, enough);
-        if found {
-            assert_eq!(rt; are_reached(&rows), reached);
-        }
+    for (phase, ward, enough) in cases {
+        assert_eq!(rt; item2(&nominated(alloc, phase, 0, ward)?), enough);
     }
     Ok(())
 }
@@ -167,6 +164,7 @@ fn papers_keyed(
         batches: vec![in alloc; batch]?,
         keyings: vec![in alloc; first_one, first_two, second_one, second_two]?,
         verdicts: rows.verdicts,
+        lots: rows.lots,
         receipts: rows.receipts,
     })
 }
@@ -194,6 +192,7 @@ fn paper_judged(
         batches: rows.batches,
         keyings: rows.keyings,
         verdicts: vec![in alloc; verdict]?,
+        lots: rows.lots,
         receipts: rows.receipts,
     })
 }
@@ -209,6 +208,7 @@ fn given_out(alloc: Global, phase: Phase, batch: Batch) -> Result<Rows, AllocErr
         batches: vec![in alloc; batch]?,
         keyings: rows.keyings,
         verdicts: rows.verdicts,
+        lots: rows.lots,
         receipts: rows.receipts,
     })
 }

@@ -10,5 +10,6 @@ returns c =
       batches = rw c.in_ok-vec.ensures.items (tt, tt);
       keyings = c.in_ok-rows.ensures.keyings;
       verdicts = c.in_ok-rows.ensures.verdicts;
+      lots = c.in_ok-rows.ensures.lots;
       receipts = c.in_ok-rows.ensures.receipts;
     }

@@ -15,5 +15,6 @@ returns c =
       batches = c.in_ok-rows.ensures.batches;
       keyings = c.in_ok-rows.ensures.keyings;
       verdicts = c.in_ok-rows.ensures.verdicts;
+      lots = c.in_ok-rows.ensures.lots;
       receipts = c.in_ok-rows.ensures.receipts;
     }

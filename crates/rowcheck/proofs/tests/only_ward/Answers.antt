@@ -10,5 +10,6 @@ returns c =
       batches = rw c.new-2.ensures.items tt;
       keyings = rw c.new-3.ensures.items tt;
       verdicts = rw c.new-4.ensures.items tt;
-      receipts = rw c.new-5.ensures.items tt;
+      lots = rw c.new-5.ensures.items tt;
+      receipts = rw c.new-6.ensures.items tt;
     }

@@ -10,5 +10,6 @@ returns c =
       batches = c.in_ok-rows.ensures.batches;
       keyings = c.in_ok-rows.ensures.keyings;
       verdicts = rw c.in_ok-vec.ensures.items (tt, tt);
+      lots = c.in_ok-rows.ensures.lots;
       receipts = c.in_ok-rows.ensures.receipts;
     }

@@ -1,0 +1,91 @@
+-- What the stages of a count, counted again, tell of those that are said to be done.
+use Rattle.std.proofs.Common.{◌≡◌, ℕ, ◌+◌, ◌-◌, ◌<◌, ◌≤◌, ◌==◌, Bool, true, false, not, ◌&&◌, ◌||◌, nat_le, List, [], ◌∷◌, map, length, get_or, slice_get, Option, Some, None, zero, suc, refl, sym, ap, ◌∙◌, arith, inl, inr}
+use Rattle.std.specs.List.{list_all, range_with_len}
+use Rattle.std.proofs.lemmas.Bool.Decides.{eqb_tells, leb_tells}
+use Rattle.std.proofs.lemmas.List.{length-map}
+use Rattle.std.proofs.lemmas.List.FromFn.{get_or-map-range_with_len, length-range_with_len}
+use Rattle.std.proofs.lemmas.Option.{slice_get-get_or, slice_get_past}
+use Rattle.paper.proofs.ColumnSets.{length_columns}
+use Rattle.count.specs.Law.Contest.{Contest, History, IsContest}
+use Rattle.count.specs.Law.Due.{due_after, next_action}
+use Rattle.count.specs.Law.Count.{stages_to, with_stage}
+use Rattle.count.specs.Law.Laws.{IsShort}
+use Rattle.count.specs.declared.stages.Action.{Action}
+use Rattle.count.specs.declared.stages.Due.{Due}
+use Rattle.count.specs.declared.stages.Due.TheVariants.{Finished}
+use Rattle.register.specs.Elections.{ElectionEntry, contest_of, is_tied, is_finished, is_declared, is_drawn_for, is_right_so_far}
+use Rattle.rowcheck.specs.Counts.{is_tied_at, is_drawn_by, is_finished_at}
+use Rattle.rowcheck.proofs.RunLemmas.{less_differs}
+
+-- ---- how many stages there are
+
+module _ (contest : Contest) (lots : List (ℕ × ℕ)) where
+  one_more : (before : History) (o : Option Action) → length (with_stage contest before o) ≤ length before + 1
+  one_more before None = omega arith
+  one_more before (Some action) = omega arith
+
+  -- where a count has fewer stages than are asked for, it has fewer than any more
+  pub fewer : (k n : ℕ) → length (stages_to contest lots k) < k → length (stages_to contest lots (k + n)) < k + n
+  unfolding stages_to
+  fewer k zero less = let e : k + 0 ≡ k = omega arith in rw e less
+  fewer k (suc n) less =
+      let e : k + suc n ≡ suc (k + n) = omega arith in
+      let before = fewer k n less in
+      let more = one_more (stages_to contest lots (k + n)) (next_action contest lots (stages_to contest lots (k + n))) in
+      rw e (omega (arith, before, more))
+
+-- ---- what is due before each stage
+
+module _ (f : ℕ → Due) (n i : ℕ) where
+  due_within : i < n → slice_get (map f (range_with_len 0 n)) i ≡ Some (f i)
+  due_within within =
+      slice_get-get_or (map f (range_with_len 0 n)) i Finished (omega (arith, within, length-map (range_with_len 0 n) f, length-range_with_len 0 n))
+      ∙ ap Some (get_or-map-range_with_len f 0 n i i Finished within (omega arith))
+
+  due_past : n ≤ i → slice_get (map f (range_with_len 0 n)) i ≡ None
+  due_past past = slice_get_past (map f (range_with_len 0 n)) i (omega (arith, past, length-map (range_with_len 0 n) f, length-range_with_len 0 n))
+
+all_same : {X : Type 0} (p q : X → Bool) (xs : List X) → ((x : X) → p x ≡ q x) → list_all p xs ≡ list_all q xs
+all_same p q [] same = refl
+all_same p q (x ∷ xs) same = rw (same x, all_same p q xs same) refl
+
+module _ (e : ElectionEntry) where
+  abbrev due_at : ℕ → Due
+  due_at k = due_after (contest_of e) (stages_to (contest_of e) e.lots k)
+
+  -- what is due before each stage, up to the one after those done
+  abbrev dues_of : List Due
+  dues_of = map due_at (range_with_len 0 (e.ward.done + 1))
+
+  drawn_one : (lot : ℕ × ℕ) → is_drawn_by dues_of lot ≡ is_drawn_for e lot
+  drawn_one lot = elim (leb_tells lot.0 (e.ward.done + 1)) [
+    | inl least ↦ let l = least.1 in rw (least.0, due_within due_at (e.ward.done + 1) (lot.0 - 1) (omega (arith, l))) refl
+    | inr past ↦ let p = past.1 in rw (past.0, due_past due_at (e.ward.done + 1) (lot.0 - 1) (omega (arith, p))) refl
+  ]
+
+  -- where all stages done are counted
+  told : (is_finished_at (slice_get dues_of e.ward.done) ≡ is_finished (due_at e.ward.done)) × (list_all (is_drawn_by dues_of) e.lots ≡ list_all (is_drawn_for e) e.lots)
+  told = (ap is_finished_at (due_within due_at (e.ward.done + 1) e.ward.done (omega arith)), all_same (is_drawn_by dues_of) (is_drawn_for e) e.lots drawn_one)
+
+  module _ (asked : ℕ) (stages : History) (dues : List Due) (fair : IsContest (contest_of e)) (is : stages ≡ stages_to (contest_of e) e.lots asked) where
+    -- what they tell of the stages done and the lots
+    abbrev pub is_told : Bool
+    is_told = (length stages == e.ward.done) && (list_all (is_drawn_by dues) e.lots && (not (is_declared e.ward.phase) || is_finished_at (slice_get dues e.ward.done)))
+
+    told_few : asked ≡ e.ward.done → dues ≡ map due_at (range_with_len 0 (asked + 1)) → is_told ≡ is_right_so_far e
+    told_few all each = rw (each, is, all, told.0, told.1) refl
+
+    told_many : 31 < e.ward.done → asked ≡ 32 → IsShort (contest_of e) stages → is_told ≡ is_right_so_far e
+    told_many many most short =
+        let columns = length_columns (contest_of e).candidates fair.candidate_set in
+        let long : length (stages_to (contest_of e) e.lots 32) ≡ length stages = rw (is, most) refl in
+        let less : length (stages_to (contest_of e) e.lots 32) < 32 = omega (arith, columns, long, short) in
+        let whole : 32 + (e.ward.done - 32) ≡ e.ward.done = omega (arith, many) in
+        let later : length (stages_to (contest_of e) e.lots e.ward.done) < e.ward.done = rw (sym whole) (fewer (contest_of e) e.lots 32 (e.ward.done - 32) less) in
+        rw (less_differs (length stages) e.ward.done (omega (arith, columns, short, many)), less_differs _ e.ward.done later) refl
+
+    pub told_right : (e.ward.done ≤ 31 → asked ≡ e.ward.done) → (31 < e.ward.done → asked ≡ 32) → IsShort (contest_of e) stages → dues ≡ map due_at (range_with_len 0 (asked + 1)) → is_told ≡ is_right_so_far e
+    told_right few many short each = elim (leb_tells e.ward.done 31) [
+      | inl least ↦ told_few (few least.1) each
+      | inr past ↦ told_many past.1 (many past.1) short
+    ]

@@ -1,0 +1,16 @@
+-- What the loop of `are_counted_right` keeps.
+use Rattle.std.proofs.Common.{◌≡◌, drop}
+use Rattle.std.specs.List.{list_all, AllByRecursion}
+use Rattle.register.specs.declared.wards.Ward.{Ward}
+use Rattle.register.specs.Offices.{ward_entry}
+use Rattle.register.specs.Elections.{election_of, is_counted_right}
+use Rattle.rowcheck.specs.States.{state_of}
+use Rattle.rowcheck.specs.Counts.{IsFair}
+use Rattle.rowcheck.proofs.counts.are_counted_right.Given as goal
+
+abbrev pub invariant-loop-ward : goal.invariant-loop-ward
+invariant-loop-ward l =
+    record {
+      left : list_all (λ (w : Ward). is_counted_right (election_of (state_of l.rows) (ward_entry w))) l.wards ≡ list_all (λ (w : Ward). is_counted_right (election_of (state_of l.rows) (ward_entry w))) (drop l.ward-index l.wards);
+      fair : AllByRecursion (λ (w : Ward). IsFair (state_of l.rows) (ward_entry w)) (drop l.ward-index l.wards);
+    }

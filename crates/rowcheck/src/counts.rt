@@ -1,0 +1,182 @@
+//! The counts of wards: the stages that are done, and the lots that are drawn.
+//!
+//! The stages of a count and what is due before each follow from its papers and lots, so they are counted
+//! again, and what the rows say of them is compared.
+
+ghost use Rattle.std.specs.Prelude.{◌≡◌, ◌≤◌, ◌<◌, ◌+◌, true, map, slice_get, option_copied, is_some, IfOk};
+ghost use Rattle.std.specs.List.{list_all, AllByRecursion};
+ghost use Rattle.count.specs.Law.Contest.{IsContest};
+ghost use Rattle.register.specs.Offices.{MapsRise, ward_entry, lot_entry, ward_at};
+ghost use Rattle.register.specs.Elections.{election_of, contest_of, is_tied, is_finished, is_declared, is_right_so_far, is_uncounted, is_counted_right};
+ghost use Rattle.register.specs.Items.{is_lot, item1, item4, item7};
+ghost use Rattle.rowcheck.specs.States.{state_of};
+ghost use Rattle.rowcheck.specs.Counts.{election_with, IsFair, is_tied_at, is_drawn_by, is_finished_at};
+
+use crate::finding::{candidates_of, has_ward, lots_of};
+use crate::polls::{ballots_of, is_in_count};
+use crate::rows::Rows;
+use count::{CountBook, Due, dues_to};
+use register::elections::{book_of, elections_are_fair, lot_pairs};
+use register::marks::columns_of;
+use register::ranges::LAST_LOT_STAGE;
+use register::{Ballots, Candidate, DrawnLot, Phase, Ward};
+use std::alloc::{AllocError, Global};
+
+/// How many stages are counted where more are said to be done than a count can have.
+const TOO_MANY: u32 = LAST_LOT_STAGE + 1;
+
+/// How many stages to count where so many are said to be done: them, or as many as no count has.
+fn stages_asked(done: u32) -> u32
+    ensures few { done ≤ 31 → result ≡ done }
+    ensures many { 31 < done → result ≡ 32 }
+{
+    if done < TOO_MANY {
+        return done;
+    }
+    TOO_MANY
+}
+
+/// Whether a lot is due, if anything is, and a candidate is one of the tied.
+fn is_tied_at(due: Option<&Due>, candidate: u8) -> bool
+    ensures { result ≡ is_tied_at (option_copied due.entry) candidate }
+{
+    match due {
+        Some(Due::Lot { among, .. }) => among.as_slice().contains(&candidate),
+        Some(Due::Act(_)) | Some(Due::Finished) | None => false,
+    }
+}
+
+/// Whether a lot is for a stage before which one is due, and names one of the tied.
+fn is_drawn_by(dues: &[Due], lot: (u8, u8)) -> bool
+    ensures { result ≡ is_drawn_by dues.now lot }
+{
+    let (stage, candidate) = lot;
+    let place = (stage as usize).saturating_sub(1);
+    is_tied_at(dues.get(place), candidate)
+}
+
+fn are_drawn_by(dues: &[Due], lots: &[(u8, u8)]) -> bool
+    ensures { result ≡ list_all (is_drawn_by dues.now) lots.now }
+{
+    lots.iter().all(|lot| is_drawn_by(dues, *lot))
+}
+
+/// Whether nothing is due any more after so many stages.
+fn is_finished_at(dues: &[Due], done: u32) -> bool
+    ensures { result ≡ is_finished_at (slice_get dues.now done) }
+{
+    match dues.get(done as usize) {
+        Some(Due::Finished) => true,
+        Some(Due::Act(_)) | Some(Due::Lot { .. }) | None => false,
+    }
+}
+
+/// Whether a ward is declared.
+fn is_declared(phase: Phase) -> bool
+    ensures { result ≡ is_declared phase }
+{
+    phase.number() == Phase::Declared.number()
+}
+
+/// Whether the count of a ward has the stages done, each lot was needed, and in a declared ward nothing
+/// is due any more. An error is want of memory.
+fn is_right_by(
+    alloc: Global,
+    ward: &Ward,
+    candidates: &[Candidate],
+    ballots: &Ballots,
+    lots: &[(u8, u8)],
+) -> Result<bool, AllocError>
+    requires { IsContest (contest_of (election_with ward.now candidates.now ballots.now lots.now)) }
+    ensures { IfOk result (λ yes. yes ≡ is_right_so_far (election_with ward.now candidates.now ballots.now lots.now)) }
+{
+    let columns = columns_of(candidates);
+    let Some(mut book) = book_of(alloc, columns, ward.seats, &ballots.papers)? else {
+        return Ok(false);
+    };
+    let asked = stages_asked(ward.done);
+    let dues = dues_to(alloc, &mut book, lots, asked as usize)?;
+    let counted = book.stages().len() == ward.done as usize;
+    let drawn = are_drawn_by(&dues, lots);
+    let finished = is_finished_at(&dues, ward.done);
+    Ok(counted & (drawn & (!is_declared(ward.phase) | finished)))
+}
+
+/// The same of the papers and lots of a ward that is in count. An error is want of memory.
+fn is_right_so_far(alloc: Global, rows: &Rows, ward: &Ward) -> Result<bool, AllocError>
+    requires rise { MapsRise (state_of rows.now) }
+    requires in_range { list_all is_lot (state_of rows.now).lots ≡ true }
+    requires fair { IsContest (contest_of (election_of (state_of rows.now) (ward_entry ward.now))) }
+    ensures { IfOk result (λ yes. yes ≡ is_right_so_far (election_of (state_of rows.now) (ward_entry ward.now))) }
+{
+    let candidates = candidates_of(rows, ward.number);
+    let ballots = ballots_of(alloc, rows, columns_of(candidates), ward.number)?;
+    match lot_pairs(alloc, lots_of(rows, ward.number))? {
+        Some(lots) => is_right_by(alloc, ward, candidates, &ballots, &lots),
+        None => Ok(false),
+    }
+}
+
+/// Whether no stage of a ward is done, and no lot is recorded.
+fn is_uncounted(rows: &Rows, ward: &Ward) -> bool
+    requires { MapsRise (state_of rows.now) }
+    ensures { result ≡ is_uncounted (election_of (state_of rows.now) (ward_entry ward.now)) }
+{
+    let undrawn = lots_of(rows, ward.number).is_empty();
+    (ward.done == 0) & undrawn
+}
+
+/// Whether what is done of a ward's count is right, and nothing is done where there is no count. An error
+/// is want of memory.
+fn is_counted_right(alloc: Global, rows: &Rows, ward: &Ward) -> Result<bool, AllocError>
+    requires rise { MapsRise (state_of rows.now) }
+    requires in_range { list_all is_lot (state_of rows.now).lots ≡ true }
+    requires fair { IsFair (state_of rows.now) (ward_entry ward.now) }
+    ensures { IfOk result (λ yes. yes ≡ is_counted_right (election_of (state_of rows.now) (ward_entry ward.now))) }
+{
+    if is_in_count(rows, ward) {
+        return is_right_so_far(alloc, rows, ward);
+    }
+    Ok(is_uncounted(rows, ward))
+}
+
+/// The same of each of some wards. An error is want of memory.
+fn are_counted_right(alloc: Global, rows: &Rows, wards: &[Ward]) -> Result<bool, AllocError>
+    requires rise { MapsRise (state_of rows.now) }
+    requires in_range { list_all is_lot (state_of rows.now).lots ≡ true }
+    requires fair { AllByRecursion (λ w. IsFair (state_of rows.now) (ward_entry w)) wards.now }
+    ensures { IfOk result (λ yes. yes ≡ list_all (λ w. is_counted_right (election_of (state_of rows.now) (ward_entry w))) wards.now) }
+{
+    for ward in wards {
+        if !is_counted_right(alloc, rows, ward)? {
+            return Ok(false);
+        }
+    }
+    Ok(true)
+}
+
+fn are_of_wards(rows: &Rows, lots: &[DrawnLot]) -> bool
+    requires { MapsRise (state_of rows.now) }
+    ensures { result ≡ list_all (λ l. is_some (ward_at (state_of rows.now) l.ward)) lots.now }
+{
+    lots.iter().all(|lot| has_ward(rows, lot.ward))
+}
+
+/// Whether lots belong to wards that are there; and in each contested ward that has been sealed the count
+/// of its papers by its lots has the stages that are done, each lot was or is needed, for a stage up to the
+/// next one and one of those who were tied, and the count is finished if the ward is declared; and in each
+/// other ward no stage is done and no lot is there. The seventh condition on the rows of an office, whose
+/// tables stand in the order of their keys, no key twice, and meet the first and the fourth. An error is
+/// want of memory.
+pub fn item7(alloc: Global, rows: &Rows) -> Result<bool, AllocError>
+    requires rise { MapsRise (state_of rows.now) }
+    requires in_range { item1 (state_of rows.now) ≡ true }
+    requires keyed { item4 (state_of rows.now) ≡ true }
+    ensures { IfOk result (λ yes. yes ≡ item7 (state_of rows.now)) }
+{
+    if !are_of_wards(rows, &rows.lots) {
+        return Ok(false);
+    }
+    elections_are_fair();
+    are_counted_right(alloc, rows, &rows.wards)
+}

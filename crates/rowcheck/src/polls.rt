@@ -1,0 +1,144 @@
+//! Wards whose count has begun, and their ballot papers.
+
+ghost use Rattle.std.specs.Prelude.{◌≡◌, ◌++◌, ◌∷◌, [], map, IfOk};
+ghost use Rattle.std.specs.List.{list_all};
+ghost use Rattle.register.specs.Offices.{MapsRise, ward_entry, batch_entry};
+ghost use Rattle.register.specs.Polls.{pile_of, piles_of, is_settled, ballots_in, ballots_entry};
+ghost use Rattle.register.specs.Elections.{election_of, is_counted, is_in_count, is_agreed};
+ghost use Rattle.register.specs.Items.{item6};
+ghost use Rattle.rowcheck.specs.States.{state_of};
+ghost use Rattle.rowcheck.specs.Polls.{is_settled_for, piles_in};
+
+use crate::finding::{candidates_of, keying_of, verdicts_of};
+use crate::rows::Rows;
+use paper::Columns;
+use register::papers::{are_taken, count_open};
+use register::wards::is_contested;
+use register::{Ballots, Batch, Phase, Ward};
+use std::alloc::{AllocError, Global};
+
+/// Whether a phase is that of a ward that has been sealed.
+fn is_counted(phase: Phase) -> bool
+    ensures { result ≡ is_counted phase }
+{
+    match phase {
+        Phase::Nominations | Phase::Keying => false,
+        Phase::Sealed | Phase::Declared => true,
+    }
+}
+
+/// Whether a ward has been sealed, and its election is contested.
+pub(crate) fn is_in_count(rows: &Rows, ward: &Ward) -> bool
+    requires { MapsRise (state_of rows.now) }
+    ensures { result ≡ is_in_count (election_of (state_of rows.now) (ward_entry ward.now)) }
+{
+    let contested = is_contested(ward, candidates_of(rows, ward.number));
+    is_counted(ward.phase) & contested
+}
+
+/// Whether a batch is taken, and each doubtful paper of it has a verdict.
+fn is_settled(rows: &Rows, batch: &Batch) -> bool
+    requires { MapsRise (state_of rows.now) }
+    ensures { result ≡ is_settled (pile_of (state_of rows.now) (batch_entry batch.now)) }
+{
+    let first = keying_of(rows, batch.number, batch.round, batch.first_clerk);
+    let second = keying_of(rows, batch.number, batch.round, batch.second_clerk);
+    let verdicts = verdicts_of(rows, batch.number);
+    let judged = count_open(first, verdicts) == 0;
+    are_taken(first, second) & judged
+}
+
+/// Whether a batch, if it is of this ward, is settled.
+fn is_settled_for(rows: &Rows, ward: u32, batch: &Batch) -> bool
+    requires { MapsRise (state_of rows.now) }
+    ensures { result ≡ is_settled_for (state_of rows.now) ward (batch_entry batch.now) }
+{
+    if batch.ward != ward {
+        return true;
+    }
+    is_settled(rows, batch)
+}
+
+fn are_settled(rows: &Rows, ward: u32, batches: &[Batch]) -> bool
+    requires { MapsRise (state_of rows.now) }
+    ensures { result ≡ list_all (λ b. is_settled_for (state_of rows.now) ward (batch_entry b)) batches.now }
+{
+    batches.iter().all(|batch| is_settled_for(rows, ward, batch))
+}
+
+/// Whether each batch of a ward is settled, if its count has begun.
+fn is_agreed(rows: &Rows, ward: &Ward) -> bool
+    requires { MapsRise (state_of rows.now) }
+    ensures { result ≡ is_agreed (election_of (state_of rows.now) (ward_entry ward.now)) }
+{
+    if !is_in_count(rows, ward) {
+        return true;
+    }
+    are_settled(rows, ward.number, &rows.batches)
+}
+
+fn are_agreed(rows: &Rows, wards: &[Ward]) -> bool
+    requires { MapsRise (state_of rows.now) }
+    ensures { result ≡ list_all (λ w. is_agreed (election_of (state_of rows.now) (ward_entry w))) wards.now }
+{
+    wards.iter().all(|ward| is_agreed(rows, ward))
+}
+
+/// Whether in each contested ward that has been sealed all batches are taken, and all their doubtful
+/// papers have verdicts. The sixth condition on the rows of an office, whose tables stand in the order of
+/// their keys, no key twice.
+pub fn item6(rows: &Rows) -> bool
+    requires { MapsRise (state_of rows.now) }
+    ensures { result ≡ item6 (state_of rows.now) }
+{
+    are_agreed(rows, &rows.wards)
+}
+
+/// Adds the papers of a batch to those of its ward. An error is want of memory.
+fn add_batch(
+    rows: &Rows,
+    ballots: &mut Ballots,
+    columns: Columns,
+    batch: &Batch,
+) -> Result<(), AllocError>
+    requires { MapsRise (state_of rows.now) }
+    ensures { IfOk result (λ _. (piles : _) → ballots_entry ballots.old ≡ ballots_in columns piles → ballots_entry ballots.new ≡ ballots_in columns (piles ++ (pile_of (state_of rows.now) (batch_entry batch.now) ∷ []))) }
+{
+    let first = keying_of(rows, batch.number, batch.round, batch.first_clerk);
+    let second = keying_of(rows, batch.number, batch.round, batch.second_clerk);
+    let verdicts = verdicts_of(rows, batch.number);
+    ballots.add(columns, first, second, verdicts)
+}
+
+/// The papers of those of some batches that are of this ward. An error is want of memory.
+fn ballots_among(
+    alloc: Global,
+    rows: &Rows,
+    columns: Columns,
+    ward: u32,
+    batches: &[Batch],
+) -> Result<Ballots, AllocError>
+    requires { MapsRise (state_of rows.now) }
+    ensures { IfOk result (λ ballots. ballots_entry ballots ≡ ballots_in columns (piles_in (state_of rows.now) ward (map batch_entry batches.now))) }
+{
+    let mut ballots = Ballots::new(alloc);
+    for batch in batches {
+        if batch.ward == ward {
+            add_batch(rows, &mut ballots, columns, batch)?;
+        }
+    }
+    Ok(ballots)
+}
+
+/// The papers of a ward, by these columns. An error is want of memory.
+pub(crate) fn ballots_of(
+    alloc: Global,
+    rows: &Rows,
+    columns: Columns,
+    ward: u32,
+) -> Result<Ballots, AllocError>
+    requires { MapsRise (state_of rows.now) }
+    ensures { IfOk result (λ ballots. ballots_entry ballots ≡ ballots_in columns (piles_of (state_of rows.now) ward)) }
+{
+    ballots_among(alloc, rows, columns, ward, &rows.batches)
+}
