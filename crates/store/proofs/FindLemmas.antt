@@ -6,14 +6,14 @@ use Rattle.std.specs.Cmp.Lexicographic.{slice_cmp}
 use Rattle.std.proofs.lemmas.Cmp.{nat_cmp_total, nat_list_cmp_total}
 use Rattle.sqlite.specs.Order.{Row}
 use Rattle.sqlite.specs.declared.types.Value.TheVariants.{Int, Text}
-use Rattle.register.specs.Offices.{OfficeState, ward_at, candidate_compared, candidate_at, candidates_of, batch_compared, batch_at, keying_of, judged_compared, verdict_at, verdicts_of, receipt_at}
+use Rattle.register.specs.Offices.{OfficeState, ward_at, candidate_compared, candidate_at, candidates_of, batch_compared, batch_at, keying_of, judged_compared, verdict_at, verdicts_of, lots_of, receipt_at}
 use Rattle.register.specs.Papers.{batches_of}
 use Rattle.register.specs.Items.{IsState}
-use Rattle.tables.specs.declared.table.Table.TheVariants.{Ward, Candidate, Batch, Keying, Verdict, Receipt}
+use Rattle.tables.specs.declared.table.Table.TheVariants.{Ward, Candidate, Batch, Keying, Verdict, Lot, Receipt}
 use Rattle.tables.specs.declared.table.Reference.TheVariants.{WardOfBatch}
 use Rattle.tables.specs.Rows.{begins_with, refers_to}
 use Rattle.tables.specs.Reading.{Finds}
-use Rattle.store.specs.EntryRows.{row_of_ward, IsWardRow, row_of_candidate, IsCandidateRow, row_of_batch, IsBatchRow, row_of_keyed, row_of_judged, IsJudgedRow, row_of_receipt, IsReceiptRow}
+use Rattle.store.specs.EntryRows.{row_of_ward, IsWardRow, row_of_candidate, IsCandidateRow, row_of_batch, IsBatchRow, row_of_keyed, row_of_judged, IsJudgedRow, row_of_lot, row_of_receipt, IsReceiptRow}
 use Rattle.store.specs.Offices.{tables_of}
 use Rattle.tables.proofs.OrderLemmas.{equal-number, key_of_number, key_of_two_numbers, key_of_number_and_text, same_number, same_three_numbers}
 use Rattle.store.proofs.StateLemmas.{tables_rise}
@@ -111,6 +111,14 @@ pub verdicts_listed : (s : OfficeState) → IsState s → (batch : ℕ) (rows : 
 unfolding tables_of
 verdicts_listed s is batch rows finds =
     listed_as Verdict row_of_judged (begins_with (Int (pos batch) ∷ [])) (λ v. v.batch == batch) (λ v. same_number batch v.batch) s.verdicts (tables_rise s is.rise Verdict refl) rows finds.same finds.sorted
+
+-- ---- lots
+
+-- the rows that begin with a ward are those of the lots for its count, in the order of their stages
+pub lots_listed : (s : OfficeState) → IsState s → (ward : ℕ) (rows : List Row) → Finds Lot (begins_with (Int (pos ward) ∷ [])) (tables_of s) rows → rows ≡ map row_of_lot (lots_of s ward)
+unfolding tables_of
+lots_listed s is ward rows finds =
+    listed_as Lot row_of_lot (begins_with (Int (pos ward) ∷ [])) (λ l. l.ward == ward) (λ l. same_number ward l.ward) s.lots (tables_rise s is.rise Lot refl) rows finds.same finds.sorted
 
 -- ---- receipts
 

@@ -6,14 +6,15 @@ use Rattle.std.proofs.lemmas.Bool.{and_parts, and_from, leb-true}
 use Rattle.std.proofs.lemmas.Bool.Decides.{Decides-eqb, eqb_tells, nat_tests}
 use Rattle.std.proofs.lemmas.Str.{IsUtf8-from_is_utf8, IsUtf8-from_ascii}
 use Rattle.sqlite.specs.Order.{Row}
-use Rattle.register.specs.Ranges.{is_between, last_ward, most_seats, last_candidate, last_clerk, last_batch, most_papers, last_round, is_name, is_id, is_reply, is_id_byte}
-use Rattle.register.specs.Offices.{WardEntry, CandidateEntry, BatchEntry, KeyedEntry, JudgedEntry, ReceiptEntry, OfficeState, candidates_of}
-use Rattle.register.specs.Nominations.{is_led_to, is_reached}
-use Rattle.register.specs.Items.{is_ward, is_candidate, is_batch, is_keyed_paper, is_judged_paper, is_receipt, is_about, IsState}
-use Rattle.tables.specs.declared.table.Table.TheVariants.{Ward, Candidate, Batch, Keying, Verdict, Receipt}
-use Rattle.store.specs.EntryRows.{row_of_ward, IsWardRow, row_of_candidate, IsCandidateRow, row_of_batch, IsBatchRow, row_of_keyed, IsKeyedRow, row_of_judged, IsJudgedRow, row_of_receipt, IsReceiptRow}
+use Rattle.votes.specs.Units.{max_seats}
+use Rattle.paper.specs.Columns.{max_candidates}
+use Rattle.register.specs.Ranges.{is_between, last_ward, last_clerk, last_batch, most_papers, last_round, first_lot_stage, last_lot_stage, is_name, is_id, is_reply, is_id_byte}
+use Rattle.register.specs.Offices.{WardEntry, CandidateEntry, BatchEntry, KeyedEntry, JudgedEntry, LotEntry, ReceiptEntry, OfficeState}
+use Rattle.register.specs.Items.{is_ward, is_candidate, is_batch, is_keyed_paper, is_judged_paper, is_lot, is_receipt, is_about, IsState}
+use Rattle.tables.specs.declared.table.Table.TheVariants.{Ward, Candidate, Batch, Keying, Verdict, Lot, Receipt}
+use Rattle.store.specs.EntryRows.{row_of_ward, IsWardRow, row_of_candidate, IsCandidateRow, row_of_batch, IsBatchRow, row_of_keyed, IsKeyedRow, row_of_judged, IsJudgedRow, row_of_lot, IsLotRow, row_of_receipt, IsReceiptRow}
 use Rattle.store.specs.Offices.{tables_of}
-use Rattle.register.proofs.MapLemmas.{list_all_weaker}
+use Rattle.store.proofs.DoneLemmas.{wards_few}
 
 small : (low high n : ℕ) → high < 2 ^ 32 → is_between low high n ≡ true → n < 2 ^ 32
 small low high n below h = let upper = leb-true n high (and_parts (nat_le low n) (nat_le n high) h).1 in omega (arith, upper, below)
@@ -23,33 +24,23 @@ all_passed : {X : Type 0} (p : X → Bool) (P : Row → Type 0) (row : X → Row
 all_passed p P row each [] all = tt
 all_passed p P row each (x ∷ xs) all = (each x (and_parts _ _ all).0, all_passed p P row each xs (and_parts _ _ all).1)
 
-both_passed : {X : Type 0} (p q : X → Bool) (xs : List X) → list_all p xs ≡ true → list_all q xs ≡ true → list_all (λ x. p x && q x) xs ≡ true
-both_passed p q [] first second = refl
-both_passed p q (x ∷ xs) first second =
-    let a = and_parts _ _ first in
-    let b = and_parts _ _ second in
-    and_from _ _ (and_from (p x) (q x) a.0 b.0) (both_passed p q xs a.1 b.1)
-
 -- ---- wards
 
-ward_fits : (w : WardEntry) → (is_ward w && (w.done == 0)) ≡ true → IsWardRow (row_of_ward w)
+ward_fits : (w : WardEntry) → is_ward w ≡ true → w.done < 2 ^ 32 → IsWardRow (row_of_ward w)
 unfolding is_ward is_name
-ward_fits w both =
-    let good = (and_parts (is_ward w) (w.done == 0) both).0 in
+ward_fits w good few =
     let a = and_parts _ _ good in
-    let b = and_parts _ _ a.1 in
-    let none : w.done ≡ 0 = (Decides-eqb w.done 0).0 (and_parts (is_ward w) (w.done == 0) both).1 in (
+    let b = and_parts _ _ a.1 in (
       (w.number, small 1 last_ward w.number (omega arith) a.0, refl),
-      (w.seats, small 1 most_seats w.seats (omega arith) b.0, refl),
+      (w.seats, small 1 max_seats w.seats (omega arith) b.0, refl),
       (w.phase, refl),
-      (w.done, omega (arith, none), refl),
+      (w.done, few, refl),
       (w.name, IsUtf8-from_is_utf8 w.name (and_parts _ _ b.1).0, refl),
     )
 
--- no stage of a count is done yet
-none_done : (s : OfficeState) → IsState s → list_all (λ (w : WardEntry). w.done == 0) s.wards ≡ true
-none_done s is =
-    list_all_weaker (λ w. is_reached w (candidates_of s w.number)) (λ w. w.done == 0) s.wards (λ w reached. (and_parts (w.done == 0) (is_led_to w.phase w (candidates_of s w.number)) reached).0) is.reached
+each_ward_fits : (ws : List WardEntry) → list_all is_ward ws ≡ true → AllByRecursion (λ (w : WardEntry). w.done < 2 ^ 32) ws → AllByRecursion IsWardRow (map row_of_ward ws)
+each_ward_fits [] good few = tt
+each_ward_fits (w ∷ ws) good few = let both = and_parts _ _ good in (ward_fits w both.0 few.0, each_ward_fits ws both.1 few.1)
 
 -- ---- candidates
 
@@ -59,7 +50,7 @@ candidate_fits c good =
     let a = and_parts _ _ good in
     let b = and_parts _ _ a.1 in (
       (c.ward, small 1 last_ward c.ward (omega arith) a.0, refl),
-      (c.number, small 1 last_candidate c.number (omega arith) b.0, refl),
+      (c.number, small 1 max_candidates c.number (omega arith) b.0, refl),
       (c.name, IsUtf8-from_is_utf8 c.name (and_parts _ _ b.1).0, refl),
     )
 
@@ -108,6 +99,18 @@ judged_fits v good =
       (v.marks, IsUtf8-from_is_utf8 v.marks marks.1, refl),
     )
 
+-- ---- lots
+
+lot_fits : (l : LotEntry) → is_lot l ≡ true → IsLotRow (row_of_lot l)
+unfolding is_lot
+lot_fits l good =
+    let stage = and_parts _ _ good in
+    let candidate = and_parts _ _ stage.1 in (
+      (l.ward, small 1 last_ward l.ward (omega arith) stage.0, refl),
+      (l.stage, small first_lot_stage last_lot_stage l.stage (omega arith) candidate.0, refl),
+      (l.candidate, small 1 max_candidates l.candidate (omega arith) candidate.1, refl),
+    )
+
 -- ---- receipts
 
 byte_small : (b : ℕ) → is_id_byte b ≡ true → b < 128
@@ -140,24 +143,24 @@ receipt_fits r h =
 
 pub wards_fit : (s : OfficeState) → IsState s → AllByRecursion IsWardRow (tables_of s Ward)
 unfolding tables_of
-wards_fit s is = all_passed (λ w. is_ward w && (w.done == 0)) IsWardRow row_of_ward ward_fits s.wards (both_passed is_ward (λ w. w.done == 0) s.wards (and_parts _ _ is.in_range).0 (none_done s is))
+wards_fit s is = each_ward_fits s.wards (and_parts _ _ is.in_range).0 (wards_few s is)
 
 pub candidates_fit : (s : OfficeState) → IsState s → AllByRecursion IsCandidateRow (tables_of s Candidate)
 unfolding tables_of
 candidates_fit s is = all_passed is_candidate IsCandidateRow row_of_candidate candidate_fits s.candidates (and_parts _ _ (and_parts _ _ is.in_range).1).0
 
 -- what the papers and the receipts are in range by
-beyond_candidates : (s : OfficeState) → IsState s → (list_all is_batch s.batches && (list_all is_keyed_paper s.keyings && (list_all is_judged_paper s.verdicts && list_all is_receipt s.receipts))) ≡ true
+beyond_candidates : (s : OfficeState) → IsState s → (list_all is_batch s.batches && (list_all is_keyed_paper s.keyings && (list_all is_judged_paper s.verdicts && (list_all is_lot s.lots && list_all is_receipt s.receipts)))) ≡ true
 beyond_candidates s is = (and_parts _ _ (and_parts _ _ is.in_range).1).1
 
 pub batches_fit : (s : OfficeState) → IsState s → AllByRecursion IsBatchRow (tables_of s Batch)
 unfolding tables_of
 batches_fit s is = all_passed is_batch IsBatchRow row_of_batch batch_fits s.batches (and_parts _ _ (beyond_candidates s is)).0
 
-beyond_batches : (s : OfficeState) → IsState s → (list_all is_keyed_paper s.keyings && (list_all is_judged_paper s.verdicts && list_all is_receipt s.receipts)) ≡ true
+beyond_batches : (s : OfficeState) → IsState s → (list_all is_keyed_paper s.keyings && (list_all is_judged_paper s.verdicts && (list_all is_lot s.lots && list_all is_receipt s.receipts))) ≡ true
 beyond_batches s is = (and_parts _ _ (beyond_candidates s is)).1
 
-beyond_keyings : (s : OfficeState) → IsState s → (list_all is_judged_paper s.verdicts && list_all is_receipt s.receipts) ≡ true
+beyond_keyings : (s : OfficeState) → IsState s → (list_all is_judged_paper s.verdicts && (list_all is_lot s.lots && list_all is_receipt s.receipts)) ≡ true
 beyond_keyings s is = (and_parts _ _ (beyond_batches s is)).1
 
 pub keyings_fit : (s : OfficeState) → IsState s → AllByRecursion IsKeyedRow (tables_of s Keying)
@@ -168,6 +171,13 @@ pub verdicts_fit : (s : OfficeState) → IsState s → AllByRecursion IsJudgedRo
 unfolding tables_of
 verdicts_fit s is = all_passed is_judged_paper IsJudgedRow row_of_judged judged_fits s.verdicts (and_parts _ _ (beyond_keyings s is)).0
 
+beyond_verdicts : (s : OfficeState) → IsState s → (list_all is_lot s.lots && list_all is_receipt s.receipts) ≡ true
+beyond_verdicts s is = (and_parts _ _ (beyond_keyings s is)).1
+
+pub lots_fit : (s : OfficeState) → IsState s → AllByRecursion IsLotRow (tables_of s Lot)
+unfolding tables_of
+lots_fit s is = all_passed is_lot IsLotRow row_of_lot lot_fits s.lots (and_parts _ _ (beyond_verdicts s is)).0
+
 pub receipts_fit : (s : OfficeState) → IsState s → AllByRecursion IsReceiptRow (tables_of s Receipt)
 unfolding tables_of
-receipts_fit s is = all_passed is_receipt IsReceiptRow row_of_receipt receipt_fits s.receipts (and_parts _ _ (beyond_keyings s is)).1
+receipts_fit s is = all_passed is_receipt IsReceiptRow row_of_receipt receipt_fits s.receipts (and_parts _ _ (beyond_verdicts s is)).1

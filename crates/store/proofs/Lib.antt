@@ -1,5 +1,6 @@
 pub mod RowLemmas
 pub mod StateLemmas
+pub mod DoneLemmas
 pub mod FitLemmas
 pub mod FindLemmas
 pub mod WriteLemmas
@@ -9,3 +10,4 @@ pub mod ReopenLemmas
 pub mod ListsLemmas
 pub mod TallyLemmas
 pub mod PartLemmas
+pub mod ElectionLemmas

@@ -1,23 +1,23 @@
 -- The entries that were read, table by table.
-use Rattle.std.proofs.Common.{List, map, sym, subst, true≢false, ◌≡◌, true}
+use Rattle.std.proofs.Common.{map, sym, subst, true≢false, ◌≡◌, true}
 use Rattle.std.specs.List.Sorted.{IsStrictlySortedBy}
 use Rattle.sqlite.specs.Effect.{Database}
-use Rattle.register.specs.declared.receipt.Receipt.{Receipt as ReceiptValue}
-use Rattle.register.specs.Offices.{OfficeState, MapsRise, ward_entry, candidate_entry, batch_entry, keyed_entry, judged_entry, receipt_entry}
+use Rattle.register.specs.Offices.{OfficeState, MapsRise, ward_entry, candidate_entry, batch_entry, keyed_entry, judged_entry, lot_entry, receipt_entry}
 use Rattle.tables.specs.declared.table.Table.{Table}
-use Rattle.tables.specs.declared.table.Table.TheVariants.{Ward, Candidate, Batch, Keying, Verdict, Receipt}
+use Rattle.tables.specs.declared.table.Table.TheVariants.{Office, Ward, Candidate, Batch, Keying, Verdict, Lot, Receipt}
 use Rattle.tables.specs.Rows.{row_cmp}
 use Rattle.tables.specs.Reading.{ListsEntries}
 use Rattle.store.specs.declared.listing.Contests.{Contests}
 use Rattle.store.specs.declared.listing.Papers.{Papers}
-use Rattle.store.specs.EntryRows.{row_of_ward, row_of_candidate, row_of_batch, row_of_keyed, row_of_judged, row_of_receipt}
+use Rattle.store.specs.declared.listing.Records.{Records}
+use Rattle.store.specs.EntryRows.{row_of_ward, row_of_candidate, row_of_batch, row_of_keyed, row_of_judged, row_of_lot, row_of_receipt}
 use Rattle.store.specs.Offices.{tables_of}
 use Rattle.store.specs.Openings.{has_entries, ListsMaps}
-use Rattle.store.specs.Listings.{ListsContests, ContestsRise, ListsPapers, PapersRise}
+use Rattle.store.specs.Listings.{ListsContests, ContestsRise, ListsPapers, PapersRise, ListsRecords, RecordsRise}
 use Rattle.tables.proofs.ListLemmas.{mapped_twice}
 use Rattle.store.proofs.StateLemmas.{maps_rise}
 
-module _ (contests : Contests) (papers : Papers) (receipts : List ReceiptValue) where
+module _ (contests : Contests) (papers : Papers) (records : Records) where
   -- the maps of the values
   abbrev maps : OfficeState
   maps = record {
@@ -26,20 +26,22 @@ module _ (contests : Contests) (papers : Papers) (receipts : List ReceiptValue) 
     batches = map batch_entry papers.batches.items;
     keyings = map keyed_entry papers.keyings.items;
     verdicts = map judged_entry papers.verdicts.items;
-    receipts = map receipt_entry receipts;
+    lots = map lot_entry records.lots.items;
+    receipts = map receipt_entry records.receipts.items;
   }
 
-  pub lists_maps : (db : Database) → ListsContests db contests → ListsPapers db papers → ListsEntries Receipt db (map (λ r. row_of_receipt (receipt_entry r)) receipts) → ListsMaps db maps
+  pub lists_maps : (db : Database) → ListsContests db contests → ListsPapers db papers → ListsRecords db records → ListsMaps db maps
   unfolding tables_of
   lists_maps db first second third Ward has = subst (ListsEntries Ward db) (sym (mapped_twice ward_entry row_of_ward contests.wards.items)) first.wards
   lists_maps db first second third Candidate has = subst (ListsEntries Candidate db) (sym (mapped_twice candidate_entry row_of_candidate contests.candidates.items)) first.candidates
   lists_maps db first second third Batch has = subst (ListsEntries Batch db) (sym (mapped_twice batch_entry row_of_batch papers.batches.items)) second.batches
   lists_maps db first second third Keying has = subst (ListsEntries Keying db) (sym (mapped_twice keyed_entry row_of_keyed papers.keyings.items)) second.keyings
   lists_maps db first second third Verdict has = subst (ListsEntries Verdict db) (sym (mapped_twice judged_entry row_of_judged papers.verdicts.items)) second.verdicts
-  lists_maps db first second third Receipt has = subst (ListsEntries Receipt db) (sym (mapped_twice receipt_entry row_of_receipt receipts)) third
-  lists_maps db first second third _ has = absurd (true≢false (sym has))
+  lists_maps db first second third Lot has = subst (ListsEntries Lot db) (sym (mapped_twice lot_entry row_of_lot records.lots.items)) third.lots
+  lists_maps db first second third Receipt has = subst (ListsEntries Receipt db) (sym (mapped_twice receipt_entry row_of_receipt records.receipts.items)) third.receipts
+  lists_maps db first second third Office has = absurd (true≢false (sym has))
 
-  pub rows_of_maps_rise : ContestsRise contests → PapersRise papers → IsStrictlySortedBy (row_cmp Receipt) (map (λ r. row_of_receipt (receipt_entry r)) receipts) → MapsRise maps
+  pub rows_of_maps_rise : ContestsRise contests → PapersRise papers → RecordsRise records → MapsRise maps
   unfolding tables_of
   rows_of_maps_rise first second third = maps_rise maps each
     where
@@ -49,5 +51,6 @@ module _ (contests : Contests) (papers : Papers) (receipts : List ReceiptValue) 
       each Batch has = subst (IsStrictlySortedBy (row_cmp Batch)) (sym (mapped_twice batch_entry row_of_batch papers.batches.items)) second.batches
       each Keying has = subst (IsStrictlySortedBy (row_cmp Keying)) (sym (mapped_twice keyed_entry row_of_keyed papers.keyings.items)) second.keyings
       each Verdict has = subst (IsStrictlySortedBy (row_cmp Verdict)) (sym (mapped_twice judged_entry row_of_judged papers.verdicts.items)) second.verdicts
-      each Receipt has = subst (IsStrictlySortedBy (row_cmp Receipt)) (sym (mapped_twice receipt_entry row_of_receipt receipts)) third
-      each _ has = absurd (true≢false (sym has))
+      each Lot has = subst (IsStrictlySortedBy (row_cmp Lot)) (sym (mapped_twice lot_entry row_of_lot records.lots.items)) third.lots
+      each Receipt has = subst (IsStrictlySortedBy (row_cmp Receipt)) (sym (mapped_twice receipt_entry row_of_receipt records.receipts.items)) third.receipts
+      each Office has = absurd (true≢false (sym has))

@@ -8,13 +8,13 @@ use Rattle.sqlite.specs.Effect.{Database}
 use Rattle.register.specs.declared.phase.Phase.{Phase}
 use Rattle.register.specs.declared.phase.Phase.TheVariants.{Nominations, Keying as Keyed, Sealed, Declared}
 use Rattle.register.specs.Phases.{phase_number}
-use Rattle.register.specs.Offices.{WardEntry, CandidateEntry, BatchEntry, KeyedEntry, JudgedEntry, ReceiptEntry, OfficeState, MapsRise, ward_cmp, candidate_cmp, batch_cmp, keyed_cmp, judged_cmp, receipt_cmp}
+use Rattle.register.specs.Offices.{WardEntry, CandidateEntry, BatchEntry, KeyedEntry, JudgedEntry, LotEntry, ReceiptEntry, OfficeState, MapsRise, ward_cmp, candidate_cmp, batch_cmp, keyed_cmp, judged_cmp, lot_cmp, receipt_cmp}
 use Rattle.register.specs.Items.{IsState}
 use Rattle.tables.specs.declared.table.Table.{Table}
-use Rattle.tables.specs.declared.table.Table.TheVariants.{Ward, Candidate, Batch, Keying, Verdict, Receipt}
+use Rattle.tables.specs.declared.table.Table.TheVariants.{Office, Ward, Candidate, Batch, Keying, Verdict, Lot, Receipt}
 use Rattle.tables.specs.Rows.{row_cmp}
 use Rattle.tables.specs.Contents.{SameContents, IsOffice}
-use Rattle.store.specs.EntryRows.{row_of_ward, row_of_candidate, row_of_batch, row_of_keyed, row_of_judged, row_of_receipt}
+use Rattle.store.specs.EntryRows.{row_of_ward, row_of_candidate, row_of_batch, row_of_keyed, row_of_judged, row_of_lot, row_of_receipt}
 use Rattle.store.specs.Offices.{tables_of, HoldsState}
 use Rattle.store.specs.Openings.{has_entries}
 use Rattle.tables.proofs.OrderLemmas.{one_number, two_numbers, four_numbers, number_and_text, rows_rise}
@@ -73,6 +73,12 @@ judged_in r = record { batch = number_in (column r 0); paper = number_in (column
 pub judged_back : (j : JudgedEntry) → judged_in (row_of_judged j) ≡ j
 judged_back j = refl
 
+abbrev pub lot_in : Row → LotEntry
+lot_in r = record { ward = number_in (column r 0); stage = number_in (column r 1); candidate = number_in (column r 2) }
+
+pub lot_back : (l : LotEntry) → lot_in (row_of_lot l) ≡ l
+lot_back l = refl
+
 abbrev pub receipt_in : Row → ReceiptEntry
 receipt_in r = record { actor = number_in (column r 0); id = text_in (column r 1); subject = text_in (column r 2); reply = text_in (column r 3) }
 
@@ -96,6 +102,9 @@ keyings_alike a b = four_numbers a.batch a.round a.clerk a.paper b.batch b.round
 verdicts_alike : (a b : JudgedEntry) → row_cmp Verdict (row_of_judged a) (row_of_judged b) ≡ judged_cmp a b
 verdicts_alike a b = two_numbers a.batch a.paper b.batch b.paper
 
+lots_alike : (a b : LotEntry) → row_cmp Lot (row_of_lot a) (row_of_lot b) ≡ lot_cmp a b
+lots_alike a b = two_numbers a.ward a.stage b.ward b.stage
+
 receipts_alike : (a b : ReceiptEntry) → row_cmp Receipt (row_of_receipt a) (row_of_receipt b) ≡ receipt_cmp a b
 receipts_alike a b = number_and_text a.actor b.actor a.id b.id
 
@@ -107,8 +116,9 @@ tables_rise s rise Candidate has = rows_rise row_of_candidate (row_cmp Candidate
 tables_rise s rise Batch has = rows_rise row_of_batch (row_cmp Batch) batch_cmp batches_alike s.batches rise.batches
 tables_rise s rise Keying has = rows_rise row_of_keyed (row_cmp Keying) keyed_cmp keyings_alike s.keyings rise.keyings
 tables_rise s rise Verdict has = rows_rise row_of_judged (row_cmp Verdict) judged_cmp verdicts_alike s.verdicts rise.verdicts
+tables_rise s rise Lot has = rows_rise row_of_lot (row_cmp Lot) lot_cmp lots_alike s.lots rise.lots
 tables_rise s rise Receipt has = rows_rise row_of_receipt (row_cmp Receipt) receipt_cmp receipts_alike s.receipts rise.receipts
-tables_rise s rise _ has = absurd (true≢false (sym has))
+tables_rise s rise Office has = absurd (true≢false (sym has))
 
 -- maps whose rows rise, rise
 pub maps_rise : (s : OfficeState) → ((t : Table) → has_entries t ≡ true → IsStrictlySortedBy (row_cmp t) (tables_of s t)) → MapsRise s
@@ -119,6 +129,7 @@ maps_rise s each = record {
   batches = entries_rise row_of_batch (row_cmp Batch) batch_cmp batches_alike s.batches (each Batch refl);
   keyings = entries_rise row_of_keyed (row_cmp Keying) keyed_cmp keyings_alike s.keyings (each Keying refl);
   verdicts = entries_rise row_of_judged (row_cmp Verdict) judged_cmp verdicts_alike s.verdicts (each Verdict refl);
+  lots = entries_rise row_of_lot (row_cmp Lot) lot_cmp lots_alike s.lots (each Lot refl);
   receipts = entries_rise row_of_receipt (row_cmp Receipt) receipt_cmp receipts_alike s.receipts (each Receipt refl);
 }
 
@@ -133,12 +144,14 @@ equal_maps s t rise also same =
     let batches = entries_same Batch row_of_batch batch_in batch_back s.batches t.batches (tables_rise s rise Batch refl) (tables_rise t also Batch refl) (same Batch) in
     let keyings = entries_same Keying row_of_keyed keyed_in keyed_back s.keyings t.keyings (tables_rise s rise Keying refl) (tables_rise t also Keying refl) (same Keying) in
     let verdicts = entries_same Verdict row_of_judged judged_in judged_back s.verdicts t.verdicts (tables_rise s rise Verdict refl) (tables_rise t also Verdict refl) (same Verdict) in
+    let lots = entries_same Lot row_of_lot lot_in lot_back s.lots t.lots (tables_rise s rise Lot refl) (tables_rise t also Lot refl) (same Lot) in
     let receipts = entries_same Receipt row_of_receipt receipt_in receipt_back s.receipts t.receipts (tables_rise s rise Receipt refl) (tables_rise t also Receipt refl) (same Receipt) in
     ap (λ l. record s { wards = l }) wards
     ∙ ap (λ l. record s { wards = t.wards; candidates = l }) candidates
     ∙ ap (λ l. record s { wards = t.wards; candidates = t.candidates; batches = l }) batches
     ∙ ap (λ l. record s { wards = t.wards; candidates = t.candidates; batches = t.batches; keyings = l }) keyings
-    ∙ ap (λ l. record t { verdicts = l; receipts = s.receipts }) verdicts
+    ∙ ap (λ l. record t { verdicts = l; lots = s.lots; receipts = s.receipts }) verdicts
+    ∙ ap (λ l. record t { lots = l; receipts = s.receipts }) lots
     ∙ ap (λ l. record t { receipts = l }) receipts
 
 -- states with the same tables are equal

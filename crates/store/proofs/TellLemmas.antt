@@ -26,7 +26,7 @@ use Rattle.tables.specs.Presence.{has_table, has_every_table}
 use Rattle.tables.specs.Reading.{Lists, ListsKeyed, HoldsNone}
 use Rattle.store.specs.EntryRows.{office_row}
 use Rattle.store.specs.Offices.{HoldsState, tables_of}
-use Rattle.store.specs.Openings.{HasNoOffice, IsNewer, HoldsNoState, IsToldBy, TellsNoState, IsVersion, TellsRow, TellsRows, HasVersion, TellsOffice, has_entries, is_later, TellsRowsIn, AreEmpty, ListsMaps, HoldsEntries}
+use Rattle.store.specs.Openings.{HasNoOffice, IsNewer, HoldsNoState, IsToldBy, TellsNoState, IsVersion, TellsRow, TellsRows, HasVersion, TellsOffice, has_entries, ListsMaps, HoldsEntries}
 use Rattle.tables.proofs.ListLemmas.{mapped_length}
 use Rattle.tables.proofs.TableLemmas.{same_place}
 use Rattle.tables.proofs.HoldLemmas.{lists_all, shown_rows, rows_held, held_listed}
@@ -35,32 +35,20 @@ use Rattle.store.proofs.StateLemmas.{tables_rise, maps_rise, equal_maps}
 
 -- ---- the tables, by what an opening makes of them
 
--- a table is the office's, one of entries, or one that no command fills yet
-which_kind : (t : Table) → (t ≡ Office) ⊎ ((has_entries t ≡ true) ⊎ (is_later t ≡ true))
+-- a table is the office's, or one of entries
+which_kind : (t : Table) → (t ≡ Office) ⊎ (has_entries t ≡ true)
 which_kind Office = inl refl
-which_kind Ward = inr (inl refl)
-which_kind Candidate = inr (inl refl)
-which_kind Receipt = inr (inl refl)
-which_kind Batch = inr (inl refl)
-which_kind Keying = inr (inl refl)
-which_kind Verdict = inr (inl refl)
-which_kind Lot = inr (inr refl)
+which_kind Ward = inr refl
+which_kind Candidate = inr refl
+which_kind Batch = inr refl
+which_kind Keying = inr refl
+which_kind Verdict = inr refl
+which_kind Lot = inr refl
+which_kind Receipt = inr refl
 
 office_rows : (s : OfficeState) → tables_of s Office ≡ office_row 1 ∷ []
 unfolding tables_of
 office_rows s = refl
-
--- a table that no command fills has no row in any state
-later_rows : (t : Table) → is_later t ≡ true → (s : OfficeState) → tables_of s t ≡ []
-unfolding tables_of
-later_rows Office later s = absurd (true≢false (sym later))
-later_rows Ward later s = absurd (true≢false (sym later))
-later_rows Candidate later s = absurd (true≢false (sym later))
-later_rows Batch later s = absurd (true≢false (sym later))
-later_rows Keying later s = absurd (true≢false (sym later))
-later_rows Verdict later s = absurd (true≢false (sym later))
-later_rows Receipt later s = absurd (true≢false (sym later))
-later_rows _ later s = refl
 
 -- ---- faults
 
@@ -83,10 +71,7 @@ maps_same : (db : Database) (s x : OfficeState) → ListsMaps db s → HoldsStat
 unfolding IsOffice
 maps_same db s x lists holds t = elim (which_kind t) [
   | inl office ↦ subst (λ (u : Table). IsPermutation (tables_of x u) (tables_of s u)) (sym office) (subst (λ l. IsPermutation l (tables_of s Office)) (sym (office_rows x)) (subst (IsPermutation (office_row 1 ∷ [])) (sym (office_rows s)) (IsPermutation-refl _)))
-  | inr other ↦ elim other [
-    | inl has ↦ held_listed t db (tables_of s t) (lists t has).all.lists (tables_of x t) (holds.office.holds t)
-    | inr later ↦ subst (λ l. IsPermutation l (tables_of s t)) (sym (later_rows t later x)) (subst (IsPermutation []) (sym (later_rows t later s)) (IsPermutation-refl []))
-  ]
+  | inr has ↦ held_listed t db (tables_of s t) (lists t has).all.lists (tables_of x t) (holds.office.holds t)
 ]
 
 pub lists_rise : (db : Database) (s : OfficeState) → ListsMaps db s → MapsRise s
@@ -100,7 +85,7 @@ entries_held db begins sound s is lists = record { is = is; entries = λ t has. 
 
 -- ---- tables with no row
 
-pub none_long : {X : Type 0} (xs : List X) → length xs ≡ 0 → xs ≡ []
+none_long : {X : Type 0} (xs : List X) → length xs ≡ 0 → xs ≡ []
 none_long [] h = refl
 none_long (x ∷ xs) h = absurd (omega (arith, h))
 
@@ -112,45 +97,6 @@ none_listed t db rows lists none = none_long (tuples t db.trees) (sym (listed_le
 
 some_listed : (t : Table) (db : Database) (rows : List Row) → Lists t (begins_with []) db rows → tuples t db.trees ≡ [] → rows ≡ []
 some_listed t db rows lists none = none_long rows (listed_length t db rows lists ∙ ap length none)
-
-pub empty_held : (t : Table) (db : Database) (rows : List Row) → Lists t (begins_with []) db rows → rows ≡ [] → HoldsTable t [] db.trees
-empty_held t db rows lists none =
-    let tuple = none_listed t db rows lists none in
-    let bare : db.trees (tree_of t) ≡ [] = none_long (db.trees (tree_of t)) (sym (mapped_length (drop 1) (db.trees (tree_of t))) ∙ ap length tuple) in
-    record {
-      same = subst (IsPermutation []) (sym tuple) (IsPermutation-refl []);
-      keyed = λ _. subst Keyed (sym bare) (record { ints = λ r h. absurd h; once = λ a b h. absurd h });
-      typed = refl;
-    }
-
-pub empty_listed : (t : Table) (db : Database) (rows : List Row) → Lists t (begins_with []) db rows → HoldsTable t [] db.trees → rows ≡ []
-empty_listed t db rows lists holds = some_listed t db rows lists (none_long (tuples t db.trees) (length_permutation _ _ holds.same))
-
--- a row in a table that no command fills is in no state
-pub told_later : (t : Table) → is_later t ≡ true → (db : Database) (f : Fault) → TellsRowsIn t db f → TellsNoState db f
-unfolding IsOffice
-told_later t later db Memory told = tt
-told_later t later db Store told = tt
-told_later t later db Damaged told = λ s holds. told (subst (λ rows. HoldsTable t rows db.trees) (later_rows t later s) (holds.office.holds t))
-told_later t later db Closed told = told
-told_later t later db WrongDatabase told = told
-told_later t later db NewerSchema told = told
-
-pub if_told_later : {X : Type 0} (t : Table) → is_later t ≡ true → (db : Database) (r : Result X Fault) → IfErr r (TellsRowsIn t db) → IfErr r (TellsNoState db)
-if_told_later t later db (Ok x) told = tt
-if_told_later t later db (Err f) told = told_later t later db f told
-
-pub if_held_later : {X F : Type 0} (t : Table) (db : Database) (r : Result X F) → OnOk r (HoldsTable t [] db.trees) → OnOk r (is_later t ≡ true → HoldsTable t [] db.trees)
-if_held_later t db (Ok x) holds = λ _. holds
-if_held_later t db (Err f) holds = tt
-
--- one table more, in the order of making
-pub next_empty : (db : Database) (n : ℕ) (t : Table) → place_of t ≡ n → (is_later t ≡ true → HoldsTable t [] db.trees) → ((u : Table) → place_of u < n → is_later u ≡ true → HoldsTable u [] db.trees)
-    → (u : Table) → place_of u < n + 1 → is_later u ≡ true → HoldsTable u [] db.trees
-next_empty db n t place here before u low later = elim (cases_lt (place_of u) n) [
-  | inl less ↦ before u less later
-  | inr past ↦ let same : t ≡ u = same_place t u (omega (arith, low, past, place)) in subst (λ (v : Table). HoldsTable v [] db.trees) same (here (subst (λ (v : Table). is_later v ≡ true) (sym same) later))
-]
 
 -- ---- the row of an office
 
@@ -252,17 +198,14 @@ pub office_damaged : (db : Database) → ¬ HasVersion 1 db → HoldsNoState db
 unfolding IsOffice
 office_damaged db wrong s holds = wrong (subst (λ rows. HoldsTable Office rows db.trees) (office_rows s) (holds.office.holds Office))
 
-pub state_held : (db : Database) → IsOfficeSchema db.schema → IsDatabase db → HasVersion 1 db → AreEmpty db → (s : OfficeState) → HoldsEntries db s → HoldsState db s
+pub state_held : (db : Database) → IsOfficeSchema db.schema → IsDatabase db → HasVersion 1 db → (s : OfficeState) → HoldsEntries db s → HoldsState db s
 unfolding IsOffice
-state_held db begins sound office empty s entries = record { is = entries.is; office = record { begins = begins; sound = sound; holds = each } }
+state_held db begins sound office s entries = record { is = entries.is; office = record { begins = begins; sound = sound; holds = each } }
   where
     each : (t : Table) → HoldsTable t (tables_of s t) db.trees
     each t = elim (which_kind t) [
       | inl same ↦ subst (λ (u : Table). HoldsTable u (tables_of s u) db.trees) (sym same) (subst (λ rows. HoldsTable Office rows db.trees) (sym (office_rows s)) office)
-      | inr other ↦ elim other [
-        | inl has ↦ entries.entries t has
-        | inr later ↦ subst (λ rows. HoldsTable t rows db.trees) (sym (later_rows t later s)) (empty t later)
-      ]
+      | inr has ↦ entries.entries t has
     ]
 
 -- a database that holds a state holds the office row of this version
@@ -294,10 +237,6 @@ told_tables db there office NewerSchema told = absurd told
 pub store_office : (db : Database) (f : Fault) → (f ≡ Memory) ⊎ (f ≡ Store) → TellsOffice db f
 store_office db f (inl same) = subst (TellsOffice db) (sym same) tt
 store_office db f (inr same) = subst (TellsOffice db) (sym same) tt
-
-pub store_rows : (t : Table) (db : Database) (f : Fault) → (f ≡ Memory) ⊎ (f ≡ Store) → TellsRowsIn t db f
-store_rows t db f (inl same) = subst (TellsRowsIn t db) (sym same) tt
-store_rows t db f (inr same) = subst (TellsRowsIn t db) (sym same) tt
 
 -- ---- what a connection answers of the database that it rests at
 

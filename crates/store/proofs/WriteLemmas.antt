@@ -11,16 +11,16 @@ use Rattle.sqlite.specs.Order.{Row}
 use Rattle.sqlite.specs.State.{State}
 use Rattle.register.specs.declared.phase.Phase.{Phase}
 use Rattle.register.specs.Phases.{phase_number}
-use Rattle.register.specs.Offices.{WardEntry, CandidateEntry, BatchEntry, KeyedEntry, JudgedEntry, ReceiptEntry, OfficeState, empty_office, put, put_each, without, changed, ward_cmp, candidate_cmp, batch_cmp, keyed_cmp, judged_cmp, receipt_cmp, ward_compared, candidate_compared, batch_compared}
-use Rattle.register.specs.Effects.{ward_added, ward_moved, candidate_added, candidate_withdrawn, batch_added, batch_reopened, papers_keyed, paper_judged, in_phase, in_round, with_effect, with_receipt}
+use Rattle.register.specs.Offices.{WardEntry, CandidateEntry, BatchEntry, KeyedEntry, JudgedEntry, LotEntry, ReceiptEntry, OfficeState, empty_office, put, put_each, without, changed, ward_cmp, candidate_cmp, batch_cmp, keyed_cmp, judged_cmp, lot_cmp, receipt_cmp, ward_compared, candidate_compared, batch_compared}
+use Rattle.register.specs.Effects.{ward_added, ward_moved, candidate_added, candidate_withdrawn, batch_added, batch_reopened, papers_keyed, paper_judged, stage_counted, lot_drawn, in_phase, at_stage, in_round, with_effect, with_receipt}
 use Rattle.register.proofs.MapLemmas.{put_same}
 use Rattle.tables.specs.declared.table.Table.{Table}
-use Rattle.tables.specs.declared.table.Table.TheVariants.{Office, Ward, Candidate, Batch, Keying, Verdict, Receipt}
-use Rattle.tables.specs.declared.table.Setting.TheVariants.{PhaseOfWard, RoundOfBatch}
+use Rattle.tables.specs.declared.table.Table.TheVariants.{Office, Ward, Candidate, Batch, Keying, Verdict, Lot, Receipt}
+use Rattle.tables.specs.declared.table.Setting.TheVariants.{PhaseOfWard, DoneOfWard, RoundOfBatch}
 use Rattle.tables.specs.Rows.{has_key, value_set, with_value}
 use Rattle.tables.specs.Contents.{Contents, SameContents, added, added_all, value_put, removed, Sees}
 use Rattle.tables.specs.Making.{no_contents}
-use Rattle.store.specs.EntryRows.{office_row, row_of_ward, row_of_candidate, row_of_batch, row_of_keyed, row_of_judged, row_of_receipt}
+use Rattle.store.specs.EntryRows.{office_row, row_of_ward, row_of_candidate, row_of_batch, row_of_keyed, row_of_judged, row_of_lot, row_of_receipt}
 use Rattle.store.specs.Offices.{tables_of}
 use Rattle.tables.proofs.OrderLemmas.{key_of_number, key_of_two_numbers}
 use Rattle.tables.proofs.ChangeLemmas.{rows_set, removed_rows}
@@ -46,6 +46,9 @@ keying_rows s = (Keying, map row_of_keyed s.keyings)
 abbrev verdict_rows : OfficeState → Table × List Row
 verdict_rows s = (Verdict, map row_of_judged s.verdicts)
 
+abbrev lot_rows : OfficeState → Table × List Row
+lot_rows s = (Lot, map row_of_lot s.lots)
+
 abbrev receipt_rows : OfficeState → Table × List Row
 receipt_rows s = (Receipt, map row_of_receipt s.receipts)
 
@@ -57,7 +60,7 @@ equal_rows rows news same = subst (IsPermutation rows) same (IsPermutation-refl 
 -- a ward more
 pub ward_put : (s : OfficeState) (w : WardEntry) → SameContents (added Ward (row_of_ward w) (tables_of s)) (tables_of (with_effect (ward_added w) s))
 unfolding added tables_of
-ward_put s w = filled_changed (office_rows ∷ []) Ward (map row_of_ward s.wards) (map row_of_ward (put ward_cmp w s.wards)) (candidate_rows s ∷ batch_rows s ∷ keying_rows s ∷ verdict_rows s ∷ receipt_rows s ∷ []) (λ rows. row_of_ward w ∷ rows) refl
+ward_put s w = filled_changed (office_rows ∷ []) Ward (map row_of_ward s.wards) (map row_of_ward (put ward_cmp w s.wards)) (candidate_rows s ∷ batch_rows s ∷ keying_rows s ∷ verdict_rows s ∷ lot_rows s ∷ receipt_rows s ∷ []) (λ rows. row_of_ward w ∷ rows) refl
     (IsPermutation-map row_of_ward (w ∷ s.wards) (put ward_cmp w s.wards) (put_same ward_cmp w s.wards))
 
 -- a ward in another phase
@@ -66,16 +69,25 @@ pub phase_put : (s : OfficeState) (number : ℕ) (phase : Phase)
 unfolding value_put tables_of
 phase_put s number phase =
     let values : Row = Int (pos number) ∷ Int (pos (phase_number phase)) ∷ [] in
-    filled_changed (office_rows ∷ []) Ward (map row_of_ward s.wards) (map row_of_ward (changed (ward_compared number) (in_phase phase) s.wards)) (candidate_rows s ∷ batch_rows s ∷ keying_rows s ∷ verdict_rows s ∷ receipt_rows s ∷ [])
+    filled_changed (office_rows ∷ []) Ward (map row_of_ward s.wards) (map row_of_ward (changed (ward_compared number) (in_phase phase) s.wards)) (candidate_rows s ∷ batch_rows s ∷ keying_rows s ∷ verdict_rows s ∷ lot_rows s ∷ receipt_rows s ∷ [])
     (map (λ r. cond (has_key Ward values r) (with_value PhaseOfWard (value_set PhaseOfWard values) r) r)) refl
     (equal_rows _ _ (rows_set PhaseOfWard values row_of_ward (λ w. is_eq (ward_compared number w)) (in_phase phase) (λ w. key_of_number number w.number) (λ w. refl) s.wards))
+
+-- a ward with so many stages done
+pub done_put : (s : OfficeState) (number done : ℕ) → SameContents (value_put DoneOfWard (Int (pos number) ∷ Int (pos done) ∷ []) (tables_of s)) (tables_of (with_effect (stage_counted number done) s))
+unfolding value_put tables_of
+done_put s number done =
+    let values : Row = Int (pos number) ∷ Int (pos done) ∷ [] in
+    filled_changed (office_rows ∷ []) Ward (map row_of_ward s.wards) (map row_of_ward (changed (ward_compared number) (at_stage done) s.wards)) (candidate_rows s ∷ batch_rows s ∷ keying_rows s ∷ verdict_rows s ∷ lot_rows s ∷ receipt_rows s ∷ [])
+    (map (λ r. cond (has_key Ward values r) (with_value DoneOfWard (value_set DoneOfWard values) r) r)) refl
+    (equal_rows _ _ (rows_set DoneOfWard values row_of_ward (λ w. is_eq (ward_compared number w)) (at_stage done) (λ w. key_of_number number w.number) (λ w. refl) s.wards))
 
 -- ---- candidates
 
 -- a candidate more
 pub candidate_put : (s : OfficeState) (c : CandidateEntry) → SameContents (added Candidate (row_of_candidate c) (tables_of s)) (tables_of (with_effect (candidate_added c) s))
 unfolding added tables_of
-candidate_put s c = filled_changed (office_rows ∷ ward_rows s ∷ []) Candidate (map row_of_candidate s.candidates) (map row_of_candidate (put candidate_cmp c s.candidates)) (batch_rows s ∷ keying_rows s ∷ verdict_rows s ∷ receipt_rows s ∷ []) (λ rows. row_of_candidate c ∷ rows) refl
+candidate_put s c = filled_changed (office_rows ∷ ward_rows s ∷ []) Candidate (map row_of_candidate s.candidates) (map row_of_candidate (put candidate_cmp c s.candidates)) (batch_rows s ∷ keying_rows s ∷ verdict_rows s ∷ lot_rows s ∷ receipt_rows s ∷ []) (λ rows. row_of_candidate c ∷ rows) refl
     (IsPermutation-map row_of_candidate (c ∷ s.candidates) (put candidate_cmp c s.candidates) (put_same candidate_cmp c s.candidates))
 
 -- a candidate less
@@ -83,7 +95,7 @@ pub candidate_gone : (s : OfficeState) (ward number : ℕ) → SameContents (rem
 unfolding removed tables_of
 candidate_gone s ward number =
     let key : Row = Int (pos ward) ∷ Int (pos number) ∷ [] in
-    filled_changed (office_rows ∷ ward_rows s ∷ []) Candidate (map row_of_candidate s.candidates) (map row_of_candidate (without (candidate_compared ward number) s.candidates)) (batch_rows s ∷ keying_rows s ∷ verdict_rows s ∷ receipt_rows s ∷ [])
+    filled_changed (office_rows ∷ ward_rows s ∷ []) Candidate (map row_of_candidate s.candidates) (map row_of_candidate (without (candidate_compared ward number) s.candidates)) (batch_rows s ∷ keying_rows s ∷ verdict_rows s ∷ lot_rows s ∷ receipt_rows s ∷ [])
     (filter (λ r. not (has_key Candidate key r))) refl
     (equal_rows _ _ (removed_rows Candidate key row_of_candidate (λ c. is_eq (candidate_compared ward number c)) (λ c. key_of_two_numbers ward number c.ward c.number) s.candidates))
 
@@ -93,7 +105,7 @@ candidate_gone s ward number =
 pub batch_put : (s : OfficeState) (b : BatchEntry) → SameContents (added Batch (row_of_batch b) (tables_of s)) (tables_of (with_effect (batch_added b) s))
 unfolding added tables_of
 batch_put s b =
-    filled_changed (office_rows ∷ ward_rows s ∷ candidate_rows s ∷ []) Batch (map row_of_batch s.batches) (map row_of_batch (put batch_cmp b s.batches)) (keying_rows s ∷ verdict_rows s ∷ receipt_rows s ∷ []) (λ rows. row_of_batch b ∷ rows) refl
+    filled_changed (office_rows ∷ ward_rows s ∷ candidate_rows s ∷ []) Batch (map row_of_batch s.batches) (map row_of_batch (put batch_cmp b s.batches)) (keying_rows s ∷ verdict_rows s ∷ lot_rows s ∷ receipt_rows s ∷ []) (λ rows. row_of_batch b ∷ rows) refl
     (IsPermutation-map row_of_batch (b ∷ s.batches) (put batch_cmp b s.batches) (put_same batch_cmp b s.batches))
 
 -- a batch in another round
@@ -101,7 +113,7 @@ pub round_put : (s : OfficeState) (number round : ℕ) → SameContents (value_p
 unfolding value_put tables_of
 round_put s number round =
     let values : Row = Int (pos number) ∷ Int (pos round) ∷ [] in
-    filled_changed (office_rows ∷ ward_rows s ∷ candidate_rows s ∷ []) Batch (map row_of_batch s.batches) (map row_of_batch (changed (batch_compared number) (in_round round) s.batches)) (keying_rows s ∷ verdict_rows s ∷ receipt_rows s ∷ [])
+    filled_changed (office_rows ∷ ward_rows s ∷ candidate_rows s ∷ []) Batch (map row_of_batch s.batches) (map row_of_batch (changed (batch_compared number) (in_round round) s.batches)) (keying_rows s ∷ verdict_rows s ∷ lot_rows s ∷ receipt_rows s ∷ [])
     (map (λ r. cond (has_key Batch values r) (with_value RoundOfBatch (value_set RoundOfBatch values) r) r)) refl
     (equal_rows _ _ (rows_set RoundOfBatch values row_of_batch (λ b. is_eq (batch_compared number b)) (in_round round) (λ b. key_of_number number b.number) (λ b. refl) s.batches))
 
@@ -118,7 +130,7 @@ put_each_same cmp (x ∷ xs) ys =
 pub papers_put : (s : OfficeState) (papers : List KeyedEntry) → SameContents (added_all Keying (map row_of_keyed papers) (tables_of s)) (tables_of (with_effect (papers_keyed papers) s))
 unfolding added_all tables_of
 papers_put s papers =
-    filled_changed (office_rows ∷ ward_rows s ∷ candidate_rows s ∷ batch_rows s ∷ []) Keying (map row_of_keyed s.keyings) (map row_of_keyed (put_each keyed_cmp papers s.keyings)) (verdict_rows s ∷ receipt_rows s ∷ [])
+    filled_changed (office_rows ∷ ward_rows s ∷ candidate_rows s ∷ batch_rows s ∷ []) Keying (map row_of_keyed s.keyings) (map row_of_keyed (put_each keyed_cmp papers s.keyings)) (verdict_rows s ∷ lot_rows s ∷ receipt_rows s ∷ [])
     (λ rows. map row_of_keyed papers ++ rows) refl
     (subst (λ rows. IsPermutation rows (map row_of_keyed (put_each keyed_cmp papers s.keyings))) (map-append row_of_keyed papers s.keyings)
     (IsPermutation-map row_of_keyed (papers ++ s.keyings) (put_each keyed_cmp papers s.keyings) (put_each_same keyed_cmp papers s.keyings)))
@@ -127,15 +139,24 @@ papers_put s papers =
 pub verdict_put : (s : OfficeState) (v : JudgedEntry) → SameContents (added Verdict (row_of_judged v) (tables_of s)) (tables_of (with_effect (paper_judged v) s))
 unfolding added tables_of
 verdict_put s v =
-    filled_changed (office_rows ∷ ward_rows s ∷ candidate_rows s ∷ batch_rows s ∷ keying_rows s ∷ []) Verdict (map row_of_judged s.verdicts) (map row_of_judged (put judged_cmp v s.verdicts)) (receipt_rows s ∷ []) (λ rows. row_of_judged v ∷ rows) refl
+    filled_changed (office_rows ∷ ward_rows s ∷ candidate_rows s ∷ batch_rows s ∷ keying_rows s ∷ []) Verdict (map row_of_judged s.verdicts) (map row_of_judged (put judged_cmp v s.verdicts)) (lot_rows s ∷ receipt_rows s ∷ []) (λ rows. row_of_judged v ∷ rows) refl
     (IsPermutation-map row_of_judged (v ∷ s.verdicts) (put judged_cmp v s.verdicts) (put_same judged_cmp v s.verdicts))
+
+-- ---- lots
+
+-- a lot more
+pub lot_put : (s : OfficeState) (l : LotEntry) → SameContents (added Lot (row_of_lot l) (tables_of s)) (tables_of (with_effect (lot_drawn l) s))
+unfolding added tables_of
+lot_put s l =
+    filled_changed (office_rows ∷ ward_rows s ∷ candidate_rows s ∷ batch_rows s ∷ keying_rows s ∷ verdict_rows s ∷ []) Lot (map row_of_lot s.lots) (map row_of_lot (put lot_cmp l s.lots)) (receipt_rows s ∷ []) (λ rows. row_of_lot l ∷ rows) refl
+    (IsPermutation-map row_of_lot (l ∷ s.lots) (put lot_cmp l s.lots) (put_same lot_cmp l s.lots))
 
 -- ---- receipts
 
 -- a receipt more
 pub receipt_put : (s : OfficeState) (r : ReceiptEntry) → SameContents (added Receipt (row_of_receipt r) (tables_of s)) (tables_of (with_receipt r s))
 unfolding added tables_of
-receipt_put s r = filled_changed (office_rows ∷ ward_rows s ∷ candidate_rows s ∷ batch_rows s ∷ keying_rows s ∷ verdict_rows s ∷ []) Receipt (map row_of_receipt s.receipts) (map row_of_receipt (put receipt_cmp r s.receipts)) [] (λ rows. row_of_receipt r ∷ rows) refl
+receipt_put s r = filled_changed (office_rows ∷ ward_rows s ∷ candidate_rows s ∷ batch_rows s ∷ keying_rows s ∷ verdict_rows s ∷ lot_rows s ∷ []) Receipt (map row_of_receipt s.receipts) (map row_of_receipt (put receipt_cmp r s.receipts)) [] (λ rows. row_of_receipt r ∷ rows) refl
     (IsPermutation-map row_of_receipt (r ∷ s.receipts) (put receipt_cmp r s.receipts) (put_same receipt_cmp r s.receipts))
 
 -- ---- a new office
@@ -149,8 +170,8 @@ office_put Candidate = IsPermutation-refl _
 office_put Batch = IsPermutation-refl _
 office_put Keying = IsPermutation-refl _
 office_put Verdict = IsPermutation-refl _
+office_put Lot = IsPermutation-refl _
 office_put Receipt = IsPermutation-refl _
-office_put _ = IsPermutation-refl _
 
 -- what a transaction sees of the same contents in another order
 pub seen : {X E : Type 0} (r : Result X E) (c d : Contents) (s : State) → SameContents c d → OnOk r (Sees c s) → OnOk r (Sees d s)

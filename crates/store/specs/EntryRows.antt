@@ -5,7 +5,7 @@ use Rattle.sqlite.specs.declared.types.Value.TheVariants.{Int, Text}
 use Rattle.sqlite.specs.Order.{Row, column}
 use Rattle.register.specs.declared.phase.Phase.{Phase}
 use Rattle.register.specs.Phases.{phase_number}
-use Rattle.register.specs.Offices.{WardEntry, CandidateEntry, BatchEntry, KeyedEntry, JudgedEntry, ReceiptEntry}
+use Rattle.register.specs.Offices.{WardEntry, CandidateEntry, BatchEntry, KeyedEntry, JudgedEntry, LotEntry, ReceiptEntry}
 use Rattle.tables.specs.Cells.{IsNumber, IsText}
 
 -- the number of a phase
@@ -55,6 +55,14 @@ row_of_judged j = Int (pos j.batch) ∷ Int (pos j.paper) ∷ Int (pos j.code) �
 -- a row that reads as a judged paper's
 abbrev pub IsJudgedRow : Row → Type 0
 IsJudgedRow r = IsNumber (column r 0) × IsNumber (column r 1) × IsNumber (column r 2) × IsText (column r 3)
+
+-- the row of a lot
+abbrev pub row_of_lot : LotEntry → Row
+row_of_lot l = Int (pos l.ward) ∷ Int (pos l.stage) ∷ Int (pos l.candidate) ∷ []
+
+-- a row that reads as a lot's
+abbrev pub IsLotRow : Row → Type 0
+IsLotRow r = IsNumber (column r 0) × IsNumber (column r 1) × IsNumber (column r 2)
 
 -- the row of a receipt
 abbrev pub row_of_receipt : ReceiptEntry → Row

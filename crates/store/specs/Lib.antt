@@ -3,3 +3,4 @@ pub mod Offices
 pub mod Openings
 pub mod Listings
 pub mod Tallies
+pub mod Elections

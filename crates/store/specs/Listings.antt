@@ -7,13 +7,16 @@ use Rattle.register.specs.declared.candidates.Candidate.{Candidate as CandidateV
 use Rattle.register.specs.declared.batches.Batch.{Batch as BatchValue}
 use Rattle.register.specs.declared.keyings.KeyedPaper.{KeyedPaper}
 use Rattle.register.specs.declared.verdicts.JudgedPaper.{JudgedPaper}
-use Rattle.register.specs.Offices.{ward_entry, candidate_entry, batch_entry, keyed_entry, judged_entry}
-use Rattle.tables.specs.declared.table.Table.TheVariants.{Ward, Candidate, Batch, Keying, Verdict}
+use Rattle.register.specs.declared.counts.DrawnLot.{DrawnLot}
+use Rattle.register.specs.declared.receipt.Receipt.{Receipt as ReceiptValue}
+use Rattle.register.specs.Offices.{ward_entry, candidate_entry, batch_entry, keyed_entry, judged_entry, lot_entry, receipt_entry}
+use Rattle.tables.specs.declared.table.Table.TheVariants.{Ward, Candidate, Batch, Keying, Verdict, Lot, Receipt}
 use Rattle.tables.specs.Rows.{row_cmp}
 use Rattle.tables.specs.Reading.{ListsEntries}
 use Rattle.store.specs.declared.listing.Contests.{Contests}
 use Rattle.store.specs.declared.listing.Papers.{Papers}
-use Rattle.store.specs.EntryRows.{row_of_ward, row_of_candidate, row_of_batch, row_of_keyed, row_of_judged}
+use Rattle.store.specs.declared.listing.Records.{Records}
+use Rattle.store.specs.EntryRows.{row_of_ward, row_of_candidate, row_of_batch, row_of_keyed, row_of_judged, row_of_lot, row_of_receipt}
 
 -- all rows of the wards and of the candidates
 pub record ListsContests (db : Database) (contests : Contests) : Type 0 where
@@ -36,3 +39,13 @@ pub record PapersRise (papers : Papers) : Type 0 where
   pub batches : IsStrictlySortedBy (row_cmp Batch) (map (λ (b : BatchValue). row_of_batch (batch_entry b)) papers.batches.items)
   pub keyings : IsStrictlySortedBy (row_cmp Keying) (map (λ (k : KeyedPaper). row_of_keyed (keyed_entry k)) papers.keyings.items)
   pub verdicts : IsStrictlySortedBy (row_cmp Verdict) (map (λ (v : JudgedPaper). row_of_judged (judged_entry v)) papers.verdicts.items)
+
+-- all rows of the lots and of the receipts
+pub record ListsRecords (db : Database) (records : Records) : Type 0 where
+  pub lots : ListsEntries Lot db (map (λ (l : DrawnLot). row_of_lot (lot_entry l)) records.lots.items)
+  pub receipts : ListsEntries Receipt db (map (λ (r : ReceiptValue). row_of_receipt (receipt_entry r)) records.receipts.items)
+
+-- each row's key is above that of the one before
+pub record RecordsRise (records : Records) : Type 0 where
+  pub lots : IsStrictlySortedBy (row_cmp Lot) (map (λ (l : DrawnLot). row_of_lot (lot_entry l)) records.lots.items)
+  pub receipts : IsStrictlySortedBy (row_cmp Receipt) (map (λ (r : ReceiptValue). row_of_receipt (receipt_entry r)) records.receipts.items)

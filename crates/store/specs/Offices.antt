@@ -6,9 +6,9 @@ use Rattle.sqlite.specs.State.{State}
 use Rattle.register.specs.Offices.{OfficeState}
 use Rattle.register.specs.Items.{IsState}
 use Rattle.register.specs.Effects.{ChangeEntry, with_change}
-use Rattle.tables.specs.declared.table.Table.TheVariants.{Office, Ward, Candidate, Batch, Keying, Verdict, Receipt}
+use Rattle.tables.specs.declared.table.Table.TheVariants.{Office, Ward, Candidate, Batch, Keying, Verdict, Lot, Receipt}
 use Rattle.tables.specs.Contents.{Contents, filled, IsOffice, Stores, Rests}
-use Rattle.store.specs.EntryRows.{office_row, row_of_ward, row_of_candidate, row_of_batch, row_of_keyed, row_of_judged, row_of_receipt}
+use Rattle.store.specs.EntryRows.{office_row, row_of_ward, row_of_candidate, row_of_batch, row_of_keyed, row_of_judged, row_of_lot, row_of_receipt}
 
 -- the rows that stand for a state, table by table; opaque, so that a search does not compute it
 unfoldable pub tables_of : OfficeState → Contents
@@ -20,6 +20,7 @@ tables_of s =
     ∷ (Batch, map row_of_batch s.batches)
     ∷ (Keying, map row_of_keyed s.keyings)
     ∷ (Verdict, map row_of_judged s.verdicts)
+    ∷ (Lot, map row_of_lot s.lots)
     ∷ (Receipt, map row_of_receipt s.receipts)
     ∷ []
     )

@@ -1,5 +1,5 @@
 -- What an opening finds.
-use Rattle.std.specs.Prelude.{◌≡◌, ◌≢◌, ◌⊎◌, ◌<◌, ℕ, ℤ, pos, ◌<ℤ◌, Bool, true, false, not, List, [], ◌∷◌, ⊤, IsTrue}
+use Rattle.std.specs.Prelude.{◌≡◌, ◌≢◌, ◌⊎◌, ◌<◌, ℕ, ℤ, pos, ◌<ℤ◌, Bool, true, false, List, [], ◌∷◌, ⊤, IsTrue}
 use Rattle.sqlite.specs.declared.types.Value.TheVariants.{Int}
 use Rattle.sqlite.specs.Order.{Row}
 use Rattle.sqlite.specs.Effect.{Database, IsDatabase}
@@ -9,7 +9,7 @@ use Rattle.register.specs.Items.{IsState}
 use Rattle.tables.specs.declared.fault.Fault.{Fault}
 use Rattle.tables.specs.declared.fault.Fault.TheVariants.{Memory, Store, Damaged, Closed, WrongDatabase, NewerSchema}
 use Rattle.tables.specs.declared.table.Table.{Table}
-use Rattle.tables.specs.declared.table.Table.TheVariants.{Office, Ward, Candidate, Batch, Keying, Verdict, Receipt}
+use Rattle.tables.specs.declared.table.Table.TheVariants.{Office, Ward, Candidate, Batch, Keying, Verdict, Lot, Receipt}
 use Rattle.tables.specs.Schema.{no_schema}
 use Rattle.tables.specs.Rows.{tuples, at, column_places}
 use Rattle.tables.specs.Contents.{HoldsTable, Stores}
@@ -112,26 +112,9 @@ has_entries Candidate = true
 has_entries Batch = true
 has_entries Keying = true
 has_entries Verdict = true
+has_entries Lot = true
 has_entries Receipt = true
-has_entries _ = false
-
--- the tables that no command fills yet
-abbrev pub is_later : Table → Bool
-is_later Office = false
-is_later t = not (has_entries t)
-
--- the fault that a table gives which has to be empty
-abbrev pub TellsRowsIn : Table → Database → Fault → Type 0
-TellsRowsIn t db Memory = ⊤
-TellsRowsIn t db Store = ⊤
-TellsRowsIn t db Damaged = ¬ HoldsTable t [] db.trees
-TellsRowsIn t db Closed = ⊥
-TellsRowsIn t db WrongDatabase = ⊥
-TellsRowsIn t db NewerSchema = ⊥
-
--- the tables that no command fills yet hold no row
-abbrev pub AreEmpty : Database → Type 0
-AreEmpty db = (t : Table) → is_later t ≡ true → HoldsTable t [] db.trees
+has_entries Office = false
 
 -- all rows of each table of entries, those of these maps
 abbrev pub ListsMaps : Database → OfficeState → Type 0

@@ -10,15 +10,16 @@ ghost use Rattle.tables.specs.Schema.{IsOfficeSchema};
 ghost use Rattle.tables.specs.Contents.{RestsAt};
 ghost use Rattle.tables.specs.Reading.{OnlyReads};
 ghost use Rattle.store.specs.Openings.{TellsNoState, ListsMaps};
-ghost use Rattle.store.specs.Listings.{ListsContests, ContestsRise, ListsPapers, PapersRise};
+ghost use Rattle.store.specs.Listings.{ListsContests, ContestsRise, ListsPapers, PapersRise, ListsRecords, RecordsRise};
 
 use crate::entries::batches::Batches;
 use crate::entries::candidates::Candidates;
 use crate::entries::keyings::KeyedPapers;
+use crate::entries::lots::Lots;
 use crate::entries::receipts::Receipts;
 use crate::entries::verdicts::JudgedPapers;
 use crate::entries::wards::Wards;
-use register::{Batch, Candidate, JudgedPaper, KeyedPaper, Ward};
+use register::{Batch, Candidate, DrawnLot, JudgedPaper, KeyedPaper, Receipt, Ward};
 use rowcheck::Rows;
 use sqlite::{Alter, Connection};
 use std::alloc::Global;
@@ -38,6 +39,13 @@ struct Papers {
     batches: Vec<Batch>,
     keyings: Vec<KeyedPaper>,
     verdicts: Vec<JudgedPaper>,
+}
+
+/// The lots that were drawn, and the receipts.
+#[derive(Drop)]
+struct Records {
+    lots: Vec<DrawnLot>,
+    receipts: Vec<Receipt>,
 }
 
 /// The wards and the candidates of a database. `Damaged` where the rows are those of no state.
@@ -79,6 +87,23 @@ fn all_papers<S: Alter>(alloc: Global, conn: &mut Connection<S>) -> Result<Paper
     })
 }
 
+/// The lots and the receipts of a database. `Damaged` where the rows are those of no state.
+fn all_records<S: Alter>(alloc: Global, conn: &mut Connection<S>) -> Result<Records, Fault>
+    requires { conn.old.in_transaction ≡ false }
+    ensures lists { HasCleanDisk (state S.Store conn.new) → (db : Database) → IsOfficeSchema db.schema → RestsAt db (state S.Store conn.old)
+        → IfOk result (ListsRecords db) }
+    ensures told { HasCleanDisk (state S.Store conn.new) → (db : Database) → IsOfficeSchema db.schema → RestsAt db (state S.Store conn.old)
+        → IfErr result (TellsNoState db) }
+    ensures rise { IfOk result RecordsRise }
+    ensures opens { HasCleanDisk (state S.Store conn.new) → OnOk result (IsTrue (state S.Store conn.new).is_open) }
+    ensures reads { OnlyReads (state S.Store conn.old) (state S.Store conn.new) }
+    ensures outside { conn.new.in_transaction ≡ false }
+{
+    let lots = all_entries::<Lots, S>(alloc, conn)?;
+    let receipts = all_entries::<Receipts, S>(alloc, conn)?;
+    Ok(Records { lots, receipts })
+}
+
 /// The entries of a database, each table's in the order of its key. `Damaged` where the rows are those of
 /// no state.
 pub(crate) fn all_rows<S: Alter>(alloc: Global, conn: &mut Connection<S>) -> Result<Rows, Fault>
@@ -98,13 +123,14 @@ pub(crate) fn all_rows<S: Alter>(alloc: Global, conn: &mut Connection<S>) -> Res
         keyings,
         verdicts,
     } = all_papers(alloc, conn)?;
-    let receipts = all_entries::<Receipts, S>(alloc, conn)?;
+    let Records { lots, receipts } = all_records(alloc, conn)?;
     Ok(Rows {
         wards,
         candidates,
         batches,
         keyings,
         verdicts,
+        lots,
         receipts,
     })
 }

@@ -3,7 +3,8 @@
 ghost use Rattle.std.specs.Prelude.{◌≡◌, ◌⊎◌, ◌+◌, if◌then◌else◌, false, [], ◌∷◌, map, option_map, IfOk, IfErr, OnOk, IsTrue};
 ghost use Rattle.sqlite.specs.State.{HasCleanDisk};
 ghost use Rattle.sqlite.specs.Held.{state};
-ghost use Rattle.register.specs.Offices.{OfficeState, ward_entry, batch_entry};
+ghost use Rattle.register.specs.Offices.{OfficeState, ward_entry, batch_entry, ward_at};
+ghost use Rattle.register.specs.Elections.{election_of, election_entry};
 ghost use Rattle.register.specs.Standings.{status_entry, status_of, status_at, columns_at};
 ghost use Rattle.tables.specs.Reading.{OnlyReads};
 ghost use Rattle.store.specs.Offices.{IsAt};
@@ -12,12 +13,13 @@ ghost use Rattle.store.specs.Tallies.{IsTally, tally_by};
 use crate::storage::Store;
 use crate::views::batches::{find_batch, list_batches};
 use crate::views::candidates::list_candidates;
+use crate::views::elections::find_election;
 use crate::views::papers::{Keyings, keyings_of, list_verdicts};
 use crate::views::wards::find_ward;
 use paper::Columns;
 use register::marks::columns_of;
 use register::papers::{are_taken, count_open, differ};
-use register::{Batch, JudgedPaper, Status, Ward};
+use register::{Batch, Election, JudgedPaper, Status, Ward};
 use sqlite::{Alter, Connection};
 use std::alloc::Global;
 use tables::Fault;
@@ -211,6 +213,19 @@ impl<S: Alter> Store<S> {
         ensures keeps { HasCleanDisk (state S.Store self.new) → (s : OfficeState) → IsAt s (state S.Store self.old) → IsAt s (state S.Store self.new) }
     {
         find_status(self.alloc, &mut self.conn, ward)
+    }
+
+    /// The election in the ward of this number, if there is one: what its sheet and its result are worked
+    /// out from. It changes nothing, and adds nothing to what a stop may leave. `Memory` or `Store` where
+    /// a row can't be read.
+    pub fn load_election(&mut self, ward: u32) -> Result<Option<Election>, Fault>
+        ensures shows { HasCleanDisk (state S.Store self.new) → (s : OfficeState) → IsAt s (state S.Store self.old) → IfOk result (λ found. option_map election_entry found ≡ option_map (election_of s) (ward_at s ward)) }
+        ensures cause { HasCleanDisk (state S.Store self.new) → (s : OfficeState) → IsAt s (state S.Store self.old) → IfErr result (λ f. (f ≡ Fault.Memory) ⊎ (f ≡ Fault.Store)) }
+        ensures opens { HasCleanDisk (state S.Store self.new) → OnOk result (IsTrue (state S.Store self.new).is_open) }
+        ensures reads { OnlyReads (state S.Store self.old) (state S.Store self.new) }
+        ensures keeps { HasCleanDisk (state S.Store self.new) → (s : OfficeState) → IsAt s (state S.Store self.old) → IsAt s (state S.Store self.new) }
+    {
+        find_election(self.alloc, &mut self.conn, ward)
     }
 
     /// The columns of the papers of the batch with this number, if there is one. It changes nothing, and

@@ -12,6 +12,8 @@ ghost use Rattle.store.specs.Offices.{IsAt};
 
 pub(crate) mod batches;
 pub(crate) mod candidates;
+mod counts;
+pub(crate) mod elections;
 pub(crate) mod papers;
 mod receipts;
 pub(crate) mod wards;
@@ -19,10 +21,11 @@ pub(crate) mod wards;
 use crate::storage::Store;
 use crate::views::batches::{again_part, new_batch_part};
 use crate::views::candidates::candidate_part;
+use crate::views::counts::{count_part, lot_part, seal_part};
 use crate::views::papers::{keying_part, verdict_part};
 use crate::views::receipts::find_receipt;
 use crate::views::wards::{contest_part, ward_part};
-use register::{BatchCommand, CandidateCommand, Command, Part, View, WardCommand};
+use register::{BatchCommand, CandidateCommand, Command, CountCommand, Part, View, WardCommand};
 use sqlite::{Alter, Connection};
 use std::alloc::Global;
 use tables::Fault;
@@ -60,6 +63,16 @@ fn find_part<S: Alter>(
         Command::Batch(BatchCommand::Again { batch }) => again_part(alloc, conn, *batch),
         Command::Keying(keying) => keying_part(alloc, conn, keying.batch, keying.round, actor),
         Command::Verdict(judged) => verdict_part(alloc, conn, judged.batch, judged.paper),
+        Command::Count(CountCommand::Seal { ward }) => seal_part(alloc, conn, *ward),
+        Command::Count(CountCommand::Advance { ward }) => count_part(alloc, conn, *ward),
+        Command::Count(
+            CountCommand::Lot {
+                ward,
+                candidate,
+                ..
+            },
+        ) => lot_part(alloc, conn, *ward, *candidate),
+        Command::Count(CountCommand::Declare { ward }) => count_part(alloc, conn, *ward),
     }
 }
 

@@ -13,12 +13,14 @@ ghost use Rattle.store.specs.Offices.{tables_of, ChangesTo};
 
 mod batches;
 mod candidates;
+mod counts;
 mod papers;
 mod wards;
 
 use crate::entries::receipts::Receipts;
 use crate::writing::batches::{write_batch, write_round};
 use crate::writing::candidates::{remove_candidate, write_candidate};
+use crate::writing::counts::{write_lot, write_stage};
 use crate::writing::papers::{write_keying, write_verdict};
 use crate::writing::wards::{write_phase, write_ward};
 use register::{Change, Effect, Receipt};
@@ -57,6 +59,8 @@ pub(crate) fn write_effect<S: Alter>(
         Effect::BatchReopened { batch, round } => write_round(tx, *batch, *round),
         Effect::PapersKeyed(papers) => write_keying(alloc, tx, papers),
         Effect::PaperJudged(judged) => write_verdict(alloc, tx, judged),
+        Effect::StageCounted { ward, done } => write_stage(tx, *ward, *done),
+        Effect::LotDrawn(lot) => write_lot(alloc, tx, lot),
     }
 }
 

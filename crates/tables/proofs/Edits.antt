@@ -16,7 +16,7 @@ use Rattle.sqlite_tied.specs.Compute.{everything}
 use Rattle.tables.specs.declared.table.Table.{Table}
 use Rattle.tables.specs.declared.table.Table.TheVariants.{Office, Ward, Candidate, Batch, Keying, Verdict, Lot, Receipt}
 use Rattle.tables.specs.declared.table.Setting.{Setting}
-use Rattle.tables.specs.declared.table.Setting.TheVariants.{PhaseOfWard, RoundOfBatch}
+use Rattle.tables.specs.declared.table.Setting.TheVariants.{PhaseOfWard, DoneOfWard, RoundOfBatch}
 use Rattle.tables.specs.Texts.{update_text, set_text, delete_text}
 use Rattle.tables.specs.Schema.{Definition, schema_from, definition, place_of, tree_of, shape, columns_of, places_from, changes_rows, table_set, place_set, AreFree}
 use Rattle.tables.proofs.SelectLemmas.{query, columns_from, tests_from}
@@ -36,6 +36,7 @@ set_terms g = col 1 0 ∷ col 1 0 ∷ map (λ p. cond (p == place_set g) (col 0 
 
 pub setting_changes : (g : Setting) → changes_rows (table_set g) ≡ true
 setting_changes PhaseOfWard = refl
+setting_changes DoneOfWard = refl
 setting_changes RoundOfBatch = refl
 
 module _ (rest : List Definition) (others : List Index) (views : List View) where
@@ -71,4 +72,5 @@ module _ (rest : List Definition) (others : List Index) (views : List View) wher
   pub sets_value : (g : Setting) → SetsValue g
   unfolding understood everything set_text
   sets_value PhaseOfWard = record { sets = refl; plain = (refl, refl) }
+  sets_value DoneOfWard = record { sets = refl; plain = (refl, refl) }
   sets_value RoundOfBatch = record { sets = refl; plain = (refl, refl) }

@@ -104,12 +104,6 @@ key_of_three_numbers a b c k m n =
     ap (λ x. x && (equal Binary (Int (pos m)) (Int (pos b)) && (equal Binary (Int (pos n)) (Int (pos c)) && true))) (equal-Int (pos k) (pos a) ∙ ap is_eq (numbers k a) ∙ turned nat_cmp_total k a)
     ∙ ap (λ x. is_eq (nat_cmp a k) && x) (key_of_two_numbers b c m n) ∙ then_equal (nat_cmp a k) (ordering_then (nat_cmp b m) (nat_cmp c n))
 
-pub key_of_four_numbers : (a b c d k l m n : ℕ) → (equal Binary (Int (pos k)) (Int (pos a)) && (equal Binary (Int (pos l)) (Int (pos b)) && (equal Binary (Int (pos m)) (Int (pos c)) && (equal Binary (Int (pos n)) (Int (pos d)) && true))))
-    ≡ is_eq (ordering_then (nat_cmp a k) (ordering_then (nat_cmp b l) (ordering_then (nat_cmp c m) (nat_cmp d n))))
-key_of_four_numbers a b c d k l m n =
-    ap (λ x. x && (equal Binary (Int (pos l)) (Int (pos b)) && (equal Binary (Int (pos m)) (Int (pos c)) && (equal Binary (Int (pos n)) (Int (pos d)) && true)))) (equal-Int (pos k) (pos a) ∙ ap is_eq (numbers k a) ∙ turned nat_cmp_total k a)
-    ∙ ap (λ x. is_eq (nat_cmp a k) && x) (key_of_three_numbers b c d l m n) ∙ then_equal (nat_cmp a k) (ordering_then (nat_cmp b l) (ordering_then (nat_cmp c m) (nat_cmp d n)))
-
 -- the same, number by number
 pub same_number : (a k : ℕ) → (equal Binary (Int (pos k)) (Int (pos a)) && true) ≡ (k == a)
 same_number a k = and-true _ ∙ equal-number k a

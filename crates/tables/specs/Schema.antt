@@ -19,7 +19,7 @@ use Rattle.tables.specs.declared.table.Table.{Table}
 use Rattle.tables.specs.declared.table.Reference.{Reference}
 use Rattle.tables.specs.declared.table.Reference.TheVariants.{WardOfBatch}
 use Rattle.tables.specs.declared.table.Setting.{Setting}
-use Rattle.tables.specs.declared.table.Setting.TheVariants.{PhaseOfWard, RoundOfBatch}
+use Rattle.tables.specs.declared.table.Setting.TheVariants.{PhaseOfWard, DoneOfWard, RoundOfBatch}
 use Rattle.tables.specs.declared.table.Table.TheVariants.{Office, Ward, Candidate, Batch, Keying, Verdict, Lot, Receipt}
 
 -- a table as `sqlite` keeps it in a schema
@@ -93,11 +93,13 @@ place_sought WardOfBatch = 1
 -- the table in which a column outside the key is set alone
 abbrev pub table_set : Setting → Table
 table_set PhaseOfWard = Ward
+table_set DoneOfWard = Ward
 table_set RoundOfBatch = Batch
 
 -- the place of that column
 abbrev pub place_set : Setting → ℕ
 place_set PhaseOfWard = 2
+place_set DoneOfWard = 3
 place_set RoundOfBatch = 5
 
 -- a column as `sqlite` keeps it

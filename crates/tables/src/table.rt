@@ -90,6 +90,8 @@ impl Reference {
 pub enum Setting {
     /// The phase of a ward.
     PhaseOfWard,
+    /// How many stages of a ward's count are done.
+    DoneOfWard,
     /// The round of a batch.
     RoundOfBatch,
 }
@@ -100,7 +102,7 @@ impl Setting {
         ensures { result ≡ table_set self }
     {
         match self {
-            Setting::PhaseOfWard => Table::Ward,
+            Setting::PhaseOfWard | Setting::DoneOfWard => Table::Ward,
             Setting::RoundOfBatch => Table::Batch,
         }
     }

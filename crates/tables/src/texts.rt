@@ -152,6 +152,7 @@ pub fn set_text(setting: Setting) -> &'static str
 {
     match setting {
         Setting::PhaseOfWard => "UPDATE ward SET phase = ?2 WHERE ward = ?1",
+        Setting::DoneOfWard => "UPDATE ward SET done = ?2 WHERE ward = ?1",
         Setting::RoundOfBatch => "UPDATE batch SET round = ?2 WHERE batch = ?1",
     }
 }

@@ -1,34 +1,28 @@
 -- Why `all_rows` keeps its promise.
-use Rattle.std.proofs.Common.{refl}
 use Rattle.std.proofs.lemmas.Result.{err_from_is_err_and}
-use Rattle.tables.specs.declared.table.Table.TheVariants.{Receipt}
-use Rattle.store.specs.EntryRows.{IsReceiptRow}
 use Rattle.tables.proofs.ReadLemmas.{only_reads_then}
-use Rattle.tables.proofs.ListingLemmas.{begins_to}
-use Rattle.store.proofs.FitLemmas.{receipts_fit}
-use Rattle.store.proofs.TellLemmas.{told_entries}
 use Rattle.store.proofs.ListsLemmas.{lists_maps, rows_of_maps_rise}
 use Rattle.store.proofs.listing.all_rows.Goals as goal
 
 pub returns-clause-lists : goal.returns-clause-lists
 returns-clause-lists g c clean db has rests =
-    let second = c.all_entries.ensures.reads.clean clean in
+    let second = c.all_records.ensures.reads.clean clean in
     let first = c.all_papers.ensures.reads.clean second in
     let mid = c.all_contests.ensures.reads.rests first (c.in_ok-wards.ensures.opens first) db rests in
     let late = c.all_papers.ensures.reads.rests second (c.in_ok-batches.ensures.opens second) db mid in
-    lists_maps _ _ c.in_ok-receipts.receipts.items db (c.in_ok-wards.ensures.lists first db has rests) (c.in_ok-batches.ensures.lists second db has mid) (c.in_ok-receipts.ensures.lists clean db (begins_to Receipt db.schema has) late)
+    lists_maps _ _ _ db (c.in_ok-wards.ensures.lists first db has rests) (c.in_ok-batches.ensures.lists second db has mid) (c.in_ok-lots.ensures.lists clean db has late)
 
 pub returns-clause-rise : goal.returns-clause-rise
-returns-clause-rise g c = rows_of_maps_rise _ _ c.in_ok-receipts.receipts.items c.in_ok-wards.ensures.rise c.in_ok-batches.ensures.rise c.in_ok-receipts.ensures.rise
+returns-clause-rise g c = rows_of_maps_rise _ _ _ c.in_ok-wards.ensures.rise c.in_ok-batches.ensures.rise c.in_ok-lots.ensures.rise
 
 pub returns-clause-reads : goal.returns-clause-reads
-returns-clause-reads g c = only_reads_then _ _ _ c.all_contests.ensures.reads (only_reads_then _ _ _ c.all_papers.ensures.reads c.all_entries.ensures.reads)
+returns-clause-reads g c = only_reads_then _ _ _ c.all_contests.ensures.reads (only_reads_then _ _ _ c.all_papers.ensures.reads c.all_records.ensures.reads)
 
 pub returns-in_err-batches-clause-reads : goal.returns-in_err-batches-clause-reads
 returns-in_err-batches-clause-reads g c = only_reads_then _ _ _ c.all_contests.ensures.reads c.all_papers.ensures.reads
 
-pub returns-in_err-receipts-clause-reads : goal.returns-in_err-receipts-clause-reads
-returns-in_err-receipts-clause-reads g c = only_reads_then _ _ _ c.all_contests.ensures.reads (only_reads_then _ _ _ c.all_papers.ensures.reads c.all_entries.ensures.reads)
+pub returns-in_err-lots-clause-reads : goal.returns-in_err-lots-clause-reads
+returns-in_err-lots-clause-reads g c = only_reads_then _ _ _ c.all_contests.ensures.reads (only_reads_then _ _ _ c.all_papers.ensures.reads c.all_records.ensures.reads)
 
 pub returns-in_err-wards-clause-told : goal.returns-in_err-wards-clause-told
 returns-in_err-wards-clause-told g c clean db has rests =
@@ -42,11 +36,11 @@ returns-in_err-batches-clause-told g c clean db has rests =
     let p = err_from_is_err_and c.from_residual-in_err-batches.result c.from_residual-in_err-batches.ensures.1 in
     rw (p.1, p.2) (c.in_err-batches.ensures.told clean db has mid)
 
-pub returns-in_err-receipts-clause-told : goal.returns-in_err-receipts-clause-told
-returns-in_err-receipts-clause-told g c clean db has rests =
-    let second = c.all_entries.ensures.reads.clean clean in
+pub returns-in_err-lots-clause-told : goal.returns-in_err-lots-clause-told
+returns-in_err-lots-clause-told g c clean db has rests =
+    let second = c.all_records.ensures.reads.clean clean in
     let first = c.all_papers.ensures.reads.clean second in
     let mid = c.all_contests.ensures.reads.rests first (c.in_ok-wards.ensures.opens first) db rests in
     let late = c.all_papers.ensures.reads.rests second (c.in_ok-batches.ensures.opens second) db mid in
-    let p = err_from_is_err_and c.from_residual-in_err-receipts.result c.from_residual-in_err-receipts.ensures.1 in
-    rw (p.1, p.2) (told_entries Receipt IsReceiptRow refl receipts_fit db _ (c.in_err-receipts.ensures.cause clean db (begins_to Receipt db.schema has) late))
+    let p = err_from_is_err_and c.from_residual-in_err-lots.result c.from_residual-in_err-lots.ensures.1 in
+    rw (p.1, p.2) (c.in_err-lots.ensures.told clean db has late)

@@ -55,4 +55,4 @@ returns-clause-holds g c clean db ours rests =
     let mid = c.check_office.ensures.reads.rests before (c.in_ok-check_office.ensures.opens before) db rests in
     let every = ours.every (answered has_every_table db (state g.S.Store c.check_office.new.conn) mid c.has_every_table.result true c.has_every_table.ensures.value all) in
     let tables = c.in_ok-check_tables.ensures.holds clean db every sound mid in
-    (tables.1.0, state_held db every sound (c.in_ok-check_office.ensures.holds before db (ours.office there) sound rests) tables.0 tables.1.0 tables.1.1)
+    (tables.0, state_held db every sound (c.in_ok-check_office.ensures.holds before db (ours.office there) sound rests) tables.0 tables.1)

@@ -1,28 +1,26 @@
 -- Why `check_tables` keeps its promise.
+use Rattle.std.proofs.Common.{◌≡◌, true, false, subst, rules}
 use Rattle.std.proofs.lemmas.Result.{err_from_is_err_and}
-use Rattle.tables.proofs.ReadLemmas.{only_reads_then}
+use Rattle.register.specs.Offices.{OfficeState}
+use Rattle.register.specs.Items.{IsState}
+use Rattle.rowcheck.specs.States.{state_of}
+use Rattle.store.proofs.TellLemmas.{maps_are, entries_held}
 use Rattle.store.proofs.opening.check_tables.Goals as goal
 
-pub returns-clause-holds : goal.returns-clause-holds
-returns-clause-holds g c clean db has sound rests =
-    let before = c.check_state.ensures.reads.clean clean in
-    let mid = c.check_later.ensures.reads.rests before (c.in_ok-check_later.ensures.opens before rests.is_open) db rests in
-    (c.in_ok-check_later.ensures.holds before db has rests, c.in_ok-check_state.ensures.holds clean db has sound mid)
+pub returns-then-are_of_state-clause-holds : goal.returns-then-are_of_state-clause-holds
+returns-then-are_of_state-clause-holds g c clean db has sound rests =
+    let of : c.are_of_state.result ≡ true = search rules in
+    let s = state_of c.in_ok-rows.rows in
+    let lists = c.in_ok-rows.ensures.lists clean db has rests in
+    (s, entries_held db has sound s (c.are_of_state.ensures.some of) lists)
 
-pub returns-clause-reads : goal.returns-clause-reads
-returns-clause-reads g c = only_reads_then _ _ _ c.check_later.ensures.reads c.check_state.ensures.reads
+pub returns-clause-told : goal.returns-clause-told
+returns-clause-told g c clean db has rests =
+    let not : c.are_of_state.result ≡ false = search rules in
+    let lists = c.in_ok-rows.ensures.lists clean db has rests in
+    λ s holds. c.are_of_state.ensures.none not (subst (λ (x : OfficeState). IsState x) (maps_are db (state_of c.in_ok-rows.rows) s lists holds) holds.is)
 
-pub returns-in_err-check_state-clause-reads : goal.returns-in_err-check_state-clause-reads
-returns-in_err-check_state-clause-reads g c = only_reads_then _ _ _ c.check_later.ensures.reads c.check_state.ensures.reads
-
-pub returns-in_err-check_later-clause-told : goal.returns-in_err-check_later-clause-told
-returns-in_err-check_later-clause-told g c clean db has rests =
+pub returns-in_err-rows-clause-told : goal.returns-in_err-rows-clause-told
+returns-in_err-rows-clause-told g c clean db has rests =
     let p = err_from_is_err_and c.from_residual.result c.from_residual.ensures.1 in
-    rw (p.1, p.2) (c.in_err-check_later.ensures.told clean db has rests)
-
-pub returns-in_err-check_state-clause-told : goal.returns-in_err-check_state-clause-told
-returns-in_err-check_state-clause-told g c clean db has rests =
-    let before = c.check_state.ensures.reads.clean clean in
-    let mid = c.check_later.ensures.reads.rests before (c.in_ok-check_later.ensures.opens before rests.is_open) db rests in
-    let p = err_from_is_err_and c.from_residual-in_err-check_state.result c.from_residual-in_err-check_state.ensures.1 in
-    rw (p.1, p.2) (c.in_err-check_state.ensures.told clean db has mid)
+    rw (p.1, p.2) (c.in_err-rows.ensures.told clean db has rests)

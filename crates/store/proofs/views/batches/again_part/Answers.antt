@@ -16,7 +16,7 @@ returns-clause-found g c clean s at =
     let batch = c.in_ok-batch.ensures.found before s at in
     let keyings = c.in_ok-first.ensures.found clean s late in
     let e = c.empty.ensures in
-    same_part _ _ (c.in_ok-ward.ensures.found later s mid ∙ ap (ward_for s) batch) (ap (λ p. p.candidate) e) (ap (λ p. p.candidates) e) (batch) (ap (λ p. p.own) e) (keyings.0 ∙ ap (first_for s) batch) (keyings.1 ∙ ap (second_for s) batch) (ap (λ p. p.verdict) e)
+    same_part _ _ (c.in_ok-ward.ensures.found later s mid ∙ ap (ward_for s) batch) (ap (λ p. p.candidate) e) (ap (λ p. p.candidates) e) (batch) (ap (λ p. p.own) e) (keyings.0 ∙ ap (first_for s) batch) (keyings.1 ∙ ap (second_for s) batch) (ap (λ p. p.verdict) e) (ap (λ p. p.poll) e) (ap (λ p. p.due) e) (ap (λ p. p.elected) e)
 
 pub returns-in_err-ward-clause-cause : goal.returns-in_err-ward-clause-cause
 returns-in_err-ward-clause-cause g c clean s at =

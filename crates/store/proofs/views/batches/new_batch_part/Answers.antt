@@ -11,7 +11,7 @@ returns-clause-found g c clean s at =
     let before = c.find_batch.ensures.reads.clean clean in
     let mid = is_at_read s _ _ c.find_ward.ensures.reads before at in
     let e = c.empty.ensures in
-    same_part _ _ (c.in_ok-ward.ensures.found before s at) (ap (λ p. p.candidate) e) (ap (λ p. p.candidates) e) (c.in_ok-batch.ensures.found clean s mid) (ap (λ p. p.own) e) (ap (λ p. p.first) e) (ap (λ p. p.second) e) (ap (λ p. p.verdict) e)
+    same_part _ _ (c.in_ok-ward.ensures.found before s at) (ap (λ p. p.candidate) e) (ap (λ p. p.candidates) e) (c.in_ok-batch.ensures.found clean s mid) (ap (λ p. p.own) e) (ap (λ p. p.first) e) (ap (λ p. p.second) e) (ap (λ p. p.verdict) e) (ap (λ p. p.poll) e) (ap (λ p. p.due) e) (ap (λ p. p.elected) e)
 
 pub returns-in_err-batch-clause-cause : goal.returns-in_err-batch-clause-cause
 returns-in_err-batch-clause-cause g c clean s at =

@@ -12,7 +12,7 @@ returns-clause-found g c clean s at =
     let mid = is_at_read s _ _ c.polled_batch.ensures.reads before at in
     let e = c.empty.ensures in
     let found = c.in_ok-polled.ensures.found before s at in
-    same_part _ _ (found.1) (ap (λ p. p.candidate) e) (found.2) (found.0) (c.in_ok-own.ensures.found clean s mid) (ap (λ p. p.first) e) (ap (λ p. p.second) e) (ap (λ p. p.verdict) e)
+    same_part _ _ (found.1) (ap (λ p. p.candidate) e) (found.2) (found.0) (c.in_ok-own.ensures.found clean s mid) (ap (λ p. p.first) e) (ap (λ p. p.second) e) (ap (λ p. p.verdict) e) (ap (λ p. p.poll) e) (ap (λ p. p.due) e) (ap (λ p. p.elected) e)
 
 pub returns-in_err-own-clause-cause : goal.returns-in_err-own-clause-cause
 returns-in_err-own-clause-cause g c clean s at =

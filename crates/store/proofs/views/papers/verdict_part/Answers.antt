@@ -16,7 +16,7 @@ returns-clause-found g c clean s at =
     let found = c.in_ok-polled.ensures.found before s at in
     let keyings = c.in_ok-first.ensures.found later s mid in
     let e = c.empty.ensures in
-    same_part _ _ (found.1) (ap (λ p. p.candidate) e) (found.2) (found.0) (ap (λ p. p.own) e) (keyings.0 ∙ ap (first_for s) found.0) (keyings.1 ∙ ap (second_for s) found.0) (c.in_ok-verdict.ensures.found clean s late)
+    same_part _ _ (found.1) (ap (λ p. p.candidate) e) (found.2) (found.0) (ap (λ p. p.own) e) (keyings.0 ∙ ap (first_for s) found.0) (keyings.1 ∙ ap (second_for s) found.0) (c.in_ok-verdict.ensures.found clean s late) (ap (λ p. p.poll) e) (ap (λ p. p.due) e) (ap (λ p. p.elected) e)
 
 pub returns-in_err-first-clause-cause : goal.returns-in_err-first-clause-cause
 returns-in_err-first-clause-cause g c clean s at =

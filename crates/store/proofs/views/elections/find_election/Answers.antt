@@ -1,0 +1,13 @@
+-- Why `find_election` keeps its promise.
+use Rattle.std.proofs.Common.{◌≡◌, Some, option_map, ap, ◌∙◌}
+use Rattle.register.specs.Offices.{ward_entry, ward_at}
+use Rattle.register.specs.Elections.{ElectionEntry, election_of}
+use Rattle.store.proofs.KeepLemmas.{is_at_read}
+use Rattle.store.proofs.views.elections.find_election.Goals as goal
+
+pub returns-in_ok-election-in-Some-clause-found : goal.returns-in_ok-election-in-Some-clause-found
+returns-in_ok-election-in-Some-clause-found g c clean s at =
+    let before = c.ward_election.ensures.reads.clean clean in
+    let mid = is_at_read s _ _ c.find_ward.ensures.reads before at in
+    let there : Some (ward_entry c.in-Some.ward) ≡ ward_at s c.args.ward = rw c.in-Some.is at (c.in_ok-found.ensures.found before s at) in
+    ap (λ (e : ElectionEntry). Some e) (c.in_ok-election-in-Some.ensures.found clean s mid) ∙ ap (option_map (election_of s)) there

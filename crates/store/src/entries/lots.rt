@@ -1,0 +1,50 @@
+//! Lots, as the rows of their table.
+
+ghost use Rattle.std.specs.Prelude.{refl};
+ghost use Rattle.register.specs.Offices.{lot_entry};
+ghost use Rattle.tables.specs.declared.table.Table.TheVariants.{Lot as LotTable};
+ghost use Rattle.store.specs.EntryRows.{IsLotRow, row_of_lot};
+
+use register::DrawnLot;
+use sqlite::Row;
+use sqlite_value::value::ValueRef;
+use std::alloc::Global;
+use tables::cells::{number, number_at};
+use tables::{Entries, Fault, Table};
+
+/// The lots, by ward and stage.
+pub(crate) struct Lots;
+
+impl Entries for Lots {
+    type Entry = DrawnLot;
+
+    ghost row_of = { λ l. row_of_lot (lot_entry l) };
+
+    ghost is_row = { IsLotRow };
+
+    ghost TABLE = { LotTable };
+
+    const TABLE: Table = Table::Lot;
+
+    fn values<'a>(lot: &'a DrawnLot, alloc: Global) -> Result<Vec<ValueRef<'a>>, Fault> {
+        let values = [
+            number(lot.ward),
+            number(lot.stage),
+            number(lot.candidate),
+        ];
+        Vec::from_array(alloc, values).map_err(|_| Fault::Memory)
+    }
+
+    fn read(row: &Row) -> Result<DrawnLot, Fault> {
+        let ward = number_at(row, 0)?;
+        let stage = number_at(row, 1)?;
+        let candidate = number_at(row, 2)?;
+        Ok(DrawnLot {
+            ward,
+            stage,
+            candidate,
+        })
+    }
+
+    ghost typed = { λ l. refl };
+}

@@ -1,0 +1,117 @@
+//! What the commands about a ward's count need, read for a request.
+
+ghost use Rattle.std.specs.Prelude.{◌≡◌, ◌⊎◌, false, option_map, IfOk, IfErr, OnOk, IsTrue};
+ghost use Rattle.sqlite.specs.State.{HasCleanDisk};
+ghost use Rattle.sqlite.specs.Held.{state};
+ghost use Rattle.register.specs.Offices.{OfficeState, ward_at, candidate_at};
+ghost use Rattle.register.specs.Elections.{election_entry};
+ghost use Rattle.register.specs.Counts.{poll_for, due_for, elected_for};
+ghost use Rattle.register.specs.Parts.{empty_part, part_entries};
+ghost use Rattle.tables.specs.Reading.{OnlyReads};
+ghost use Rattle.store.specs.Offices.{IsAt};
+ghost use Rattle.store.specs.Elections.{polled_part, counted_part};
+
+use crate::views::candidates::find_candidate;
+use crate::views::elections::find_election;
+use register::{Election, Part};
+use sqlite::{Alter, Connection};
+use std::alloc::Global;
+use tables::Fault;
+
+/// The part of a command that needs the poll of an election, if it is there.
+fn polled(alloc: Global, found: Option<Election>) -> Result<Part, Fault>
+    ensures part { IfOk result (λ part. part_entries part ≡ polled_part (option_map election_entry found)) }
+    ensures cause { IfErr result (λ f. f ≡ Fault.Store) }
+{
+    let Some(election) = found else {
+        return Ok(Part::empty(alloc));
+    };
+    let Some(poll) = election.poll() else {
+        return Err(Fault::Store);
+    };
+    let Election { ward, .. } = election;
+    Ok(Part {
+        ward: Some(ward),
+        poll: Some(poll),
+        ..Part::empty(alloc)
+    })
+}
+
+/// The part of a command that needs what is due in the count of an election, if it is there, and who is
+/// elected.
+fn counted(alloc: Global, found: Option<Election>) -> Result<Part, Fault>
+    ensures part { IfOk result (λ part. part_entries part ≡ counted_part (option_map election_entry found)) }
+    ensures cause { IfErr result (λ f. (f ≡ Fault.Memory) ⊎ (f ≡ Fault.Store)) }
+{
+    let Some(election) = found else {
+        return Ok(Part::empty(alloc));
+    };
+    let progress = match election.progress(alloc) {
+        Ok(Some(progress)) => progress,
+        Ok(None) => return Err(Fault::Store),
+        Err(_) => return Err(Fault::Memory),
+    };
+    let Election { ward, .. } = election;
+    Ok(Part {
+        ward: Some(ward),
+        due: Some(progress.due),
+        elected: progress.elected,
+        ..Part::empty(alloc)
+    })
+}
+
+/// The part of the command that seals a ward: the ward, and the poll of its papers.
+pub(crate) fn seal_part<S: Alter>(
+    alloc: Global,
+    conn: &mut Connection<S>,
+    ward: u32,
+) -> Result<Part, Fault>
+    requires { conn.old.in_transaction ≡ false }
+    ensures found { HasCleanDisk (state S.Store conn.new) → (s : OfficeState) → IsAt s (state S.Store conn.old) → IfOk result (λ part. part_entries part ≡ record empty_part { ward = ward_at s ward; poll = poll_for s (ward_at s ward) }) }
+    ensures cause { HasCleanDisk (state S.Store conn.new) → (s : OfficeState) → IsAt s (state S.Store conn.old) → IfErr result (λ f. (f ≡ Fault.Memory) ⊎ (f ≡ Fault.Store)) }
+    ensures opens { HasCleanDisk (state S.Store conn.new) → OnOk result (IsTrue (state S.Store conn.new).is_open) }
+    ensures reads { OnlyReads (state S.Store conn.old) (state S.Store conn.new) }
+    ensures outside { conn.new.in_transaction ≡ false }
+{
+    let found = find_election(alloc, conn, ward)?;
+    let part = polled(alloc, found)?;
+    Ok(part)
+}
+
+/// The part of a command that needs where the count of a ward stands: the ward, what is due, and who is
+/// elected.
+pub(crate) fn count_part<S: Alter>(
+    alloc: Global,
+    conn: &mut Connection<S>,
+    ward: u32,
+) -> Result<Part, Fault>
+    requires { conn.old.in_transaction ≡ false }
+    ensures found { HasCleanDisk (state S.Store conn.new) → (s : OfficeState) → IsAt s (state S.Store conn.old) → IfOk result (λ part. part_entries part ≡ record empty_part { ward = ward_at s ward; due = due_for s (ward_at s ward); elected = elected_for s (ward_at s ward) }) }
+    ensures cause { HasCleanDisk (state S.Store conn.new) → (s : OfficeState) → IsAt s (state S.Store conn.old) → IfErr result (λ f. (f ≡ Fault.Memory) ⊎ (f ≡ Fault.Store)) }
+    ensures opens { HasCleanDisk (state S.Store conn.new) → OnOk result (IsTrue (state S.Store conn.new).is_open) }
+    ensures reads { OnlyReads (state S.Store conn.old) (state S.Store conn.new) }
+    ensures outside { conn.new.in_transaction ≡ false }
+{
+    let found = find_election(alloc, conn, ward)?;
+    let part = counted(alloc, found)?;
+    Ok(part)
+}
+
+/// The part of the command about a lot: where the count of the ward stands, and the candidate.
+pub(crate) fn lot_part<S: Alter>(
+    alloc: Global,
+    conn: &mut Connection<S>,
+    ward: u32,
+    candidate: u32,
+) -> Result<Part, Fault>
+    requires { conn.old.in_transaction ≡ false }
+    ensures found { HasCleanDisk (state S.Store conn.new) → (s : OfficeState) → IsAt s (state S.Store conn.old) → IfOk result (λ part. part_entries part ≡ record empty_part { ward = ward_at s ward; candidate = candidate_at s ward candidate; due = due_for s (ward_at s ward); elected = elected_for s (ward_at s ward) }) }
+    ensures cause { HasCleanDisk (state S.Store conn.new) → (s : OfficeState) → IsAt s (state S.Store conn.old) → IfErr result (λ f. (f ≡ Fault.Memory) ⊎ (f ≡ Fault.Store)) }
+    ensures opens { HasCleanDisk (state S.Store conn.new) → OnOk result (IsTrue (state S.Store conn.new).is_open) }
+    ensures reads { OnlyReads (state S.Store conn.old) (state S.Store conn.new) }
+    ensures outside { conn.new.in_transaction ≡ false }
+{
+    let part = count_part(alloc, conn, ward)?;
+    let candidate = find_candidate(conn, ward, candidate)?;
+    Ok(Part { candidate, ..part })
+}

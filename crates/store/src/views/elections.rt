@@ -1,0 +1,188 @@
+//! What the count of a ward rests on, read from the tables.
+
+ghost use Rattle.std.specs.Prelude.{◌≡◌, ◌⊎◌, ◌++◌, ◌∷◌, [], false, map, option_map, IfOk, IfErr, OnOk, IsTrue};
+ghost use Rattle.sqlite.specs.State.{HasCleanDisk};
+ghost use Rattle.sqlite.specs.Held.{state};
+ghost use Rattle.register.specs.Offices.{OfficeState, ward_entry, batch_entry, lot_entry, ward_at, lots_of};
+ghost use Rattle.register.specs.Polls.{pile_of, piles_of, ballots_in, ballots_entry};
+ghost use Rattle.register.specs.Elections.{lot_pair, election_of, election_entry};
+ghost use Rattle.tables.specs.Reading.{OnlyReads};
+ghost use Rattle.store.specs.Offices.{IsAt};
+ghost use Rattle.store.specs.Elections.{pile_by};
+
+use crate::entries::lots::Lots;
+use crate::views::batches::list_batches;
+use crate::views::candidates::list_candidates;
+use crate::views::papers::{Keyings, keyings_of, list_verdicts};
+use crate::views::wards::find_ward;
+use paper::Columns;
+use register::elections::lot_pairs;
+use register::marks::columns_of;
+use register::{Ballots, Batch, DrawnLot, Election, JudgedPaper, Ward};
+use sqlite::{Alter, Connection};
+use std::alloc::Global;
+use tables::Fault;
+use tables::cells::number;
+use tables::finding::entries_beginning;
+
+/// The papers of a batch: both keyings of its current round, and the verdicts on them.
+#[derive(Drop)]
+pub(crate) struct BatchPapers {
+    pub(crate) keyings: Keyings,
+    pub(crate) verdicts: Vec<JudgedPaper>,
+}
+
+/// The lots for the count of a ward, in the order of their stages.
+pub(crate) fn list_lots<S: Alter>(
+    alloc: Global,
+    conn: &mut Connection<S>,
+    ward: u32,
+) -> Result<Vec<DrawnLot>, Fault>
+    requires { conn.old.in_transaction ≡ false }
+    ensures found { HasCleanDisk (state S.Store conn.new) → (s : OfficeState) → IsAt s (state S.Store conn.old) → IfOk result (λ found. map lot_entry found.items ≡ lots_of s ward) }
+    ensures cause { HasCleanDisk (state S.Store conn.new) → (s : OfficeState) → IsAt s (state S.Store conn.old) → IfErr result (λ f. (f ≡ Fault.Memory) ⊎ (f ≡ Fault.Store)) }
+    ensures opens { HasCleanDisk (state S.Store conn.new) → OnOk result (IsTrue (state S.Store conn.new).is_open) }
+    ensures reads { OnlyReads (state S.Store conn.old) (state S.Store conn.new) }
+    ensures outside { conn.new.in_transaction ≡ false }
+{
+    entries_beginning::<Lots, S>(alloc, conn, &[number(ward)])
+}
+
+/// The lots for the count of a ward, as the count takes them.
+fn recorded_lots<S: Alter>(
+    alloc: Global,
+    conn: &mut Connection<S>,
+    ward: u32,
+) -> Result<Vec<(u8, u8)>, Fault>
+    requires { conn.old.in_transaction ≡ false }
+    ensures found { HasCleanDisk (state S.Store conn.new) → (s : OfficeState) → IsAt s (state S.Store conn.old) → IfOk result (λ found. found.items ≡ map lot_pair (lots_of s ward)) }
+    ensures cause { HasCleanDisk (state S.Store conn.new) → (s : OfficeState) → IsAt s (state S.Store conn.old) → IfErr result (λ f. (f ≡ Fault.Memory) ⊎ (f ≡ Fault.Store)) }
+    ensures opens { HasCleanDisk (state S.Store conn.new) → OnOk result (IsTrue (state S.Store conn.new).is_open) }
+    ensures reads { OnlyReads (state S.Store conn.old) (state S.Store conn.new) }
+    ensures outside { conn.new.in_transaction ≡ false }
+{
+    let lots = list_lots(alloc, conn, ward)?;
+    match lot_pairs(alloc, &lots) {
+        Ok(Some(pairs)) => Ok(pairs),
+        Ok(None) => Err(Fault::Store),
+        Err(_) => Err(Fault::Memory),
+    }
+}
+
+/// The papers of a batch.
+fn papers_of<S: Alter>(
+    alloc: Global,
+    conn: &mut Connection<S>,
+    batch: &Batch,
+) -> Result<BatchPapers, Fault>
+    requires { conn.old.in_transaction ≡ false }
+    ensures found { HasCleanDisk (state S.Store conn.new) → (s : OfficeState) → IsAt s (state S.Store conn.old) → IfOk result (λ papers. pile_by papers ≡ pile_of s (batch_entry batch.now)) }
+    ensures cause { HasCleanDisk (state S.Store conn.new) → (s : OfficeState) → IsAt s (state S.Store conn.old) → IfErr result (λ f. (f ≡ Fault.Memory) ⊎ (f ≡ Fault.Store)) }
+    ensures opens { HasCleanDisk (state S.Store conn.new) → OnOk result (IsTrue (state S.Store conn.new).is_open) }
+    ensures reads { OnlyReads (state S.Store conn.old) (state S.Store conn.new) }
+    ensures outside { conn.new.in_transaction ≡ false }
+{
+    let keyings = keyings_of(alloc, conn, batch)?;
+    let verdicts = list_verdicts(alloc, conn, batch.number)?;
+    Ok(BatchPapers { keyings, verdicts })
+}
+
+/// Adds the papers of a batch to those of others. An error is `Memory`, and the others are spoilt then.
+fn add_papers(ballots: &mut Ballots, columns: Columns, papers: &BatchPapers) -> Result<(), Fault>
+    ensures adds { IfOk result (λ _. (piles : _) → ballots_entry ballots.old ≡ ballots_in columns piles → ballots_entry ballots.new ≡ ballots_in columns (piles ++ pile_by papers.now ∷ [])) }
+    ensures cause { IfErr result (λ f. f ≡ Fault.Memory) }
+{
+    let Keyings { first, second } = &papers.keyings;
+    match ballots.add(columns, first, second, &papers.verdicts) {
+        Ok(()) => Ok(()),
+        Err(_) => Err(Fault::Memory),
+    }
+}
+
+/// What the papers of batches come to, read one batch after the other.
+fn ballots_of<S: Alter>(
+    alloc: Global,
+    conn: &mut Connection<S>,
+    columns: Columns,
+    batches: &[Batch],
+) -> Result<Ballots, Fault>
+    requires { conn.old.in_transaction ≡ false }
+    ensures found { HasCleanDisk (state S.Store conn.new) → (s : OfficeState) → IsAt s (state S.Store conn.old) → IfOk result (λ ballots. ballots_entry ballots ≡ ballots_in columns (map (pile_of s) (map batch_entry batches.now))) }
+    ensures cause { HasCleanDisk (state S.Store conn.new) → (s : OfficeState) → IsAt s (state S.Store conn.old) → IfErr result (λ f. (f ≡ Fault.Memory) ⊎ (f ≡ Fault.Store)) }
+    ensures opens { HasCleanDisk (state S.Store conn.new) → IsTrue (state S.Store conn.old).is_open → OnOk result (IsTrue (state S.Store conn.new).is_open) }
+    ensures reads { OnlyReads (state S.Store conn.old) (state S.Store conn.new) }
+    ensures outside { conn.new.in_transaction ≡ false }
+{
+    let mut ballots = Ballots::new(alloc);
+    for batch in batches {
+        let papers = papers_of(alloc, conn, batch)?;
+        add_papers(&mut ballots, columns, &papers)?;
+    }
+    Ok(ballots)
+}
+
+/// What the papers of a ward come to, whose columns these are.
+fn ward_ballots<S: Alter>(
+    alloc: Global,
+    conn: &mut Connection<S>,
+    ward: u32,
+    columns: Columns,
+) -> Result<Ballots, Fault>
+    requires { conn.old.in_transaction ≡ false }
+    ensures found { HasCleanDisk (state S.Store conn.new) → (s : OfficeState) → IsAt s (state S.Store conn.old) → IfOk result (λ ballots. ballots_entry ballots ≡ ballots_in columns (piles_of s ward)) }
+    ensures cause { HasCleanDisk (state S.Store conn.new) → (s : OfficeState) → IsAt s (state S.Store conn.old) → IfErr result (λ f. (f ≡ Fault.Memory) ⊎ (f ≡ Fault.Store)) }
+    ensures opens { HasCleanDisk (state S.Store conn.new) → OnOk result (IsTrue (state S.Store conn.new).is_open) }
+    ensures reads { OnlyReads (state S.Store conn.old) (state S.Store conn.new) }
+    ensures outside { conn.new.in_transaction ≡ false }
+{
+    let batches = list_batches(alloc, conn, ward)?;
+    let ballots = ballots_of(alloc, conn, columns, &batches)?;
+    Ok(ballots)
+}
+
+/// The election in a ward.
+fn ward_election<S: Alter>(
+    alloc: Global,
+    conn: &mut Connection<S>,
+    ward: Ward,
+) -> Result<Election, Fault>
+    requires { conn.old.in_transaction ≡ false }
+    ensures found { HasCleanDisk (state S.Store conn.new) → (s : OfficeState) → IsAt s (state S.Store conn.old) → IfOk result (λ found. election_entry found ≡ election_of s (ward_entry ward)) }
+    ensures cause { HasCleanDisk (state S.Store conn.new) → (s : OfficeState) → IsAt s (state S.Store conn.old) → IfErr result (λ f. (f ≡ Fault.Memory) ⊎ (f ≡ Fault.Store)) }
+    ensures opens { HasCleanDisk (state S.Store conn.new) → OnOk result (IsTrue (state S.Store conn.new).is_open) }
+    ensures reads { OnlyReads (state S.Store conn.old) (state S.Store conn.new) }
+    ensures outside { conn.new.in_transaction ≡ false }
+{
+    let candidates = list_candidates(alloc, conn, ward.number)?;
+    let ballots = ward_ballots(alloc, conn, ward.number, columns_of(&candidates))?;
+    let lots = recorded_lots(alloc, conn, ward.number)?;
+    Ok(Election {
+        ward,
+        candidates,
+        ballots,
+        lots,
+    })
+}
+
+/// The election in the ward of this number, if there is one.
+pub(crate) fn find_election<S: Alter>(
+    alloc: Global,
+    conn: &mut Connection<S>,
+    ward: u32,
+) -> Result<Option<Election>, Fault>
+    requires { conn.old.in_transaction ≡ false }
+    ensures found { HasCleanDisk (state S.Store conn.new) → (s : OfficeState) → IsAt s (state S.Store conn.old) → IfOk result (λ found. option_map election_entry found ≡ option_map (election_of s) (ward_at s ward)) }
+    ensures cause { HasCleanDisk (state S.Store conn.new) → (s : OfficeState) → IsAt s (state S.Store conn.old) → IfErr result (λ f. (f ≡ Fault.Memory) ⊎ (f ≡ Fault.Store)) }
+    ensures opens { HasCleanDisk (state S.Store conn.new) → OnOk result (IsTrue (state S.Store conn.new).is_open) }
+    ensures reads { OnlyReads (state S.Store conn.old) (state S.Store conn.new) }
+    ensures outside { conn.new.in_transaction ≡ false }
+{
+    let found = find_ward(conn, ward)?;
+    match found {
+        Some(ward) => {
+            let election = ward_election(alloc, conn, ward)?;
+            Ok(Some(election))
+        }
+        None => Ok(None),
+    }
+}

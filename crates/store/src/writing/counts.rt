@@ -1,0 +1,50 @@
+//! What is done to the count of a ward, written inside a transaction.
+
+ghost use Rattle.std.specs.Prelude.{◌≡◌, ◌⊎◌, IfErr, OnOk};
+ghost use Rattle.sqlite.specs.State.{HasCleanDisk, KeepsCommit, Survives};
+ghost use Rattle.sqlite.specs.Held.{state};
+ghost use Rattle.register.specs.Offices.{OfficeState};
+ghost use Rattle.register.specs.Effects.{effect_entry, with_effect};
+ghost use Rattle.tables.specs.Contents.{Sees};
+ghost use Rattle.store.specs.Offices.{tables_of};
+
+use crate::entries::lots::Lots;
+use register::{DrawnLot, Effect};
+use sqlite::{Alter, Transaction};
+use std::alloc::Global;
+use tables::cells::number;
+use tables::replacement::set_value;
+use tables::writing::add_entry;
+use tables::{Fault, Setting};
+
+/// Sets how many stages are done in the row of a ward.
+pub(crate) fn write_stage<S: Alter>(
+    tx: &mut Transaction<'_, S>,
+    ward: u32,
+    done: u32,
+) -> Result<(), Fault>
+    ensures same_reference { tx.new.conn.ghost_name ≡ tx.old.conn.ghost_name }
+    ensures writes { HasCleanDisk (state S.Store tx.new.conn.now) → (s : OfficeState) → Sees (tables_of s) (state S.Store tx.old.conn.now)
+        → OnOk result (Sees (tables_of (with_effect (effect_entry (Effect.StageCounted ward done)) s)) (state S.Store tx.new.conn.now)) }
+    ensures keeps { HasCleanDisk (state S.Store tx.new.conn.now) → KeepsCommit (state S.Store tx.old.conn.now) (state S.Store tx.new.conn.now) }
+    ensures survives { Survives (state S.Store tx.old.conn.now) (state S.Store tx.new.conn.now) (λ _. ⊥) }
+    ensures cause { IfErr result (λ f. (f ≡ Fault.Memory) ⊎ (f ≡ Fault.Store)) }
+{
+    set_value(tx, Setting::DoneOfWard, &[number(ward), number(done)])
+}
+
+/// Adds the row of a lot.
+pub(crate) fn write_lot<S: Alter>(
+    alloc: Global,
+    tx: &mut Transaction<'_, S>,
+    lot: &DrawnLot,
+) -> Result<(), Fault>
+    ensures same_reference { tx.new.conn.ghost_name ≡ tx.old.conn.ghost_name }
+    ensures writes { HasCleanDisk (state S.Store tx.new.conn.now) → (s : OfficeState) → Sees (tables_of s) (state S.Store tx.old.conn.now)
+        → OnOk result (Sees (tables_of (with_effect (effect_entry (Effect.LotDrawn lot.now)) s)) (state S.Store tx.new.conn.now)) }
+    ensures keeps { HasCleanDisk (state S.Store tx.new.conn.now) → KeepsCommit (state S.Store tx.old.conn.now) (state S.Store tx.new.conn.now) }
+    ensures survives { Survives (state S.Store tx.old.conn.now) (state S.Store tx.new.conn.now) (λ _. ⊥) }
+    ensures cause { IfErr result (λ f. (f ≡ Fault.Memory) ⊎ (f ≡ Fault.Store)) }
+{
+    add_entry::<Lots, S>(alloc, tx, lot)
+}
