@@ -213,9 +213,10 @@ all_judged s columns [] each settled = (refl, refl)
 all_judged s columns (b ∷ bs) each settled =
     let parts = and_parts (is_settled (pile_of s b)) (list_all is_settled (map (pile_of s) bs)) settled in
     let own = batch_judged s columns b each.0 parts.0 in
-    let others = all_judged s columns bs each.1 parts.1 in
-    (list_all-append is_decided (judgements_in columns (pile_of s b)) (judgements columns (map (pile_of s) bs)) ∙ and_from _ _ own.decided others.0,
-     omega (arith, length-append (judgements_in columns (pile_of s b)) (judgements columns (map (pile_of s) bs)), own.each, others.1, sum_by-cons (λ (c : BatchEntry). c.size) b bs))
+    let others = all_judged s columns bs each.1 parts.1 in (
+      list_all-append is_decided (judgements_in columns (pile_of s b)) (judgements columns (map (pile_of s) bs)) ∙ and_from _ _ own.decided others.0,
+      omega (arith, length-append (judgements_in columns (pile_of s b)) (judgements columns (map (pile_of s) bs)), own.each, others.1, sum_by-cons (λ (c : BatchEntry). c.size) b bs),
+    )
 
 -- ---- the batches of a ward at a state
 

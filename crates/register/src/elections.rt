@@ -1,17 +1,20 @@
 //! What the count of a ward rests on: the ward, its candidates, its ballot papers, and the lots drawn.
 
-ghost use Rattle.std.specs.Prelude.{◌≡◌, ◌+◌, true, length, sum_by, [], Some, IfOk, IfSome, IsSome};
+ghost use Rattle.std.specs.Prelude.{◌≡◌, ◌+◌, true, length, map, sum_by, [], Some, IfOk, IfSome, IsSome};
+ghost use Rattle.std.specs.List.{list_all};
 ghost use Rattle.count.specs.Law.Contest.{contest_for, IsContest};
 ghost use Rattle.register.specs.Papers.{batches_of};
 ghost use Rattle.register.specs.Polls.{all_rejected, poll_of, poll_entry, ballots_entry};
-ghost use Rattle.register.specs.Offices.{WardEntry, OfficeState, MapsRise, ward_at, candidates_of};
+ghost use Rattle.register.specs.Offices.{WardEntry, OfficeState, MapsRise, lot_entry, ward_at, candidates_of};
 ghost use Rattle.register.specs.Nominations.{is_contested};
-ghost use Rattle.register.specs.Elections.{election_entry, election_of, contest_of, stages_of, due_of, elected_of};
-ghost use Rattle.register.specs.Items.{item1, item4, IsState};
+ghost use Rattle.register.specs.Elections.{lot_pair, election_entry, election_of, contest_of, stages_of, due_of, elected_of};
+ghost use Rattle.register.specs.Items.{item1, item4, is_lot, IsState};
 
 use crate::candidates::Candidate;
+use crate::counts::DrawnLot;
 use crate::marks::columns_of;
 use crate::polls::{Ballots, Poll};
+use crate::ranges::{is_candidate_number, is_lot_stage};
 use crate::wards::{Ward, is_contested};
 use count::{CountBook, Due, ParcelBook, count_to, due_by, is_contest};
 use paper::{Columns, Prefs};
@@ -46,6 +49,35 @@ pub fn elections_are_fair()
     ensures adds_up { (s : OfficeState) (w : WardEntry) → IsState s → (election_of s w).ballots.settled ≡ true
         → length (election_of s w).ballots.papers + all_rejected (election_of s w).ballots.rejected ≡ sum_by (λ b. b.size) (batches_of s w.number) }
 {}
+
+#[tactic(auto, unfolding(crate::specs::Items::is_lot))]
+/// A lot as the count takes it: its stage, counted from 1, and its candidate. None where a number is out of
+/// range, as none of an office is.
+fn lot_pair(lot: &DrawnLot) -> Option<(u8, u8)>
+    ensures is { IfSome result (λ pair. pair ≡ lot_pair (lot_entry lot.now)) }
+    ensures some { is_lot (lot_entry lot.now) ≡ true → IsSome result }
+{
+    if is_lot_stage(lot.stage) & is_candidate_number(lot.candidate) {
+        return Some((lot.stage as u8, lot.candidate as u8));
+    }
+    None
+}
+
+/// Lots as the count takes them, in their order. None where a number is out of range, as none of an office
+/// is. An error is want of memory.
+pub fn lot_pairs(alloc: Global, lots: &[DrawnLot]) -> Result<Option<Vec<(u8, u8)>>, AllocError>
+    ensures is { IfOk result (λ found. IfSome found (λ pairs. pairs.items ≡ map lot_pair (map lot_entry lots.now))) }
+    ensures some { IfOk result (λ found. list_all is_lot (map lot_entry lots.now) ≡ true → IsSome found) }
+{
+    let mut pairs = Vec::new(alloc);
+    for lot in lots {
+        let Some(pair) = lot_pair(lot) else {
+            return Ok(None);
+        };
+        pairs.push(pair)?;
+    }
+    Ok(Some(pairs))
+}
 
 /// A new book of some papers, where a count can be held on them, as it can in each contested ward of an
 /// office. An error is want of memory.

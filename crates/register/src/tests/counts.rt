@@ -51,13 +51,19 @@ fn papers_are_judged(rt: HostRuntime) -> Result<(), Fail> {
     for (paper, wanted) in ballots.papers.iter().zip([[1, 2], [3, 1]]) {
         assert_eq!(rt; paper.as_slice(), wanted.as_slice());
     }
-    assert_eq!(rt; (ballots.rejected, ballots.settled), ([1, 1, 0, 0, 1], true));
+    assert_eq!(rt;
+        (ballots.rejected, ballots.settled),
+        ([1, 1, 0, 0, 1], true)
+    );
     let other = keying_of(alloc, 9, "2,1,")?;
     ballots.add(columns, &first, &other, &verdicts)?;
     assert_eq!(rt; (ballots.papers.len(), ballots.settled), (2, false));
     let mut open = Ballots::new(alloc);
     open.add(columns, &first, &second, &[])?;
-    assert_eq!(rt; (open.papers.len(), open.rejected, open.settled), (1, [1, 1, 0, 0, 0], false));
+    assert_eq!(rt;
+        (open.papers.len(), open.rejected, open.settled),
+        (1, [1, 1, 0, 0, 0], false)
+    );
     Ok(())
 }
 
@@ -67,7 +73,11 @@ fn quiet(alloc: Global, standing: u32, done: u32, drawn: bool) -> Result<Electio
     let mut candidates = Vec::new(alloc);
     for number in 1..=standing {
         let name = String::from_str(alloc, "Dee")?;
-        candidates.push(Candidate { ward: 7, number, name })?;
+        candidates.push(Candidate {
+            ward: 7,
+            number,
+            name,
+        })?;
     }
     let mut lots = Vec::new(alloc);
     if drawn {
@@ -81,7 +91,12 @@ fn quiet(alloc: Global, standing: u32, done: u32, drawn: bool) -> Result<Electio
         name: String::from_str(alloc, "Harbour")?,
     };
     let ballots = Ballots::new(alloc);
-    Ok(Election { ward, candidates, ballots, lots })
+    Ok(Election {
+        ward,
+        candidates,
+        ballots,
+        lots,
+    })
 }
 
 #[test]
@@ -90,7 +105,11 @@ fn a_count_goes_from_stage_to_stage(rt: HostRuntime) -> Result<(), Fail> {
     elections_are_fair();
     let both = Columns::empty().with(1).with(2);
     let nobody = Columns::empty();
-    let tied = Due::Lot { stage: 2, kind: Kind::Exclusion, among: both };
+    let tied = Due::Lot {
+        stage: 2,
+        kind: Kind::Exclusion,
+        among: both,
+    };
     let cases = [
         (2, 0, false, Due::Act(Action::First), nobody),
         (2, 1, false, tied, nobody),
@@ -113,7 +132,10 @@ fn a_ward_is_counted_so_far(rt: HostRuntime) -> Result<(), Fail> {
     let alloc = rt.alloc();
     let election = quiet(alloc, 2, 2, true)?;
     if let Some(poll) = election.poll() {
-        assert_eq!(rt; (poll.valid, poll.quota.units(), poll.settled), (0, 100000, true));
+        assert_eq!(rt;
+            (poll.valid, poll.quota.units(), poll.settled),
+            (0, 100000, true)
+        );
     }
     assert!(rt; election.poll().is_some());
     let book = election.counted(alloc)?;

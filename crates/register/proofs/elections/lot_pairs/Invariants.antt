@@ -1,0 +1,13 @@
+-- What the loop of `lot_pairs` keeps.
+use Rattle.std.proofs.Common.{◌≡◌, true, ◌++◌, map, drop}
+use Rattle.std.specs.List.{list_all}
+use Rattle.register.specs.Offices.{lot_entry}
+use Rattle.register.specs.Elections.{lot_pair}
+use Rattle.register.specs.Items.{is_lot}
+use Rattle.register.proofs.elections.lot_pairs.Given as goal
+
+abbrev pub invariant-loop-lot : goal.invariant-loop-lot
+invariant-loop-lot l = record {
+  pairs : l.pairs.items ++ map lot_pair (map lot_entry (drop l.lot-index l.lots)) ≡ map lot_pair (map lot_entry l.lots);
+  left : list_all is_lot (map lot_entry l.lots) ≡ true → list_all is_lot (map lot_entry (drop l.lot-index l.lots)) ≡ true;
+}
