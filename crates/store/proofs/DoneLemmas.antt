@@ -1,19 +1,20 @@
 -- How many stages of a count can be done in a state.
-use Rattle.std.proofs.Common.{◌≡◌, ℕ, ◌<◌, ◌^◌, List, [], ◌∷◌, map, Bool, true, false, cond, ◌==◌, length, Some, refl, sym, ap, ◌∙◌, arith, Ordering, Less, Equal, nat_cmp}
+use Rattle.std.proofs.Common.{◌≡◌, ◌<◌, ◌≤◌, ◌+◌, ◌*◌, ◌^◌, List, [], ◌∷◌, Bool, true, false, cond, length, Some, refl, sym, ap, ◌∙◌, arith, Less, Equal, nat_cmp}
 use Rattle.std.specs.Ordering.{is_eq, ordering_reverse}
 use Rattle.std.specs.Cmp.{nat_cmp_is}
 use Rattle.std.specs.List.{AllByRecursion, list_all}
 use Rattle.std.specs.List.Sorted.{IsStrictlySortedBy}
 use Rattle.std.proofs.lemmas.Bool.{and_parts}
-use Rattle.std.proofs.lemmas.Bool.Decides.{Decides-eqb, eqb_tells, nat_tests}
+use Rattle.std.proofs.lemmas.Bool.Decides.{Decides-eqb}
 use Rattle.std.proofs.lemmas.Cmp.{nat_cmp_total}
 use Rattle.std.proofs.lemmas.Map.Keys.{sorted_head, sorted_tail}
 use Rattle.paper.proofs.ColumnSets.{length_columns}
+use Rattle.count.specs.Law.Contest.{Contest, History, IsContest}
 use Rattle.count.proofs.Law.CountLemmas.{stages_right}
 use Rattle.count.proofs.Law.ActionLemmas.{length-right}
 use Rattle.register.specs.Offices.{WardEntry, OfficeState, ward_cmp, ward_compared, entry_at, candidates_of, ward_at}
 use Rattle.register.specs.Nominations.{is_contested}
-use Rattle.register.specs.Elections.{election_of, contest_of, stages_of, is_in_count, is_right_so_far, is_uncounted, is_counted_right}
+use Rattle.register.specs.Elections.{election_of, has_count, contest_of, stages_of, is_counted, is_in_count, is_right_so_far, is_uncounted, is_counted_right}
 use Rattle.register.specs.Items.{item7, IsState}
 use Rattle.register.proofs.ContestLemmas.{fair_contest}
 
@@ -39,14 +40,16 @@ done_few s is w there right = go (is_in_count (election_of s w)) refl right
   where
     go : (b : Bool) → is_in_count (election_of s w) ≡ b → cond b (is_right_so_far (election_of s w)) (is_uncounted (election_of s w)) ≡ true → w.done < 2 ^ 32
     go true in_count so_far =
-        let contested : is_contested w (candidates_of s w.number) ≡ true = (and_parts _ _ in_count).1 in
-        let fair = fair_contest s w is.in_range is.given_out is.keyed is.rise there contested in
-        let few = length-right (contest_of (election_of s w)) (election_of s w).lots (stages_of (election_of s w)) fair (stages_right (contest_of (election_of s w)) (election_of s w).lots w.done) in
-        let set = length_columns (contest_of (election_of s w)).candidates fair.candidate_set in
-        let same = (Decides-eqb (length (stages_of (election_of s w))) w.done).0 (and_parts _ _ so_far).0 in
+        let contested : is_contested w (candidates_of s w.number) ≡ true = (and_parts (is_counted w.phase) (has_count (election_of s w)) in_count).1 in
+        let contest : Contest = contest_of (election_of s w) in
+        let stages : History = stages_of (election_of s w) in
+        let fair : IsContest contest = fair_contest s w is.in_range is.given_out is.keyed is.rise there contested in
+        let few : length stages ≤ 2 * length contest.candidates + 1 = length-right contest (election_of s w).lots stages fair (stages_right contest (election_of s w).lots w.done) in
+        let set : length contest.candidates ≤ 30 = length_columns contest.candidates fair.candidate_set in
+        let same : length stages ≡ w.done = (Decides-eqb (length stages) w.done).0 (and_parts _ _ so_far).0 in
         omega (arith, few, set, same)
     go false not_in uncounted =
-        let none = (Decides-eqb w.done 0).0 (and_parts _ _ uncounted).0 in
+        let none : w.done ≡ 0 = (Decides-eqb w.done 0).0 (and_parts _ _ uncounted).0 in
         omega (arith, none)
 
 each_few : (s : OfficeState) → IsState s → (ws : List WardEntry) → AllByRecursion (λ w. ward_at s w.number ≡ Some w) ws → list_all (λ w. is_counted_right (election_of s w)) ws ≡ true → AllByRecursion (λ w. w.done < 2 ^ 32) ws

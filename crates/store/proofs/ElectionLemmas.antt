@@ -1,10 +1,9 @@
 -- What is read for the count of a ward is what the state has.
-use Rattle.std.proofs.Common.{◌≡◌, ℕ, List, Option, Some, None, option_map, refl, sym, ap, ◌∙◌}
-use Rattle.register.specs.Offices.{WardEntry, CandidateEntry, OfficeState}
-use Rattle.register.specs.Polls.{BallotsEntry}
+use Rattle.std.proofs.Common.{◌≡◌, Option, Some, None, option_map, refl, ap, ◌∙◌}
+use Rattle.register.specs.Offices.{WardEntry, OfficeState}
 use Rattle.register.specs.Elections.{ElectionEntry, election_of}
 use Rattle.register.specs.Counts.{poll_for, due_for, elected_for}
-use Rattle.register.specs.Parts.{PartEntries, empty_part}
+use Rattle.register.specs.Parts.{empty_part}
 use Rattle.store.specs.Elections.{polled_part, counted_part}
 
 -- elections with the same fields are the same

@@ -1,9 +1,8 @@
 -- Which fault the rows of a table give.
-use Rattle.std.proofs.Common.{◌≡◌, ◌⊎◌, inl, inr, ℕ, ◌+◌, ◌<◌, ℤ, pos, negsuc, ◌<ℤ◌, List, [], ◌∷◌, map, drop, length, get_or, Bool, true, false, Ok, Err, Result, OnOk, IfErr, refl, sym, ap, subst, ◌∙◌, true≢false, arith}
+use Rattle.std.proofs.Common.{◌≡◌, ◌⊎◌, inl, inr, ℕ, ◌<◌, ℤ, pos, negsuc, ◌<ℤ◌, List, [], ◌∷◌, map, length, get_or, Bool, true, false, refl, sym, ap, subst, ◌∙◌, true≢false, arith}
 use Rattle.std.specs.List.{AllByRecursion}
 use Rattle.std.specs.List.Sorted.{IsPermutation}
 use Rattle.std.proofs.lemmas.Int.{ints}
-use Rattle.std.proofs.lemmas.Bool.{cases_lt}
 use Rattle.std.proofs.lemmas.List.Sorted.{IsPermutation-refl, IsPermutation-trans, length_permutation}
 use Rattle.sqlite.specs.declared.types.Value.{Value}
 use Rattle.sqlite.specs.declared.types.Value.TheVariants.{Int}
@@ -19,8 +18,8 @@ use Rattle.tables.specs.declared.fault.Fault.{Fault}
 use Rattle.tables.specs.declared.fault.Fault.TheVariants.{Memory, Store, Damaged, Closed, WrongDatabase, NewerSchema}
 use Rattle.tables.specs.declared.table.Table.{Table}
 use Rattle.tables.specs.declared.table.Table.TheVariants.{Office, Ward, Candidate, Batch, Keying, Verdict, Lot, Receipt}
-use Rattle.tables.specs.Schema.{tree_of, place_of, BeginsTo, IsOfficeSchema}
-use Rattle.tables.specs.Rows.{tuples, at, column_places, begins_with, Keyed}
+use Rattle.tables.specs.Schema.{BeginsTo, IsOfficeSchema}
+use Rattle.tables.specs.Rows.{tuples, at, column_places, begins_with}
 use Rattle.tables.specs.Contents.{SameContents, HoldsTable, RestsAt, IsOffice}
 use Rattle.tables.specs.Presence.{has_table, has_every_table}
 use Rattle.tables.specs.Reading.{Lists, ListsKeyed, HoldsNone}
@@ -28,7 +27,6 @@ use Rattle.store.specs.EntryRows.{office_row}
 use Rattle.store.specs.Offices.{HoldsState, tables_of}
 use Rattle.store.specs.Openings.{HasNoOffice, IsNewer, HoldsNoState, IsToldBy, TellsNoState, IsVersion, TellsRow, TellsRows, HasVersion, TellsOffice, has_entries, ListsMaps, HoldsEntries}
 use Rattle.tables.proofs.ListLemmas.{mapped_length}
-use Rattle.tables.proofs.TableLemmas.{same_place}
 use Rattle.tables.proofs.HoldLemmas.{lists_all, shown_rows, rows_held, held_listed}
 use Rattle.tables.proofs.ListingLemmas.{begins_to}
 use Rattle.store.proofs.StateLemmas.{tables_rise, maps_rise, equal_maps}

@@ -1,4 +1,4 @@
-//! How a ward stands, and the columns of a batch's papers, read from the tables.
+//! How a ward stands, its election, and the columns of a batch's papers, read from the tables.
 
 ghost use Rattle.std.specs.Prelude.{◌≡◌, ◌⊎◌, ◌+◌, if◌then◌else◌, false, [], ◌∷◌, map, option_map, IfOk, IfErr, OnOk, IsTrue};
 ghost use Rattle.sqlite.specs.State.{HasCleanDisk};

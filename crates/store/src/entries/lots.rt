@@ -27,11 +27,7 @@ impl Entries for Lots {
     const TABLE: Table = Table::Lot;
 
     fn values<'a>(lot: &'a DrawnLot, alloc: Global) -> Result<Vec<ValueRef<'a>>, Fault> {
-        let values = [
-            number(lot.ward),
-            number(lot.stage),
-            number(lot.candidate),
-        ];
+        let values = [number(lot.ward), number(lot.stage), number(lot.candidate)];
         Vec::from_array(alloc, values).map_err(|_| Fault::Memory)
     }
 

@@ -7,18 +7,18 @@ use Rattle.rowcheck.specs.States.{state_of}
 use Rattle.store.proofs.TellLemmas.{maps_are, entries_held}
 use Rattle.store.proofs.opening.check_tables.Goals as goal
 
-pub returns-then-are_of_state-clause-holds : goal.returns-then-are_of_state-clause-holds
-returns-then-are_of_state-clause-holds g c clean db has sound rests =
-    let of : c.are_of_state.result ≡ true = search rules in
+pub returns-then-of_state-clause-holds : goal.returns-then-of_state-clause-holds
+returns-then-of_state-clause-holds g c clean db has sound rests =
+    let of : c.in_ok-of_state.of_state ≡ true = search rules in
     let s = state_of c.in_ok-rows.rows in
     let lists = c.in_ok-rows.ensures.lists clean db has rests in
-    (s, entries_held db has sound s (c.are_of_state.ensures.some of) lists)
+    (s, entries_held db has sound s (c.in_ok-of_state.ensures.some of) lists)
 
 pub returns-clause-told : goal.returns-clause-told
 returns-clause-told g c clean db has rests =
-    let not : c.are_of_state.result ≡ false = search rules in
+    let not : c.in_ok-of_state.of_state ≡ false = search rules in
     let lists = c.in_ok-rows.ensures.lists clean db has rests in
-    λ s holds. c.are_of_state.ensures.none not (subst (λ (x : OfficeState). IsState x) (maps_are db (state_of c.in_ok-rows.rows) s lists holds) holds.is)
+    λ s holds. c.in_ok-of_state.ensures.none not (subst (λ (x : OfficeState). IsState x) (maps_are db (state_of c.in_ok-rows.rows) s lists holds) holds.is)
 
 pub returns-in_err-rows-clause-told : goal.returns-in_err-rows-clause-told
 returns-in_err-rows-clause-told g c clean db has rests =
