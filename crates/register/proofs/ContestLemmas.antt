@@ -1,19 +1,17 @@
 -- The contest of a ward is one that the rules of the count speak of.
-use Rattle.std.proofs.Common.{◌≡◌, ℕ, zero, suc, ◌+◌, ◌*◌, ◌<◌, ◌≤◌, ◌==◌, ◌&&◌, ◌||◌, nat_eq, nat_le, nat_lt, Bool, true, false, not, cond, List, [], ◌∷◌, ◌++◌, length, map, filter, find, fold, Option, Some, None, Result, Ok, Err, codes, refl, sym, ap, subst, ◌∙◌, arith, length-append}
+use Rattle.std.proofs.Common.{◌≡◌, ℕ, zero, suc, ◌+◌, ◌*◌, ◌<◌, ◌≤◌, ◌==◌, ◌&&◌, ◌||◌, nat_eq, nat_le, Bool, true, false, not, cond, List, [], ◌∷◌, ◌++◌, length, map, filter, find, fold, Option, Some, None, Result, Ok, Err, codes, refl, sym, ap, arith, length-append}
 use Rattle.std.specs.List.{AllByRecursion, list_all, list_any, flat_map, zip}
 use Rattle.std.specs.Str.{bytes_eq}
 use Rattle.std.specs.List.Sorted.{IsStrictlySortedBy}
 use Rattle.std.specs.declared.cmp.Ordering.TheVariants.{Less}
-use Rattle.std.specs.Ordering.{nat_cmp}
-use Rattle.std.proofs.lemmas.Bool.{and_parts, leb-true, ltb-true, eqb-true, eq-eqb, or_left, or_right, cases_cond}
+use Rattle.std.proofs.lemmas.Bool.{and_parts, leb-true, ltb-true, eqb-true, eq-eqb, or_left, or_right}
 use Rattle.std.proofs.lemmas.Cmp.{ranked}
 use Rattle.std.proofs.lemmas.List.Kept.{IsStrictlySortedBy-filter}
 use Rattle.votes.specs.Units.{max_seats, max_papers}
 use Rattle.paper.specs.Columns.{IsColumnSet, with_column}
-use Rattle.paper.specs.Marking.{Marking, marked_with}
+use Rattle.paper.specs.Marking.{marked_with}
 use Rattle.paper.specs.MarksText.{reading, fields, beside, marks_in}
 use Rattle.paper.specs.Preferences.{if_alone, preferences_from, preferences, rejection_of}
-use Rattle.paper.specs.declared.marked.Keyed.{Keyed}
 use Rattle.paper.specs.declared.marked.Keyed.TheVariants.{Doubtful}
 use Rattle.paper.specs.declared.marks.MarkFault.TheVariants.{FieldCount}
 use Rattle.paper.specs.declared.marks.MarkFault.{MarkFault}
@@ -23,12 +21,12 @@ use Rattle.count.specs.Law.Contest.{In, AreForCandidates, IsContest}
 use Rattle.count.proofs.ContestLemmas.{contest-is}
 use Rattle.register.specs.declared.polls.Judgement.{Judgement}
 use Rattle.register.specs.declared.polls.Judgement.TheVariants.{Valid, Rejected, Open}
-use Rattle.register.specs.Ranges.{is_ward_number, is_seat_number, is_candidate_number, is_batch_number, is_paper_number, is_clerk, is_round, is_name, most_papers, last_batch}
-use Rattle.register.specs.Offices.{WardEntry, CandidateEntry, BatchEntry, KeyedEntry, JudgedEntry, OfficeState, MapsRise, batch_cmp, ward_compared, ward_at, candidates_of, keying_of}
+use Rattle.register.specs.Ranges.{is_ward_number, is_seat_number, is_candidate_number, is_batch_number, is_paper_number, is_clerk, is_round, is_name}
+use Rattle.register.specs.Offices.{WardEntry, CandidateEntry, BatchEntry, KeyedEntry, JudgedEntry, OfficeState, MapsRise, batch_cmp, ward_compared, ward_at, candidates_of}
 use Rattle.register.specs.Nominations.{is_contested}
 use Rattle.register.specs.Marks.{and_column, columns_of}
-use Rattle.register.specs.Papers.{is_keyed, first_keying, second_keying, batches_of}
-use Rattle.register.specs.Keyed.{is_whole, are_numbered, is_round_of, are_rounds_to}
+use Rattle.register.specs.Papers.{first_keying, batches_of}
+use Rattle.register.specs.Keyed.{is_whole, is_round_of, are_rounds_to}
 use Rattle.register.specs.Items.{is_ward, is_candidate, is_batch, item1, item3, item4}
 use Rattle.register.specs.Polls.{Pile, pile_of, piles_of, is_taken, by_rejection, by_reading, by_verdict, judgement_on, judgements_in, judgements, preferences_by, ballots_in}
 use Rattle.register.specs.Elections.{election_of, contest_of}
@@ -243,10 +241,11 @@ papers_are_few s columns ward fine rounds up =
 
 -- ---- the contest
 
--- What is in range, keyed as it has to be, and in the order of its keys, has contests that the rules speak of.
-pub contest_is_fair : (s : OfficeState) (w : WardEntry) → item1 s ≡ true → item4 s ≡ true → MapsRise s → ward_at s w.number ≡ Some w → is_contested w (candidates_of s w.number) ≡ true → IsContest (contest_of (election_of s w))
+-- what a ward can have at most: seats from 1 on, and papers
+pub seats_and_papers_are_few : (s : OfficeState) (w : WardEntry) → item1 s ≡ true → item4 s ≡ true → MapsRise s → ward_at s w.number ≡ Some w
+    → (1 ≤ w.seats) × (w.seats ≤ max_seats) × (length (election_of s w).ballots.papers ≤ max_papers)
 unfolding is_ward
-contest_is_fair s w first fourth rise there contested =
+seats_and_papers_are_few s w first fourth rise there =
     let wards = and_parts _ _ first in
     let candidates = and_parts _ _ wards.1 in
     let batches = and_parts _ _ candidates.1 in
@@ -254,18 +253,27 @@ contest_is_fair s w first fourth rise there contested =
     let named = and_parts (is_ward_number w.number) (is_seat_number w.seats && is_name w.name) own in
     let seated = and_parts (is_seat_number w.seats) (is_name w.name) named.1 in
     let seats = and_parts (nat_le 1 w.seats) (nat_le w.seats 15) seated.0 in
+    (leb-true 1 w.seats seats.0, leb-true w.seats 15 seats.1, papers_are_few s (columns_of (candidates_of s w.number)) w.number batches.0 (and_parts _ _ fourth).1 rise.batches)
+
+candidates_are : (s : OfficeState) → item1 s ≡ true → list_all is_candidate s.candidates ≡ true
+candidates_are s first = (and_parts _ _ (and_parts _ _ first).1).0
+
+-- What is in range, keyed as it has to be, and in the order of its keys, has contests that the rules speak of.
+pub contest_is_fair : (s : OfficeState) (w : WardEntry) → item1 s ≡ true → item4 s ≡ true → MapsRise s → ward_at s w.number ≡ Some w → is_contested w (candidates_of s w.number) ≡ true → IsContest (contest_of (election_of s w))
+contest_is_fair s w first fourth rise there contested =
     let cs = candidates_of s w.number in
     let columns = columns_of cs in
-    let numbers = columns_at s w.number candidates.0 rise.candidates in
+    let numbers : columns ≡ map (λ c. c.number) cs = columns_at s w.number (candidates_are s first) rise.candidates in
+    let few = seats_and_papers_are_few s w first fourth rise there in
     contest-is
     columns
     w.seats
     (ballots_in columns (piles_of s w.number)).papers
     (columns_are_set cs)
-    (leb-true 1 w.seats seats.0)
-    (leb-true w.seats 15 seats.1)
+    few.0
+    few.1
     (omega (arith, ltb-true w.seats (length cs) contested, ap length numbers, length_map (λ (c : CandidateEntry). c.number) cs))
-    (papers_are_few s columns w.number batches.0 (and_parts _ _ fourth).1 rise.batches)
+    few.2
     (papers_are_fair columns (piles_of s w.number))
 
 pub fair_contest : (s : OfficeState) (w : WardEntry) → item1 s ≡ true → item3 s ≡ true → item4 s ≡ true → MapsRise s → ward_at s w.number ≡ Some w → is_contested w (candidates_of s w.number) ≡ true → IsContest (contest_of (election_of s w))

@@ -1,10 +1,10 @@
 -- The count of a ward, computed: its papers are judged, the ward is sealed, stages are counted, a lot is drawn, and it is declared.
-use Rattle.std.proofs.Common.{ℕ, true, false, ◌≡◌, List, [], ◌∷◌, ◌++◌, codes, refl, Some}
+use Rattle.std.proofs.Common.{ℕ, true, false, ◌≡◌, List, [], ◌∷◌, ◌++◌, codes, refl}
 use Rattle.std.specs.Fmt.{digits}
 use Rattle.paper.specs.Preferences.{preferences_from}
 use Rattle.count.specs.Law.Count.{stages_to}
 use Rattle.count.specs.declared.stages.Action.TheVariants.{First}
-use Rattle.count.specs.declared.stages.Due.TheVariants.{Act, Finished}
+use Rattle.count.specs.declared.stages.Due.TheVariants.{Act}
 use Rattle.register.specs.declared.phase.Phase.{Phase}
 use Rattle.register.specs.declared.phase.Phase.TheVariants.{Keying, Sealed, Declared}
 use Rattle.register.specs.declared.command.Command.{Command}
@@ -15,11 +15,10 @@ use Rattle.register.specs.declared.polls.Judgement.TheVariants.{Valid, Rejected,
 use Rattle.register.specs.declared.refusal.Reason.TheVariants.{NumberOutOfRange, NoSuchWard, WrongPhase, NoSuchCandidate, NotReady, CountFinished, LotNeeded, NoSuchLot, CountNotFinished}
 use Rattle.register.specs.Ranges.{is_id}
 use Rattle.register.specs.Texts.{listed}
-use Rattle.register.specs.Offices.{WardEntry, CandidateEntry, BatchEntry, KeyedEntry, JudgedEntry, LotEntry, ReceiptEntry, OfficeState, candidates_of}
-use Rattle.register.specs.Marks.{columns_of}
+use Rattle.register.specs.Offices.{WardEntry, KeyedEntry, JudgedEntry, LotEntry, ReceiptEntry, OfficeState}
 use Rattle.register.specs.Papers.{same_marks}
-use Rattle.register.specs.Polls.{piles_of, judgements, ballots_in, poll_of}
-use Rattle.register.specs.Elections.{election_of, due_of, elected_of}
+use Rattle.register.specs.Polls.{piles_of, judgements, poll_of}
+use Rattle.register.specs.Elections.{election_of, due_of}
 use Rattle.register.specs.Items.{item6, item7}
 use Rattle.register.specs.Counts as counts
 use Rattle.register.specs.Machine.{accepted, refused, step, decided}

@@ -1,7 +1,7 @@
 -- The valid papers of a ward and the rejected ones are all its papers.
-use Rattle.std.proofs.Common.{◌≡◌, ℕ, zero, suc, ◌+◌, ◌<◌, ◌≤◌, ◌==◌, ◌&&◌, ◌||◌, nat_le, Bool, true, false, not, cond, List, [], ◌∷◌, ◌++◌, length, map, filter, find, Option, Some, None, Result, Ok, Err, codes, refl, sym, ap, subst, ◌∙◌, arith, length-append}
-use Rattle.std.specs.Prelude.{sum_by, is_none}
-use Rattle.std.specs.List.{AllByRecursion, list_all, list_any, flat_map}
+use Rattle.std.proofs.Common.{◌≡◌, ℕ, zero, suc, ◌+◌, ◌<◌, ◌==◌, ◌&&◌, ◌||◌, nat_le, Bool, true, false, not, cond, List, [], ◌∷◌, length, map, filter, find, Some, Result, Ok, Err, codes, refl, sym, ap, subst, ◌∙◌, arith, length-append}
+use Rattle.std.specs.Prelude.{sum_by}
+use Rattle.std.specs.List.{AllByRecursion, list_all, flat_map}
 use Rattle.std.specs.Str.{bytes_eq}
 use Rattle.std.specs.List.Sorted.{IsStrictlySortedBy}
 use Rattle.std.specs.declared.cmp.Ordering.TheVariants.{Less}
@@ -13,24 +13,22 @@ use Rattle.std.proofs.lemmas.List.Folds.{list_all-append}
 use Rattle.std.proofs.lemmas.List.Sums.{sum_by-cons}
 use Rattle.paper.specs.Marking.{Marking, marked_with}
 use Rattle.paper.specs.MarksText.{reading, fields, beside, marks_in}
-use Rattle.paper.specs.Numbers.{rejection_code}
 use Rattle.paper.specs.Preferences.{rejection_by, rejection_of}
 use Rattle.paper.specs.declared.marked.Keyed.{Keyed}
 use Rattle.paper.specs.declared.marked.Keyed.TheVariants.{Doubtful, Marked}
 use Rattle.paper.specs.declared.marks.MarkFault.{MarkFault}
 use Rattle.paper.specs.declared.marks.MarkFault.TheVariants.{FieldCount}
-use Rattle.paper.specs.declared.validity.Rejection.{Rejection}
 use Rattle.register.specs.declared.polls.Judgement.{Judgement}
 use Rattle.register.specs.declared.polls.Judgement.TheVariants.{Valid, Rejected, Open}
 use Rattle.register.specs.Ranges.{is_between}
-use Rattle.register.specs.Offices.{WardEntry, CandidateEntry, BatchEntry, KeyedEntry, JudgedEntry, OfficeState, batch_cmp, batch_compared, batch_at, candidates_of, verdicts_of, keying_of}
+use Rattle.register.specs.Offices.{WardEntry, BatchEntry, KeyedEntry, JudgedEntry, OfficeState, batch_cmp, batch_compared, batch_at, candidates_of, verdicts_of}
 use Rattle.register.specs.Marks.{columns_of, is_read, is_readable, is_judged_valid, is_valid}
 use Rattle.register.specs.Verdicts.{is_rejection_code}
-use Rattle.register.specs.Papers.{are_taken, is_keyed, same_marks, is_doubtful, has_verdict, is_open, is_its_clerk, has_doubtful, first_keying, second_keying, batches_of}
+use Rattle.register.specs.Papers.{is_keyed, is_doubtful, has_verdict, is_open, is_its_clerk, has_doubtful, first_keying, batches_of}
 use Rattle.register.specs.Papers as papers
-use Rattle.register.specs.Keyed.{columns_for, is_keyed_for, is_whole, is_round_of, are_rounds_to, is_verdict_on, is_judged}
+use Rattle.register.specs.Keyed.{columns_for, is_keyed_for, is_whole, are_rounds_to, is_verdict_on, is_judged}
 use Rattle.register.specs.Items.{is_batch, IsState}
-use Rattle.register.specs.Polls.{Pile, pile_of, piles_of, is_taken, is_settled, by_rejection, by_reading, by_verdict, judgement_on, judgements_on, judgements_in, judgements, preferences_by, is_rejected, rejected_with, all_rejected, ballots_in}
+use Rattle.register.specs.Polls.{Pile, pile_of, piles_of, is_taken, is_settled, by_rejection, by_reading, by_verdict, judgement_on, judgements_on, judgements_in, judgements, preferences_by, is_rejected, rejected_with, all_rejected}
 use Rattle.register.specs.Elections.{election_of}
 use Rattle.register.proofs.ItemLemmas.{batch_map, maps_of}
 use Rattle.register.proofs.ContestLemmas.{round_now, length_map}

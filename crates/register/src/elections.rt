@@ -1,13 +1,14 @@
 //! What the count of a ward rests on: the ward, its candidates, its ballot papers, and the lots drawn.
 
-ghost use Rattle.std.specs.Prelude.{◌≡◌, ◌+◌, true, length, map, sum_by, [], Some, IfOk, IfSome, IsSome};
+ghost use Rattle.std.specs.Prelude.{◌≡◌, ◌+◌, ◌≤◌, true, length, map, sum_by, [], Some, IfOk, IfSome, IsSome};
 ghost use Rattle.std.specs.List.{list_all};
+ghost use Rattle.votes.specs.Units.{max_seats, max_papers};
 ghost use Rattle.count.specs.Law.Contest.{contest_for, IsContest};
 ghost use Rattle.register.specs.Papers.{batches_of};
 ghost use Rattle.register.specs.Polls.{all_rejected, poll_of, poll_entry, ballots_entry};
 ghost use Rattle.register.specs.Offices.{WardEntry, OfficeState, MapsRise, lot_entry, ward_at, candidates_of};
 ghost use Rattle.register.specs.Nominations.{is_contested};
-ghost use Rattle.register.specs.Elections.{lot_pair, election_entry, election_of, contest_of, stages_of, due_of, elected_of};
+ghost use Rattle.register.specs.Elections.{lot_pair, election_entry, election_of, has_count, contest_of, stages_of, due_of, elected_of};
 ghost use Rattle.register.specs.Items.{item1, item4, is_lot, IsState};
 
 use crate::candidates::Candidate;
@@ -40,12 +41,14 @@ pub struct Progress {
 }
 
 /// The laws of the elections of an office, for its callers. Where numbers are in range, keyings are whole
-/// and entries stand in the order of their keys, each contested ward has an election that can be counted.
-/// At a state, once each batch of a ward is settled, its valid papers and its rejected ones are all the
-/// papers of its batches.
+/// and entries stand in the order of their keys, each contested ward has an election that can be counted,
+/// and no ward has more seats or papers than there may be. At a state, once each batch of a ward is
+/// settled, its valid papers and its rejected ones are all the papers of its batches.
 pub fn elections_are_fair()
     ensures fair { (s : OfficeState) (w : WardEntry) → item1 s ≡ true → item4 s ≡ true → MapsRise s → ward_at s w.number ≡ Some w
         → is_contested w (candidates_of s w.number) ≡ true → IsContest (contest_of (election_of s w)) }
+    ensures few { (s : OfficeState) (w : WardEntry) → item1 s ≡ true → item4 s ≡ true → MapsRise s → ward_at s w.number ≡ Some w
+        → (1 ≤ w.seats) × (w.seats ≤ max_seats) × (length (election_of s w).ballots.papers ≤ max_papers) }
     ensures adds_up { (s : OfficeState) (w : WardEntry) → IsState s → (election_of s w).ballots.settled ≡ true
         → length (election_of s w).ballots.papers + all_rejected (election_of s w).ballots.rejected ≡ sum_by (λ b. b.size) (batches_of s w.number) }
 {}
@@ -105,7 +108,8 @@ impl Election {
     /// The poll of the ward; none where it has no seats, or more than a ward can have, or too many papers,
     /// as no ward of an office has. Takes no memory.
     pub fn poll(&self) -> Option<Poll>
-        ensures { IfSome result (λ poll. poll_entry poll ≡ poll_of self.now.ward.seats (ballots_entry self.now.ballots)) }
+        ensures is { IfSome result (λ poll. poll_entry poll ≡ poll_of self.now.ward.seats (ballots_entry self.now.ballots)) }
+        ensures some { 1 ≤ self.now.ward.seats → self.now.ward.seats ≤ max_seats → length self.now.ballots.papers.items ≤ max_papers → IsSome result }
     {
         let valid = self.ballots.papers.len();
         if valid > MAX_PAPERS as usize
@@ -141,6 +145,7 @@ impl Election {
     /// of memory.
     pub fn progress(&self, alloc: Global) -> Result<Option<Progress>, AllocError>
         ensures is { IfOk result (λ found. IfSome found (λ progress. (progress.due ≡ due_of (election_entry self.now)) × (progress.elected ≡ elected_of (election_entry self.now)))) }
+        ensures some { IfOk result (λ found. (has_count (election_entry self.now) ≡ true → IsContest (contest_of (election_entry self.now))) → IsSome found) }
     {
         if !is_contested(&self.ward, &self.candidates) {
             return Ok(Some(Progress {

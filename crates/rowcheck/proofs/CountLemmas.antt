@@ -1,7 +1,7 @@
 -- What the stages of a count, counted again, tell of those that are said to be done.
-use Rattle.std.proofs.Common.{◌≡◌, ℕ, ◌+◌, ◌-◌, ◌<◌, ◌≤◌, ◌==◌, Bool, true, false, not, ◌&&◌, ◌||◌, nat_le, List, [], ◌∷◌, map, length, get_or, slice_get, Option, Some, None, zero, suc, refl, sym, ap, ◌∙◌, arith, inl, inr}
+use Rattle.std.proofs.Common.{◌≡◌, ℕ, ◌+◌, ◌-◌, ◌<◌, ◌≤◌, ◌==◌, Bool, not, ◌&&◌, ◌||◌, List, [], ◌∷◌, map, length, slice_get, Option, Some, None, zero, suc, refl, sym, ap, ◌∙◌, arith, inl, inr}
 use Rattle.std.specs.List.{list_all, range_with_len}
-use Rattle.std.proofs.lemmas.Bool.Decides.{eqb_tells, leb_tells}
+use Rattle.std.proofs.lemmas.Bool.Decides.{leb_tells}
 use Rattle.std.proofs.lemmas.List.{length-map}
 use Rattle.std.proofs.lemmas.List.FromFn.{get_or-map-range_with_len, length-range_with_len}
 use Rattle.std.proofs.lemmas.Option.{slice_get-get_or, slice_get_past}
@@ -13,8 +13,8 @@ use Rattle.count.specs.Law.Laws.{IsShort}
 use Rattle.count.specs.declared.stages.Action.{Action}
 use Rattle.count.specs.declared.stages.Due.{Due}
 use Rattle.count.specs.declared.stages.Due.TheVariants.{Finished}
-use Rattle.register.specs.Elections.{ElectionEntry, contest_of, is_tied, is_finished, is_declared, is_drawn_for, is_right_so_far}
-use Rattle.rowcheck.specs.Counts.{is_tied_at, is_drawn_by, is_finished_at}
+use Rattle.register.specs.Elections.{ElectionEntry, contest_of, is_finished, is_declared, is_drawn_for, is_right_so_far}
+use Rattle.rowcheck.specs.Counts.{is_drawn_by, is_finished_at}
 use Rattle.rowcheck.proofs.RunLemmas.{less_differs}
 
 -- ---- how many stages there are

@@ -1,11 +1,9 @@
 -- What a walk over wards and their candidates tells of the state of the rows.
-use Rattle.std.proofs.Common.{◌≡◌, ◌≤◌, true, ◌&&◌, map, is_some, refl, ◌∙◌, arith}
-use Rattle.std.specs.List.{list_all}
+use Rattle.std.proofs.Common.{◌≡◌, ◌≤◌, map, refl, ◌∙◌, arith}
 use Rattle.std.specs.declared.cmp.Ordering.{Ordering}
 use Rattle.std.specs.declared.cmp.Ordering.TheVariants.{Less, Equal, Greater}
 use Rattle.std.specs.Ordering.{nat_cmp, ordering_then}
-use Rattle.std.proofs.lemmas.Bool.{and_parts}
-use Rattle.register.specs.Offices.{WardEntry, CandidateEntry, MapsRise, ward_entry, candidate_entry, candidate_cmp, ward_at, candidates_of}
+use Rattle.register.specs.Offices.{WardEntry, CandidateEntry, MapsRise, ward_entry, candidate_entry, candidate_cmp}
 use Rattle.register.specs.Nominations.{are_enough}
 use Rattle.register.specs.Items.{item2}
 use Rattle.rowcheck.specs.declared.rows.Rows.{Rows}

@@ -1,9 +1,9 @@
 -- The batches of a ward: those of them that are walked so far, and what is asked of all.
-use Rattle.std.proofs.Common.{◌≡◌, ℕ, ◌+◌, ◌<◌, ◌==◌, Bool, true, false, not, ◌&&◌, ◌||◌, cond, List, [], ◌∷◌, ◌++◌, map, length, get_or, take, filter, zero, suc, refl, ap, ◌∙◌, arith}
+use Rattle.std.proofs.Common.{◌≡◌, ℕ, ◌+◌, ◌<◌, ◌==◌, Bool, true, false, not, ◌&&◌, ◌||◌, cond, List, [], ◌∷◌, ◌++◌, map, length, get_or, take, filter, zero, suc, refl, ap, arith}
 use Rattle.std.specs.List.{list_all}
 use Rattle.register.specs.declared.batches.Batch.{Batch}
 use Rattle.register.specs.Offices.{BatchEntry, OfficeState, batch_entry}
-use Rattle.register.specs.Polls.{Pile, pile_of, piles_of, is_settled}
+use Rattle.register.specs.Polls.{pile_of, is_settled}
 use Rattle.register.specs.Elections.{ElectionEntry, is_in_count, is_agreed}
 use Rattle.rowcheck.specs.Polls.{is_settled_for, piles_in}
 

@@ -3,11 +3,11 @@
 //! The stages of a count and what is due before each follow from its papers and lots, so they are counted
 //! again, and what the rows say of them is compared.
 
-ghost use Rattle.std.specs.Prelude.{◌≡◌, ◌≤◌, ◌<◌, ◌+◌, true, map, slice_get, option_copied, is_some, IfOk};
+ghost use Rattle.std.specs.Prelude.{◌≡◌, ◌≤◌, ◌<◌, true, slice_get, option_copied, is_some, IfOk};
 ghost use Rattle.std.specs.List.{list_all, AllByRecursion};
 ghost use Rattle.count.specs.Law.Contest.{IsContest};
-ghost use Rattle.register.specs.Offices.{MapsRise, ward_entry, lot_entry, ward_at};
-ghost use Rattle.register.specs.Elections.{election_of, contest_of, is_tied, is_finished, is_declared, is_right_so_far, is_uncounted, is_counted_right};
+ghost use Rattle.register.specs.Offices.{MapsRise, ward_entry, ward_at};
+ghost use Rattle.register.specs.Elections.{election_of, contest_of, is_declared, is_right_so_far, is_uncounted, is_counted_right};
 ghost use Rattle.register.specs.Items.{is_lot, item1, item4, item7};
 ghost use Rattle.rowcheck.specs.States.{state_of};
 ghost use Rattle.rowcheck.specs.Counts.{election_with, IsFair, is_tied_at, is_drawn_by, is_finished_at};

@@ -5,8 +5,10 @@
 //!
 //! A condition is a definition on the state, `item1` and those after it in `register`'s
 //! `specs/Items.antt`; here `item1(&rows)` answers it for `state_of rows`. Later ones have that form
-//! too. No list is searched for each row of another: lists in the order of their keys are walked side by
-//! side, or the rows of a key, which stand side by side, are found by bisection (`runs`, `finding`).
+//! too; `item7` counts again what is done of each count, and answers an error for want of memory. No list
+//! is searched for each row of another: lists in the order of their keys are walked side by side, or the
+//! rows of a key, which stand side by side, are found by bisection (`runs`, `finding`). The batches alone
+//! are gone through for each ward in count, of which there are 99 at most.
 #![tactic(auto)]
 
 // The rows,
@@ -20,8 +22,8 @@ mod batches;
 mod counts;
 mod keyings;
 mod nominations;
-mod polls;
 mod plain;
+mod polls;
 mod ranges;
 mod subjects;
 mod verdicts;

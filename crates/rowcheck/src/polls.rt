@@ -63,7 +63,9 @@ fn are_settled(rows: &Rows, ward: u32, batches: &[Batch]) -> bool
     requires { MapsRise (state_of rows.now) }
     ensures { result ≡ list_all (λ b. is_settled_for (state_of rows.now) ward (batch_entry b)) batches.now }
 {
-    batches.iter().all(|batch| is_settled_for(rows, ward, batch))
+    batches
+        .iter()
+        .all(|batch| is_settled_for(rows, ward, batch))
 }
 
 /// Whether each batch of a ward is settled, if its count has begun.

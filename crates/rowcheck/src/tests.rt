@@ -5,12 +5,14 @@ ghost use Rattle.register.specs.Offices.{MapsRise};
 ghost use Rattle.rowcheck.specs.States.{state_of};
 
 use crate::batches::item3;
+use crate::counts::item7;
 use crate::keyings::item4;
 use crate::nominations::item2;
+use crate::polls::item6;
 use crate::ranges::item1;
 use crate::rows::Rows;
 use crate::verdicts::item5;
-use register::{Batch, Candidate, JudgedPaper, KeyedPaper, Phase, Receipt, Ward};
+use register::{Batch, Candidate, DrawnLot, JudgedPaper, KeyedPaper, Phase, Receipt, Ward};
 use std::alloc::{AllocError, Global};
 use std::test::Fail;
 
@@ -271,6 +273,128 @@ fn verdicts_on_papers(rt: HostRuntime) -> Result<(), Fail> {
     for (second, paper, code, marks, are_judged) in cases {
         let rows = paper_judged(alloc, second, paper, code, marks)?;
         assert_eq!(rt; item5(&rows), are_judged);
+    }
+    Ok(())
+}
+
+/// The same rows, with ward 7 in a phase, and so many stages of its count done.
+fn moved_to(alloc: Global, rows: Rows, phase: Phase, done: u32) -> Result<Rows, AllocError>
+    requires { MapsRise (state_of rows) }
+    ensures { IfOk result (λ rows. MapsRise (state_of rows)) }
+{
+    let moved = only_ward(alloc, [7, 1, done], phase, "Harbour")?;
+    Ok(Rows {
+        wards: moved.wards,
+        candidates: rows.candidates,
+        batches: rows.batches,
+        keyings: rows.keyings,
+        verdicts: rows.verdicts,
+        lots: rows.lots,
+        receipts: rows.receipts,
+    })
+}
+
+/// The same rows, with a lot alone.
+fn drawn(alloc: Global, rows: Rows, lot: [u32; 3]) -> Result<Rows, AllocError>
+    requires { MapsRise (state_of rows) }
+    ensures { IfOk result (λ rows. MapsRise (state_of rows)) }
+{
+    let [ward, stage, candidate] = lot;
+    let lot = DrawnLot {
+        ward,
+        stage,
+        candidate,
+    };
+    Ok(Rows {
+        wards: rows.wards,
+        candidates: rows.candidates,
+        batches: rows.batches,
+        keyings: rows.keyings,
+        verdicts: rows.verdicts,
+        lots: vec![in alloc; lot]?,
+        receipts: rows.receipts,
+    })
+}
+
+#[test]
+fn batches_in_count(rt: HostRuntime) -> Result<(), Fail> {
+    let alloc = rt.alloc();
+    let (same, other) = (["1,2", "D"], ["2,1", "D"]);
+    let cases = [
+        (Phase::Keying, other, 3, "", true),
+        (Phase::Sealed, other, 3, "", false),
+        (Phase::Sealed, same, 3, "", true),
+        (Phase::Declared, same, 0, "2,1", true),
+    ];
+    for (phase, second, code, marks, are_settled) in cases {
+        let judged = paper_judged(alloc, second, 2, code, marks)?;
+        let rows = moved_to(alloc, judged, phase, 0)?;
+        assert_eq!(rt; item6(&rows), are_settled);
+    }
+    let unjudged = papers_keyed(alloc, batch(12, 2, 9, 1), same, same)?;
+    let rows = moved_to(alloc, unjudged, Phase::Sealed, 0)?;
+    assert_eq!(rt; item6(&rows), false);
+    Ok(())
+}
+
+/// Whether what is done of each count is right, where it is to be asked.
+fn is_counted(alloc: Global, rows: &Rows) -> Result<Option<bool>, AllocError>
+    requires { MapsRise (state_of rows.now) }
+{
+    if !item1(rows) {
+        return Ok(None);
+    }
+    if !item4(rows) {
+        return Ok(None);
+    }
+    Ok(Some(item7(alloc, rows)?))
+}
+
+/// Ward 7, of one seat, in a phase, with so many stages done; its two candidates have a vote each.
+fn tied(alloc: Global, phase: Phase, done: u32) -> Result<Rows, AllocError>
+    ensures { IfOk result (λ rows. MapsRise (state_of rows)) }
+{
+    let marks = ["1,2", "2,1"];
+    let rows = papers_keyed(alloc, batch(12, 2, 9, 1), marks, marks)?;
+    moved_to(alloc, rows, phase, done)
+}
+
+#[test]
+fn stages_of_counts(rt: HostRuntime) -> Result<(), Fail> {
+    let alloc = rt.alloc();
+    let cases = [
+        (Phase::Keying, 0, true),
+        (Phase::Keying, 1, false),
+        (Phase::Sealed, 0, true),
+        (Phase::Sealed, 1, true),
+        (Phase::Sealed, 2, false),
+        (Phase::Sealed, 4000000000, false),
+        (Phase::Declared, 1, false),
+    ];
+    for (phase, done, right) in cases {
+        let rows = tied(alloc, phase, done)?;
+        assert_eq!(rt; is_counted(alloc, &rows)?, Some(right));
+    }
+    Ok(())
+}
+
+#[test]
+fn lots_of_counts(rt: HostRuntime) -> Result<(), Fail> {
+    let alloc = rt.alloc();
+    let cases = [
+        (Phase::Keying, 0, [7, 2, 1], false),
+        (Phase::Sealed, 0, [7, 2, 1], false),
+        (Phase::Sealed, 1, [7, 2, 1], true),
+        (Phase::Sealed, 2, [7, 2, 1], true),
+        (Phase::Sealed, 3, [7, 2, 1], false),
+        (Phase::Sealed, 1, [7, 2, 3], false),
+        (Phase::Sealed, 1, [8, 2, 1], false),
+        (Phase::Declared, 1, [7, 2, 1], false),
+        (Phase::Declared, 2, [7, 2, 1], true),
+    ];
+    for (phase, done, lot, right) in cases {
+        let rows = drawn(alloc, tied(alloc, phase, done)?, lot)?;
+        assert_eq!(rt; is_counted(alloc, &rows)?, Some(right));
     }
     Ok(())
 }

@@ -1,6 +1,5 @@
 use Rattle.std.proofs.Common.{IsSome, subst, ap, ◌∙◌}
 use Rattle.std.specs.List.{list_all}
-use Rattle.register.specs.Offices.{LotEntry, lot_entry}
 use Rattle.register.specs.Items.{is_lot}
 use Rattle.register.proofs.MapLemmas.{kept_all}
 use Rattle.rowcheck.specs.States.{state_of}

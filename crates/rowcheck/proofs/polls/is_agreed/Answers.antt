@@ -1,7 +1,7 @@
-use Rattle.std.proofs.Common.{◌≡◌, true, map, sym, ◌∙◌}
+use Rattle.std.proofs.Common.{map, sym, ◌∙◌}
 use Rattle.std.proofs.lemmas.List.Folds.{list_all-map}
 use Rattle.register.specs.Offices.{ward_entry, batch_entry}
-use Rattle.register.specs.Elections.{election_of, is_in_count}
+use Rattle.register.specs.Elections.{election_of}
 use Rattle.rowcheck.specs.States.{state_of}
 use Rattle.rowcheck.specs.Polls.{is_settled_for}
 use Rattle.rowcheck.proofs.PollLemmas.{settled_by_ward, agreed_in_count}

@@ -1,0 +1,15 @@
+use Rattle.std.specs.List.Sorted.{IsStrictlySortedBy}
+use Rattle.rowcheck.proofs.tests.drawn.Goals as goal
+
+pub returns : goal.returns
+unfolding IsStrictlySortedBy
+returns c =
+    record {
+      wards = c.requires.wards;
+      candidates = c.requires.candidates;
+      batches = c.requires.batches;
+      keyings = c.requires.keyings;
+      verdicts = c.requires.verdicts;
+      lots = rw c.in_ok-vec.ensures.items (tt, tt);
+      receipts = c.requires.receipts;
+    }
