@@ -1,11 +1,14 @@
 -- The stage sheet and the declaration of a ward, as the state has them.
-use Rattle.std.specs.Prelude.{ℕ, Bool, if◌then◌else◌, List, map, length, reverse, Option, Some, None, Result, Ok, Err}
+use Rattle.std.specs.Prelude.{◌≡◌, ◌⊎◌, ℕ, Bool, false, true, if◌then◌else◌, List, map, length, reverse, Option, Some, None, Result, Ok, Err}
 use Rattle.sheet.specs.declared.ward.Poll.{Poll}
 use Rattle.sheet.specs.Entries.{SheetEntry}
 use Rattle.sheet.specs.Sheet.{sheet, declaration}
 use Rattle.register.specs.declared.phase.Phase.{Phase}
 use Rattle.register.specs.declared.refusal.Reason.{Reason}
 use Rattle.register.specs.declared.refusal.Reason.TheVariants.{NumberOutOfRange, NoSuchWard, WrongPhase}
+use Rattle.tables.specs.declared.fault.Fault.TheVariants.{Memory, Store}
+use Rattle.office.specs.declared.answers.Stop.{Stop}
+use Rattle.office.specs.declared.answers.Stop.TheVariants.{Refused, Fault as Failed}
 use Rattle.office.specs.declared.sheets.Text.{Text}
 use Rattle.office.specs.declared.sheets.Text.TheVariants.{Sheet, Declaration}
 use Rattle.register.specs.Ranges.{is_ward_number}
@@ -51,3 +54,9 @@ text_found text s (Some w) = if is_told_in text w.phase then Ok (text_shown text
 -- what is told where a text of the ward of a number is asked for: the stage sheet once it is sealed, the declaration once it is declared
 abbrev pub text_told : Text → OfficeState → ℕ → Result (List ℕ) Reason
 text_told text s ward = if is_ward_number ward then text_found text s (ward_at s ward) else Err NumberOutOfRange
+
+-- why no text of a ward in a phase is told: it isn't told in that phase, or memory was wanting and the office stays open; or a
+-- fault closed the office
+abbrev pub StopsText : Text → Phase → Bool → Stop → Type 0
+StopsText text phase closed (Refused why) = (why ≡ WrongPhase) × (is_told_in text phase ≡ false) × (closed ≡ false)
+StopsText text phase closed (Failed f) = ((f ≡ Memory) × (closed ≡ false)) ⊎ ((f ≡ Store) × (closed ≡ true))

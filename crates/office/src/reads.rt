@@ -1,6 +1,6 @@
 //! What the office tells of its state, which no read changes.
 
-ghost use Rattle.std.specs.Prelude.{◌≡◌, ◌⊎◌, true, false, IfOk, IfErr, Some, None, Ok, Err};
+ghost use Rattle.std.specs.Prelude.{◌≡◌, true, false, IfOk, IfErr, OnOk, Some, None, Ok, Err, string_bytes};
 ghost use Rattle.sqlite.specs.State.{HasCleanDisk};
 ghost use Rattle.sqlite.specs.Held.{state};
 ghost use Rattle.register.specs.Offices.{OfficeState};
@@ -10,7 +10,7 @@ ghost use Rattle.tables.specs.Reading.{OnlyReads};
 ghost use Rattle.store.specs.Offices.{IsAt};
 ghost use Rattle.register.specs.Elections.{election_entry};
 ghost use Rattle.office.specs.Reads.{Read, status_told, columns_told, StopsFor};
-ghost use Rattle.office.specs.Sheets.{is_told_in, text_shown, text_told};
+ghost use Rattle.office.specs.Sheets.{is_told_in, text_shown, text_told, StopsText};
 
 use crate::answers::Stop;
 use crate::offices::Office;
@@ -37,7 +37,8 @@ impl<S: Alter> Office<S> {
     fn failed(&mut self, fault: Fault) -> Stop
         ensures told { result ≡ Stop.Fault fault }
         ensures held { self.new.held ≡ self.old.held }
-        ensures closes { self.new.closed ≡ not (is_memory fault) }
+        ensures kept { fault ≡ Fault.Memory → self.new.closed ≡ false }
+        ensures closes { fault ≡ Fault.Store → self.new.closed ≡ true }
     {
         self.closed = fault != Fault::Memory;
         Stop::Fault(fault)
@@ -130,17 +131,20 @@ impl<S: Alter> Office<S> {
         if !is_ward_number(ward) {
             return Err(refused(self.alloc, Reason::NumberOutOfRange));
         }
-        match self.store.load_election(ward) {
-            Ok(Some(election)) => self.text_of(&election, text),
-            Ok(None) => Err(refused(self.alloc, Reason::NoSuchWard)),
-            Err(fault) => Err(self.failed(fault)),
+        let found = match self.store.load_election(ward) {
+            Ok(found) => found,
+            Err(fault) => return Err(self.failed(fault)),
+        };
+        match found {
+            Some(election) => self.text_of(&election, text),
+            None => Err(refused(self.alloc, Reason::NoSuchWard)),
         }
     }
 
     /// A text of the ward of an election that was read.
     fn text_of(&mut self, election: &Election, text: Text) -> Result<String, Stop>
         ensures told { IfOk result (λ told. (is_told_in text election.now.ward.phase ≡ true) × (string_bytes told ≡ text_shown text (election_entry election.now))) }
-        ensures stopped { IfErr result (λ stop. StopsText text election.now.ward.phase stop self.new.closed) }
+        ensures stopped { self.old.closed ≡ false → IfErr result (λ stop. StopsText text election.now.ward.phase self.new.closed stop) }
         ensures held { self.new.held ≡ self.old.held }
         ensures open_still { OnOk result (self.new.closed ≡ self.old.closed) }
     {

@@ -2,12 +2,14 @@
 
 ghost use Rattle.std.specs.Prelude.{◌≡◌, map, IfOk, IfSome, string_bytes};
 ghost use Rattle.register.specs.Offices.{candidate_entry};
-ghost use Rattle.register.specs.Elections.{election_entry};
+ghost use Rattle.register.specs.Elections.{election_entry, elected_of};
 ghost use Rattle.sheet.specs.Entries.{shown};
 ghost use Rattle.sheet.specs.Wards.{CanBePrinted};
 ghost use Rattle.office.specs.Sheets.{candidate_shown, poll_shown, election_shown, sheet_of, declaration_of, is_told_in, text_shown};
 
 use count::CountBook;
+use paper::Columns;
+use register::marks::columns_of;
 use register::wards::is_contested;
 use register::{Candidate, Election, Phase};
 use sheet::{Poll, Ward, can_be_printed, declaration_text, sheet_text};
@@ -69,11 +71,13 @@ fn poll_of(election: &Election) -> Option<Option<Poll>>
     if !is_contested(&election.ward, &election.candidates) {
         return Some(None);
     }
-    let poll = election.poll()?;
-    Some(Some(Poll {
-        valid: poll.valid,
-        rejected: poll.rejected,
-    }))
+    match election.poll() {
+        Some(poll) => {
+            let (valid, rejected) = (poll.valid, poll.rejected);
+            Some(Some(Poll { valid, rejected }))
+        }
+        None => None,
+    }
 }
 
 /// The ward of an election, as the texts show it, with these lines of its candidates; none where a number
@@ -88,12 +92,15 @@ fn ward_of<'a>(election: &'a Election, candidates: &'a [(u8, String)]) -> Option
     let Ok(seats) = u8::try_from(election.ward.seats) else {
         return None;
     };
+    let Some(poll) = poll_of(election) else {
+        return None;
+    };
     Some(Ward {
         number,
         name: election.ward.name.as_str(),
         seats,
         candidates,
-        poll: poll_of(election)?,
+        poll,
     })
 }
 
@@ -116,6 +123,20 @@ fn stage_sheet(
     Ok(Some(sheet_text(alloc, ward, book.stages())?))
 }
 
+/// Who is elected; none where no count can be held, as it can in each contested ward of an office. An
+/// error is want of memory.
+fn elected_in(alloc: Global, election: &Election) -> Result<Option<Columns>, AllocError>
+    ensures { IfOk result (λ found. IfSome found (λ elected. elected ≡ elected_of (election_entry election.now))) }
+{
+    if !is_contested(&election.ward, &election.candidates) {
+        return Ok(Some(columns_of(&election.candidates)));
+    }
+    let Some(book) = election.counted(alloc)? else {
+        return Ok(None);
+    };
+    Ok(Some(book.elected()))
+}
+
 /// The declaration of a ward, by who is elected; none where no count can be held, as it can in each
 /// contested ward of an office. An error is want of memory.
 fn declaration(
@@ -126,10 +147,10 @@ fn declaration(
     requires { CanBePrinted ward.now }
     ensures { IfOk result (λ found. shown ward.now ≡ election_shown (election_entry election.now) → IfSome found (λ text. string_bytes text ≡ declaration_of (election_entry election.now))) }
 {
-    let Some(progress) = election.progress(alloc)? else {
+    let Some(elected) = elected_in(alloc, election)? else {
         return Ok(None);
     };
-    Ok(Some(declaration_text(alloc, ward, progress.elected)?))
+    Ok(Some(declaration_text(alloc, ward, elected)?))
 }
 
 /// A text of the ward of an election; none of rows that no office has. An error is want of memory.

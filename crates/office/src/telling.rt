@@ -2,12 +2,12 @@
 
 ghost use Rattle.std.specs.Prelude.{◌≡◌, ℕ, List, Ok, IfOk, string_bytes};
 ghost use Rattle.sqlite.specs.Effect.{Database, IsDatabase};
-ghost use Rattle.sqlite.specs.State.{State, HasCleanDisk};
+ghost use Rattle.sqlite.specs.State.{HasCleanDisk};
 ghost use Rattle.sqlite.specs.Held.{state};
 ghost use Rattle.register.specs.declared.command.Request.{Request};
 ghost use Rattle.register.specs.Offices.{OfficeState};
-ghost use Rattle.tables.specs.Contents.{RestsAt};
-ghost use Rattle.store.specs.Offices.{LeavesState};
+ghost use Rattle.tables.specs.Contents.{RestsAt, Stores};
+ghost use Rattle.store.specs.Offices.{tables_of};
 ghost use Rattle.office.specs.Runs.{IsAfterBeginning};
 ghost use Rattle.office.specs.Sheets.{text_told};
 
@@ -20,9 +20,10 @@ use std::alloc::Global;
 /// Opens the office that the connection's database holds, and gives a text of a ward: its stage sheet, or
 /// its declaration. The connection is handed back.
 ///
-/// Whatever a stop left of an office that ran a list of requests (`Office::run` says what may be left): the
-/// text is that of the count over the valid papers and the lots of the state after the accepted requests of
-/// a beginning of the list, which contains every answered request and at most one more.
+/// Whatever a stop left of an office that ran a list of requests: these are the tables of the state after
+/// the accepted requests of a beginning of the list, which contains every answered request and at most one
+/// more (`headline` of `Office::run`), and the text is that of the count over that state's valid papers and
+/// lots.
 ///
 /// Refused where the number is outside 1 to 99, no ward has it, or the ward isn't sealed, or declared, yet.
 /// A fault is that of the opening or of the reading. Nothing is changed.
@@ -32,9 +33,9 @@ pub fn tell<S: Alter>(
     ward: u32,
     text: Text,
 ) -> (Result<String, Stop>, Connection<S>)
-    ensures counted { HasCleanDisk (state S.Store result.1) → (earlier requests : List Request) (answered : ℕ) (left : State) → LeavesState left (IsAfterBeginning earlier requests answered)
-        → (db : Database) → IsDatabase db → left.may_leave db.trees → RestsAt db (state S.Store conn)
-        → IfOk result.0 (λ told. (s : OfficeState) × IsAfterBeginning earlier requests answered s × (text_told text s ward ≡ Ok (string_bytes told))) }
+    ensures counted { HasCleanDisk (state S.Store result.1) → (earlier requests : List Request) (answered : ℕ) (s : OfficeState) → IsAfterBeginning earlier requests answered s
+        → (db : Database) → IsDatabase db → Stores (tables_of s) db.trees → RestsAt db (state S.Store conn)
+        → IfOk result.0 (λ told. text_told text s ward ≡ Ok (string_bytes told)) }
 {
     match Office::open_from(alloc, conn) {
         Ok(mut office) => {
