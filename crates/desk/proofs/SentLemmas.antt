@@ -15,6 +15,7 @@ pub opened : (s : OfficeState) (r : Request) (o : Outcome) (closed : Bool) (st :
     → IsOpenAt (after_one s r) closed st
 opened s r outcome.Ready closed st h zero = absurd h
 opened s r (outcome.Replied reply) closed st (inl h) zero = h.1
+opened s r (outcome.Printed text) closed st h zero = absurd h
 opened s r (outcome.Replied reply) closed st (inr h) zero = h.1
 opened s r (outcome.Refused refusal) closed st h zero = cc
 opened s r (outcome.Unread fault) closed st h zero = absurd h

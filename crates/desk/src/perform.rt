@@ -5,8 +5,8 @@ ghost use Rattle.std.specs.Prelude.{◌≡◌, ◌⊎◌, ◌+◌, ◌-◌, ◌^
 use crate::import::{import_candidates, import_keying};
 use crate::lines::{Failure, Outcome, tell, tell_failure};
 use crate::orders::Order;
-use crate::sending::send;
 use crate::printing::print_text;
+use crate::sending::send;
 use crate::standing::tell_standing;
 use crate::tasks::{Task, task_for};
 use office::Office;

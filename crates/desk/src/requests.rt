@@ -8,8 +8,8 @@ ghost use Rattle.desk.specs.Verdicts.{judgement_of};
 use crate::orders::{Drawing, Judging, KeyingFile, NewBatch, NewWard, VerdictWord, Withdrawal};
 use keyfile::CandidateRow;
 use register::{
-    BatchCommand, CandidateCommand, Command, CountCommand, KeyingCommand, Request, Verdict, VerdictCommand,
-    WardCommand,
+    BatchCommand, CandidateCommand, Command, CountCommand, KeyingCommand, Request, Verdict,
+    VerdictCommand, WardCommand,
 };
 use std::alloc::{AllocError, Global};
 
