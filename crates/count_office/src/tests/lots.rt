@@ -5,6 +5,7 @@ use super::disks::{Disks, File};
 use super::keyings::{CANDIDATES, CANDIDATES_ADDED, CLOSE, POLLED};
 use super::orders::{DAMAGED, INIT, QUAY, QUAY_ADDED, READY};
 use super::steps::{Case, Step, Told};
+use std::process::Abort;
 use std::test::Fail;
 
 const BY_FOUR: &[&str] = &["DB", "import-keying", "4", "12", "1", "FILE", "--id", "k1"];
@@ -384,15 +385,30 @@ Elected
     ),
 ];
 
+/// The ward sealed, before its first stage; what is refused before is refused.
+fn sealed(rt: &(impl Abort + AllocGlobal)) -> Result<Disks, Fail> {
+    Disks::lasting(rt.alloc())
+        .hear(rt, &POLLING)?
+        .hear_unchanged(rt, &TOO_EARLY)?
+        .hear(rt, &SEALED)
+}
+
+/// The ward while its count waits for the lot; what is refused then is refused.
+fn waiting(rt: &(impl Abort + AllocGlobal)) -> Result<Disks, Fail> {
+    sealed(rt)?
+        .hear_unchanged(rt, &BEFORE_THE_COUNT)?
+        .hear(rt, &FIRST_STAGE)?
+        .hear_unchanged(rt, &WAITING)
+}
+
+/// The ward after its last stage.
+fn counted(rt: &(impl Abort + AllocGlobal)) -> Result<Disks, Fail> {
+    waiting(rt)?.hear(rt, &DRAWN)
+}
+
 #[test]
 fn a_count_waits_for_its_lot(rt: HostRuntime) -> Result<(), Fail> {
-    let disks = Disks::lasting(rt.alloc()).hear(&rt, &POLLING)?;
-    let disks = disks.hear_unchanged(&rt, &TOO_EARLY)?.hear(&rt, &SEALED)?;
-    let disks = disks.hear_unchanged(&rt, &BEFORE_THE_COUNT)?;
-    let disks = disks
-        .hear(&rt, &FIRST_STAGE)?
-        .hear_unchanged(&rt, &WAITING)?;
-    disks.hear(&rt, &DRAWN)?.hear(&rt, &DECLARED)?;
+    counted(&rt)?.hear(&rt, &DECLARED)?;
     Ok(())
 }
 
@@ -424,9 +440,7 @@ const CHANGES: [(&str, Told<'static>); 18] = [
 
 #[test]
 fn damaged_counts_are_found(rt: HostRuntime) -> Result<(), Fail> {
-    let disks = Disks::lasting(rt.alloc()).hear(&rt, &POLLING)?;
-    let disks = disks.hear(&rt, &SEALED)?.hear(&rt, &FIRST_STAGE)?;
-    let disks = disks.hear(&rt, &DRAWN)?;
+    let disks = counted(&rt)?;
     for (change, wanted) in CHANGES {
         let cases = [(Step::Change(change), (0, "", "")), (QUAY, wanted)];
         disks
