@@ -153,11 +153,11 @@ const BEFORE_THE_COUNT: [Case<'static>; 12] = [
 /// The first stage; then the count waits for a lot.
 const FIRST_STAGE: [Case<'static>; 3] = [
     (
-        Step::Order(&["DB", "advance", "7", "--id", "n1"]),
+        Step::Order(&["DB", "advance", "7", "--id", "v1"]),
         (0, "ward 7 stage 1 first preferences\n", ""),
     ),
     (
-        Step::Order(&["DB", "advance", "7", "--id", "n1"]),
+        Step::Order(&["DB", "advance", "7", "--id", "v1"]),
         (0, "ward 7 stage 1 first preferences\n", ""),
     ),
     (
@@ -182,7 +182,7 @@ Stage 1: first preferences
 /// What is refused while the count waits for the lot.
 const WAITING: [Case<'static>; 5] = [
     (
-        Step::Order(&["DB", "advance", "7", "--id", "n2"]),
+        Step::Order(&["DB", "advance", "7", "--id", "v2"]),
         (1, "", "refused 26: lot needed at stage 2 among 2, 3\n"),
     ),
     (
@@ -248,7 +248,7 @@ Stage 1: first preferences
         ),
     ),
     (
-        Step::Order(&["DB", "advance", "7", "--id", "n2"]),
+        Step::Order(&["DB", "advance", "7", "--id", "v2"]),
         (0, "ward 7 stage 2 exclusion of 3\n", ""),
     ),
     (
@@ -275,7 +275,7 @@ Stage 2: exclusion of 3
         ),
     ),
     (
-        Step::Order(&["DB", "advance", "7", "--id", "n3"]),
+        Step::Order(&["DB", "advance", "7", "--id", "v3"]),
         (0, "ward 7 stage 3 exclusion of 2, last vacancies\n", ""),
     ),
     (
@@ -308,7 +308,7 @@ Stage 3: exclusion of 2, last vacancies
         ),
     ),
     (
-        Step::Order(&["DB", "advance", "7", "--id", "n4"]),
+        Step::Order(&["DB", "advance", "7", "--id", "v4"]),
         (1, "", "refused 25: count finished\n"),
     ),
 ];
@@ -514,7 +514,7 @@ const JUDGED: [Case<'static>; 17] = [
         (0, "ward 7 sealed: 2 valid, 5 rejected, quota 2.00000\n", ""),
     ),
     (
-        Step::Order(&["DB", "advance", "7", "--id", "n1"]),
+        Step::Order(&["DB", "advance", "7", "--id", "v1"]),
         (0, "ward 7 stage 1 first preferences\n", ""),
     ),
     (
@@ -569,11 +569,11 @@ const WITHOUT_PAPERS: [Case<'static>; 13] = [
         (0, "ward 7 sealed: 0 valid, 0 rejected, quota 1.00000\n", ""),
     ),
     (
-        Step::Order(&["DB", "advance", "7", "--id", "n1"]),
+        Step::Order(&["DB", "advance", "7", "--id", "v1"]),
         (0, "ward 7 stage 1 first preferences\n", ""),
     ),
     (
-        Step::Order(&["DB", "advance", "7", "--id", "n2"]),
+        Step::Order(&["DB", "advance", "7", "--id", "v2"]),
         (1, "", "refused 26: lot needed at stage 2 among 1, 2\n"),
     ),
     (
@@ -581,7 +581,7 @@ const WITHOUT_PAPERS: [Case<'static>; 13] = [
         (0, "lot at ward 7 stage 2: candidate 1\n", ""),
     ),
     (
-        Step::Order(&["DB", "advance", "7", "--id", "n2"]),
+        Step::Order(&["DB", "advance", "7", "--id", "v2"]),
         (0, "ward 7 stage 2 exclusion of 1, last vacancies\n", ""),
     ),
     (
