@@ -150,7 +150,7 @@ const CANDIDATES: &str =
     "INSERT INTO candidate VALUES (7, 1, 'Ann'); INSERT INTO candidate VALUES (7, 2, 'Bob')";
 
 /// What is done to an office with Harbour and its candidates, and what it then says to another ward.
-const CHANGES: [(&str, Told<'static>); 27] = [
+const CHANGES: [(&str, Told<'static>); 29] = [
     ("DROP TABLE office", FOREIGN),
     ("DELETE FROM office", FOREIGN),
     ("UPDATE office SET version = 3", NEWER),
@@ -174,10 +174,15 @@ const CHANGES: [(&str, Told<'static>); 27] = [
     ("UPDATE ward SET phase = 3", QUAY_ADDED),
     (
         "UPDATE ward SET phase = 3; INSERT INTO candidate VALUES (7, 3, 'Cy')",
+        QUAY_ADDED,
+    ),
+    (
+        "UPDATE ward SET phase = 4; INSERT INTO candidate VALUES (7, 3, 'Cy')",
         DAMAGED,
     ),
     ("UPDATE ward SET phase = 3; DELETE FROM candidate", DAMAGED),
-    ("UPDATE ward SET phase = 4", DAMAGED),
+    ("UPDATE ward SET phase = 4", QUAY_ADDED),
+    ("UPDATE ward SET phase = 3, done = 1", DAMAGED),
     ("UPDATE ward SET done = 1", DAMAGED),
     ("UPDATE ward SET name = ''", DAMAGED),
     ("UPDATE receipt SET id = 'QUAY'", DAMAGED),

@@ -175,7 +175,7 @@ fn words_that_are_no_order_get_help(rt: HostRuntime) -> Result<(), Fail> {
         (&["DB", "init", "now"], "2 error: ", "'now'"),
         (&["DB", "close", "7"], "2 error: ", "--id <ID>"),
         (&["DB", "wrad", "7"], "2 error: ", "'ward'"),
-        (&["DB", "seal", "7"], "2 error: ", "'seal'"),
+        (&["DB", "tally", "7"], "2 error: ", "'tally'"),
         (&["DB", "close", "--help"], "0 Closes", "<WARD>"),
         (
             &["DB", "help"],
