@@ -9,15 +9,19 @@ use Rattle.std.proofs.lemmas.Cmp.{ranked}
 use Rattle.std.proofs.lemmas.List.Kept.{IsStrictlySortedBy-filter}
 use Rattle.votes.specs.Units.{max_seats, max_papers}
 use Rattle.paper.specs.Columns.{IsColumnSet, with_column}
+use Rattle.paper.specs.Ranking.{IsRanking}
 use Rattle.paper.specs.Marking.{marked_with}
+use Rattle.paper.specs.Marking as marking
 use Rattle.paper.specs.MarksText.{reading, fields, beside, marks_in}
 use Rattle.paper.specs.Preferences.{if_alone, preferences_from, preferences, rejection_of}
 use Rattle.paper.specs.declared.marked.Keyed.TheVariants.{Doubtful}
 use Rattle.paper.specs.declared.marks.MarkFault.TheVariants.{FieldCount}
 use Rattle.paper.specs.declared.marks.MarkFault.{MarkFault}
 use Rattle.paper.specs.declared.validity.Rejection.{Rejection}
-use Rattle.paper.proofs.ColumnSets.{columns_from_ascends, with_column-IsColumnSet}
+use Rattle.paper.proofs.ColumnSets.{Ascends, columns_from_ascends, ascends_from_columns, with_column-IsColumnSet}
+use Rattle.paper.proofs.Preferences.{preferences-IsRanking}
 use Rattle.count.specs.Law.Contest.{In, AreForCandidates, IsContest}
+use Rattle.count.specs.Books.{AreRankings}
 use Rattle.count.proofs.ContestLemmas.{contest-is}
 use Rattle.register.specs.declared.polls.Judgement.{Judgement}
 use Rattle.register.specs.declared.polls.Judgement.TheVariants.{Valid, Rejected, Open}
@@ -85,59 +89,78 @@ preferred_in columns marks (suc most) n = go (marked_with n (zip columns marks))
     go (c ∷ []) each behind = (each c (or_left (nat_eq c c) false (eq-eqb c c refl)), behind)
     go (c ∷ d ∷ cs) each behind = tt
 
--- the preferences that a judgement gives are for candidates
-abbrev IsFair : List ℕ → Judgement → Type 0
-IsFair columns judgement = AllByRecursion (AreAmong columns) (preferences_by judgement)
+-- what holds of the preferences that any marks give in these columns holds of those that each judgement gives
+module _ (columns : List ℕ) (P : List ℕ → Type 0) (each : (marks : List ℕ) → P (preferences (zip columns marks))) where
+  abbrev Gives : Judgement → Type 0
+  Gives judgement = AllByRecursion P (preferences_by judgement)
 
-fair_marking : (columns marks : List ℕ) (o : Option Rejection) → IsFair columns (by_rejection (zip columns marks) o)
-fair_marking columns marks None = (preferred_in columns marks 30 1, tt)
-fair_marking columns marks (Some rejection) = tt
+  by_marking : (marks : List ℕ) (o : Option Rejection) → Gives (by_rejection (zip columns marks) o)
+  by_marking marks None = (each marks, tt)
+  by_marking marks (Some rejection) = tt
 
-fair_reading : (columns marks : List ℕ) (doubtful : Judgement) → IsFair columns doubtful → IsFair columns (by_reading doubtful (reading columns marks))
-fair_reading columns marks doubtful fair = by_letter (bytes_eq marks (codes "D"))
-  where
-    by_marks : (r : Result (List ℕ) MarkFault) → IsFair columns (by_reading doubtful (beside columns r))
-    by_marks (Err fault) = tt
-    by_marks (Ok numbers) = fair_marking columns numbers (rejection_of (zip columns numbers))
+  given_reading : (marks : List ℕ) (doubtful : Judgement) → Gives doubtful → Gives (by_reading doubtful (reading columns marks))
+  given_reading marks doubtful fair = by_letter (bytes_eq marks (codes "D"))
+    where
+      by_marks : (r : Result (List ℕ) MarkFault) → Gives (by_reading doubtful (beside columns r))
+      by_marks (Err fault) = tt
+      by_marks (Ok numbers) = by_marking numbers (rejection_of (zip columns numbers))
 
-    by_count : (b : Bool) → IsFair columns (by_reading doubtful (cond b (beside columns (marks_in (fields marks))) (Err FieldCount)))
-    by_count true = by_marks (marks_in (fields marks))
-    by_count false = tt
+      by_count : (b : Bool) → Gives (by_reading doubtful (cond b (beside columns (marks_in (fields marks))) (Err FieldCount)))
+      by_count true = by_marks (marks_in (fields marks))
+      by_count false = tt
 
-    by_letter : (b : Bool) → IsFair columns (by_reading doubtful (cond b (Ok Doubtful) (cond (length (fields marks) == length columns) (beside columns (marks_in (fields marks))) (Err FieldCount))))
-    by_letter true = fair
-    by_letter false = by_count (length (fields marks) == length columns)
+      by_letter : (b : Bool) → Gives (by_reading doubtful (cond b (Ok Doubtful) (cond (length (fields marks) == length columns) (beside columns (marks_in (fields marks))) (Err FieldCount))))
+      by_letter true = fair
+      by_letter false = by_count (length (fields marks) == length columns)
 
-fair_verdict : (columns : List ℕ) (o : Option JudgedEntry) → IsFair columns (by_verdict columns o)
-fair_verdict columns None = tt
-fair_verdict columns (Some v) = go (v.code == 0)
-  where
-    go : (b : Bool) → IsFair columns (cond b (by_reading Open (reading columns v.marks)) (Rejected v.code))
-    go true = fair_reading columns v.marks Open tt
-    go false = tt
+  given_verdict : (o : Option JudgedEntry) → Gives (by_verdict columns o)
+  given_verdict None = tt
+  given_verdict (Some v) = go (v.code == 0)
+    where
+      go : (b : Bool) → Gives (cond b (by_reading Open (reading columns v.marks)) (Rejected v.code))
+      go true = given_reading v.marks Open tt
+      go false = tt
 
-fair_each : (columns : List ℕ) (verdicts : List JudgedEntry) (ks : List KeyedEntry) → AllByRecursion (IsFair columns) (map (judgement_on columns verdicts) ks)
-fair_each columns verdicts [] = tt
-fair_each columns verdicts (k ∷ ks) = (fair_reading columns k.marks _ (fair_verdict columns (find (λ (v : JudgedEntry). v.paper == k.paper) verdicts)), fair_each columns verdicts ks)
+  given_each : (verdicts : List JudgedEntry) (ks : List KeyedEntry) → AllByRecursion Gives (map (judgement_on columns verdicts) ks)
+  given_each verdicts [] = tt
+  given_each verdicts (k ∷ ks) = (given_reading k.marks _ (given_verdict (find (λ (v : JudgedEntry). v.paper == k.paper) verdicts)), given_each verdicts ks)
 
-fair_pile : (columns : List ℕ) (pile : Pile) → AllByRecursion (IsFair columns) (judgements_in columns pile)
-fair_pile columns pile = go (is_taken pile)
-  where
-    go : (b : Bool) → AllByRecursion (IsFair columns) (cond b (map (judgement_on columns pile.verdicts) pile.first) [])
-    go true = fair_each columns pile.verdicts pile.first
-    go false = tt
+  given_pile : (pile : Pile) → AllByRecursion Gives (judgements_in columns pile)
+  given_pile pile = go (is_taken pile)
+    where
+      go : (b : Bool) → AllByRecursion Gives (cond b (map (judgement_on columns pile.verdicts) pile.first) [])
+      go true = given_each pile.verdicts pile.first
+      go false = tt
 
-fair_piles : (columns : List ℕ) (piles : List Pile) → AllByRecursion (IsFair columns) (judgements columns piles)
-fair_piles columns [] = tt
-fair_piles columns (pile ∷ piles) = each_append (IsFair columns) (judgements_in columns pile) (judgements columns piles) (fair_pile columns pile) (fair_piles columns piles)
+  given_piles : (piles : List Pile) → AllByRecursion Gives (judgements columns piles)
+  given_piles [] = tt
+  given_piles (pile ∷ piles) = each_append Gives (judgements_in columns pile) (judgements columns piles) (given_pile pile) (given_piles piles)
 
-fair_papers : (columns : List ℕ) (js : List Judgement) → AllByRecursion (IsFair columns) js → AreForCandidates columns (flat_map preferences_by js)
-fair_papers columns [] fair = tt
-fair_papers columns (j ∷ js) fair = each_append (AreAmong columns) (preferences_by j) (flat_map preferences_by js) fair.0 (fair_papers columns js fair.1)
+  given_papers : (js : List Judgement) → AllByRecursion Gives js → AllByRecursion P (flat_map preferences_by js)
+  given_papers [] fair = tt
+  given_papers (j ∷ js) fair = each_append P (preferences_by j) (flat_map preferences_by js) fair.0 (given_papers js fair.1)
+
+  papers_given : (piles : List Pile) → AllByRecursion P (ballots_in columns piles).papers
+  papers_given piles = given_papers (judgements columns piles) (given_piles piles)
 
 -- each preference of a ward's papers is for one of its candidates
 pub papers_are_fair : (columns : List ℕ) (piles : List Pile) → AreForCandidates columns (ballots_in columns piles).papers
-papers_are_fair columns piles = fair_papers columns (judgements columns piles) (fair_piles columns piles)
+papers_are_fair columns piles = papers_given columns (AreAmong columns) (λ marks. preferred_in columns marks 30 1) piles
+
+-- the columns beside some marks are the first ones
+first_columns : (low : ℕ) (columns marks : List ℕ) → Ascends low columns → Ascends low (marking.candidates_of (zip columns marks))
+first_columns low [] marks up = tt
+first_columns low (column ∷ columns) [] up = tt
+first_columns low (column ∷ columns) (mark ∷ marks) up = (up.0, up.1, first_columns column columns marks up.2)
+
+-- and each paper lists them in an order, none twice
+pub papers_are_rankings : (columns : List ℕ) (piles : List Pile) → IsColumnSet columns → AreRankings (ballots_in columns piles).papers
+papers_are_rankings columns piles set =
+    go (ballots_in columns piles).papers (papers_given columns IsRanking (λ marks. preferences-IsRanking (zip columns marks) (columns_from_ascends 0 _ (first_columns 0 columns marks (ascends_from_columns columns set)))) piles)
+  where
+    go : (papers : List (List ℕ)) → AllByRecursion IsRanking papers → AreRankings papers
+    go [] each = tt
+    go (paper ∷ papers) each = (each.0, go papers each.1)
 
 -- ---- the papers are not too many
 

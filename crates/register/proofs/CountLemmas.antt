@@ -2,8 +2,9 @@
 use Rattle.std.proofs.Common.{◌≡◌, ℕ, zero, suc, ◌+◌, ◌<◌, ◌≤◌, Bool, true, false, cond, not, ◌&&◌, ◌==◌, ◌++◌, nat_le, nat_lt, nat_eq, codes, List, [], ◌∷◌, length, filter, Option, Some, None, is_some, refl, sym, ap, subst, ◌∙◌, arith}
 use Rattle.std.specs.Fmt.{decimal}
 use Rattle.std.specs.List.{list_all, list_any}
-use Rattle.std.specs.Ordering.{nat_cmp}
-use Rattle.std.proofs.lemmas.Bool.{and_parts, and_from, both_ways, eqb-true, eq-eqb, ne_eqb, ltb-true}
+use Rattle.std.specs.Option.{option_map}
+use Rattle.std.specs.Ordering.{nat_cmp, is_eq}
+use Rattle.std.proofs.lemmas.Bool.{and_parts, and_from, both_ways, eqb-true, eq-eqb, ne_eqb, leb-true, ltb-true}
 use Rattle.paper.specs.Columns.{max_candidates}
 use Rattle.paper.proofs.ColumnSets.{length_columns}
 use Rattle.count.specs.Law.Contest.{IsContest}
@@ -13,7 +14,9 @@ use Rattle.count.specs.declared.stages.Action.{Action}
 use Rattle.count.specs.declared.stages.Kind.{Kind}
 use Rattle.count.specs.declared.stages.Due.{Due}
 use Rattle.count.specs.declared.stages.Due.TheVariants.{Act, Lot as lot_due, Finished}
+use Rattle.count.specs.Law.Count.{stages_to}
 use Rattle.count.proofs.Law.CountLemmas.{stages_right}
+use Rattle.count.proofs.Law.LengthLemmas.{stages-few}
 use Rattle.register.specs.declared.phase.Phase.{Phase}
 use Rattle.register.specs.declared.phase.Phase.TheVariants.{Nominations, Keying, Sealed, Declared}
 use Rattle.register.specs.declared.refusal.Reason.{Reason}
@@ -24,24 +27,25 @@ use Rattle.register.specs.Reasons.{first_reason}
 use Rattle.register.specs.Ranges.{last_ward, first_lot_stage, last_lot_stage, is_office, is_ward_number, is_lot_stage, is_candidate_number}
 use Rattle.register.specs.Subjects.{is_office_subject}
 use Rattle.register.specs.Texts.{listed}
-use Rattle.register.specs.Offices.{WardEntry, LotEntry, OfficeState, put, entry_at, lot_cmp, ward_compared, ward_at, candidates_of, lots_of}
+use Rattle.register.specs.Offices.{WardEntry, LotEntry, ReceiptEntry, OfficeState, put, entry_at, changed, lot_cmp, ward_compared, ward_at, candidates_of, lots_of}
 use Rattle.register.specs.Nominations.{is_contested, is_stood_in, are_enough}
 use Rattle.register.specs.Marks.{columns_of}
 use Rattle.register.specs.Polls.{piles_of}
 use Rattle.register.specs.Elections.{ElectionEntry, election_of, has_count, contest_of, stages_of, due_of, elected_of, is_finished, is_tied}
 use Rattle.register.specs.Items.{is_lot, IsState}
-use Rattle.register.specs.Effects.{in_phase, at_stage, stage_counted, lot_drawn, with_effect}
+use Rattle.register.specs.Effects.{in_phase, at_stage, stage_counted, lot_drawn, with_effect, with_receipt}
+use Rattle.register.specs.Views.{HasStageMore}
 use Rattle.register.specs.Counts.{poll_for, due_for, elected_for, part_of, is_in_range, is_ready, has_finished, lot_objection, waits_at, is_among, objections, subject_of, next_stage, poll_told, action_told, reply_to, effect_of}
 use Rattle.register.proofs.LineLemmas.{upper, is_plain-decimal, are_plain-from, IsLine, given, line_append, line_decimal, line_number, line_within, line_reply, line_text}
 use Rattle.register.proofs.ObjectionLemmas.{none_objects, asked, unasked, there}
-use Rattle.register.proofs.MapLemmas.{list_all_weaker, put_all, put_is_map, filter_put, filter_put_in, found_filter, found_passes, found_number, same_number, both_equal, kept_all, all_but_number}
+use Rattle.register.proofs.MapLemmas.{list_all_weaker, put_all, put_is_map, filter_put, filter_put_in, found_filter, found_key, found_passes, found_number, changed_at, same_number, both_equal, kept_all, all_but_number}
 use Rattle.register.proofs.ElectionLemmas.{is_sound, are_sound, sound_of, lots_placed_of, election_with, same_election, right_in}
-use Rattle.register.proofs.StageLemmas.{acted}
+use Rattle.register.proofs.StageLemmas.{acted, stage_added, stage_more}
 use Rattle.register.proofs.ProgressLemmas.{with_lots, IsHeld, held, in_count, sound_sealed, sound_advanced, sound_declared, lot_new, sound_drawn}
 use Rattle.register.proofs.ItemLemmas.{MapName, lot_map, Holds, maps_of, state_from, rounds_still, lot_total, are_placed, are_all, has_enough, IsFit, office_about}
 use Rattle.register.proofs.NominationLemmas.{moved, staged, changed_stays}
-use Rattle.register.proofs.ContestLemmas.{fair_contest, columns_are_set}
-use Rattle.register.proofs.TellLemmas.{are_small, columns_are_small, length_kept, listed_line, action_line, stages_are_few, judgements_are_few, poll_line}
+use Rattle.register.proofs.ContestLemmas.{fair_contest, columns_are_set, papers_are_rankings}
+use Rattle.register.proofs.TellLemmas.{are_small, columns_are_small, length_kept, listed_line, action_line, judgements_are_few, poll_line}
 
 -- ---- what the receipts may be about
 
@@ -94,31 +98,57 @@ module _ (s : OfficeState) (n : ℕ) (w : WardEntry) (is : IsState s) (found : w
 
   -- ---- advanced
 
-  advanced_stays : (action : Action) → w.phase ≡ Sealed → due_of (election_of s w) ≡ Act action → IsState (with_effect (stage_counted n (next_stage (ward_at s n))) s)
-  advanced_stays action phased due = subst (λ (o : Option WardEntry). IsState (with_effect (stage_counted n (next_stage o)) s)) (sym found) (go (nat_le last_lot_stage w.done))
-    where
-      enough : (done : ℕ) → has_enough (at_stage done w) (candidates_of s w.number) ≡ true
-      enough done = ap (λ (p : Phase). are_enough p (at_stage done w) (candidates_of s w.number)) phased ∙ own_enough Sealed phased
-
-      go : (b : Bool) → IsState (with_effect (stage_counted n (cond b w.done (w.done + 1))) s)
-      go true = changed_stays s n w (at_stage w.done) found (staged w.done) (enough w.done) own_sound is
-      go false = changed_stays s n w (at_stage (w.done + 1)) found (staged (w.done + 1)) (enough (w.done + 1)) (sound_advanced (election_of s w) action phased due own_sound) is
-
-  few_done : (action : Action) → w.phase ≡ Sealed → due_of (election_of s w) ≡ Act action → w.done ≤ 61
+  -- the stage that is due is one that a count has
+  few_done : (action : Action) → w.phase ≡ Sealed → due_of (election_of s w) ≡ Act action → w.done ≤ 30
   few_done action phased due =
       let e = election_of s w in
       let h = held e (Act action) due refl in
       let right = right_in e (in_count e phased h.contested) own_sound in
-      let few = stages_are_few (contest_of e) _ (stages_of e) (own_fair h.contested) (stages_right (contest_of e) e.lots w.done) in
+      let fair = own_fair h.contested in
+      let more = stage_more (contest_of e) e.lots w.done action (acted (contest_of e) e.lots (stages_of e) action h.is) in
+      let rankings = papers_are_rankings (columns_of (candidates_of s w.number)) (piles_of s w.number) fair.candidate_set in
+      let few = stages-few (contest_of e) _ (stages_to (contest_of e) e.lots (w.done + 1)) fair rankings (stages_right (contest_of e) e.lots (w.done + 1)) in
+      let columns = length_columns (contest_of e).candidates fair.candidate_set in
       let same = right.stages in
-      omega (arith, few, same)
+      omega (arith, few, more, same, columns)
+
+  next_is : w.done ≤ 30 → next_stage (Some w) ≡ w.done + 1
+  next_is few = go (nat_le last_lot_stage w.done) refl
+    where
+      go : (b : Bool) → nat_le last_lot_stage w.done ≡ b → cond b w.done (w.done + 1) ≡ w.done + 1
+      go true past = absurd (let late = leb-true last_lot_stage w.done past in omega (arith, few, late))
+      go false past = refl
+
+  advanced_stays : (action : Action) → w.phase ≡ Sealed → due_of (election_of s w) ≡ Act action → IsState (with_effect (stage_counted n (next_stage (ward_at s n))) s)
+  advanced_stays action phased due =
+      let enough : has_enough (at_stage (w.done + 1) w) (candidates_of s w.number) ≡ true = ap (λ (p : Phase). are_enough p (at_stage (w.done + 1) w) (candidates_of s w.number)) phased ∙ own_enough Sealed phased in
+      subst (λ (k : ℕ). IsState (with_effect (stage_counted n k) s)) (sym (ap next_stage found ∙ next_is (few_done action phased due)))
+      (changed_stays s n w (at_stage (w.done + 1)) found (staged (w.done + 1)) enough (sound_advanced (election_of s w) action phased due own_sound) is)
+
+  -- the ward and its count with the stage that is due
+  advanced_more : (action : Action) (r : ReceiptEntry) → w.phase ≡ Sealed → due_of (election_of s w) ≡ Act action → HasStageMore s (with_receipt r (with_effect (stage_counted n (next_stage (ward_at s n))) s)) n
+  advanced_more action r phased due =
+      let e = election_of s w in
+      let h = held e (Act action) due refl in
+      let next : next_stage (ward_at s n) ≡ w.done + 1 = ap next_stage found ∙ next_is (few_done action phased due) in
+      let own : is_eq (ward_compared n w) ≡ true = found_key (ward_compared n) w s.wards found in
+      let there : entry_at (ward_compared n) (changed (ward_compared n) (at_stage (w.done + 1)) s.wards) ≡ Some (at_stage (w.done + 1) w) =
+      changed_at (ward_compared n) (ward_compared n) (at_stage (w.done + 1)) (λ x. refl) s.wards
+      ∙ ap (option_map (λ (x : WardEntry). cond (is_eq (ward_compared n x)) (at_stage (w.done + 1) x) x)) found
+      ∙ ap (λ (b : Bool). Some (cond b (at_stage (w.done + 1) w) w)) own
+      in
+      record {
+        before = w;
+        found = found;
+        after = at_stage (w.done + 1) w;
+        stays = ap (λ (k : ℕ). entry_at (ward_compared n) (changed (ward_compared n) (at_stage k) s.wards)) next ∙ there;
+        action = action;
+        due = due;
+        added = stage_added (contest_of e) e.lots w.done action (acted (contest_of e) e.lots (stages_of e) action h.is);
+      }
 
   stage_told : (action : Action) → w.phase ≡ Sealed → due_of (election_of s w) ≡ Act action → IsLine 10 (decimal (next_stage (ward_at s n)))
-  stage_told action phased due = subst (λ (o : Option WardEntry). IsLine 10 (decimal (next_stage o))) (sym found) (go (nat_le last_lot_stage w.done) (few_done action phased due))
-    where
-      go : (b : Bool) → w.done ≤ 61 → IsLine 10 (decimal (cond b w.done (w.done + 1)))
-      go true few = line_decimal 10 w.done (omega arith) (omega (arith, few)) (omega (arith, few))
-      go false few = line_decimal 10 (w.done + 1) (omega arith) (omega (arith, few)) (omega (arith, few))
+  stage_told action phased due = let few = few_done action phased due in subst (λ (o : Option WardEntry). IsLine 10 (decimal (next_stage o))) (sym found) (subst (λ (k : ℕ). IsLine 10 (decimal k)) (sym (next_is few)) (line_decimal 10 (w.done + 1) (omega arith) (omega (arith, few)) (omega (arith, few))))
 
   own_action_told : (action : Action) → due_of (election_of s w) ≡ Act action → IsLine 40 (action_told (due_for s (ward_at s n)))
   own_action_told action due =
@@ -220,6 +250,33 @@ drawn_stays s l w good found phased due is =
 lot_stage_line : (stage : ℕ) → is_lot_stage stage ≡ true → IsLine 10 (decimal stage)
 lot_stage_line stage good = let high = upper first_lot_stage last_lot_stage stage good in line_decimal 10 stage (omega arith) (omega (arith, high)) (omega (arith, high))
 
+-- an Advance that nothing stands against: its numbers, its ward in count, and the action that is due
+record IsDue (s : OfficeState) (actor ward : ℕ) : Type 0 where
+  office : is_office actor ≡ true
+  number : is_ward_number ward ≡ true
+  own : WardEntry
+  found : ward_at s ward ≡ Some own
+  phased : own.phase ≡ Sealed
+  action : Action
+  due : due_of (election_of s own) ≡ Act action
+
+is_due : (s : OfficeState) (actor ward : ℕ) → first_reason (objections actor (Advance ward) (part_of s actor (Advance ward))) ≡ None → IsDue s actor ward
+is_due s actor ward none =
+    let part = part_of s actor (Advance ward) in
+    let each = none_objects (objections actor (Advance ward) part) none in
+    let range = and_parts (is_office actor) (is_ward_number ward) (asked (is_in_range actor (Advance ward)) NumberOutOfRange each.0) in
+    let found = there Sealed (ward_at s ward) WrongPhase ((each.1).1).0 in
+    let others = ((each.1).1).1 in
+    let open_ : is_finished (due_of (election_of s found.ward)) ≡ false = ap (λ (o : Option WardEntry). has_finished (due_for s o)) (sym found.is) ∙ unasked (has_finished part.due) CountFinished others.0 in
+    let no_lot : lot_objection (Some (due_of (election_of s found.ward))) ≡ None = ap (λ (o : Option WardEntry). lot_objection (due_for s o)) (sym found.is) ∙ (others.1).0 in
+    let act = acts (due_of (election_of s found.ward)) open_ no_lot in
+    record { office = range.0; number = range.1; own = found.ward; found = found.is; phased = found.phased; action = act.action; due = act.is }
+
+-- it adds that stage
+pub advance_adds : (s : OfficeState) (actor ward : ℕ) (r : ReceiptEntry) → IsState s → first_reason (objections actor (Advance ward) (part_of s actor (Advance ward))) ≡ None
+    → HasStageMore s (with_receipt r (with_effect (effect_of (Advance ward) (part_of s actor (Advance ward))) s)) ward
+advance_adds s actor ward r is none = let d = is_due s actor ward none in advanced_more s ward d.own is d.found d.action r d.phased d.due
+
 pub count_fits : (s : OfficeState) (actor : ℕ) (command : CountCommand) → IsState s → first_reason (objections actor command (part_of s actor command)) ≡ None
     → IsFit s actor (effect_of command (part_of s actor command)) (subject_of command) (reply_to command (part_of s actor command))
 unfolding subject_of reply_to is_lot
@@ -237,21 +294,14 @@ count_fits s actor (Seal ward) is none =
       line = line_reply (line_append (given (codes "ward ") refl) (line_append digits (sealed_told s ward found.ward is found.is))) (omega arith);
     }
 count_fits s actor (Advance ward) is none =
-    let part = part_of s actor (Advance ward) in
-    let each = none_objects (objections actor (Advance ward) part) none in
-    let range = and_parts (is_office actor) (is_ward_number ward) (asked (is_in_range actor (Advance ward)) NumberOutOfRange each.0) in
-    let found = there Sealed (ward_at s ward) WrongPhase ((each.1).1).0 in
-    let others = ((each.1).1).1 in
-    let open_ : is_finished (due_of (election_of s found.ward)) ≡ false = ap (λ (o : Option WardEntry). has_finished (due_for s o)) (sym found.is) ∙ unasked (has_finished part.due) CountFinished others.0 in
-    let no_lot : lot_objection (Some (due_of (election_of s found.ward))) ≡ None = ap (λ (o : Option WardEntry). lot_objection (due_for s o)) (sym found.is) ∙ (others.1).0 in
-    let act = acts (due_of (election_of s found.ward)) open_ no_lot in
-    let digits = line_number last_ward ward (omega arith) range.1 in
-    let stage = stage_told s ward found.ward is found.is act.action found.phased act.is in
-    let action = own_action_told s ward found.ward is found.is act.action act.is in
+    let d = is_due s actor ward none in
+    let digits = line_number last_ward ward (omega arith) d.number in
+    let stage = stage_told s ward d.own is d.found d.action d.phased d.due in
+    let action = own_action_told s ward d.own is d.found d.action d.due in
     let told = line_append (given (codes " stage ") refl) (line_append stage (line_append (given (codes " ") refl) action)) in
     record {
-      state = advanced_stays s ward found.ward is found.is act.action found.phased act.is;
-      about = office_about actor _ range.0 (advance_about ward range.1);
+      state = advanced_stays s ward d.own is d.found d.action d.phased d.due;
+      about = office_about actor _ d.office (advance_about ward d.number);
       text = line_text (line_append (given (codes "advance ") refl) digits);
       line = line_reply (line_append (given (codes "ward ") refl) (line_append digits told)) (omega arith);
     }

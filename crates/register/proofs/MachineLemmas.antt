@@ -9,6 +9,7 @@ use Rattle.register.specs.declared.refusal.Reason.{Reason}
 use Rattle.register.specs.declared.refusal.Reason.TheVariants.{BadId, IdUsed}
 use Rattle.register.specs.declared.command.Command.{Command}
 use Rattle.register.specs.declared.command.Command.TheVariants.{Ward, Candidate, Batch, Keying, Verdict, Count}
+use Rattle.register.specs.declared.counts.CountCommand.TheVariants.{Seal, Advance, Lot, Declare}
 use Rattle.register.specs.Reasons.{first_reason}
 use Rattle.register.specs.Ranges.{is_id}
 use Rattle.register.specs.Offices.{OfficeState, ReceiptEntry, receipt_at, entry_at}
@@ -16,7 +17,7 @@ use Rattle.register.specs.Items.{is_receipt, IsState}
 use Rattle.register.specs.Effects.{with_effect, with_receipt}
 use Rattle.register.specs.Parts.{PartEntries}
 use Rattle.register.specs.Machine.{keeps, refuses, part_of, objections, subject_of, reply_to, effect_of, receipt_for, judged, answered, decided, outcome_at, step, state_after, IsKeptAgain}
-use Rattle.register.specs.Views.{IsToldAlike}
+use Rattle.register.specs.Views.{IsToldAlike, IsAdvanced}
 use Rattle.register.proofs.MapLemmas.{found_put}
 use Rattle.register.proofs.ItemLemmas.{IsFit, receipt_total, receipt_stays, same_receipts}
 use Rattle.register.proofs.WardLemmas.{ward_fits}
@@ -24,7 +25,7 @@ use Rattle.register.proofs.CandidateLemmas.{candidate_fits}
 use Rattle.register.proofs.BatchLemmas.{batch_fits}
 use Rattle.register.proofs.KeyingLemmas.{keying_fits}
 use Rattle.register.proofs.VerdictLemmas.{verdict_fits}
-use Rattle.register.proofs.CountLemmas.{count_fits}
+use Rattle.register.proofs.CountLemmas.{count_fits, advance_adds}
 
 -- ---- the commands, by subject
 
@@ -87,6 +88,30 @@ module _ (s : OfficeState) (actor : ℕ) (id : List ℕ) (command : Command) whe
       go false good o found = tt
       go true good (Some r) found = elim (bytes_eq r.subject (subject_of command)) as (λ b. IsKeptAgain actor id command (outcome_at s (cond b (keeps r.reply) (refuses IdUsed)))) [ true ↦ tt | false ↦ tt ]
       go true good None found = judged_again good found (first_reason (objections actor command (part_of s actor command)))
+
+-- ---- a stage more
+
+-- an accepted Advance adds the stage that is due
+pub advances : (s : OfficeState) (actor : ℕ) (id : List ℕ) (command : Command) → IsState s → IsAdvanced s command (step s actor id command)
+unfolding step decided
+advances s actor id (Count (Advance ward)) is = go (is_id id) (receipt_at s actor id)
+  where
+    added : (o : Option Reason) → first_reason (objections actor (Count (Advance ward)) (part_of s actor (Count (Advance ward)))) ≡ o → IsAdvanced s (Count (Advance ward)) (outcome_at s (judged actor id (Count (Advance ward)) (part_of s actor (Count (Advance ward))) o))
+    added (Some why) told = tt
+    added None told = advance_adds s actor ward (receipt_for actor id (Count (Advance ward)) (part_of s actor (Count (Advance ward)))) is told
+
+    go : (b : Bool) (o : Option ReceiptEntry) → IsAdvanced s (Count (Advance ward)) (outcome_at s (cond b (answered actor id (Count (Advance ward)) o (part_of s actor (Count (Advance ward)))) (refuses BadId)))
+    go false o = tt
+    go true (Some r) = elim (bytes_eq r.subject (subject_of (Count (Advance ward)))) as (λ b. IsAdvanced s (Count (Advance ward)) (outcome_at s (cond b (keeps r.reply) (refuses IdUsed)))) [ true ↦ tt | false ↦ tt ]
+    go true None = added (first_reason (objections actor (Count (Advance ward)) (part_of s actor (Count (Advance ward))))) refl
+advances s actor id (Count (Seal ward)) is = tt
+advances s actor id (Count (Lot ward stage candidate)) is = tt
+advances s actor id (Count (Declare ward)) is = tt
+advances s actor id (Ward command) is = tt
+advances s actor id (Candidate command) is = tt
+advances s actor id (Batch command) is = tt
+advances s actor id (Keying command) is = tt
+advances s actor id (Verdict command) is = tt
 
 -- ---- what a clerk is told
 

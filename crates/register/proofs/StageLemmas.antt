@@ -76,12 +76,12 @@ stages_within contest lots (suc k) = go (next_action contest lots (stages_to con
     go (Some action) low = omega (arith, low)
 
 -- one stage more, where an action comes next
-pub stage_more : (contest : Contest) (lots : List (ℕ × ℕ)) (k : ℕ) (action : Action) → next_action contest lots (stages_to contest lots k) ≡ Some action → length (stages_to contest lots (k + 1)) ≡ length (stages_to contest lots k) + 1
+pub stage_added : (contest : Contest) (lots : List (ℕ × ℕ)) (k : ℕ) (action : Action) → next_action contest lots (stages_to contest lots k) ≡ Some action → stages_to contest lots (k + 1) ≡ stage_of contest (stages_to contest lots k) action ∷ stages_to contest lots k
 unfolding stages_to
-stage_more contest lots k action next =
-    let more : k + 1 ≡ suc k = omega arith in
-    let there : length (with_next contest lots (stages_to contest lots k)) ≡ suc (length (stages_to contest lots k)) = ap (λ (o : Option Action). length (with_stage contest (stages_to contest lots k) o)) next in
-    ap (λ (n : ℕ). length (stages_to contest lots n)) more ∙ there ∙ (let one : suc (length (stages_to contest lots k)) ≡ length (stages_to contest lots k) + 1 = omega arith in one)
+stage_added contest lots k action next = let more : k + 1 ≡ suc k = omega arith in ap (stages_to contest lots) more ∙ ap (with_stage contest (stages_to contest lots k)) next
+
+pub stage_more : (contest : Contest) (lots : List (ℕ × ℕ)) (k : ℕ) (action : Action) → next_action contest lots (stages_to contest lots k) ≡ Some action → length (stages_to contest lots (k + 1)) ≡ length (stages_to contest lots k) + 1
+stage_more contest lots k action next = ap (λ (s : History). length s) (stage_added contest lots k action next) ∙ (let one : suc (length (stages_to contest lots k)) ≡ length (stages_to contest lots k) + 1 = omega arith in one)
 
 -- lots that agree but for a stage give the same stages before it
 pub same_stages : (contest : Contest) (lots others : List (ℕ × ℕ)) (stage : ℕ) → ((k : ℕ) → (stage == k) ≡ false → lot_for others k ≡ lot_for lots k) → (k : ℕ) → k < stage → stages_to contest others k ≡ stages_to contest lots k

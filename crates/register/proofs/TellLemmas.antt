@@ -98,13 +98,6 @@ action_line contest (s ∷ before) lot action set next = elim (step-is contest s
   | inr excluded ↦ subst (λ (a : Action). IsLine 40 (action_text a)) (sym excluded.is) (exclusion_line contest (s ∷ before) excluded.c (column-in excluded.c contest.candidates set excluded.is_candidate) _)
 ]
 
--- a count has few stages: each candidate is transferred or excluded once
-pub stages_are_few : (contest : Contest) (handed : History → Stage → Option ℕ) (stages : History) → IsContest contest → IsRightBy contest handed stages → length stages ≤ 61
-unfolding acted
-stages_are_few contest handed stages fair right =
-    let candidates = length_columns contest.candidates fair.candidate_set in
-    omega (arith, length-acted contest handed stages fair right, length_kept (is_transferred stages) contest.candidates, length_kept (is_excluded stages) contest.candidates, candidates)
-
 -- ---- polls
 
 digits_line : (ns : List ℕ) → IsLine (length ns) (map last_digit ns)

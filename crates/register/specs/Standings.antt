@@ -1,10 +1,14 @@
--- How the election of a ward stands, and the columns of a batch's papers.
-use Rattle.std.specs.Prelude.{ℕ, List, length, Option, option_map}
+-- How the election of a ward stands, the columns of a batch's papers, and the work of a clerk.
+use Rattle.std.specs.Prelude.{ℕ, Bool, ◌&&◌, List, map, length, Option, option_map}
+use Rattle.std.specs.List.{filter}
 use Rattle.register.specs.declared.phase.Phase.{Phase}
+use Rattle.register.specs.declared.phase.Phase.TheVariants.{Keying}
 use Rattle.register.specs.declared.status.Status.{Status}
-use Rattle.register.specs.Offices.{WardEntry, BatchEntry, OfficeState, ward_at, candidates_of, batch_at}
+use Rattle.register.specs.declared.status.Work.{Work}
+use Rattle.register.specs.Offices.{WardEntry, BatchEntry, OfficeState, ward_at, candidates_of, batch_at, keying_of}
 use Rattle.register.specs.Marks.{columns_of}
-use Rattle.register.specs.Papers.{batches_of, taken_of, differing_of, open_among}
+use Rattle.register.specs.Papers.{is_keyed, is_its_clerk, batches_of, taken_of, differing_of, open_among}
+use Rattle.register.specs.Parts.{is_in_phase}
 
 -- a ward, its phase, how many candidates and batches it has, how many of the batches are taken and how many differ, how many
 -- doubtful papers of the taken ones have no verdict yet, and how many stages of the count are done
@@ -53,3 +57,32 @@ status_entry t =
       doubtful_open = t.doubtful_open;
       stages = t.stages;
     }
+
+-- ---- the work of a clerk
+
+-- a batch that a clerk keys: its number, its ward, the columns of its papers, how many they are, its current round, and
+-- whether he has keyed that
+pub record WorkEntry : Type 0 where
+  pub batch : ℕ
+  pub ward : ℕ
+  pub columns : List ℕ
+  pub size : ℕ
+  pub round : ℕ
+  pub keyed : Bool
+
+-- a batch is a clerk's to key: he is one of its two, and its ward is in keying
+abbrev pub is_work : OfficeState → ℕ → BatchEntry → Bool
+is_work s clerk b = is_its_clerk clerk b && is_in_phase Keying (ward_at s b.ward)
+
+-- a batch as its clerk's work
+abbrev pub work_on : OfficeState → ℕ → BatchEntry → WorkEntry
+work_on s clerk b =
+    record { batch = b.number; ward = b.ward; columns = columns_of (candidates_of s b.ward); size = b.size; round = b.round; keyed = is_keyed (keying_of s b.number b.round clerk) }
+
+-- the work of a clerk: his batches in wards in keying, in the order of their numbers
+abbrev pub work_of : OfficeState → ℕ → List WorkEntry
+work_of s clerk = map (work_on s clerk) (filter (is_work s clerk) s.batches)
+
+-- what a piece of work stands for
+abbrev pub work_entry : Work → WorkEntry
+work_entry w = record { batch = w.batch; ward = w.ward; columns = w.columns; size = w.size; round = w.round; keyed = w.keyed }

@@ -1,15 +1,20 @@
 -- What a view shows of a state, and what a decision says.
-use Rattle.std.specs.Prelude.{◌≡◌, ⊤, option_map, string_bytes}
+use Rattle.std.specs.Prelude.{◌≡◌, ⊤, ℕ, ◌∷◌, Some, option_map, string_bytes}
+use Rattle.count.specs.Law.Count.{stage_of}
+use Rattle.count.specs.declared.stages.Action.{Action}
+use Rattle.count.specs.declared.stages.Due.TheVariants.{Act}
 use Rattle.register.specs.declared.command.Command.{Command}
-use Rattle.register.specs.declared.command.Command.TheVariants.{Keying}
+use Rattle.register.specs.declared.command.Command.TheVariants.{Keying, Count}
+use Rattle.register.specs.declared.counts.CountCommand.TheVariants.{Advance}
 use Rattle.register.specs.declared.view.View.{View}
 use Rattle.register.specs.declared.decision.Decision.{Decision}
 use Rattle.register.specs.declared.decision.Decision.TheVariants.{Accepted, Kept, Refused}
-use Rattle.register.specs.Offices.{OfficeState, receipt_entry, receipt_at}
+use Rattle.register.specs.Offices.{WardEntry, OfficeState, receipt_entry, ward_at, receipt_at}
 use Rattle.register.specs.Effects.{change_entry}
 use Rattle.register.specs.Parts.{part_entries}
+use Rattle.register.specs.Elections.{election_of, contest_of, stages_of, due_of}
 use Rattle.register.specs.Keyings.{reply_to}
-use Rattle.register.specs.Machine.{Ruling, accepts, keeps, refuses, Outcome, outcome_at, decided, part_of}
+use Rattle.register.specs.Machine.{Ruling, accepts, keeps, refuses, Outcome, accepted, outcome_at, decided, part_of}
 
 -- the view shows what the state has for this command
 pub record IsViewOf (s : OfficeState) (command : Command) (view : View) : Type 0 where
@@ -34,3 +39,18 @@ outcome_of s decision = outcome_at s (ruling_of decision)
 abbrev pub IsToldAlike : Command → Ruling → Type 0
 IsToldAlike (Keying command) (accepts change reply) = reply ≡ reply_to command
 IsToldAlike command ruling = ⊤
+
+-- A ward whose count has a stage more: the one that was due, made of those before it. These are as they were.
+pub record HasStageMore (s next : OfficeState) (ward : ℕ) : Type 0 where
+  pub before : WardEntry
+  pub found : ward_at s ward ≡ Some before
+  pub after : WardEntry
+  pub stays : ward_at next ward ≡ Some after
+  pub action : Action
+  pub due : due_of (election_of s before) ≡ Act action
+  pub added : stages_of (election_of next after) ≡ stage_of (contest_of (election_of s before)) (stages_of (election_of s before)) action ∷ stages_of (election_of s before)
+
+-- an accepted Advance adds the stage that is due after the stages found
+abbrev pub IsAdvanced : OfficeState → Command → Outcome → Type 0
+IsAdvanced s (Count (Advance ward)) (accepted next reply) = HasStageMore s next ward
+IsAdvanced s command outcome = ⊤

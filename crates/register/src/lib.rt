@@ -56,7 +56,7 @@ pub use phase::Phase;
 pub use polls::{Ballots, Judgement, Poll};
 pub use receipt::Receipt;
 pub use refusal::{Reason, Refusal};
-pub use status::Status;
+pub use status::{Status, Work};
 pub use verdicts::{JudgedPaper, Verdict, VerdictCommand};
 pub use view::{Part, View};
 pub use wards::{Ward, WardCommand};

@@ -7,7 +7,7 @@ ghost use Rattle.register.specs.Items.{IsState};
 ghost use Rattle.register.specs.Effects.{effect_entry};
 ghost use Rattle.register.specs.Parts.{part_entries};
 ghost use Rattle.register.specs.Machine.{objections, subject_of, reply_to, effect_of, judged, step, state_after, IsKeptAgain};
-ghost use Rattle.register.specs.Views.{IsViewOf, decided_on, ruling_of, outcome_of, IsToldAlike};
+ghost use Rattle.register.specs.Views.{IsViewOf, decided_on, ruling_of, outcome_of, IsToldAlike, IsAdvanced};
 
 use crate::command::Command;
 use crate::decision::{Change, Decision, Effect};
@@ -131,14 +131,16 @@ fn decided(alloc: Global, view: &View<'_>, command: &Command) -> Result<Decision
 ///
 /// A bad id is refused first. An id that has a receipt gets the reply of then, or is refused where the
 /// receipt is about something else. Of several objections to a new request the one with the lowest
-/// number is told. The reply to a keying says nothing of the other clerk's. An error is want of memory,
-/// and nothing was decided then.
+/// number is told. The reply to a keying says nothing of the other clerk's. An accepted Advance adds the
+/// stage that is due after the ward's stages found, which stay as they are. An error is want of memory, and
+/// nothing was decided then.
 pub fn decide(alloc: Global, view: &View<'_>, command: &Command) -> Result<Decision, AllocError>
     ensures on_view { IfOk result (λ decision. ruling_of decision ≡ decided_on view.now command.now) }
     ensures decides { IfOk result (λ decision. (s : OfficeState) → IsViewOf s command.now view.now → outcome_of s decision ≡ step s view.now.actor view.now.id.now command.now) }
     ensures told_alike { IfOk result (λ decision. IsToldAlike command.now (ruling_of decision)) }
     ensures kept_again { (s : OfficeState) → IsKeptAgain view.now.actor view.now.id.now command.now (step s view.now.actor view.now.id.now command.now) }
     ensures stays_a_state { (s : OfficeState) → IsState s → IsState (state_after s (step s view.now.actor view.now.id.now command.now)) }
+    ensures advances { (s : OfficeState) → IsState s → IsAdvanced s command.now (step s view.now.actor view.now.id.now command.now) }
 {
     decided(alloc, view, command)
 }

@@ -1,6 +1,7 @@
-//! How the election of a ward stands.
+//! How the election of a ward stands, and the work of a clerk.
 
 use crate::phase::Phase;
+use paper::Columns;
 
 /// How the election of a ward (1 to 99) stands: its phase; how many candidates and batches it has; how many
 /// of the batches are taken, both keyings of their current round being there and equal, and how many
@@ -16,4 +17,16 @@ pub struct Status {
     pub differing: usize,
     pub doubtful_open: usize,
     pub stages: u32,
+}
+
+/// A batch (1 to 9999) that a clerk keys: its ward (1 to 99), the columns of its papers, how many they are
+/// (1 to 500), its current round (1 to 99), and whether this clerk has keyed that round.
+#[derive(Clone, Copy, Debug, PartialEq, Eq)]
+pub struct Work {
+    pub batch: u32,
+    pub ward: u32,
+    pub columns: Columns,
+    pub size: u32,
+    pub round: u32,
+    pub keyed: bool,
 }

@@ -4,7 +4,7 @@ use Rattle.register.specs.Offices.{OfficeState, receipt_entry}
 use Rattle.register.specs.Parts.{part_entries}
 use Rattle.register.specs.Machine.{outcome_at, step}
 use Rattle.register.specs.Views.{IsViewOf, decided_on, ruling_of, outcome_of, IsToldAlike}
-use Rattle.register.proofs.MachineLemmas.{step_on, step_stays, accepted_is_kept, told_alike}
+use Rattle.register.proofs.MachineLemmas.{step_on, step_stays, accepted_is_kept, told_alike, advances}
 use Rattle.register.proofs.machine.decide.Goals as goal
 
 pub returns-clause-decides : goal.returns-clause-decides
@@ -28,3 +28,6 @@ returns-clause-kept_again c s = accepted_is_kept s c.args.view.now.actor c.args.
 
 pub returns-clause-stays_a_state : goal.returns-clause-stays_a_state
 returns-clause-stays_a_state c s is = step_stays s c.args.view.now.actor c.args.view.now.id.now c.args.command.now is
+
+pub returns-clause-advances : goal.returns-clause-advances
+returns-clause-advances c s is = advances s c.args.view.now.actor c.args.view.now.id.now c.args.command.now is
