@@ -127,6 +127,19 @@ module _ (batch round clerk : ℕ) where
     pub map : IsMap is_keyed_paper keyed_cmp ys
     pub keying : filter (is_of batch round clerk) ys ≡ zs
 
+  -- a paper behind those of its keying that are there
+  put_paper : (paper : ℕ) (marks : List ℕ) (ys zs : List KeyedEntry) → is_keyed_paper (record { batch = batch; round = round; clerk = clerk; paper = paper; marks = marks }) ≡ true → AreBelow batch round clerk paper zs → IsPut ys zs
+      → IsPut (put keyed_cmp (record { batch = batch; round = round; clerk = clerk; paper = paper; marks = marks }) ys) (zs ++ (record { batch = batch; round = round; clerk = clerk; paper = paper; marks = marks } ∷ []))
+  put_paper paper marks ys zs good below is =
+      let x : KeyedEntry = record { batch = batch; round = round; clerk = clerk; paper = paper; marks = marks } in
+      let above : AllByRecursion (λ k. keyed_cmp x k ≡ Greater) zs = each_weaker _ _ zs (λ k low. behind paper marks k low.0 low.1) below in
+      let others_there : AllByRecursion (λ k. is_eq (keyed_cmp x k) ≡ false) zs = each_weaker _ _ zs (λ k g. ap is_eq g) above in
+      let last : AllByRecursion (λ k. is_lt (keyed_cmp x k) ≡ false) zs = each_weaker _ _ zs (λ k g. ap is_lt g) above in
+      let new : entry_at (keyed_cmp x) ys ≡ None = sym (found_filter (keyed_cmp x) (is_of batch round clerk) ys (own_of paper marks)) ∙ ap (entry_at (keyed_cmp x)) is.keying ∙ found_none (keyed_cmp x) zs others_there in
+      let own : is_of batch round clerk x ≡ true = and_from _ _ (eq-eqb batch batch refl) (and_from _ _ (eq-eqb round round refl) (eq-eqb clerk clerk refl)) in
+      let map = is.map in
+      record { map = put_is_map keyed_total x ys good new map; keying = filter_put_in keyed_total (is_of batch round clerk) x ys own map.rises ∙ ap (put keyed_cmp x) is.keying ∙ put_last keyed_cmp x zs last }
+
   -- papers behind those of their keying that are there
   pub put_papers : (paper : ℕ) (texts : List (List ℕ)) (ys zs : List KeyedEntry) → list_all is_keyed_paper (papers_from batch round clerk paper texts) ≡ true → AreBelow batch round clerk paper zs → IsPut ys zs
       → IsPut (put_each keyed_cmp (papers_from batch round clerk paper texts) ys) (zs ++ papers_from batch round clerk paper texts)
@@ -135,15 +148,21 @@ module _ (batch round clerk : ℕ) where
   put_papers paper (marks ∷ others) ys zs good below is =
       let x : KeyedEntry = record { batch = batch; round = round; clerk = clerk; paper = paper; marks = marks } in
       let ranges = and_parts (is_keyed_paper x) (list_all is_keyed_paper (papers_from batch round clerk (paper + 1) others)) good in
-      let above : AllByRecursion (λ k. keyed_cmp x k ≡ Greater) zs = each_weaker _ _ zs (λ k low. behind paper marks k low.0 low.1) below in
-      let others_there : AllByRecursion (λ k. is_eq (keyed_cmp x k) ≡ false) zs = each_weaker _ _ zs (λ k g. ap is_eq g) above in
-      let last : AllByRecursion (λ k. is_lt (keyed_cmp x k) ≡ false) zs = each_weaker _ _ zs (λ k g. ap is_lt g) above in
-      let new : entry_at (keyed_cmp x) ys ≡ None = sym (found_filter (keyed_cmp x) (is_of batch round clerk) ys (own_of paper marks)) ∙ ap (entry_at (keyed_cmp x)) is.keying ∙ found_none (keyed_cmp x) zs others_there in
-      let own : is_of batch round clerk x ≡ true = and_from _ _ (eq-eqb batch batch refl) (and_from _ _ (eq-eqb round round refl) (eq-eqb clerk clerk refl)) in
-      let map = is.map in
-      let kept : filter (is_of batch round clerk) (put keyed_cmp x ys) ≡ zs ++ (x ∷ []) = filter_put_in keyed_total (is_of batch round clerk) x ys own map.rises ∙ ap (put keyed_cmp x) is.keying ∙ put_last keyed_cmp x zs last in
-      let next = put_papers (paper + 1) others (put keyed_cmp x ys) (zs ++ (x ∷ [])) ranges.1 (more_below paper marks zs below) (record { map = put_is_map keyed_total x ys ranges.0 new map; keying = kept }) in
+      let next = put_papers (paper + 1) others (put keyed_cmp x ys) (zs ++ (x ∷ [])) ranges.1 (more_below paper marks zs below) (put_paper paper marks ys zs ranges.0 below is) in
       record { map = next.map; keying = next.keying ∙ append_assoc zs (x ∷ []) (papers_from batch round clerk (paper + 1) others) }
+
+  -- those that pass a test stand among the others that pass as they stand among all
+  put_among : (test : KeyedEntry → Bool) (paper : ℕ) (texts : List (List ℕ)) (ys zs : List KeyedEntry) → list_all test (papers_from batch round clerk paper texts) ≡ true → list_all is_keyed_paper (papers_from batch round clerk paper texts) ≡ true
+      → AreBelow batch round clerk paper zs → IsPut ys zs → filter test (put_each keyed_cmp (papers_from batch round clerk paper texts) ys) ≡ put_each keyed_cmp (papers_from batch round clerk paper texts) (filter test ys)
+  unfolding papers_from
+  put_among test paper [] ys zs passes good below is = refl
+  put_among test paper (marks ∷ others) ys zs passes good below is =
+      let x : KeyedEntry = record { batch = batch; round = round; clerk = clerk; paper = paper; marks = marks } in
+      let kept = and_parts (test x) (list_all test (papers_from batch round clerk (paper + 1) others)) passes in
+      let ranges = and_parts (is_keyed_paper x) (list_all is_keyed_paper (papers_from batch round clerk (paper + 1) others)) good in
+      let map = is.map in
+      put_among test (paper + 1) others (put keyed_cmp x ys) (zs ++ (x ∷ [])) kept.1 ranges.1 (more_below paper marks zs below) (put_paper paper marks ys zs ranges.0 below is)
+      ∙ ap (put_each keyed_cmp (papers_from batch round clerk (paper + 1) others)) (filter_put_in keyed_total test x ys kept.0 map.rises)
 
 -- ---- a keying that is kept
 
@@ -214,6 +233,10 @@ module _ (s : OfficeState) (b : BatchEntry) (actor : ℕ) (texts : List (List �
 
     put_there : IsPut b.number b.round actor (put_each keyed_cmp (papers_for b actor texts) s.keyings) (papers_for b actor texts)
     put_there = put_papers b.number b.round actor 1 texts s.keyings [] papers_good tt (record { map = maps_of is keyed_map; keying = unkeyed })
+
+    -- the clerk's own papers, put among his own
+    pub put_among_own : (test : KeyedEntry → Bool) → list_all test (papers_for b actor texts) ≡ true → filter test (put_each keyed_cmp (papers_for b actor texts) s.keyings) ≡ put_each keyed_cmp (papers_for b actor texts) (filter test s.keyings)
+    put_among_own test passes = put_among b.number b.round actor test 1 texts s.keyings [] passes papers_good tt (record { map = maps_of is keyed_map; keying = unkeyed })
 
     -- each keying of the batch is whole still
     whole_still : (m clerk : ℕ) → is_whole b.size (keying_of s b.number m clerk) ≡ true → is_whole b.size (keying_of (with_papers s b actor texts) b.number m clerk) ≡ true
@@ -319,10 +342,25 @@ under_same : (s : OfficeState) (b : BatchEntry) (actor : ℕ) (texts : List (Lis
     → IsState (with_effect (papers_keyed (papers_from n round actor 1 texts)) s)
 under_same s b actor texts n round number same is = rw (number, same) is
 
-pub keying_fits : (s : OfficeState) (actor : ℕ) (command : KeyingCommand) → IsState s → first_reason (objections actor command (part_of s actor command)) ≡ None
-    → IsFit s actor (effect_of actor command) (subject_of command) (reply_to command)
-unfolding subject_of reply_to
-keying_fits s actor command is none =
+-- a keying that nothing stands against: its batch, which it is for, and the ward of that, in keying
+record IsKeying (s : OfficeState) (actor : ℕ) (command : KeyingCommand) : Type 0 where
+  clerk : is_clerk actor ≡ true
+  batch_number : is_batch_number command.batch ≡ true
+  round_number : is_round command.round ≡ true
+  batch : BatchEntry
+  number : command.batch ≡ batch.number
+  round : command.round ≡ batch.round
+  found : batch_at s batch.number ≡ Some batch
+  its : is_its_clerk actor batch ≡ true
+  unkeyed : keying_of s batch.number batch.round actor ≡ []
+  size : batch.size ≡ length (texts_of command)
+  read : first_bad_marks (columns_for s batch) 1 (texts_of command) ≡ None
+  ward : WardEntry
+  its_ward : ward_at s batch.ward ≡ Some ward
+  phased : ward.phase ≡ Keying
+
+is_keying : (s : OfficeState) (actor : ℕ) (command : KeyingCommand) → first_reason (objections actor command (part_of s actor command)) ≡ None → IsKeying s actor command
+is_keying s actor command none =
     let part = part_of s actor command in
     let each = none_objects (objections actor command part) none in
     let range = and_parts (is_clerk actor) (is_batch_number command.batch && is_round command.round) (asked (is_in_range actor command) NumberOutOfRange each.0) in
@@ -331,23 +369,51 @@ keying_fits s actor command is none =
     let b = found.it in
     let others = ((each.1).1).1 in
     let in_ward = there Keying (ward_for s (batch_at s command.batch)) WrongPhase ((each.1).1).0 in
-    let its_ward : ward_at s b.ward ≡ Some in_ward.ward = ap (ward_for s) (sym found.is) ∙ in_ward.is in
-    let its = found_is s command.batch b found.is (is_its_clerk actor) (asked (passes (is_its_clerk actor) part.batch) NotItsClerk others.0) in
     let now = found_is s command.batch b found.is (λ x. x.round == command.round) (asked (passes (λ x. x.round == command.round) part.batch) NotThisRound (others.1).0) in
     let none_own = not_keyed part.own (unasked (is_keyed part.own) AlreadyKeyed ((others.1).1).0) in
     let long = found_is s command.batch b found.is (λ x. x.size == length (texts_of command)) (asked (passes (λ x. x.size == length (texts_of command)) part.batch) WrongPaperCount (((others.1).1).1).0) in
-    let good : first_bad_marks (columns_for s b) 1 (texts_of command) ≡ None =
-    ap (λ (o : Option BatchEntry). first_bad_marks (columns_of (candidates_for s o)) 1 (texts_of command)) (sym found.is) ∙ ((((others.1).1).1).1).0
-    in
     let number : command.batch ≡ b.number = found_number (λ (x : BatchEntry). x.number) s.batches command.batch b found.is in
     let round : command.round ≡ b.round = sym (eqb-true b.round command.round now) in
-    let own : batch_at s b.number ≡ Some b = ap (batch_at s) (sym number) ∙ found.is in
-    let unkeyed : keying_of s b.number b.round actor ≡ [] = ap (λ (n : ℕ). keying_of s n b.round actor) (sym number) ∙ ap (λ (r : ℕ). keying_of s command.batch r actor) (sym round) ∙ none_own in
-    let digits = line_number last_batch command.batch (omega arith) numbers.0 in
-    let rounds = line_number last_round command.round (omega arith) numbers.1 in
     record {
-      state = under_same s b actor (texts_of command) command.batch command.round number round (keyed_stays s b actor (texts_of command) is own its unkeyed (eqb-true b.size (length (texts_of command)) long) range.0 (all_written command.papers.items) in_ward.ward its_ward (rw in_ward.phased refl) good);
-      about = clerk_about actor _ range.0 (key_about command.batch command.round numbers.0 numbers.1);
+      clerk = range.0;
+      batch_number = numbers.0;
+      round_number = numbers.1;
+      batch = b;
+      number = number;
+      round = round;
+      found = ap (batch_at s) (sym number) ∙ found.is;
+      its = found_is s command.batch b found.is (is_its_clerk actor) (asked (passes (is_its_clerk actor) part.batch) NotItsClerk others.0);
+      unkeyed = ap (λ (n : ℕ). keying_of s n b.round actor) (sym number) ∙ ap (λ (r : ℕ). keying_of s command.batch r actor) (sym round) ∙ none_own;
+      size = eqb-true b.size (length (texts_of command)) long;
+      read = ap (λ (o : Option BatchEntry). first_bad_marks (columns_of (candidates_for s o)) 1 (texts_of command)) (sym found.is) ∙ ((((others.1).1).1).1).0;
+      ward = in_ward.ward;
+      its_ward = ap (ward_for s) (sym found.is) ∙ in_ward.is;
+      phased = in_ward.phased;
+    }
+
+among_same : (s : OfficeState) (b : BatchEntry) (actor : ℕ) (texts : List (List ℕ)) (test : KeyedEntry → Bool) (n round : ℕ) → n ≡ b.number → round ≡ b.round
+    → (list_all test (papers_for b actor texts) ≡ true → filter test (put_each keyed_cmp (papers_for b actor texts) s.keyings) ≡ put_each keyed_cmp (papers_for b actor texts) (filter test s.keyings))
+    → list_all test (papers_from n round actor 1 texts) ≡ true → filter test (put_each keyed_cmp (papers_from n round actor 1 texts) s.keyings) ≡ put_each keyed_cmp (papers_from n round actor 1 texts) (filter test s.keyings)
+among_same s b actor texts test n round number same own = rw (number, same) own
+
+-- its papers stand among those that pass a test, as they do, as they stand among all
+pub keyed_among : (s : OfficeState) (actor : ℕ) (command : KeyingCommand) (test : KeyedEntry → Bool) → IsState s → first_reason (objections actor command (part_of s actor command)) ≡ None
+    → list_all test (papers_from command.batch command.round actor 1 (texts_of command)) ≡ true
+    → filter test (put_each keyed_cmp (papers_from command.batch command.round actor 1 (texts_of command)) s.keyings) ≡ put_each keyed_cmp (papers_from command.batch command.round actor 1 (texts_of command)) (filter test s.keyings)
+keyed_among s actor command test is none passes =
+    let k = is_keying s actor command none in
+    among_same s k.batch actor (texts_of command) test command.batch command.round k.number k.round (put_among_own s k.batch actor (texts_of command) is k.found k.its k.unkeyed k.size k.clerk (all_written command.papers.items) test) passes
+
+pub keying_fits : (s : OfficeState) (actor : ℕ) (command : KeyingCommand) → IsState s → first_reason (objections actor command (part_of s actor command)) ≡ None
+    → IsFit s actor (effect_of actor command) (subject_of command) (reply_to command)
+unfolding subject_of reply_to
+keying_fits s actor command is none =
+    let k = is_keying s actor command none in
+    let digits = line_number last_batch command.batch (omega arith) k.batch_number in
+    let rounds = line_number last_round command.round (omega arith) k.round_number in
+    record {
+      state = under_same s k.batch actor (texts_of command) command.batch command.round k.number k.round (keyed_stays s k.batch actor (texts_of command) is k.found k.its k.unkeyed k.size k.clerk (all_written command.papers.items) k.ward k.its_ward (rw k.phased refl) k.read);
+      about = clerk_about actor _ k.clerk (key_about command.batch command.round k.batch_number k.round_number);
       text = line_text (line_append (words (codes "key ") (search rules) refl) (line_append digits (line_append (words (codes " ") (search rules) refl) rounds)));
       line = line_reply (line_append (words (codes "batch ") (search rules) refl) (line_append digits (line_append (words (codes " round ") (search rules) refl) (line_append rounds (words (codes " keyed") (search rules) refl))))) (omega arith);
     }

@@ -21,6 +21,7 @@ mod TellLemmas
 mod CountLemmas
 mod TotalLemmas
 pub mod MachineLemmas
+pub mod SeenLemmas
 pub mod ListLaws
 mod Rows
 mod NominationRows

@@ -16,7 +16,7 @@ use Rattle.register.specs.Offices.{OfficeState, ReceiptEntry, receipt_at, entry_
 use Rattle.register.specs.Items.{is_receipt, IsState}
 use Rattle.register.specs.Effects.{with_effect, with_receipt}
 use Rattle.register.specs.Parts.{PartEntries}
-use Rattle.register.specs.Machine.{keeps, refuses, part_of, objections, subject_of, reply_to, effect_of, receipt_for, judged, answered, decided, outcome_at, step, state_after, IsKeptAgain}
+use Rattle.register.specs.Machine.{keeps, refuses, part_of, objections, subject_of, reply_to, effect_of, receipt_for, judged, answered, decided, ruling_at, outcome_at, step, state_after, IsKeptAgain}
 use Rattle.register.specs.Views.{IsToldAlike, IsAdvanced}
 use Rattle.register.proofs.MapLemmas.{found_put}
 use Rattle.register.proofs.ItemLemmas.{IsFit, receipt_total, receipt_stays, same_receipts}
@@ -40,11 +40,16 @@ fits s actor (Count command) is none = count_fits s actor command is none
 
 -- ---- a request at a state
 
--- what is decided on a receipt and a part that are those of a state is its step there
+-- what is decided on a receipt and a part that are those of a state is decided there,
+pub ruling_on : (s : OfficeState) (actor : ℕ) (id : List ℕ) (command : Command) (receipt : Option ReceiptEntry) (part : PartEntries) → receipt ≡ receipt_at s actor id → part ≡ part_of s actor command
+    → decided actor id command receipt part ≡ ruling_at s actor id command
+ruling_on s actor id command receipt part same_receipt same_part = rw (same_receipt, same_part) refl
+
+-- and is its step
 pub step_on : (s : OfficeState) (actor : ℕ) (id : List ℕ) (command : Command) (receipt : Option ReceiptEntry) (part : PartEntries) → receipt ≡ receipt_at s actor id → part ≡ part_of s actor command
     → outcome_at s (decided actor id command receipt part) ≡ step s actor id command
 unfolding step
-step_on s actor id command receipt part same_receipt same_part = rw (same_receipt, same_part) refl
+step_on s actor id command receipt part same_receipt same_part = ap (outcome_at s) (ruling_on s actor id command receipt part same_receipt same_part)
 
 module _ (s : OfficeState) (actor : ℕ) (id : List ℕ) (command : Command) where
   -- an actor and an id without a receipt have none after the effect either

@@ -13,6 +13,7 @@ pub mod Keyed
 pub mod Standings
 pub mod Items
 pub mod Effects
+pub mod Seen
 pub mod Parts
 pub mod Wards
 pub mod Candidates

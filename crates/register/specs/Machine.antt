@@ -105,10 +105,13 @@ outcome_at s (accepts change reply) = accepted (with_change change s) reply
 outcome_at s (keeps reply) = kept reply
 outcome_at s (refuses why) = refused why
 
--- A step sees of the state the receipt of its actor and id, and the part that its command needs, and nothing else; the
--- state itself is there only for the change to be made in it.
+-- what is decided at a state: on the receipt of the actor and id, and on the part that the command needs, and on nothing else
+abbrev pub ruling_at : OfficeState → ℕ → List ℕ → Command → Ruling
+ruling_at s actor id command = decided actor id command (receipt_at s actor id) (part_of s actor command)
+
+-- A step makes the change that is decided at the state.
 unfoldable pub step : OfficeState → ℕ → List ℕ → Command → Outcome
-step s actor id command = outcome_at s (decided actor id command (receipt_at s actor id) (part_of s actor command))
+step s actor id command = outcome_at s (ruling_at s actor id command)
 
 -- the state after an outcome, from the one before it
 abbrev pub state_after : OfficeState → Outcome → OfficeState

@@ -1,12 +1,14 @@
 //! The step of the machine on a view.
 
-ghost use Rattle.std.specs.Prelude.{◌≡◌, None, IfOk, string_bytes};
+ghost use Rattle.std.specs.Prelude.{◌≡◌, ℕ, ◌==◌, true, false, None, IfOk, string_bytes};
 ghost use Rattle.register.specs.Reasons.{first_reason};
+ghost use Rattle.register.specs.Ranges.{is_clerk};
 ghost use Rattle.register.specs.Offices.{OfficeState};
 ghost use Rattle.register.specs.Items.{IsState};
 ghost use Rattle.register.specs.Effects.{effect_entry};
+ghost use Rattle.register.specs.Seen.{seen_by};
 ghost use Rattle.register.specs.Parts.{part_entries};
-ghost use Rattle.register.specs.Machine.{objections, subject_of, reply_to, effect_of, judged, step, state_after, IsKeptAgain};
+ghost use Rattle.register.specs.Machine.{objections, subject_of, reply_to, effect_of, judged, ruling_at, step, state_after, IsKeptAgain};
 ghost use Rattle.register.specs.Views.{IsViewOf, decided_on, ruling_of, outcome_of, IsToldAlike, IsAdvanced};
 
 use crate::command::Command;
@@ -134,6 +136,9 @@ fn decided(alloc: Global, view: &View<'_>, command: &Command) -> Result<Decision
 /// number is told. The reply to a keying says nothing of the other clerk's. An accepted Advance adds the
 /// stage that is due after the ward's stages found, which stay as they are. An error is want of memory, and
 /// nothing was decided then.
+///
+/// A clerk is answered by what he sees of the state alone: the wards and their phases, the candidates, the
+/// batches, his own keyings and receipts. His requests leave what any other clerk sees as it was.
 pub fn decide(alloc: Global, view: &View<'_>, command: &Command) -> Result<Decision, AllocError>
     ensures on_view { IfOk result (λ decision. ruling_of decision ≡ decided_on view.now command.now) }
     ensures decides { IfOk result (λ decision. (s : OfficeState) → IsViewOf s command.now view.now → outcome_of s decision ≡ step s view.now.actor view.now.id.now command.now) }
@@ -141,6 +146,10 @@ pub fn decide(alloc: Global, view: &View<'_>, command: &Command) -> Result<Decis
     ensures kept_again { (s : OfficeState) → IsKeptAgain view.now.actor view.now.id.now command.now (step s view.now.actor view.now.id.now command.now) }
     ensures stays_a_state { (s : OfficeState) → IsState s → IsState (state_after s (step s view.now.actor view.now.id.now command.now)) }
     ensures advances { (s : OfficeState) → IsState s → IsAdvanced s command.now (step s view.now.actor view.now.id.now command.now) }
+    ensures blind { is_clerk view.now.actor ≡ true → IfOk result (λ decision. (s : OfficeState) → IsViewOf s command.now view.now → ruling_of decision ≡ ruling_at (seen_by view.now.actor s) view.now.actor view.now.id.now command.now) }
+    ensures unseen { is_clerk view.now.actor ≡ true → (s : OfficeState) (clerk : ℕ) → (view.now.actor == clerk) ≡ false → seen_by clerk (state_after s (step s view.now.actor view.now.id.now command.now)) ≡ seen_by clerk s }
+    ensures seen_alone { is_clerk view.now.actor ≡ true → (s : OfficeState) → IsState s
+        → seen_by view.now.actor (state_after s (step s view.now.actor view.now.id.now command.now)) ≡ state_after (seen_by view.now.actor s) (step (seen_by view.now.actor s) view.now.actor view.now.id.now command.now) }
 {
     decided(alloc, view, command)
 }

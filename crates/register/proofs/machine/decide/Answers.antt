@@ -2,9 +2,11 @@ use Rattle.std.proofs.Common.{◌≡◌, option_map, sym, ap, subst, ◌∙◌}
 use Rattle.std.proofs.lemmas.Result.{IfOk-weaker}
 use Rattle.register.specs.Offices.{OfficeState, receipt_entry}
 use Rattle.register.specs.Parts.{part_entries}
-use Rattle.register.specs.Machine.{outcome_at, step}
+use Rattle.register.specs.Machine.{Ruling, outcome_at, ruling_at, step}
+use Rattle.register.specs.Seen.{seen_by}
 use Rattle.register.specs.Views.{IsViewOf, decided_on, ruling_of, outcome_of, IsToldAlike}
-use Rattle.register.proofs.MachineLemmas.{step_on, step_stays, accepted_is_kept, told_alike, advances}
+use Rattle.register.proofs.MachineLemmas.{step_on, ruling_on, step_stays, accepted_is_kept, told_alike, advances}
+use Rattle.register.proofs.SeenLemmas.{ruling_seen, unseen, seen_alone}
 use Rattle.register.proofs.machine.decide.Goals as goal
 
 pub returns-clause-decides : goal.returns-clause-decides
@@ -31,3 +33,17 @@ returns-clause-stays_a_state c s is = step_stays s c.args.view.now.actor c.args.
 
 pub returns-clause-advances : goal.returns-clause-advances
 returns-clause-advances c s is = advances s c.args.view.now.actor c.args.view.now.id.now c.args.command.now is
+
+pub returns-clause-blind : goal.returns-clause-blind
+returns-clause-blind c clerk =
+    let view = c.args.view.now in
+    let command = c.args.command.now in
+    IfOk-weaker c.decided.result (λ d. ruling_of d ≡ decided_on view command) (λ d. (s : OfficeState) → IsViewOf s command view → ruling_of d ≡ ruling_at (seen_by view.actor s) view.actor view.id.now command)
+    (λ d same s shows. same ∙ ruling_on s view.actor view.id.now command (option_map receipt_entry view.receipt) (part_entries view.part) shows.receipt shows.part ∙ sym (ruling_seen s view.actor view.id.now command clerk))
+    c.decided.ensures
+
+pub returns-clause-unseen : goal.returns-clause-unseen
+returns-clause-unseen c clerk s other apart = unseen s c.args.view.now.actor c.args.view.now.id.now clerk c.args.command.now other apart
+
+pub returns-clause-seen_alone : goal.returns-clause-seen_alone
+returns-clause-seen_alone c clerk s is = seen_alone s c.args.view.now.actor c.args.view.now.id.now clerk is c.args.command.now

@@ -1,0 +1,20 @@
+-- What a clerk sees of an office.
+use Rattle.std.specs.Prelude.{ℕ, ◌==◌, [], map}
+use Rattle.std.specs.List.{filter}
+use Rattle.register.specs.Offices.{KeyedEntry, ReceiptEntry, OfficeState}
+use Rattle.register.specs.Effects.{at_stage}
+
+-- A clerk sees the wards and how far their elections have come, the candidates, the batches with their clerks and rounds, what he
+-- keyed himself, and his own receipts. He sees nothing of another's keyings, of whether a batch is taken, of verdicts, of lots,
+-- of stages done, and of others' receipts.
+abbrev pub seen_by : ℕ → OfficeState → OfficeState
+seen_by clerk s =
+    record {
+      wards = map (at_stage 0) s.wards;
+      candidates = s.candidates;
+      batches = s.batches;
+      keyings = filter (λ (k : KeyedEntry). k.clerk == clerk) s.keyings;
+      verdicts = [];
+      lots = [];
+      receipts = filter (λ (r : ReceiptEntry). r.actor == clerk) s.receipts;
+    }
