@@ -70,8 +70,9 @@ pub fn due_by<B: CountBook>(book: &mut B, lots: &[(u8, u8)]) -> Result<Due, Allo
 }
 
 /// What is due before each of so many stages of the count, and after them, whatever lots are recorded; a
-/// new book has those stages then. An error is want of memory.
-#[tactic(auto, unfolding(crate::specs::Law::Count::stages_to))]
+/// new book has those stages then. An error is want of memory; the book has the stages made so far then,
+/// and they are right.
+#[tactic(auto, using(crate::proofs::Law::CountLemmas::stages_right), unfolding(crate::specs::Law::Count::stages_to))]
 pub fn dues_to<B: CountBook>(
     alloc: Global,
     book: &mut B,
@@ -81,13 +82,13 @@ pub fn dues_to<B: CountBook>(
     requires { B.history book.old ≡ [] }
     ensures same { B.contest book.new ≡ B.contest book.old }
     ensures counted { OnOk result (B.history book.new ≡ stages_to (B.contest book.old) lots.now stages) }
+    ensures err { OnErr result (IsRight (B.contest book.old) lots.now (B.history book.new)) }
     ensures is { IfOk result (λ dues. dues.items ≡ map (λ k. due_after (B.contest book.old) (stages_to (B.contest book.old) lots.now k)) (range_with_len 0 (stages + 1))) }
 {
     let mut dues = Vec::new(alloc);
     for _ in 0..stages {
-        let due = book.due();
+        dues.push(book.due())?;
         advance_by(book, lots)?;
-        dues.push(due)?;
     }
     dues.push(book.due())?;
     Ok(dues)
