@@ -1,5 +1,5 @@
 -- What an answer says, from what was decided.
-use Rattle.std.proofs.Common.{◌≡◌, ◌⊎◌, inl, inr, ℕ, List, Bool, true, false, Result, Ok, Err, OnOk, sym, ap, subst, ◌∙◌, true≢false}
+use Rattle.std.proofs.Common.{◌≡◌, ◌⊎◌, inl, inr, ℕ, List, Bool, true, false, Result, Ok, Err, IfOk, OnOk, sym, ap, subst, ◌∙◌, true≢false}
 use Rattle.sqlite.specs.State.{State}
 use Rattle.register.specs.Offices.{OfficeState}
 use Rattle.register.specs.declared.command.Command.{Command}
@@ -14,6 +14,11 @@ use Rattle.office.specs.Answers.{told, told_of, reply_of, IsOpenAt, Handled, Han
 pub handled_ok : (s : OfficeState) (o x : Outcome) (a : Answer) (closed : Bool) (st : State) → x ≡ o → told a ≡ told_of x → closed ≡ false → IsAt (state_after s x) st → Handled s o (Ok a) closed st
 handled_ok s o x a closed st same tells is_open at =
     (tells ∙ ap told_of same, record { is_open = is_open; at = subst (λ (y : Outcome). IsAt (state_after s y) st) same at })
+
+-- an answer tells the outcome
+pub answer_told : (s : OfficeState) (o : Outcome) (r : Result Answer Fault) (closed : Bool) (st : State) → Handled s o r closed st → IfOk r (λ a. told a ≡ told_of o)
+answer_told s o (Ok a) closed st handled = handled.0
+answer_told s o (Err f) closed st handled = tt
 
 -- a fault that closed the office, where a stop leaves the state before or the one that the outcome leads to
 pub handled_err : (s : OfficeState) (o x : Outcome) (f : Fault) (closed : Bool) (st : State) → x ≡ o → closed ≡ true → (f ≡ Memory) ⊎ (f ≡ Store) → (f ≡ Memory → is_accepted x ≡ true)

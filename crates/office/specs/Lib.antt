@@ -1,5 +1,6 @@
 pub mod Values
 pub mod Answers
 pub mod Runs
+pub mod Clerks
 pub mod Reads
 pub mod Sheets

@@ -1,12 +1,14 @@
 //! An office, open or closed.
 
-ghost use Rattle.std.specs.Prelude.{◌≡◌, ◌⊎◌, ◌+◌, ◌<◌, ◌≤◌, ◌++◌, ◌∷◌, [], List, true, false, take, length, vec_len, vec_capacity, Some, None, IfOk, IfErr, OnOk, IfNone, IfSome, IsTrue};
+ghost use Rattle.std.specs.Prelude.{◌≡◌, ◌⊎◌, ◌==◌, ◌+◌, ℕ, map, ◌<◌, ◌≤◌, ◌++◌, ◌∷◌, [], List, true, false, take, length, vec_len, vec_capacity, Some, None, IfOk, IfErr, OnOk, IfNone, IfSome, IsTrue};
 ghost use Rattle.sqlite.specs.Tree.{Trees};
 ghost use Rattle.sqlite.specs.Effect.{Database};
 ghost use Rattle.sqlite.specs.State.{HasCleanDisk};
 ghost use Rattle.sqlite.specs.Held.{state};
 ghost use Rattle.register.specs.Offices.{OfficeState, empty_office};
 ghost use Rattle.register.specs.Items.{IsState};
+ghost use Rattle.register.specs.Ranges.{is_clerk};
+ghost use Rattle.register.specs.Seen.{seen_by};
 ghost use Rattle.register.specs.Machine.{step, state_after, is_accepted, after, IsKeptAgain};
 ghost use Rattle.tables.specs.Contents.{RestsAt, SameContents, Stores};
 ghost use Rattle.tables.specs.Presence.{has_some_table, has_every_table, IsOurs};
@@ -14,8 +16,9 @@ ghost use Rattle.tables.specs.Reading.{OnlyReads};
 ghost use Rattle.store.specs.Offices.{tables_of, HoldsState, IsAt, LeavesState};
 ghost use Rattle.store.specs.Openings.{IsBlank, IsToldBy, IsLeftAt};
 ghost use Rattle.register.specs.declared.command.Request.{Request};
-ghost use Rattle.office.specs.Answers.{IsOpenAt, Handled, HandledAgain};
-ghost use Rattle.office.specs.Runs.{AnswersFirst, IsAfterBeginning, StopsAfter};
+ghost use Rattle.office.specs.Answers.{told, told_of, IsOpenAt, Handled, HandledAgain};
+ghost use Rattle.office.specs.Clerks.{are_clerks, own_requests, own_answers};
+ghost use Rattle.office.specs.Runs.{outcomes, AnswersFirst, IsAfterBeginning, StopsAfter};
 
 use crate::answers::{Answer, Run};
 use crate::deciding::decision_of;
@@ -113,12 +116,20 @@ impl<S: Alter> Office<S> {
     ///
     /// The request that met a fault, sent again after the office was opened again, is `Done` where the old
     /// tables were found and `Kept` where the new ones were, with the same reply and state after.
+    ///
+    /// A clerk is answered by what he sees of the state alone: the wards and their phases, the candidates,
+    /// the batches, his own keyings and receipts. Whatever his request leaves, another clerk sees of it
+    /// what he saw before.
     pub fn handle(&mut self, actor: u32, id: &str, command: &Command) -> Result<Answer, Fault>
         ensures handled { HasCleanDisk (state S.Store self.new.held) → self.old.closed ≡ false → (s : OfficeState) → IsAt s (state S.Store self.old.held)
             → Handled s (step s actor id.now command.now) result self.new.closed (state S.Store self.new.held) }
         ensures sent_again { HasCleanDisk (state S.Store self.new.held) → self.old.closed ≡ false → (s : OfficeState) → is_accepted (step s actor id.now command.now) ≡ true
             → IsAt (state_after s (step s actor id.now command.now)) (state S.Store self.old.held)
             → HandledAgain s (step s actor id.now command.now) result self.new.closed (state S.Store self.new.held) }
+        ensures blind { HasCleanDisk (state S.Store self.new.held) → self.old.closed ≡ false → (s : OfficeState) → IsAt s (state S.Store self.old.held) → is_clerk actor ≡ true
+            → IfOk result (λ answer. told answer ≡ told_of (step (seen_by actor s) actor id.now command.now)) }
+        ensures unseen { HasCleanDisk (state S.Store self.new.held) → self.old.closed ≡ false → (s : OfficeState) → IsAt s (state S.Store self.old.held) → is_clerk actor ≡ true → (clerk : ℕ) → (actor == clerk) ≡ false
+            → LeavesState (state S.Store self.new.held) (λ x. seen_by clerk x ≡ seen_by clerk s) }
         ensures closes { IfErr result (λ f. (f ≡ Fault.Memory) ⊎ (self.new.closed ≡ true)) }
         ensures closed { self.old.closed ≡ true → (result ≡ Err Fault.Closed) × (self.new ≡ self.old) }
         ensures clean { HasCleanDisk (state S.Store self.new.held) → HasCleanDisk (state S.Store self.old.held) }
@@ -160,6 +171,9 @@ impl<S: Alter> Office<S> {
     ///
     /// Room for all answers is made first; where that is refused, nothing is handled and `Memory` is told.
     /// A closed office tells `Closed`, whatever the list.
+    ///
+    /// In a list of clerks' requests each clerk's answers are those that his requests alone get from what
+    /// he sees, whatever others keyed before or between.
     pub fn run(&mut self, requests: &[Request]) -> Run
         ensures answers { HasCleanDisk (state S.Store self.new.held) → self.old.closed ≡ false → (s : OfficeState) → IsAt s (state S.Store self.old.held)
             → AnswersFirst s requests.now result.answers.items }
@@ -169,6 +183,8 @@ impl<S: Alter> Office<S> {
             → IfSome result.fault (StopsAfter s requests.now (vec_len result.answers) self.new.closed (state S.Store self.new.held)) }
         ensures headline { HasCleanDisk (state S.Store self.new.held) → self.old.closed ≡ false → (earlier : List Request) → IsAt (after empty_office earlier) (state S.Store self.old.held)
             → LeavesState (state S.Store self.new.held) (IsAfterBeginning earlier requests.now (vec_len result.answers)) }
+        ensures blind { HasCleanDisk (state S.Store self.new.held) → self.old.closed ≡ false → (s : OfficeState) → IsAt s (state S.Store self.old.held) → are_clerks requests.now ≡ true → (clerk : ℕ)
+            → map told (own_answers clerk requests.now result.answers.items) ≡ map told_of (outcomes (seen_by clerk s) (own_requests clerk (take (vec_len result.answers) requests.now))) }
         ensures closes { IfSome result.fault (λ f. (f ≡ Fault.Memory) ⊎ (self.new.closed ≡ true)) }
         ensures closed { self.old.closed ≡ true → (result.fault ≡ Some Fault.Closed) × (vec_len result.answers ≡ 0) × (self.new ≡ self.old) }
     {

@@ -5,8 +5,9 @@ use Rattle.register.specs.Offices.{OfficeState, empty_office}
 use Rattle.register.specs.Machine.{step, step_of, after}
 use Rattle.store.specs.Offices.{IsAt, LeavesState}
 use Rattle.office.specs.Answers.{IsOpenAt, Handled, told, told_of}
-use Rattle.office.specs.Runs.{IsAfterBeginning, StopsAfter}
+use Rattle.office.specs.Runs.{outcomes, IsAfterBeginning, StopsAfter}
 use Rattle.office.proofs.RunLemmas.{answers_more, keeps_beginning, after_next, stops_after, stops_at_beginning}
+use Rattle.office.proofs.ClerkLemmas.{told_alone}
 use Rattle.office.proofs.offices.Office.run.Goals as goal
 
 -- no room for the answers: nothing was handled
@@ -76,3 +77,24 @@ returns-clause-headline g c clean is_open earlier at =
     let st = state g.S.Store c.loop-request.self.held in
     subst (λ n. LeavesState st (IsAfterBeginning earlier c.args.requests.now n)) (sym c.loop-request.invariant.count)
     (keeps_beginning earlier c.args.requests.now c.loop-request.request-index st c.loop-request.auto.request-index-end here.at)
+
+-- ---- each clerk's answers
+
+pub returns-in_default-clause-blind : goal.returns-in_default-clause-blind
+returns-in_default-clause-blind g c clean is_open s at good clerk = told_alone clerk s c.args.requests.now _ _ at.is good (search)
+
+pub returns-in-Err-clause-blind : goal.returns-in-Err-clause-blind
+returns-in-Err-clause-blind g c clean is_open s at good clerk =
+    let rs = c.args.requests.now in
+    let given = c.stopped-in-Err.result.answers in
+    let counted : c.loop-request.request-index ≡ vec_len given = sym c.loop-request.invariant.count ∙ sym (ap vec_len c.stopped-in-Err.ensures.answers) in
+    told_alone clerk s rs (vec_len given) given.items at.is good
+    (ap (λ v. map told v.items) c.stopped-in-Err.ensures.answers
+    ∙ c.loop-request.invariant.answers (c.in-Err.ensures.clean clean) is_open s at
+    ∙ ap (λ n. map told_of (outcomes s (take n rs))) counted)
+
+pub returns-clause-blind : goal.returns-clause-blind
+returns-clause-blind g c clean is_open s at good clerk =
+    let rs = c.args.requests.now in
+    told_alone clerk s rs (vec_len c.loop-request.answers) c.loop-request.answers.items at.is good
+    (c.loop-request.invariant.answers clean is_open s at ∙ ap (λ n. map told_of (outcomes s (take n rs))) (sym c.loop-request.invariant.count))
