@@ -1,23 +1,26 @@
 -- The row with a key is that of the state's entry with it.
-use Rattle.std.proofs.Common.{◌≡◌, ◌==◌, ◌&&◌, map, ℕ, pos, List, [], ◌∷◌, filter, option_map, IfSome, refl, sym, ◌∙◌, nat_cmp, Ordering, Less, Equal, Greater}
+use Rattle.std.proofs.Common.{◌≡◌, ◌==◌, ◌&&◌, map, ℕ, pos, List, [], ◌∷◌, true, filter, option_map, IfSome, refl, sym, ap, ◌∙◌, nat_cmp, Ordering, Less, Equal, Greater}
 use Rattle.std.specs.Option.{option_to_list}
-use Rattle.std.specs.Ordering.{ordering_then}
+use Rattle.std.specs.Ordering.{ordering_then, is_eq}
 use Rattle.std.specs.Cmp.Lexicographic.{slice_cmp}
 use Rattle.std.proofs.lemmas.Cmp.{nat_cmp_total, nat_list_cmp_total}
+use Rattle.std.proofs.Math.Bool.{and-true}
+use Rattle.sqlite_schema.specs.Rules.{equal}
+use Rattle.sqlite.specs.Collation.TheVariants.{Binary}
 use Rattle.sqlite.specs.Order.{Row}
 use Rattle.sqlite.specs.declared.types.Value.TheVariants.{Int, Text}
-use Rattle.register.specs.Offices.{OfficeState, ward_at, candidate_compared, candidate_at, candidates_of, batch_compared, batch_at, keying_of, judged_compared, verdict_at, verdicts_of, lots_of, receipt_at}
+use Rattle.register.specs.Offices.{OfficeState, KeyedEntry, entry_at, ward_at, candidate_compared, candidate_at, candidates_of, keyed_cmp, batch_compared, batch_at, keying_of, judged_compared, verdict_at, verdicts_of, lots_of, receipt_at}
 use Rattle.register.specs.Papers.{batches_of}
 use Rattle.register.specs.Items.{IsState}
 use Rattle.tables.specs.declared.table.Table.TheVariants.{Ward, Candidate, Batch, Keying, Verdict, Lot, Receipt}
 use Rattle.tables.specs.declared.table.Reference.TheVariants.{WardOfBatch}
 use Rattle.tables.specs.Rows.{begins_with, refers_to}
 use Rattle.tables.specs.Reading.{Finds}
-use Rattle.store.specs.EntryRows.{row_of_ward, IsWardRow, row_of_candidate, IsCandidateRow, row_of_batch, IsBatchRow, row_of_keyed, row_of_judged, IsJudgedRow, row_of_lot, row_of_receipt, IsReceiptRow}
+use Rattle.store.specs.EntryRows.{row_of_ward, IsWardRow, row_of_candidate, IsCandidateRow, row_of_batch, IsBatchRow, row_of_keyed, IsKeyedRow, row_of_judged, IsJudgedRow, row_of_lot, row_of_receipt, IsReceiptRow}
 use Rattle.store.specs.Offices.{tables_of}
-use Rattle.tables.proofs.OrderLemmas.{equal-number, key_of_number, key_of_two_numbers, key_of_number_and_text, same_number, same_three_numbers}
+use Rattle.tables.proofs.OrderLemmas.{equal-number, key_of_number, key_of_two_numbers, key_of_three_numbers, key_of_number_and_text, same_number, same_three_numbers}
 use Rattle.store.proofs.StateLemmas.{tables_rise}
-use Rattle.store.proofs.FitLemmas.{wards_fit, candidates_fit, batches_fit, verdicts_fit, receipts_fit}
+use Rattle.store.proofs.FitLemmas.{wards_fit, candidates_fit, batches_fit, keyings_fit, verdicts_fit, receipts_fit}
 use Rattle.store.proofs.RowLemmas.{listed_as, row_found, found_fits}
 
 -- ---- keys
@@ -77,6 +80,16 @@ pub batch_fits : (s : OfficeState) → IsState s → (number : ℕ) → IfSome (
 unfolding tables_of
 batch_fits s is number = found_fits IsBatchRow row_of_batch _ s.batches (batches_fit s is)
 
+-- all rows are those of all batches, in the order of their numbers
+pub all_batches_listed : (s : OfficeState) → IsState s → (rows : List Row) → Finds Batch (begins_with []) (tables_of s) rows → rows ≡ map row_of_batch s.batches
+unfolding tables_of
+all_batches_listed s is rows finds =
+    listed_as Batch row_of_batch (begins_with []) (λ b. true) (λ b. refl) s.batches (tables_rise s is.rise Batch refl) rows finds.same finds.sorted ∙ ap (map row_of_batch) (all_kept s.batches)
+  where
+    all_kept : {X : Type 0} (xs : List X) → filter (λ x. true) xs ≡ xs
+    all_kept [] = refl
+    all_kept (x ∷ xs) = ap (λ l. x ∷ l) (all_kept xs)
+
 -- the rows that refer to a ward are those of its batches
 pub batches_listed : (s : OfficeState) → IsState s → (ward : ℕ) (rows : List Row) → Finds Batch (refers_to WardOfBatch (Int (pos ward))) (tables_of s) rows → rows ≡ map row_of_batch (batches_of s ward)
 unfolding tables_of
@@ -90,6 +103,42 @@ unfolding tables_of
 keying_listed s is batch round clerk rows finds =
     listed_as Keying row_of_keyed (begins_with (Int (pos batch) ∷ Int (pos round) ∷ Int (pos clerk) ∷ [])) (λ k. (k.batch == batch) && ((k.round == round) && (k.clerk == clerk)))
     (λ k. same_three_numbers batch round clerk k.batch k.round k.clerk) s.keyings (tables_rise s is.rise Keying refl) rows finds.same finds.sorted
+
+-- a keyed paper, compared with a batch, a round, a clerk and a number
+abbrev pub keyed_compared : ℕ → ℕ → ℕ → ℕ → KeyedEntry → Ordering
+keyed_compared batch round clerk paper k = ordering_then (nat_cmp batch k.batch) (ordering_then (nat_cmp round k.round) (ordering_then (nat_cmp clerk k.clerk) (nat_cmp paper k.paper)))
+
+key_of_four_numbers : (a b c d k l m n : ℕ)
+    → (equal Binary (Int (pos k)) (Int (pos a)) && (equal Binary (Int (pos l)) (Int (pos b)) && (equal Binary (Int (pos m)) (Int (pos c)) && (equal Binary (Int (pos n)) (Int (pos d)) && true))))
+    ≡ is_eq (ordering_then (nat_cmp a k) (ordering_then (nat_cmp b l) (ordering_then (nat_cmp c m) (nat_cmp d n))))
+key_of_four_numbers a b c d k l m n =
+    ap (λ x. x && (equal Binary (Int (pos l)) (Int (pos b)) && (equal Binary (Int (pos m)) (Int (pos c)) && (equal Binary (Int (pos n)) (Int (pos d)) && true)))) (sym (and-true _) ∙ key_of_number a k)
+    ∙ ap (λ x. is_eq (nat_cmp a k) && x) (key_of_three_numbers b c d l m n) ∙ both (nat_cmp a k) (ordering_then (nat_cmp b l) (ordering_then (nat_cmp c m) (nat_cmp d n)))
+  where
+    both : (x y : Ordering) → (is_eq x && is_eq y) ≡ is_eq (ordering_then x y)
+    both Less y = refl
+    both Equal y = refl
+    both Greater y = refl
+
+pub keyed_found : (s : OfficeState) → IsState s → (batch round clerk paper : ℕ)
+    → filter (begins_with (Int (pos batch) ∷ Int (pos round) ∷ Int (pos clerk) ∷ Int (pos paper) ∷ [])) (tables_of s Keying) ≡ option_to_list (option_map row_of_keyed (entry_at (keyed_compared batch round clerk paper) s.keyings))
+unfolding tables_of
+keyed_found s is batch round clerk paper =
+    row_found row_of_keyed (Int (pos batch) ∷ Int (pos round) ∷ Int (pos clerk) ∷ Int (pos paper) ∷ []) (keyed_compared batch round clerk paper) (λ k. key_of_four_numbers batch round clerk paper k.batch k.round k.clerk k.paper) apart s.keyings is.rise.keyings
+  where
+    apart : (a b : KeyedEntry) → keyed_compared batch round clerk paper a ≡ Equal → keyed_compared batch round clerk paper b ≡ Equal → keyed_cmp a b ≡ Equal
+    apart a b first second =
+        let f = both_equal (nat_cmp batch a.batch) _ first in
+        let g = both_equal (nat_cmp batch b.batch) _ second in
+        let h = both_equal (nat_cmp round a.round) _ f.1 in
+        let i = both_equal (nat_cmp round b.round) _ g.1 in
+        let j = both_equal (nat_cmp clerk a.clerk) _ h.1 in
+        let k = both_equal (nat_cmp clerk b.clerk) _ i.1 in
+        rw (numbers_apart batch a.batch b.batch f.0 g.0, numbers_apart round a.round b.round h.0 i.0, numbers_apart clerk a.clerk b.clerk j.0 k.0) (numbers_apart paper a.paper b.paper j.1 k.1)
+
+pub keyed_fits : (s : OfficeState) → IsState s → (batch round clerk paper : ℕ) → IfSome (option_map row_of_keyed (entry_at (keyed_compared batch round clerk paper) s.keyings)) IsKeyedRow
+unfolding tables_of
+keyed_fits s is batch round clerk paper = found_fits IsKeyedRow row_of_keyed _ s.keyings (keyings_fit s is)
 
 pub verdict_found : (s : OfficeState) → IsState s → (batch paper : ℕ)
     → filter (begins_with (Int (pos batch) ∷ Int (pos paper) ∷ [])) (tables_of s Verdict) ≡ option_to_list (option_map row_of_judged (verdict_at s batch paper))

@@ -163,9 +163,12 @@ beyond_batches s is = (and_parts _ _ (beyond_candidates s is)).1
 beyond_keyings : (s : OfficeState) → IsState s → (list_all is_judged_paper s.verdicts && (list_all is_lot s.lots && list_all is_receipt s.receipts)) ≡ true
 beyond_keyings s is = (and_parts _ _ (beyond_batches s is)).1
 
+pub keyings_in_range : (s : OfficeState) → IsState s → list_all is_keyed_paper s.keyings ≡ true
+keyings_in_range s is = (and_parts _ _ (beyond_batches s is)).0
+
 pub keyings_fit : (s : OfficeState) → IsState s → AllByRecursion IsKeyedRow (tables_of s Keying)
 unfolding tables_of
-keyings_fit s is = all_passed is_keyed_paper IsKeyedRow row_of_keyed keyed_fits s.keyings (and_parts _ _ (beyond_batches s is)).0
+keyings_fit s is = all_passed is_keyed_paper IsKeyedRow row_of_keyed keyed_fits s.keyings (keyings_in_range s is)
 
 pub verdicts_fit : (s : OfficeState) → IsState s → AllByRecursion IsJudgedRow (tables_of s Verdict)
 unfolding tables_of

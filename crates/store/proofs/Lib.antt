@@ -3,11 +3,13 @@ pub mod StateLemmas
 pub mod DoneLemmas
 pub mod FitLemmas
 pub mod FindLemmas
+pub mod KeyingLemmas
 pub mod WriteLemmas
 pub mod KeepLemmas
 pub mod TellLemmas
 pub mod ReopenLemmas
 pub mod ListsLemmas
 pub mod TallyLemmas
+pub mod WorkLemmas
 pub mod PartLemmas
 pub mod ElectionLemmas

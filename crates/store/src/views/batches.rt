@@ -18,7 +18,7 @@ use register::{Batch, Candidate, Part, Ward};
 use sqlite::{Alter, Connection};
 use std::alloc::Global;
 use tables::cells::number;
-use tables::finding::{entries_referring, find_entry};
+use tables::finding::{entries_beginning, entries_referring, find_entry};
 use tables::{Fault, Reference};
 
 /// A batch, the ward that it belongs to and the candidates there, each as far as it is there.
@@ -42,6 +42,21 @@ pub(crate) fn find_batch<S: Alter>(
     ensures outside { conn.new.in_transaction ≡ false }
 {
     find_entry::<Batches, S>(conn, &[number(batch)])
+}
+
+/// All batches, in the order of their numbers.
+pub(crate) fn all_batches<S: Alter>(
+    alloc: Global,
+    conn: &mut Connection<S>,
+) -> Result<Vec<Batch>, Fault>
+    requires { conn.old.in_transaction ≡ false }
+    ensures found { HasCleanDisk (state S.Store conn.new) → (s : OfficeState) → IsAt s (state S.Store conn.old) → IfOk result (λ found. map batch_entry found.items ≡ s.batches) }
+    ensures cause { HasCleanDisk (state S.Store conn.new) → (s : OfficeState) → IsAt s (state S.Store conn.old) → IfErr result (λ f. (f ≡ Fault.Memory) ⊎ (f ≡ Fault.Store)) }
+    ensures opens { HasCleanDisk (state S.Store conn.new) → OnOk result (IsTrue (state S.Store conn.new).is_open) }
+    ensures reads { OnlyReads (state S.Store conn.old) (state S.Store conn.new) }
+    ensures outside { conn.new.in_transaction ≡ false }
+{
+    entries_beginning::<Batches, S>(alloc, conn, &[])
 }
 
 /// The batches of a ward, in the order of their numbers.

@@ -4,7 +4,7 @@ ghost use Rattle.std.specs.Prelude.{◌≡◌, ◌⊎◌, false, map, option_map
 ghost use Rattle.sqlite.specs.State.{HasCleanDisk};
 ghost use Rattle.sqlite.specs.Held.{state};
 ghost use Rattle.register.specs.Offices.{OfficeState, batch_entry, keyed_entry, judged_entry, batch_at, keying_of, verdict_at, verdicts_of};
-ghost use Rattle.register.specs.Papers.{first_keying, second_keying};
+ghost use Rattle.register.specs.Papers.{is_keyed, first_keying, second_keying};
 ghost use Rattle.register.specs.Batches.{ward_for, candidates_for, first_for, second_for};
 ghost use Rattle.register.specs.Parts.{empty_part, part_entries};
 ghost use Rattle.tables.specs.Reading.{OnlyReads};
@@ -19,6 +19,9 @@ use std::alloc::Global;
 use tables::Fault;
 use tables::cells::number;
 use tables::finding::{entries_beginning, find_entry};
+
+/// The number of the first paper of a batch.
+const FIRST_PAPER: u32 = 1;
 
 /// Both keyings of the current round of a batch, each in the order of its papers.
 #[derive(Drop)]
@@ -43,6 +46,31 @@ pub(crate) fn list_keying<S: Alter>(
     ensures outside { conn.new.in_transaction ≡ false }
 {
     entries_beginning::<KeyedPapers, S>(alloc, conn, &[number(batch), number(round), number(clerk)])
+}
+
+/// Whether a clerk has keyed a batch in a round. Of a keying that is there no paper is missing, so that its
+/// first one tells.
+pub(crate) fn has_keyed<S: Alter>(
+    conn: &mut Connection<S>,
+    batch: u32,
+    round: u32,
+    clerk: u32,
+) -> Result<bool, Fault>
+    requires { conn.old.in_transaction ≡ false }
+    ensures found { HasCleanDisk (state S.Store conn.new) → (s : OfficeState) → IsAt s (state S.Store conn.old) → IfOk result (λ found. found ≡ is_keyed (keying_of s batch round clerk)) }
+    ensures cause { HasCleanDisk (state S.Store conn.new) → (s : OfficeState) → IsAt s (state S.Store conn.old) → IfErr result (λ f. (f ≡ Fault.Memory) ⊎ (f ≡ Fault.Store)) }
+    ensures opens { HasCleanDisk (state S.Store conn.new) → OnOk result (IsTrue (state S.Store conn.new).is_open) }
+    ensures reads { OnlyReads (state S.Store conn.old) (state S.Store conn.new) }
+    ensures outside { conn.new.in_transaction ≡ false }
+{
+    let key = [
+        number(batch),
+        number(round),
+        number(clerk),
+        number(FIRST_PAPER),
+    ];
+    let paper = find_entry::<KeyedPapers, S>(conn, &key)?;
+    Ok(paper.is_some())
 }
 
 /// Both keyings of the current round of a batch.

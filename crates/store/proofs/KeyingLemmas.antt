@@ -1,0 +1,106 @@
+-- A keying that is there has its first paper, which tells of it.
+use Rattle.std.proofs.Common.{◌≡◌, ℕ, zero, suc, ◌≤◌, Bool, true, false, ◌&&◌, ◌==◌, List, [], ◌∷◌, filter, Option, Some, None, is_some, inl, inr, refl, sym, ap, ◌∙◌, subst, arith}
+use Rattle.std.specs.Ordering.{is_eq}
+use Rattle.std.specs.List.{list_all}
+use Rattle.std.proofs.lemmas.Bool.{and_parts, or_cases, leb-true, eqb-true, cases_eq}
+use Rattle.std.proofs.lemmas.Bool.Decides.{nat_tests}
+use Rattle.register.specs.Offices.{BatchEntry, KeyedEntry, OfficeState, batch_compared, batch_at, keying_of, entry_at}
+use Rattle.register.specs.Papers.{is_keyed, is_its_clerk}
+use Rattle.register.specs.Keyed.{is_keyed_for, are_numbered, is_whole, is_round_of, are_rounds_to}
+use Rattle.register.specs.Items.{is_keyed_paper, IsState}
+use Rattle.register.proofs.MapLemmas.{kept_all, found_passes, found_number, found_filter}
+use Rattle.store.proofs.FitLemmas.{keyings_in_range}
+use Rattle.store.proofs.FindLemmas.{keyed_compared}
+
+-- ---- the first of those that pass a test
+
+head_passes : {X : Type 0} (p : X → Bool) (x : X) (xs ys : List X) → filter p ys ≡ x ∷ xs → p x ≡ true
+head_passes p x xs [] is = absurd cc
+head_passes {X} p x xs (y ∷ ys) is = go (p y) refl (λ later. head_passes p x xs ys later)
+  where
+    go : (b : Bool) → p y ≡ b → (filter p ys ≡ x ∷ xs → p x ≡ true) → p x ≡ true
+    go true passes later = let first : y ∷ filter p ys ≡ x ∷ xs = rw passes at is in let same : y ≡ x = cc in ap p (sym same) ∙ passes
+    go false fails later = later (rw fails at is)
+
+-- it passes what all of them do
+head_has : {X : Type 0} (p q : X → Bool) (x : X) (xs ys : List X) → list_all q ys ≡ true → filter p ys ≡ x ∷ xs → q x ≡ true
+head_has p q x xs ys all is = (and_parts _ _ (subst (λ zs. list_all q zs ≡ true) is (kept_all q p ys all))).0
+
+-- ---- rounds
+
+-- each round up to the last of some rounds is one of them
+round_among : (s : OfficeState) (b : BatchEntry) (n m : ℕ) → are_rounds_to s b n ≡ true → 1 ≤ m → m ≤ n → is_round_of s b m ≡ true
+unfolding are_rounds_to
+round_among s b zero m rounds low high = absurd (omega (arith, low, high))
+round_among s b (suc n) m rounds low high = elim (cases_eq m (suc n)) [
+  | inl last ↦ subst (λ k. is_round_of s b k ≡ true) (sym last) (and_parts _ _ rounds).0
+  | inr other ↦ round_among s b n m (and_parts _ _ rounds).1 low (omega (arith, high, other))
+]
+
+-- the keying of a round by one of the batch's clerks is whole
+keying_whole : (s : OfficeState) (b : BatchEntry) (round clerk : ℕ) → is_its_clerk clerk b ≡ true → is_round_of s b round ≡ true → is_whole b.size (keying_of s b.number round clerk) ≡ true
+keying_whole s b round clerk its of_round = elim (or_cases _ _ its) [
+  | inl first ↦ subst (λ c. is_whole b.size (keying_of s b.number round c) ≡ true) (sym (eqb-true clerk b.first_clerk first)) (and_parts _ _ of_round).0
+  | inr second ↦ subst (λ c. is_whole b.size (keying_of s b.number round c) ≡ true) (sym (eqb-true clerk b.second_clerk second)) (and_parts _ _ (and_parts _ _ of_round).1).0
+]
+
+first_of_whole : (size : ℕ) (k : KeyedEntry) (ks : List KeyedEntry) → is_whole size (k ∷ ks) ≡ true → k.paper ≡ 1
+unfolding are_numbered
+first_of_whole size k ks whole = eqb-true k.paper 1 (and_parts _ _ (and_parts _ _ whole).1).0
+
+-- ---- the first paper of a keying
+
+-- a paper is one of a clerk's keying of a batch in a round
+abbrev is_of : ℕ → ℕ → ℕ → KeyedEntry → Bool
+is_of batch round clerk k = (k.batch == batch) && ((k.round == round) && (k.clerk == clerk))
+
+-- the numbers of a paper
+record HasNumbers (batch round clerk : ℕ) (k : KeyedEntry) : Type 0 where
+  batch_is : k.batch ≡ batch
+  round_is : k.round ≡ round
+  clerk_is : k.clerk ≡ clerk
+
+has_numbers : (batch round clerk : ℕ) (k : KeyedEntry) → is_of batch round clerk k ≡ true → HasNumbers batch round clerk k
+has_numbers batch round clerk k own =
+    let rest = and_parts _ _ (and_parts _ _ own).1 in
+    record { batch_is = eqb-true k.batch batch (and_parts _ _ own).0; round_is = eqb-true k.round round rest.0; clerk_is = eqb-true k.clerk clerk rest.1 }
+
+round_low : (k : KeyedEntry) → is_keyed_paper k ≡ true → 1 ≤ k.round
+unfolding is_keyed_paper
+round_low k fine = leb-true 1 k.round (and_parts _ _ (and_parts _ _ (and_parts _ _ fine).1).0).0
+
+module _ (s : OfficeState) (is : IsState s) (batch round clerk : ℕ) where
+  -- the first paper of a keying has the number 1
+  starts_at_one : (k : KeyedEntry) (ks : List KeyedEntry) → keying_of s batch round clerk ≡ k ∷ ks → k.paper ≡ 1
+  starts_at_one k ks there =
+      let own = has_numbers batch round clerk k (head_passes (is_of batch round clerk) k ks s.keyings there) in
+      let fine = head_has (is_of batch round clerk) is_keyed_paper k ks s.keyings (keyings_in_range s is) there in
+      go own fine (batch_at s k.batch) refl (head_has (is_of batch round clerk) (λ (x : KeyedEntry). is_keyed_for s x (batch_at s x.batch)) k ks s.keyings (and_parts _ _ is.keyed).0 there)
+    where
+      go : HasNumbers batch round clerk k → is_keyed_paper k ≡ true → (o : Option BatchEntry) → batch_at s k.batch ≡ o → is_keyed_for s k o ≡ true → k.paper ≡ 1
+      go own fine None found keyed = absurd cc
+      go own fine (Some b) found keyed =
+          let parts = and_parts _ _ keyed in
+          let number : k.batch ≡ b.number = found_number (λ (x : BatchEntry). x.number) s.batches k.batch b found in
+          let rounds = found_passes (batch_compared k.batch) (λ (x : BatchEntry). are_rounds_to s x x.round) b s.batches (and_parts _ _ is.keyed).1 found in
+          let of_round = round_among s b b.round k.round rounds (round_low k fine) (leb-true k.round b.round parts.0) in
+          let whole = keying_whole s b k.round k.clerk (and_parts _ _ parts.1).0 of_round in
+          let same : keying_of s b.number k.round k.clerk ≡ k ∷ ks =
+          ap (λ n. keying_of s n k.round k.clerk) (sym number ∙ own.batch_is) ∙ ap (λ n. keying_of s batch n k.clerk) own.round_is ∙ ap (keying_of s batch round) own.clerk_is ∙ there in
+          first_of_whole b.size k ks (subst (λ l. is_whole b.size l ≡ true) same whole)
+
+  -- a paper with these numbers is found by them
+  found_by_numbers : (k : KeyedEntry) → is_of batch round clerk k ≡ true → k.paper ≡ 1 → is_eq (keyed_compared batch round clerk 1 k) ≡ true
+  found_by_numbers k own first = grind (arith, nat_tests)
+
+  -- a paper that is found by them is of this keying
+  of_the_keying : (k : KeyedEntry) → is_eq (keyed_compared batch round clerk 1 k) ≡ true → is_of batch round clerk k ≡ true
+  of_the_keying k found = grind (arith, nat_tests)
+
+  -- a keying is there where its first paper is
+  pub first_paper_tells : is_some (entry_at (keyed_compared batch round clerk 1) s.keyings) ≡ is_keyed (keying_of s batch round clerk)
+  first_paper_tells = ap is_some (sym (found_filter (keyed_compared batch round clerk 1) (is_of batch round clerk) s.keyings of_the_keying)) ∙ go (keying_of s batch round clerk) refl
+    where
+      go : (ks : List KeyedEntry) → keying_of s batch round clerk ≡ ks → is_some (entry_at (keyed_compared batch round clerk 1) ks) ≡ is_keyed ks
+      go [] there = refl
+      go (k ∷ ks) there = rw (found_by_numbers k (head_passes (is_of batch round clerk) k ks s.keyings there) (starts_at_one k ks there)) refl

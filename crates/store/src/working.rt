@@ -1,0 +1,146 @@
+//! The work of a clerk, read from the tables.
+
+ghost use Rattle.std.specs.Prelude.{◌≡◌, ◌⊎◌, if◌then◌else◌, false, map, filter, option_map, Some, None, IfOk, IfErr, OnOk, IsTrue};
+ghost use Rattle.sqlite.specs.State.{HasCleanDisk};
+ghost use Rattle.sqlite.specs.Held.{state};
+ghost use Rattle.register.specs.declared.phase.Phase.TheVariants.{Keying};
+ghost use Rattle.register.specs.Offices.{OfficeState, ward_entry, batch_entry};
+ghost use Rattle.register.specs.Parts.{is_in_phase};
+ghost use Rattle.register.specs.Standings.{work_entry, is_work, work_on, work_of};
+ghost use Rattle.tables.specs.Reading.{OnlyReads};
+ghost use Rattle.store.specs.Offices.{IsAt};
+
+use crate::storage::Store;
+use crate::views::batches::all_batches;
+use crate::views::candidates::list_candidates;
+use crate::views::papers::has_keyed;
+use crate::views::wards::find_ward;
+use register::keyings::is_its_clerk;
+use register::marks::columns_of;
+use register::{Batch, Phase, Ward, Work};
+use sqlite::{Alter, Connection};
+use std::alloc::Global;
+use tables::Fault;
+
+/// Whether a ward is there, in keying.
+fn is_in_keying(ward: &Option<Ward>) -> bool
+    ensures { result ≡ is_in_phase Keying (option_map ward_entry ward.now) }
+{
+    match ward {
+        Some(ward) => ward.phase.number() == Phase::Keying.number(),
+        None => false,
+    }
+}
+
+/// A batch as a clerk's work.
+fn work_on<S: Alter>(
+    alloc: Global,
+    conn: &mut Connection<S>,
+    batch: &Batch,
+    clerk: u32,
+) -> Result<Work, Fault>
+    requires { conn.old.in_transaction ≡ false }
+    ensures found { HasCleanDisk (state S.Store conn.new) → (s : OfficeState) → IsAt s (state S.Store conn.old) → IfOk result (λ work. work_entry work ≡ work_on s clerk (batch_entry batch.now)) }
+    ensures cause { HasCleanDisk (state S.Store conn.new) → (s : OfficeState) → IsAt s (state S.Store conn.old) → IfErr result (λ f. (f ≡ Fault.Memory) ⊎ (f ≡ Fault.Store)) }
+    ensures opens { HasCleanDisk (state S.Store conn.new) → OnOk result (IsTrue (state S.Store conn.new).is_open) }
+    ensures reads { OnlyReads (state S.Store conn.old) (state S.Store conn.new) }
+    ensures outside { conn.new.in_transaction ≡ false }
+{
+    let candidates = list_candidates(alloc, conn, batch.ward)?;
+    let keyed = has_keyed(conn, batch.number, batch.round, clerk)?;
+    Ok(Work {
+        batch: batch.number,
+        ward: batch.ward,
+        columns: columns_of(&candidates),
+        size: batch.size,
+        round: batch.round,
+        keyed,
+    })
+}
+
+/// A batch as a clerk's work, where it is his to key.
+fn own_work<S: Alter>(
+    alloc: Global,
+    conn: &mut Connection<S>,
+    batch: &Batch,
+    clerk: u32,
+) -> Result<Option<Work>, Fault>
+    requires { conn.old.in_transaction ≡ false }
+    ensures found { HasCleanDisk (state S.Store conn.new) → (s : OfficeState) → IsAt s (state S.Store conn.old)
+        → IfOk result (λ found. option_map work_entry found ≡ (if is_work s clerk (batch_entry batch.now) then Some (work_on s clerk (batch_entry batch.now)) else None)) }
+    ensures cause { HasCleanDisk (state S.Store conn.new) → (s : OfficeState) → IsAt s (state S.Store conn.old) → IfErr result (λ f. (f ≡ Fault.Memory) ⊎ (f ≡ Fault.Store)) }
+    ensures opens { HasCleanDisk (state S.Store conn.new) → IsTrue (state S.Store conn.old).is_open → OnOk result (IsTrue (state S.Store conn.new).is_open) }
+    ensures reads { OnlyReads (state S.Store conn.old) (state S.Store conn.new) }
+    ensures outside { conn.new.in_transaction ≡ false }
+{
+    if !is_its_clerk(clerk, batch) {
+        return Ok(None);
+    }
+    let ward = find_ward(conn, batch.ward)?;
+    if !is_in_keying(&ward) {
+        return Ok(None);
+    }
+    let work = work_on(alloc, conn, batch, clerk)?;
+    Ok(Some(work))
+}
+
+/// What of some batches is a clerk's work, read one after the other.
+fn work_in<S: Alter>(
+    alloc: Global,
+    conn: &mut Connection<S>,
+    batches: &[Batch],
+    clerk: u32,
+) -> Result<Vec<Work>, Fault>
+    requires { conn.old.in_transaction ≡ false }
+    ensures found { HasCleanDisk (state S.Store conn.new) → (s : OfficeState) → IsAt s (state S.Store conn.old)
+        → IfOk result (λ found. map work_entry found.items ≡ map (work_on s clerk) (filter (is_work s clerk) (map batch_entry batches.now))) }
+    ensures cause { HasCleanDisk (state S.Store conn.new) → (s : OfficeState) → IsAt s (state S.Store conn.old) → IfErr result (λ f. (f ≡ Fault.Memory) ⊎ (f ≡ Fault.Store)) }
+    ensures opens { HasCleanDisk (state S.Store conn.new) → IsTrue (state S.Store conn.old).is_open → OnOk result (IsTrue (state S.Store conn.new).is_open) }
+    ensures reads { OnlyReads (state S.Store conn.old) (state S.Store conn.new) }
+    ensures outside { conn.new.in_transaction ≡ false }
+{
+    let mut found = Vec::new(alloc);
+    for batch in batches {
+        if let Some(work) = own_work(alloc, conn, batch, clerk)? {
+            if found.push(work).is_err() {
+                return Err(Fault::Memory);
+            }
+        }
+    }
+    Ok(found)
+}
+
+/// The work of a clerk, in the order of the batches' numbers.
+fn find_work<S: Alter>(
+    alloc: Global,
+    conn: &mut Connection<S>,
+    clerk: u32,
+) -> Result<Vec<Work>, Fault>
+    requires { conn.old.in_transaction ≡ false }
+    ensures found { HasCleanDisk (state S.Store conn.new) → (s : OfficeState) → IsAt s (state S.Store conn.old) → IfOk result (λ found. map work_entry found.items ≡ work_of s clerk) }
+    ensures cause { HasCleanDisk (state S.Store conn.new) → (s : OfficeState) → IsAt s (state S.Store conn.old) → IfErr result (λ f. (f ≡ Fault.Memory) ⊎ (f ≡ Fault.Store)) }
+    ensures opens { HasCleanDisk (state S.Store conn.new) → OnOk result (IsTrue (state S.Store conn.new).is_open) }
+    ensures reads { OnlyReads (state S.Store conn.old) (state S.Store conn.new) }
+    ensures outside { conn.new.in_transaction ≡ false }
+{
+    let batches = all_batches(alloc, conn)?;
+    let found = work_in(alloc, conn, &batches, clerk)?;
+    Ok(found)
+}
+
+impl<S: Alter> Store<S> {
+    /// The work of a clerk (1 to 999): his batches in wards in keying, in the order of their numbers, each
+    /// with the columns of its papers and whether he has keyed its current round. All batches are read at
+    /// once; then of each of his own its ward, the candidates there, and the first paper of his keying. It
+    /// changes nothing, and adds nothing to what a stop may leave. `Memory` or `Store` where a row can't be
+    /// read.
+    pub fn load_work(&mut self, clerk: u32) -> Result<Vec<Work>, Fault>
+        ensures shows { HasCleanDisk (state S.Store self.new) → (s : OfficeState) → IsAt s (state S.Store self.old) → IfOk result (λ found. map work_entry found.items ≡ work_of s clerk) }
+        ensures cause { HasCleanDisk (state S.Store self.new) → (s : OfficeState) → IsAt s (state S.Store self.old) → IfErr result (λ f. (f ≡ Fault.Memory) ⊎ (f ≡ Fault.Store)) }
+        ensures opens { HasCleanDisk (state S.Store self.new) → OnOk result (IsTrue (state S.Store self.new).is_open) }
+        ensures reads { OnlyReads (state S.Store self.old) (state S.Store self.new) }
+        ensures keeps { HasCleanDisk (state S.Store self.new) → (s : OfficeState) → IsAt s (state S.Store self.old) → IsAt s (state S.Store self.new) }
+    {
+        find_work(self.alloc, &mut self.conn, clerk)
+    }
+}
