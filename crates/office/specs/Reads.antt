@@ -3,9 +3,9 @@ use Rattle.std.specs.Prelude.{◌≡◌, ◌⊎◌, ℕ, Bool, true, if◌then�
 use Rattle.sqlite.specs.State.{State}
 use Rattle.register.specs.declared.refusal.Reason.{Reason}
 use Rattle.register.specs.declared.refusal.Reason.TheVariants.{NumberOutOfRange, NoSuchWard, NoSuchBatch}
-use Rattle.register.specs.Ranges.{is_ward_number, is_batch_number}
+use Rattle.register.specs.Ranges.{is_clerk, is_ward_number, is_batch_number}
 use Rattle.register.specs.Offices.{OfficeState}
-use Rattle.register.specs.Standings.{StatusEntry, status_at, columns_at}
+use Rattle.register.specs.Standings.{StatusEntry, WorkEntry, status_at, columns_at, work_of}
 use Rattle.tables.specs.declared.fault.Fault.{Fault}
 use Rattle.tables.specs.declared.fault.Fault.TheVariants.{Memory, Store}
 use Rattle.store.specs.Offices.{LeavesState}
@@ -25,6 +25,10 @@ status_told s ward = if is_ward_number ward then found_or NoSuchWard (status_at 
 -- what is told of the columns of a batch's papers
 abbrev pub columns_told : OfficeState → ℕ → Result (List ℕ) Reason
 columns_told s batch = if is_batch_number batch then found_or NoSuchBatch (columns_at s batch) else Err NumberOutOfRange
+
+-- what is told of the work of a clerk
+abbrev pub work_told : OfficeState → ℕ → Result (List WorkEntry) Reason
+work_told s clerk = if is_clerk clerk then Ok (work_of s clerk) else Err NumberOutOfRange
 
 -- a fault that closed the office while it read: a stop leaves the state as it was
 pub record IsClosedReading (s : OfficeState) (f : Fault) (closed : Bool) (st : State) : Type 0 where

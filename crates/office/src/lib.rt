@@ -1,8 +1,8 @@
 //! The office: requests in, answers out, every accepted request kept before it is acknowledged.
 //!
 //! `Office` stands over any store of `sqlite`. `create` makes an empty office and `open_from` opens one;
-//! `handle` answers one request and `run` a list of them; `status`, `columns`, `sheet` and `result` tell of
-//! the state, and change nothing. A fault inside a transaction closes the
+//! `handle` answers one request and `run` a list of them; `status`, `columns`, `work`, `sheet` and `result`
+//! tell of the state, and change nothing. A fault inside a transaction closes the
 //! office: it answers 104 until it is opened again, and what is found then is the state before the
 //! request or the one after it, whole.
 //!
@@ -26,6 +26,6 @@ mod telling;
 
 pub use answers::{Answer, Run, Stop};
 pub use offices::Office;
-pub use register::Status;
+pub use register::{Status, Work};
 pub use sheets::Text;
 pub use telling::tell;

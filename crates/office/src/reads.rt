@@ -1,23 +1,23 @@
 //! What the office tells of its state, which no read changes.
 
-ghost use Rattle.std.specs.Prelude.{◌≡◌, true, false, IfOk, IfErr, OnOk, Some, None, Ok, Err, string_bytes};
+ghost use Rattle.std.specs.Prelude.{◌≡◌, true, false, map, IfOk, IfErr, OnOk, Some, None, Ok, Err, string_bytes};
 ghost use Rattle.sqlite.specs.State.{HasCleanDisk};
 ghost use Rattle.sqlite.specs.Held.{state};
 ghost use Rattle.register.specs.Offices.{OfficeState};
-ghost use Rattle.register.specs.Standings.{status_entry};
+ghost use Rattle.register.specs.Standings.{status_entry, work_entry};
 ghost use Rattle.register.specs.declared.refusal.Reason.{Reason};
 ghost use Rattle.tables.specs.Reading.{OnlyReads};
 ghost use Rattle.store.specs.Offices.{IsAt};
 ghost use Rattle.register.specs.Elections.{election_entry};
-ghost use Rattle.office.specs.Reads.{Read, status_told, columns_told, StopsFor};
+ghost use Rattle.office.specs.Reads.{Read, status_told, columns_told, work_told, StopsFor};
 ghost use Rattle.office.specs.Sheets.{is_told_in, text_shown, text_told, StopsText};
 
 use crate::answers::Stop;
 use crate::offices::Office;
 use crate::sheets::{Text, text_of};
 use paper::Columns;
-use register::ranges::{is_batch_number, is_ward_number};
-use register::{Election, Reason, Refusal, Status};
+use register::ranges::{is_batch_number, is_clerk, is_ward_number};
+use register::{Election, Reason, Refusal, Status, Work};
 use sqlite::Alter;
 use std::alloc::Global;
 use store::Fault;
@@ -86,6 +86,29 @@ impl<S: Alter> Office<S> {
         match self.store.load_columns(batch) {
             Ok(Some(columns)) => Ok(columns),
             Ok(None) => Err(refused(self.alloc, Reason::NoSuchBatch)),
+            Err(fault) => Err(self.failed(fault)),
+        }
+    }
+
+    /// The work of a clerk: his batches in wards in keying, in the order of their numbers, each with its
+    /// ward, the columns and the number of its papers, its current round, and whether he has keyed that.
+    ///
+    /// Refused where the number is outside 1 to 999. Nothing is changed. `Memory` leaves the office open; any
+    /// other fault closes it. A closed office tells `Closed`.
+    pub fn work(&mut self, clerk: u32) -> Result<Vec<Work>, Stop>
+        ensures reads { HasCleanDisk (state S.Store self.new.held) → self.old.closed ≡ false → (s : OfficeState) → IsAt s (state S.Store self.old.held)
+            → Read (λ work. map work_entry work.items) s (work_told s clerk) result self.new.closed (state S.Store self.new.held) }
+        ensures same { OnlyReads (state S.Store self.old.held) (state S.Store self.new.held) }
+        ensures closed { self.old.closed ≡ true → (result ≡ Err (Stop.Fault Fault.Closed)) × (self.new ≡ self.old) }
+    {
+        if self.closed {
+            return Err(Stop::Fault(Fault::Closed));
+        }
+        if !is_clerk(clerk) {
+            return Err(refused(self.alloc, Reason::NumberOutOfRange));
+        }
+        match self.store.load_work(clerk) {
+            Ok(work) => Ok(work),
             Err(fault) => Err(self.failed(fault)),
         }
     }
