@@ -4,7 +4,8 @@ ghost use Rattle.std.specs.Prelude.{◌≡◌, true, false, map, IfOk, IfErr, On
 ghost use Rattle.sqlite.specs.State.{HasCleanDisk};
 ghost use Rattle.sqlite.specs.Held.{state};
 ghost use Rattle.register.specs.Offices.{OfficeState};
-ghost use Rattle.register.specs.Standings.{status_entry, work_entry};
+ghost use Rattle.register.specs.Standings.{status_entry, work_entry, work_of};
+ghost use Rattle.register.specs.Seen.{seen_by};
 ghost use Rattle.register.specs.declared.refusal.Reason.{Reason};
 ghost use Rattle.tables.specs.Reading.{OnlyReads};
 ghost use Rattle.store.specs.Offices.{IsAt};
@@ -93,11 +94,14 @@ impl<S: Alter> Office<S> {
     /// The work of a clerk: his batches in wards in keying, in the order of their numbers, each with its
     /// ward, the columns and the number of its papers, its current round, and whether he has keyed that.
     ///
-    /// Refused where the number is outside 1 to 999. Nothing is changed. `Memory` leaves the office open; any
-    /// other fault closes it. A closed office tells `Closed`.
+    /// It rests on what the clerk sees of the state alone, whatever others keyed. Refused where the number is
+    /// outside 1 to 999. Nothing is changed. `Memory` leaves the office open; any other fault closes it. A
+    /// closed office tells `Closed`.
     pub fn work(&mut self, clerk: u32) -> Result<Vec<Work>, Stop>
         ensures reads { HasCleanDisk (state S.Store self.new.held) → self.old.closed ≡ false → (s : OfficeState) → IsAt s (state S.Store self.old.held)
             → Read (λ work. map work_entry work.items) s (work_told s clerk) result self.new.closed (state S.Store self.new.held) }
+        ensures blind { HasCleanDisk (state S.Store self.new.held) → self.old.closed ≡ false → (s : OfficeState) → IsAt s (state S.Store self.old.held)
+            → IfOk result (λ work. map work_entry work.items ≡ work_of (seen_by clerk s) clerk) }
         ensures same { OnlyReads (state S.Store self.old.held) (state S.Store self.new.held) }
         ensures closed { self.old.closed ≡ true → (result ≡ Err (Stop.Fault Fault.Closed)) × (self.new ≡ self.old) }
     {
