@@ -1,14 +1,13 @@
 -- The commands about a count, where nothing stands against them, lead from a state to a state, and leave a receipt in range.
-use Rattle.std.proofs.Common.{◌≡◌, ℕ, zero, suc, ◌+◌, ◌<◌, ◌≤◌, Bool, true, false, cond, not, ◌&&◌, ◌==◌, ◌++◌, nat_le, nat_lt, nat_eq, codes, List, [], ◌∷◌, length, filter, Option, Some, None, is_some, refl, sym, ap, subst, ◌∙◌, arith}
+use Rattle.std.proofs.Common.{◌≡◌, ℕ, zero, suc, ◌+◌, ◌≤◌, Bool, true, false, cond, not, ◌&&◌, ◌==◌, ◌++◌, nat_le, nat_lt, nat_eq, codes, List, length, filter, Option, Some, None, is_some, refl, sym, ap, subst, ◌∙◌, arith}
 use Rattle.std.specs.Fmt.{decimal}
-use Rattle.std.specs.List.{list_all, list_any}
+use Rattle.std.specs.List.{list_any}
 use Rattle.std.specs.Option.{option_map}
 use Rattle.std.specs.Ordering.{nat_cmp, is_eq}
-use Rattle.std.proofs.lemmas.Bool.{and_parts, and_from, both_ways, eqb-true, eq-eqb, ne_eqb, leb-true, ltb-true}
+use Rattle.std.proofs.lemmas.Bool.{and_parts, and_from, eqb-true, eq-eqb, ne_eqb, leb-true, ltb-true}
 use Rattle.paper.specs.Columns.{max_candidates}
 use Rattle.paper.proofs.ColumnSets.{length_columns}
 use Rattle.count.specs.Law.Contest.{IsContest}
-use Rattle.count.specs.Law.Due.{lot_for}
 use Rattle.count.specs.Law.Elected.{is_elected, elected_after}
 use Rattle.count.specs.declared.stages.Action.{Action}
 use Rattle.count.specs.declared.stages.Kind.{Kind}
@@ -18,8 +17,7 @@ use Rattle.count.specs.Law.Count.{stages_to}
 use Rattle.count.proofs.Law.CountLemmas.{stages_right}
 use Rattle.count.proofs.Law.LengthLemmas.{stages-few}
 use Rattle.register.specs.declared.phase.Phase.{Phase}
-use Rattle.register.specs.declared.phase.Phase.TheVariants.{Nominations, Keying, Sealed, Declared}
-use Rattle.register.specs.declared.refusal.Reason.{Reason}
+use Rattle.register.specs.declared.phase.Phase.TheVariants.{Keying, Sealed, Declared}
 use Rattle.register.specs.declared.refusal.Reason.TheVariants.{NumberOutOfRange, WrongPhase, NotReady, CountFinished, NoSuchLot, NotAmong, CountNotFinished}
 use Rattle.register.specs.declared.counts.CountCommand.{CountCommand}
 use Rattle.register.specs.declared.counts.CountCommand.TheVariants.{Seal, Advance, Lot, Declare}
@@ -27,25 +25,25 @@ use Rattle.register.specs.Reasons.{first_reason}
 use Rattle.register.specs.Ranges.{last_ward, first_lot_stage, last_lot_stage, is_office, is_ward_number, is_lot_stage, is_candidate_number}
 use Rattle.register.specs.Subjects.{is_office_subject}
 use Rattle.register.specs.Texts.{listed}
-use Rattle.register.specs.Offices.{WardEntry, LotEntry, ReceiptEntry, OfficeState, put, entry_at, changed, lot_cmp, ward_compared, ward_at, candidates_of, lots_of}
-use Rattle.register.specs.Nominations.{is_contested, is_stood_in, are_enough}
+use Rattle.register.specs.Offices.{WardEntry, LotEntry, ReceiptEntry, OfficeState, entry_at, changed, lot_cmp, ward_compared, ward_at, candidates_of, lots_of}
+use Rattle.register.specs.Nominations.{are_enough}
 use Rattle.register.specs.Marks.{columns_of}
 use Rattle.register.specs.Polls.{piles_of}
-use Rattle.register.specs.Elections.{ElectionEntry, election_of, has_count, contest_of, stages_of, due_of, elected_of, is_finished, is_tied}
+use Rattle.register.specs.Elections.{election_of, has_count, contest_of, stages_of, due_of, is_finished}
 use Rattle.register.specs.Items.{is_lot, IsState}
 use Rattle.register.specs.Effects.{in_phase, at_stage, stage_counted, lot_drawn, with_effect, with_receipt}
 use Rattle.register.specs.Views.{HasStageMore}
 use Rattle.register.specs.Counts.{poll_for, due_for, elected_for, part_of, is_in_range, is_ready, has_finished, lot_objection, waits_at, is_among, objections, subject_of, next_stage, poll_told, action_told, reply_to, effect_of}
 use Rattle.register.proofs.LineLemmas.{upper, is_plain-decimal, are_plain-from, IsLine, given, line_append, line_decimal, line_number, line_within, line_reply, line_text}
 use Rattle.register.proofs.ObjectionLemmas.{none_objects, asked, unasked, there}
-use Rattle.register.proofs.MapLemmas.{list_all_weaker, put_all, put_is_map, filter_put, filter_put_in, found_filter, found_key, found_passes, found_number, changed_at, same_number, both_equal, kept_all, all_but_number}
-use Rattle.register.proofs.ElectionLemmas.{is_sound, are_sound, sound_of, lots_placed_of, election_with, same_election, right_in}
+use Rattle.register.proofs.MapLemmas.{put_all, put_is_map, filter_put, filter_put_in, found_filter, found_key, found_passes, found_number, changed_at, same_number, both_equal, kept_all, all_but_number}
+use Rattle.register.proofs.ElectionLemmas.{is_sound, sound_of, lots_placed_of, right_in}
 use Rattle.register.proofs.StageLemmas.{acted, stage_added, stage_more}
-use Rattle.register.proofs.ProgressLemmas.{with_lots, IsHeld, held, in_count, sound_sealed, sound_advanced, sound_declared, lot_new, sound_drawn}
+use Rattle.register.proofs.ProgressLemmas.{with_lots, held, in_count, sound_sealed, sound_advanced, sound_declared, lot_new, sound_drawn}
 use Rattle.register.proofs.ItemLemmas.{MapName, lot_map, Holds, maps_of, state_from, rounds_still, lot_total, are_placed, are_all, has_enough, IsFit, office_about}
 use Rattle.register.proofs.NominationLemmas.{moved, staged, changed_stays}
 use Rattle.register.proofs.ContestLemmas.{fair_contest, columns_are_set, papers_are_rankings}
-use Rattle.register.proofs.TellLemmas.{are_small, columns_are_small, length_kept, listed_line, action_line, judgements_are_few, poll_line}
+use Rattle.register.proofs.TellLemmas.{columns_are_small, length_kept, listed_line, action_line, judgements_are_few, poll_line}
 
 -- ---- what the receipts may be about
 

@@ -1,7 +1,6 @@
 -- What changes in a ward that hasn't been sealed leaves the counts of all wards as they are.
 use Rattle.std.proofs.Common.{◌≡◌, ℕ, Bool, true, false, cond, not, ◌||◌, ◌==◌, List, [], ◌∷◌, map, filter, Some, refl, ap, ◌∙◌}
 use Rattle.std.specs.List.{list_all}
-use Rattle.std.specs.Ordering.{is_eq}
 use Rattle.std.specs.Cmp.{unsigned_tied}
 use Rattle.std.proofs.lemmas.Bool.{and_parts, or_right, not-true}
 use Rattle.register.specs.Offices.{WardEntry, CandidateEntry, BatchEntry, KeyedEntry, JudgedEntry, OfficeState, changed, ward_compared, batch_compared, ward_at, batch_at}

@@ -15,7 +15,7 @@ use Rattle.register.specs.Elections.{election_of}
 use Rattle.register.specs.Keyed.{is_polled, is_given_out}
 use Rattle.register.specs.Items.{is_ward, is_candidate, IsState}
 use Rattle.register.specs.Effects.{candidate_added, candidate_withdrawn, in_phase, at_stage, with_effect}
-use Rattle.register.proofs.MapLemmas.{Keeps, list_all_weaker, put_all, put_is_map, filter_put, without_all, without_is_map, filter_without, changed_is_map, changed_at, found_changed, found_key, found_passes, same_number, both_equal, all_but_number}
+use Rattle.register.proofs.MapLemmas.{Keeps, list_all_weaker, put_all, put_is_map, filter_put, without_all, without_is_map, filter_without, changed_is_map, changed_at, found_changed, found_key, same_number, both_equal, all_but_number}
 use Rattle.register.proofs.KeyedLemmas.{with_nominations, IsStill, given_out_still, keyed_still, judged_still}
 use Rattle.register.proofs.ElectionLemmas.{is_sound, are_sound, sound_of, lots_placed_of, same_election}
 use Rattle.register.proofs.ElsewhereLemmas.{sound_elsewhere}

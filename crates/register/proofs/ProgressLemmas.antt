@@ -1,12 +1,11 @@
 -- An election whose nominations are closed, that is sealed, advanced, decided by a lot or declared, is right again.
-use Rattle.std.proofs.Common.{◌≡◌, ℕ, suc, ◌+◌, ◌-◌, ◌<◌, Bool, true, false, cond, not, ◌&&◌, ◌||◌, ◌==◌, nat_le, nat_eq, List, [], ◌∷◌, length, map, Option, Some, None, refl, sym, ap, ◌∙◌, subst, arith}
+use Rattle.std.proofs.Common.{◌≡◌, ℕ, ◌+◌, ◌-◌, ◌<◌, Bool, true, false, cond, ◌==◌, nat_le, nat_eq, List, [], ◌∷◌, length, map, Option, Some, None, refl, sym, ap, ◌∙◌, arith}
 use Rattle.std.specs.List.{find, list_all, list_any}
 use Rattle.std.specs.Option.{option_map}
-use Rattle.std.specs.declared.cmp.Ordering.{Ordering}
-use Rattle.std.specs.Ordering.{nat_cmp, is_lt, is_eq, ordering_then}
-use Rattle.std.proofs.lemmas.Bool.{and_parts, and_from, both_ways, eqb-true, eq-eqb, ne_eqb, leb-true, le-leb}
+use Rattle.std.specs.Ordering.{nat_cmp, is_lt, is_eq}
+use Rattle.std.proofs.lemmas.Bool.{and_parts, and_from, both_ways, eqb-true, eq-eqb, leb-true, le-leb}
 use Rattle.std.proofs.lemmas.List.Folds.{list_all-map}
-use Rattle.count.specs.Law.Contest.{Contest, History}
+use Rattle.count.specs.Law.Contest.{History}
 use Rattle.count.specs.Law.Due.{due_after, lot_for}
 use Rattle.count.specs.Law.Count.{stages_to, due_by}
 use Rattle.count.specs.declared.stages.Action.{Action}
@@ -16,9 +15,9 @@ use Rattle.count.specs.declared.stages.Due.TheVariants.{Act, Lot, Finished}
 use Rattle.count.proofs.Law.DueLemmas.{stage-due}
 use Rattle.register.specs.declared.phase.Phase.{Phase}
 use Rattle.register.specs.declared.phase.Phase.TheVariants.{Nominations, Keying, Sealed, Declared}
-use Rattle.register.specs.Offices.{WardEntry, LotEntry, put, entry_at, lot_cmp}
+use Rattle.register.specs.Offices.{LotEntry, put, entry_at, lot_cmp}
 use Rattle.register.specs.Effects.{in_phase, at_stage}
-use Rattle.register.specs.Elections.{ElectionEntry, lot_pair, has_count, contest_of, stages_of, due_of, is_counted, is_finished, is_tied, is_drawn_for, is_declared, is_right_so_far, is_in_count, is_uncounted, is_agreed, is_counted_right}
+use Rattle.register.specs.Elections.{ElectionEntry, lot_pair, has_count, contest_of, stages_of, due_of, is_finished, is_tied, is_drawn_for, is_in_count, is_uncounted}
 use Rattle.register.proofs.MapLemmas.{list_all_weaker, put_all, same_number, both_equal}
 use Rattle.register.proofs.ElectionLemmas.{is_sound, sound_before, uncounted_before, unsealed, uncontested, sound_in, IsRightSoFar, right_in, right_at_start}
 use Rattle.register.proofs.StageLemmas.{acted, ended, IsWaitedFor, waited_for, stage_more, same_stages}

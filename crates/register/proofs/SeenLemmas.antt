@@ -1,5 +1,5 @@
 -- A clerk is answered by what he sees alone, and his requests leave what any other clerk sees as it was.
-use Rattle.std.proofs.Common.{◌≡◌, ℕ, suc, ◌+◌, Bool, true, false, cond, not, ◌&&◌, ◌==◌, List, [], ◌∷◌, map, filter, Option, Some, None, is_none, option_map, refl, sym, ap, ◌∙◌, subst, arith}
+use Rattle.std.proofs.Common.{◌≡◌, ℕ, ◌+◌, Bool, true, false, cond, not, ◌&&◌, ◌==◌, List, [], ◌∷◌, map, filter, Option, Some, None, option_map, refl, sym, ap, ◌∙◌, arith}
 use Rattle.std.specs.List.{list_all}
 use Rattle.std.specs.Ordering.{nat_cmp, is_eq, ordering_then}
 use Rattle.std.specs.Cmp.Lexicographic.{slice_cmp}
@@ -27,7 +27,7 @@ use Rattle.register.specs.Keyings.{texts_of, papers_from}
 use Rattle.register.specs.Parts.{PartEntries, is_in_phase}
 use Rattle.register.specs.Papers.{is_keyed, is_its_clerk}
 use Rattle.register.specs.Standings.{WorkEntry, is_work, work_on, work_of}
-use Rattle.register.specs.Machine.{Ruling, accepts, keeps, refuses, part_of, objections, subject_of, effect_of, receipt_for, judged, answered, decided, ruling_at, outcome_at, step, state_after}
+use Rattle.register.specs.Machine.{Ruling, keeps, refuses, part_of, objections, subject_of, receipt_for, judged, answered, decided, ruling_at, outcome_at, step, state_after}
 use Rattle.register.proofs.MapLemmas.{filter_put, filter_put_in, filter_put_each, found_filter, same_number, both_equal}
 use Rattle.register.proofs.ItemLemmas.{receipt_total}
 use Rattle.register.proofs.KeyingLemmas.{keyed_among}

@@ -1,29 +1,24 @@
 -- What is told of a poll, an action and the elected is a line.
-use Rattle.std.proofs.Common.{◌⊎◌, inl, inr, ◌≡◌, ℕ, suc, ◌+◌, ◌*◌, ◌/◌, ◌%◌, ◌<◌, ◌≤◌, ◌^◌, Bool, true, false, cond, not, ◌==◌, nat_le, nat_lt, codes, List, [], ◌∷◌, ◌++◌, length, map, filter, fold, Option, Some, None, refl, sym, ap, subst, ◌∙◌, arith, length-append}
+use Rattle.std.proofs.Common.{inl, inr, ◌≡◌, ℕ, suc, ◌+◌, ◌*◌, ◌/◌, ◌≤◌, Bool, true, false, cond, not, ◌==◌, nat_le, nat_lt, codes, List, [], ◌∷◌, length, map, filter, fold, Option, Some, refl, sym, ap, subst, ◌∙◌, arith, length-append}
 use Rattle.std.specs.Fmt.{decimal}
 use Rattle.std.specs.List.{flat_map, list_all}
-use Rattle.std.specs.Str.{IsAscii}
 use Rattle.std.proofs.Math.Nat.{div-le_self}
 use Rattle.std.proofs.lemmas.Bool.{and_parts, and_from, leb-true, le-leb}
 use Rattle.std.proofs.lemmas.List.Folds.{list_all-append}
 use Rattle.std.proofs.lemmas.List.Kept.{IsStrictlySortedBy-filter}
-use Rattle.std.proofs.lemmas.Str.Ascii.{IsAscii-nil, IsAscii-cons}
+use Rattle.std.proofs.lemmas.Str.Ascii.{IsAscii-cons}
 use Rattle.votes.specs.Text.{last_digit, fraction_text, votes_text}
 use Rattle.votes.specs.Units.{max_papers, quota_of}
 use Rattle.paper.specs.Columns.{IsColumn, IsColumnSet, with_column, max_candidates}
-use Rattle.paper.proofs.ColumnSets.{length_columns}
-use Rattle.count.specs.Law.Contest.{Contest, History, IsContest}
-use Rattle.count.specs.Law.Due.{due_after, drawn, exclusion}
-use Rattle.count.specs.Law.Right.{IsRightBy}
-use Rattle.count.specs.Law.Elected.{is_excluded, is_transferred}
-use Rattle.count.specs.declared.stages.Stage.{Stage}
+use Rattle.count.specs.Law.Contest.{Contest, History}
+use Rattle.count.specs.Law.Due.{due_after, drawn}
 use Rattle.count.specs.declared.stages.Action.{Action}
-use Rattle.count.specs.declared.stages.Action.TheVariants.{First, Surplus, Exclude, ExcludeLast}
-use Rattle.count.proofs.Law.ActionLemmas.{acted, length-acted, column-in}
+use Rattle.count.specs.declared.stages.Action.TheVariants.{Exclude, ExcludeLast}
+use Rattle.count.proofs.Law.ActionLemmas.{column-in}
 use Rattle.count.proofs.Law.StepLemmas.{step-is, step-first}
 use Rattle.register.specs.declared.polls.Judgement.{Judgement}
 use Rattle.register.specs.declared.polls.Judgement.TheVariants.{Valid, Rejected, Open}
-use Rattle.register.specs.Ranges.{is_between, is_line_byte, is_candidate_number}
+use Rattle.register.specs.Ranges.{is_candidate_number}
 use Rattle.register.specs.Texts.{behind, listed, action_text}
 use Rattle.register.specs.Offices.{CandidateEntry, OfficeState, batch_cmp, batch_at}
 use Rattle.register.specs.Marks.{and_column, columns_of}
@@ -35,7 +30,7 @@ use Rattle.register.specs.Items.{is_batch, IsState}
 use Rattle.register.proofs.LineLemmas.{IsLine, given, line_append, line_decimal, line_number, line_within, not_equal}
 use Rattle.register.proofs.MapLemmas.{kept_all}
 use Rattle.register.proofs.ItemLemmas.{batch_map, maps_of}
-use Rattle.register.proofs.ContestLemmas.{few_among, few_batches, columns_are_set}
+use Rattle.register.proofs.ContestLemmas.{few_among, few_batches}
 
 -- ---- numbers of candidates
 

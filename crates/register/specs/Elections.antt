@@ -1,5 +1,5 @@
 -- The election in a ward, and its count: what rests on the ward, its candidates, its papers and its lots, and on nothing else.
-use Rattle.std.specs.Prelude.{ℕ, ◌+◌, ◌-◌, Bool, true, false, not, ◌&&◌, ◌||◌, ◌==◌, nat_le, nat_eq, if◌then◌else◌, List, [], ◌∷◌, map, length}
+use Rattle.std.specs.Prelude.{ℕ, ◌+◌, ◌-◌, Bool, true, false, not, ◌&&◌, ◌||◌, ◌==◌, nat_le, nat_eq, if◌then◌else◌, List, map, length}
 use Rattle.std.specs.List.{list_all, list_any}
 use Rattle.count.specs.Law.Contest.{Contest, History, contest_for}
 use Rattle.count.specs.Law.Elected.{elected_after}

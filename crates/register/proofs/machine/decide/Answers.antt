@@ -2,7 +2,7 @@ use Rattle.std.proofs.Common.{◌≡◌, option_map, sym, ap, subst, ◌∙◌}
 use Rattle.std.proofs.lemmas.Result.{IfOk-weaker}
 use Rattle.register.specs.Offices.{OfficeState, receipt_entry}
 use Rattle.register.specs.Parts.{part_entries}
-use Rattle.register.specs.Machine.{Ruling, outcome_at, ruling_at, step}
+use Rattle.register.specs.Machine.{outcome_at, ruling_at, step}
 use Rattle.register.specs.Seen.{seen_by}
 use Rattle.register.specs.Views.{IsViewOf, decided_on, ruling_of, outcome_of, IsToldAlike}
 use Rattle.register.proofs.MachineLemmas.{step_on, ruling_on, step_stays, accepted_is_kept, told_alike, advances}
