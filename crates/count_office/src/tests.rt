@@ -16,3 +16,4 @@ mod orders;
 mod statements;
 mod stops;
 mod words;
+mod work;

@@ -4,7 +4,7 @@ ghost use Rattle.std.specs.Prelude.{◌≡◌, ◌+◌, ◌-◌, ◌^◌, ◌<�
 
 use desk::perform::perform;
 use desk::{WordsFault, order};
-use office::{Answer, Office, Run};
+use office::{Answer, Office, Run, Stop, Work};
 use register::Request;
 use sqlite::{Alter, Connection};
 use std::alloc::{AllocError, Global};
@@ -24,6 +24,8 @@ pub enum Step<'a> {
     TornOrder(&'a [&'a str]),
     /// A new office, and a list of requests handed to it; their answers stand as the output.
     List(&'a [Request]),
+    /// The office opened, and asked for the work of a clerk; what it tells stands as the output.
+    Work(u32),
     /// Statements, whatever is in the database.
     Change(&'a str),
     /// Every row of every table, as the output.
@@ -125,6 +127,44 @@ fn list<S: Alter + Drop>(
     Ok((Said::quietly(alloc, answered(alloc, &run)?), conn))
 }
 
+/// A line for each batch of a clerk's work.
+fn work_lines(alloc: Global, work: &[Work]) -> Result<String, AllocError> {
+    let mut text = String::new(alloc);
+    for one in work {
+        let line = format!(in alloc;
+            "batch {} ward {} {:?} size {} round {}: {}\n",
+            one.batch,
+            one.ward,
+            one.columns.as_slice(),
+            one.size,
+            one.round,
+            if one.keyed { "keyed" } else { "to key" }
+        )?;
+        text.push_str(line.as_str())?;
+    }
+    Ok(text)
+}
+
+fn work<S: Alter + Drop>(
+    alloc: Global,
+    conn: Connection<S>,
+    clerk: u32,
+) -> Result<(Said, Connection<S>), Fail> {
+    let Ok(mut office) = Office::open_from(alloc, conn) else {
+        return Err(Fail::from("no office is opened"));
+    };
+    let told = office.work(clerk);
+    let conn = office.into_connection();
+    let text = match told {
+        Ok(work) => work_lines(alloc, &work)?,
+        Err(Stop::Refused(why)) => {
+            format!(in alloc; "refused {}: {}\n", why.number(), why.text())?
+        }
+        Err(Stop::Fault(_)) => return Err(Fail::from("no work is told")),
+    };
+    Ok((Said::quietly(alloc, text), conn))
+}
+
 const TABLES: &str = "SELECT name FROM sqlite_schema WHERE type = 'table' ORDER BY name";
 
 /// Every row of every table, in the order of the tables' names.
@@ -168,6 +208,7 @@ fn done<S: Alter + Drop>(
             Ok((Said { status, out, err }, conn))
         }
         Step::List(requests) => list(alloc, conn, requests),
+        Step::Work(clerk) => work(alloc, conn, clerk),
         Step::Change(statements) => {
             conn.execute_batch(statements)?;
             Ok((Said::quietly(alloc, String::new(alloc)), conn))
