@@ -1,0 +1,58 @@
+-- What an answer that is ready tells, and what it leaves.
+use Rattle.std.proofs.Common.{◌≡◌, ◌∙◌, ℕ, Bool, List, Result, Ok, Err, inl, inr, ap, refl, subst, sym}
+use Rattle.sqlite.specs.State.{State}
+use Rattle.register.specs.Machine.{state_after, step}
+use Rattle.register.specs.Offices.{OfficeState}
+use Rattle.register.specs.declared.command.Command.TheVariants as command
+use Rattle.register.specs.declared.keyings.KeyingCommand.{KeyingCommand}
+use Rattle.register.specs.declared.refusal.Reason.{Reason}
+use Rattle.tables.specs.Faults.{fault_number}
+use Rattle.tables.specs.declared.fault.Fault.{Fault}
+use Rattle.office.specs.Answers.{Handled, told, told_of}
+use Rattle.office.specs.Reads.{Read}
+use Rattle.office.specs.declared.answers.Answer.{Answer}
+use Rattle.office.specs.declared.answers.Stop.{Stop}
+use Rattle.office.specs.declared.answers.Stop.TheVariants.{Refused, Fault as Failed}
+use Rattle.wire.specs.Asking.{AskedEntry, keying, reading}
+use Rattle.wire.specs.Bodies.{KeyingEntry}
+use Rattle.wire.specs.Responses.{ResponseEntry, fault_response}
+use Rattle.wire.specs.Serving.{IsHandedOn, IsReadTold, Readies, read_response, reading_response, told_response}
+use Rattle.wire.specs.Told.{IsTold}
+use Rattle.wire.specs.declared.response.Response.{Response}
+use Rattle.wire.specs.declared.target.Reading.{Reading}
+
+-- a keying that the office answered
+pub Readies-answered : (s : OfficeState) (clerk batch : ℕ) (entry : KeyingEntry) (id : List ℕ) (handed : KeyingCommand) (a : Answer) (response : Response) (closed : Bool) (st : State) → IsHandedOn batch entry handed → id ≡ entry.id
+    → Handled s (step s clerk id (command.Keying handed)) (Ok a) closed st → IsTold (told_response (told a)) response → Readies s (keying clerk batch entry) response closed st
+Readies-answered s clerk batch entry id handed a response closed st is own handled tells =
+    let outcome = step s clerk id (command.Keying handed) in (
+      told_response (told_of outcome),
+      subst (λ t. IsTold (told_response t) response) handled.0 tells,
+      inl (record { next = state_after s outcome; is = (outcome, (handed, is, ap (λ i. step s clerk i (command.Keying handed)) own), refl, refl); open_at = handled.1 }),
+    )
+
+-- a keying at which it met a fault
+pub Readies-faulted : (s : OfficeState) (clerk batch : ℕ) (entry : KeyingEntry) (id : List ℕ) (handed : KeyingCommand) (f : Fault) (response : Response) (closed : Bool) (st : State) → IsHandedOn batch entry handed → id ≡ entry.id
+    → Handled s (step s clerk id (command.Keying handed)) (Err f) closed st → IsTold (fault_response (fault_number f)) response → Readies s (keying clerk batch entry) response closed st
+Readies-faulted s clerk batch entry id handed f response closed st is own handled tells =
+    let outcome = step s clerk id (command.Keying handed) in
+    (fault_response (fault_number f), tells, inr (f, refl, (outcome, (handed, is, ap (λ i. step s clerk i (command.Keying handed)) own), handled)))
+
+-- what was read
+pub Readies-read : {X Y : Type 0} (s : OfficeState) (what : Reading) (entry : X → ResponseEntry) (view : Y → X) (reads : Result X Reason) (r : Result Y Stop) (response : Response) (closed : Bool) (st : State)
+    → reading_response s what ≡ read_response entry reads → Read view s reads r closed st → IsReadTold entry view r response → Readies s (reading what) response closed st
+Readies-read s what entry view reads (Ok y) response closed st same read tells = (
+  entry (view y),
+  tells,
+  inl (record { next = s; is = (refl, sym (ap (read_response entry) read.0) ∙ sym same); open_at = read.1 }),
+)
+Readies-read s what entry view reads (Err (Refused why)) response closed st same read tells = (
+  read_response entry (Err why),
+  tells,
+  inl (record { next = s; is = (refl, sym (ap (read_response entry) read.0) ∙ sym same); open_at = read.1 }),
+)
+Readies-read s what entry view reads (Err (Failed f)) response closed st same read tells = (fault_response (fault_number f), tells, inr (f, refl, read))
+
+-- the same that is asked
+pub Readies-same : (s : OfficeState) (one other : AskedEntry) (response : Response) (closed : Bool) (st : State) → one ≡ other → Readies s one response closed st → Readies s other response closed st
+Readies-same s one other response closed st same ready = subst (λ asked. Readies s asked response closed st) same ready

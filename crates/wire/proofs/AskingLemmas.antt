@@ -1,0 +1,66 @@
+-- What a request asks, from what was read of it.
+use Rattle.std.proofs.Common.{◌≡◌, ◌∙◌, ◌≤◌, List, ◌++◌, Option, Some, None, Result, Ok, Err, drop, inl, inr, length, map, refl, sym, ap, take, arith, append_assoc, ℕ}
+use Rattle.std.specs.Prelude.{IfOk, IfSome}
+use Rattle.std.specs.Io.KnownBytes.{Consumes}
+use Rattle.std.proofs.lemmas.List.{length-append, length-map, length-take}
+use Rattle.httparse.specs.Grammar.{RequestHead, print_request}
+use Rattle.httparse.specs.Spans.{IsRequestAt, IsRequestOf, header_bytes, name_and_value, span_bytes}
+use Rattle.httparse.specs.declared.spans.HeaderSpan.{HeaderSpan}
+use Rattle.httparse.specs.declared.spans.RequestSpans.{RequestSpans}
+use Rattle.wire.proofs.HeadLemmas.{HasOneHead-all}
+use Rattle.wire.specs.Asking.{AskedEntry, Asks, AsksOneThing, asked_at, asked_by, asked_entry, asked_of, denied, wanted}
+use Rattle.wire.specs.Heads.{BeginsWith, HasNoHead}
+use Rattle.wire.specs.Lengths.{body_length}
+use Rattle.wire.specs.Targets.{named_by}
+use Rattle.wire.specs.declared.asked.Asked.{Asked}
+use Rattle.wire.specs.declared.denial.Denial.TheVariants.{BadRequest}
+
+-- ---- one thing is asked
+
+pub AsksOneThing-all : (bytes : List ℕ) → AsksOneThing bytes
+AsksOneThing-all bytes one two (inl (none, is)) (inl (none_too, is_too)) = is ∙ sym is_too
+AsksOneThing-all bytes one two (inl (none, is)) (inr (head, behind, begins, is_too)) = absurd (none head behind begins)
+AsksOneThing-all bytes one two (inr (head, behind, begins, is)) (inl (none, is_too)) = absurd (none head behind begins)
+AsksOneThing-all bytes one two (inr (head, behind, begins, is)) (inr (other, others, begins_too, is_too)) =
+    let (same_head, same_rest) = HasOneHead-all bytes head other behind others begins begins_too in
+    is ∙ ap (λ h. asked_by h behind) same_head ∙ ap (asked_by other) same_rest ∙ sym is_too
+
+-- ---- from what was read
+
+-- there is no head
+pub Asks-none : (old : Option (List ℕ)) → IfSome old HasNoHead → IfSome old (λ bytes. Asks bytes (denied BadRequest))
+Asks-none None none = tt
+Asks-none (Some bytes) none = inl (none, refl)
+
+-- a head, what was read behind it, and what is left
+begins : (bytes got left : List ℕ) (headers : List HeaderSpan) (spans : RequestSpans) (head : RequestHead) → IsRequestAt got headers spans head → length got ≤ 8192 → length headers ≡ 32
+    → bytes ≡ got ++ left → BeginsWith bytes head (drop spans.len got ++ left)
+begins bytes got left headers spans head is fits places e = record {
+  is_head = is.reads.0;
+  parts = e ∙ ap (λ l. l ++ left) is.reads.1 ∙ append_assoc (print_request head) (drop spans.len got) left;
+  short = omega (arith, ap length is.reads.1, length-append (print_request head) (drop spans.len got));
+  few = omega (arith, sym (length-map (take spans.headers headers) (header_bytes got)) ∙ ap length is.fields ∙ length-map head.fields name_and_value, length-take spans.headers headers);
+}
+
+-- what a head asks, with what is left behind it
+Asks-entry : (old mid : Option (List ℕ)) (got : List ℕ) (headers : List HeaderSpan) (spans : RequestSpans) → IsRequestOf got headers spans → (asked : AskedEntry)
+    → length got ≤ 8192 → length headers ≡ 32 → Consumes old mid got → IfSome mid (λ left. asked ≡ asked_at got headers spans left) → IfSome old (λ bytes. Asks bytes asked)
+Asks-entry None mid got headers spans found asked fits places took is = tt
+Asks-entry (Some bytes) None got headers spans found asked fits places took is = absurd took
+Asks-entry (Some bytes) (Some left) got headers spans (head, there) asked fits places took is =
+    let behind = drop spans.len got ++ left in
+    inr (
+      head,
+      behind,
+      begins bytes got left headers spans head there fits places took,
+      is ∙ ap (λ m. asked_of (wanted m (named_by (span_bytes got spans.path))) (body_length (map (header_bytes got) (take spans.headers headers))) behind) there.method
+          ∙ ap (λ p. asked_of (wanted head.method (named_by p)) (body_length (map (header_bytes got) (take spans.headers headers))) behind) there.path
+          ∙ ap (λ fields. asked_of (wanted head.method (named_by head.target)) (body_length fields) behind) there.fields,
+    )
+
+pub Asks-head : {E : Type 0} (old mid : Option (List ℕ)) (got : List ℕ) (headers : List HeaderSpan) (spans : RequestSpans) → IsRequestOf got headers spans → (r : Result Asked E)
+    → length got ≤ 8192 → length headers ≡ 32 → Consumes old mid got → IfSome mid (λ left. IfOk r (λ asked. asked_entry asked ≡ asked_at got headers spans left))
+    → IfSome old (λ bytes. IfOk r (λ asked. Asks bytes (asked_entry asked)))
+Asks-head None mid got headers spans found r fits places took is = tt
+Asks-head (Some bytes) mid got headers spans found (Err e) fits places took is = tt
+Asks-head (Some bytes) mid got headers spans found (Ok asked) fits places took is = Asks-entry (Some bytes) mid got headers spans found (asked_entry asked) fits places took is

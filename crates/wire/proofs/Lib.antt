@@ -1,0 +1,12 @@
+-- The lemmas, by subject.
+pub mod HeadLemmas
+pub mod BodyLemmas
+pub mod TextLemmas
+pub mod DigitLemmas
+pub mod TargetLemmas
+pub mod LengthLemmas
+pub mod AskingLemmas
+pub mod ReplyLemmas
+pub mod ResponseLemmas
+pub mod AnswerLemmas
+pub mod ServingLemmas

@@ -1,0 +1,30 @@
+-- What is written for the values of answers, letter by letter.
+use Rattle.std.proofs.Common.{◌≡◌, ◌∷◌, false, ℕ, List, [], refl}
+use Rattle.serde_json.specs.Written.{compact_text, has_float}
+use Rattle.serde_json.specs.Data.{Data}
+use Rattle.register.specs.Standings.{WorkEntry}
+use Rattle.serde_json.proofs.OnLiterals.{serde_json_on_literals}
+use Rattle.wire.specs.Replies.{clerk_data, fault_body, fault_data, list_data, number_data, refusal_body, refusal_data, reply_body, reply_data, work_data}
+
+pub reply_body-written : (text : List ℕ) → compact_text (reply_data text) ≡ reply_body text
+unfolding serde_json_on_literals
+reply_body-written text = refl
+
+pub refusal_body-written : (n : ℕ) (text : List ℕ) → compact_text (refusal_data n text) ≡ refusal_body n text
+unfolding serde_json_on_literals
+refusal_body-written n text = refl
+
+pub fault_body-written : (n : ℕ) → compact_text (fault_data n) ≡ fault_body n
+unfolding serde_json_on_literals
+fault_body-written n = refl
+
+-- a list of values without floats has none
+list-float : {X : Type 0} (value : X → Data) → ((x : X) → has_float (value x) ≡ false) → (xs : List X) → has_float (list_data value xs) ≡ false
+list-float value each [] = refl
+list-float value each (x ∷ xs) = rw (each x, list-float value each xs) refl
+
+batch-float : (w : WorkEntry) → has_float (work_data w) ≡ false
+batch-float w = rw (list-float number_data (λ _. refl) w.columns) refl
+
+pub clerk-float : (clerk : ℕ) (work : List WorkEntry) → has_float (clerk_data clerk work) ≡ false
+clerk-float clerk work = rw (list-float work_data batch-float work) refl

@@ -1,0 +1,31 @@
+-- The answers that stand fixed, letter by letter.
+use Rattle.std.proofs.Common.{◌≡◌, refl}
+use Rattle.std.specs.Fmt.{digits}
+use Rattle.wire.specs.Responses.{denied_response, fault_response, lines_and_body, response_bytes}
+use Rattle.wire.specs.declared.denial.Denial.TheVariants.{BadRequest, MethodNotAllowed, NotFound, TooLarge}
+use Rattle.wire.specs.declared.denial.Verb.TheVariants.{Get, Post}
+use Rattle.wire.specs.declared.response.TheConstants.{BAD_REQUEST, NOT_FOUND, NO_MEMORY, ONLY_GET, ONLY_POST, TOO_LARGE}
+
+pub bad_request-told : BAD_REQUEST.now ≡ response_bytes (denied_response BadRequest)
+unfolding digits lines_and_body
+bad_request-told = refl
+
+pub not_found-told : NOT_FOUND.now ≡ response_bytes (denied_response NotFound)
+unfolding digits lines_and_body
+not_found-told = refl
+
+pub only_get-told : ONLY_GET.now ≡ response_bytes (denied_response (MethodNotAllowed Get))
+unfolding digits lines_and_body
+only_get-told = refl
+
+pub only_post-told : ONLY_POST.now ≡ response_bytes (denied_response (MethodNotAllowed Post))
+unfolding digits lines_and_body
+only_post-told = refl
+
+pub too_large-told : TOO_LARGE.now ≡ response_bytes (denied_response TooLarge)
+unfolding digits lines_and_body
+too_large-told = refl
+
+pub no_memory-told : NO_MEMORY.now ≡ response_bytes (fault_response 101)
+unfolding digits lines_and_body
+no_memory-told = refl

@@ -1,0 +1,28 @@
+-- What a connection tells and leaves.
+use Rattle.std.proofs.Common.{ℕ, Bool, List, Option, Some, None, inl}
+use Rattle.std.specs.Prelude.{IfSome}
+use Rattle.sqlite.specs.State.{State}
+use Rattle.register.specs.Offices.{OfficeState}
+use Rattle.wire.specs.Asking.{AskedEntry, Asks}
+use Rattle.wire.specs.Serving.{IsPut, OnReadFailed, Readies, ReadiesFor, Serves}
+use Rattle.wire.specs.declared.response.Response.{Response}
+use Rattle.wire.specs.declared.serving.Served.{Served}
+use Rattle.wire.specs.declared.serving.Served.TheVariants.{Answered, ReadFailed, WriteFailed}
+
+-- what was asked was answered
+pub ReadiesFor-asked : (bytes : Option (List ℕ)) (s : OfficeState) (asked : AskedEntry) (response : Response) (closed : Bool) (st : State) → IfSome bytes (λ xs. Asks xs asked)
+    → Readies s asked response closed st → ReadiesFor bytes s response closed st
+ReadiesFor-asked bytes s asked response closed st asks ready = inl (record { asked = asked; asks = asks; readies = ready })
+
+-- the answer that was ready was put
+pub Serves-put : (bytes old new : Option (List ℕ)) (s : OfficeState) (response : Response) (served : Served) (closed : Bool) (st : State) → ReadiesFor bytes s response closed st
+    → IsPut old new response served → Serves bytes old new s served closed st
+Serves-put bytes old new s response (Answered status) closed st ready put = record { response = response; ready = ready; put = put }
+Serves-put bytes old new s response ReadFailed closed st ready put = absurd put
+Serves-put bytes old new s response WriteFailed closed st ready put = record { response = response; ready = ready; put = put }
+
+-- what was put was no failure of the reader
+pub put-read : (old new : Option (List ℕ)) (response : Response) (served : Served) (P : Type 0) → IsPut old new response served → OnReadFailed served P
+put-read old new response (Answered status) P put = tt
+put-read old new response ReadFailed P put = absurd put
+put-read old new response WriteFailed P put = tt

@@ -1,0 +1,19 @@
+-- Why `answer_reading` keeps its promise.
+use Rattle.std.proofs.Common.{ap}
+use Rattle.std.specs.Prelude.{string_bytes}
+use Rattle.office.specs.Sheets.{text_told}
+use Rattle.office.specs.declared.sheets.Text.TheVariants as text
+use Rattle.wire.specs.Responses.{text_response}
+use Rattle.wire.specs.Serving.{reading_response}
+use Rattle.wire.proofs.AnswerLemmas.{Readies-read}
+use Rattle.wire.proofs.answering.answer_reading.Goals as goal
+
+pub returns-in-Sheet-clause-answers : goal.returns-in-Sheet-clause-answers
+returns-in-Sheet-clause-answers g c = λ clean open_before s at.
+    Readies-read s c.args.what text_response string_bytes (text_told text.Sheet s c.in-Sheet.ward) c.sheet.result c.answer_text.result _ _ (ap (reading_response s) c.in-Sheet.is)
+    (c.sheet.ensures.reads clean open_before s at) c.answer_text.ensures
+
+pub returns-in-Declaration-clause-answers : goal.returns-in-Declaration-clause-answers
+returns-in-Declaration-clause-answers g c = λ clean open_before s at.
+    Readies-read s c.args.what text_response string_bytes (text_told text.Declaration s c.in-Declaration.ward) c.result.result c.answer_text-in-Declaration.result _ _
+    (ap (reading_response s) c.in-Declaration.is) (c.result.ensures.reads clean open_before s at) c.answer_text-in-Declaration.ensures

@@ -1,0 +1,11 @@
+-- Why `fault_body` keeps its promise.
+use Rattle.std.proofs.Common.{◌∙◌, ap}
+use Rattle.std.proofs.lemmas.Result.{IfOk-weaker}
+use Rattle.serde_json.specs.Written.{compact_text, has_float}
+use Rattle.wire.proofs.ReplyLemmas.{fault_body-written}
+use Rattle.wire.proofs.bodies.fault_body.Goals as goal
+
+pub returns : goal.returns
+returns c =
+    IfOk-weaker c.to_string.result _ _ (λ s h. h (ap has_float c.in_ok-fault_value.ensures) ∙ (ap compact_text c.in_ok-fault_value.ensures ∙ fault_body-written c.args.number))
+    c.to_string.ensures.text

@@ -1,0 +1,12 @@
+-- Why `fill` keeps its promise.
+use Rattle.std.proofs.Common.{rules}
+use Rattle.wire.proofs.HeadLemmas.{Consumes-more}
+use Rattle.wire.proofs.body.fill.Goals as goal
+
+pub loop-filled-preserved : goal.loop-filled-preserved
+loop-filled-preserved g c = record {
+  room = search rules;
+  within = search rules;
+  failed = search rules;
+  consumed = Consumes-more _ _ _ _ _ _ _ _ c.loop-filled.invariant.within (search rules) c.loop-filled.invariant.consumed (search rules);
+}

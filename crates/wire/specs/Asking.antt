@@ -1,0 +1,87 @@
+-- What a request asks, or why it is denied before the office is asked: by its head and the bytes behind it.
+use Rattle.std.specs.Prelude.{◌≡◌, ◌⊎◌, ◌+◌, ◌++◌, List, Option, Some, None, Result, Ok, Err, bytes_eq, codes, drop, if◌then◌else◌, map, option_and_then, string_bytes, take, ℕ}
+use Rattle.httparse.specs.Grammar.{RequestHead}
+use Rattle.httparse.specs.Spans.{header_bytes, name_and_value, span_bytes}
+use Rattle.httparse.specs.declared.spans.HeaderSpan.{HeaderSpan}
+use Rattle.httparse.specs.declared.spans.RequestSpans.{RequestSpans}
+use Rattle.wire.specs.declared.asked.Asked.{Asked}
+use Rattle.wire.specs.declared.asked.Asked.TheVariants.{Denied, Keying, Reading as Reads}
+use Rattle.wire.specs.declared.unread.Unread.{Unread}
+use Rattle.wire.specs.declared.unread.Unread.TheVariants.{Broken, Memory}
+use Rattle.wire.specs.declared.denial.Denial.{Denial}
+use Rattle.wire.specs.declared.denial.Denial.TheVariants.{BadRequest, MethodNotAllowed, NotFound}
+use Rattle.wire.specs.declared.denial.Verb.{Verb}
+use Rattle.wire.specs.declared.denial.Verb.TheVariants.{Get, Post}
+use Rattle.wire.specs.declared.target.Reading.{Reading}
+use Rattle.wire.specs.declared.target.Target.{Target}
+use Rattle.wire.specs.declared.target.Target.TheVariants as target
+use Rattle.wire.specs.Bodies.{KeyingEntry, body_in, keying_of}
+use Rattle.wire.specs.Heads.{BeginsWith, HasNoHead}
+use Rattle.wire.specs.Lengths.{body_length}
+use Rattle.wire.specs.Targets.{named_by}
+
+-- what is asked: nothing, for it is denied; to keep a clerk's keying of a batch; or to read
+pub data AskedEntry : Type 0 where
+  denied : Denial → AskedEntry
+  keying : ℕ → ℕ → KeyingEntry → AskedEntry
+  reading : Reading → AskedEntry
+
+-- what is asked, as it was read
+abbrev pub asked_entry : Asked → AskedEntry
+asked_entry (Denied why) = denied why
+asked_entry (Keying k) = keying k.clerk k.batch (record { id = string_bytes k.id; round = k.round; papers = map string_bytes k.papers.items })
+asked_entry (Reads what) = reading what
+
+-- why a request wasn't read, by what the source counts: one failure more, or, where memory was wanting, none
+abbrev pub IsUnread : ℕ → ℕ → Unread → Type 0
+IsUnread old new Broken = new ≡ old + 1
+IsUnread old new Memory = new ≡ old
+
+-- how a verb is written
+abbrev pub verb_text : Verb → List ℕ
+verb_text Get = codes "GET"
+verb_text Post = codes "POST"
+
+-- the one verb of what a target names
+abbrev pub verb_of : Target → Verb
+verb_of (target.Keying clerk batch) = Post
+verb_of (target.Reading what) = Get
+
+-- a clerk's keying, by what its body says
+abbrev pub asked_in : ℕ → ℕ → Option KeyingEntry → AskedEntry
+asked_in clerk batch (Some entry) = keying clerk batch entry
+asked_in clerk batch None = denied BadRequest
+
+-- a clerk's keying, by the length of its body and the bytes behind the head
+abbrev pub asked_with : ℕ → ℕ → Result ℕ Denial → List ℕ → AskedEntry
+asked_with clerk batch (Ok n) behind = asked_in clerk batch (option_and_then keying_of (body_in n behind))
+asked_with clerk batch (Err why) behind = denied why
+
+-- what is asked for: what the target names, if it is asked for by its own verb
+abbrev pub wanted : List ℕ → Option Target → Result Target Denial
+wanted method None = Err NotFound
+wanted method (Some there) = if bytes_eq method (verb_text (verb_of there)) then Ok there else Err (MethodNotAllowed (verb_of there))
+
+-- what is asked of it; of a reading neither the length of a body nor any byte behind the head counts
+abbrev pub asked_of : Result Target Denial → Result ℕ Denial → List ℕ → AskedEntry
+asked_of (Ok (target.Keying clerk batch)) size behind = asked_with clerk batch size behind
+asked_of (Ok (target.Reading what)) size behind = reading what
+asked_of (Err why) size behind = denied why
+
+-- what a head and the bytes behind it ask
+abbrev pub asked_by : RequestHead → List ℕ → AskedEntry
+asked_by head behind = asked_of (wanted head.method (named_by head.target)) (body_length (map name_and_value head.fields)) behind
+
+-- the same of a head that was found in what was read, and of what is left
+abbrev pub asked_at : List ℕ → List HeaderSpan → RequestSpans → List ℕ → AskedEntry
+asked_at got headers spans left =
+    asked_of (wanted (span_bytes got spans.method) (named_by (span_bytes got spans.path))) (body_length (map (header_bytes got) (take spans.headers headers))) (drop spans.len got ++ left)
+
+-- what the bytes that a client sends ask
+abbrev pub Asks : List ℕ → AskedEntry → Type 0
+Asks bytes asked =
+    (HasNoHead bytes × (asked ≡ denied BadRequest)) ⊎ ((head : RequestHead) × (behind : List ℕ) × BeginsWith bytes head behind × (asked ≡ asked_by head behind))
+
+-- the same bytes ask one thing
+abbrev pub AsksOneThing : List ℕ → Type 0
+AsksOneThing bytes = (one two : AskedEntry) → Asks bytes one → Asks bytes two → one ≡ two

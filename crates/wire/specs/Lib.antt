@@ -1,0 +1,10 @@
+-- What requests ask, and the bytes of their answers.
+pub mod Heads
+pub mod Targets
+pub mod Lengths
+pub mod Bodies
+pub mod Asking
+pub mod Replies
+pub mod Responses
+pub mod Told
+pub mod Serving

@@ -1,0 +1,54 @@
+-- The JSON of answers: each body letter by letter, and the value that it is written for.
+use Rattle.std.specs.Prelude.{List, ◌++◌, codes, decimal, map, ℕ}
+use Rattle.json.specs.Print.{quoted}
+use Rattle.serde_json.specs.Data.{Data, array, boolean, member, no_members, number, object, string, unsigned}
+use Rattle.serde_json.specs.View.{items_of}
+use Rattle.serde_json.specs.Written.{compact_text}
+use Rattle.register.specs.Standings.{WorkEntry}
+
+-- a reply
+abbrev pub reply_data : List ℕ → Data
+reply_data text = object (member (codes "reply") (string text) no_members)
+
+abbrev pub reply_body : List ℕ → List ℕ
+reply_body text = codes "{\"reply\":" ++ (quoted text ++ codes "}")
+
+-- a refusal
+abbrev pub refusal_data : ℕ → List ℕ → Data
+refusal_data n text = object (member (codes "refusal") (number (unsigned n)) (member (codes "text") (string text) no_members))
+
+abbrev pub refusal_body : ℕ → List ℕ → List ℕ
+refusal_body n text = codes "{\"refusal\":" ++ (decimal n ++ (codes ",\"text\":" ++ (quoted text ++ codes "}")))
+
+-- a fault
+abbrev pub fault_data : ℕ → Data
+fault_data n = object (member (codes "fault") (number (unsigned n)) no_members)
+
+abbrev pub fault_body : ℕ → List ℕ
+fault_body n = codes "{\"fault\":" ++ (decimal n ++ codes "}")
+
+-- a list of values
+abbrev pub list_data : {X : Type 0} → (X → Data) → List X → Data
+list_data value xs = array (items_of (map value xs))
+
+-- a number
+abbrev pub number_data : ℕ → Data
+number_data n = number (unsigned n)
+
+-- a batch of a clerk's work
+abbrev pub work_data : WorkEntry → Data
+work_data w = object
+    (member (codes "batch") (number_data w.batch)
+    (member (codes "columns") (list_data number_data w.columns)
+    (member (codes "keyed") (boolean w.keyed)
+    (member (codes "round") (number_data w.round)
+    (member (codes "size") (number_data w.size)
+    (member (codes "ward") (number_data w.ward) no_members))))))
+
+-- the work of a clerk
+abbrev pub clerk_data : ℕ → List WorkEntry → Data
+clerk_data clerk work = object (member (codes "clerk") (number_data clerk) (member (codes "work") (list_data work_data work) no_members))
+
+-- its JSON
+abbrev pub work_body : ℕ → List WorkEntry → List ℕ
+work_body clerk work = compact_text (clerk_data clerk work)

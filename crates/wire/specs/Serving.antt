@@ -1,0 +1,145 @@
+-- What is answered at a state of the office, and what a connection leaves.
+use Rattle.std.specs.Prelude.{◌≡◌, ◌⊎◌, ⊤, Bool, List, Option, Result, Ok, Err, IfSome, map, string_bytes, ℕ}
+use Rattle.std.specs.Io.KnownBytes.{Appends}
+use Rattle.sqlite.specs.State.{State}
+use Rattle.votes.specs.Streams.{AppendsBeginning}
+use Rattle.register.specs.Machine.{Outcome, state_after, step}
+use Rattle.register.specs.Offices.{OfficeState}
+use Rattle.register.specs.Reasons.{reason_number, reason_text}
+use Rattle.register.specs.declared.command.Command.TheVariants as command
+use Rattle.register.specs.declared.keyings.KeyingCommand.{KeyingCommand}
+use Rattle.register.specs.declared.refusal.Reason.{Reason}
+use Rattle.register.specs.Standings.{WorkEntry}
+use Rattle.tables.specs.Faults.{fault_number}
+use Rattle.tables.specs.declared.fault.Fault.{Fault}
+use Rattle.office.specs.Answers.{IsClosedIn, IsKeptOpen, IsOpenAt, Told, again, done, no, told_of}
+use Rattle.office.specs.Reads.{IsClosedReading, work_told}
+use Rattle.office.specs.Sheets.{text_told}
+use Rattle.office.specs.declared.answers.Stop.{Stop}
+use Rattle.office.specs.declared.answers.Stop.TheVariants.{Refused, Fault as Failed}
+use Rattle.office.specs.declared.sheets.Text.TheVariants as text
+use Rattle.wire.specs.Asking.{AskedEntry, Asks, denied, keying, reading}
+use Rattle.wire.specs.Bodies.{KeyingEntry}
+use Rattle.wire.specs.Replies.{work_body}
+use Rattle.wire.specs.Responses.{ResponseEntry, denied_response, fault_response, json_response, refusal_response, reply_response, text_response}
+use Rattle.wire.specs.Told.{IsTold, IsWritten, told_bytes}
+use Rattle.wire.specs.declared.response.Response.{Response}
+use Rattle.wire.specs.declared.serving.Served.{Served}
+use Rattle.wire.specs.declared.serving.Served.TheVariants.{Answered, ReadFailed, WriteFailed}
+use Rattle.wire.specs.declared.target.Reading.{Reading}
+use Rattle.wire.specs.declared.target.Reading.TheVariants.{Declaration, Sheet, Work}
+
+-- the refusal for a reason
+abbrev pub refused_for : Reason → ResponseEntry
+refused_for why = refusal_response (reason_number why) (reason_text why)
+
+-- what the office told of a keying, as an answer
+abbrev pub told_response : Told → ResponseEntry
+told_response (done reply) = reply_response reply
+told_response (again reply) = reply_response reply
+told_response (no why) = refused_for why
+
+-- what is read, or the refusal
+abbrev pub read_response : {X : Type 0} → (X → ResponseEntry) → Result X Reason → ResponseEntry
+read_response told (Ok x) = told x
+read_response told (Err why) = refused_for why
+
+-- the work of a clerk
+abbrev pub work_response : ℕ → List WorkEntry → ResponseEntry
+work_response clerk work = json_response 200 (work_body clerk work)
+
+-- what is told to a reading at a state
+abbrev pub reading_response : OfficeState → Reading → ResponseEntry
+reading_response s (Work clerk) = read_response (work_response clerk) (work_told s clerk)
+reading_response s (Sheet ward) = read_response text_response (text_told text.Sheet s ward)
+reading_response s (Declaration ward) = read_response text_response (text_told text.Declaration s ward)
+
+-- the command that a clerk's keying is handed on as
+pub record IsHandedOn (number : ℕ) (entry : KeyingEntry) (command : KeyingCommand) : Type 0 where
+  pub batch : command.batch ≡ number
+  pub round : command.round ≡ entry.round
+  pub papers : map string_bytes command.papers.items ≡ entry.papers
+
+-- the outcome of a clerk's keying at a state
+abbrev pub IsOutcome : OfficeState → ℕ → ℕ → KeyingEntry → Outcome → Type 0
+IsOutcome s clerk batch entry outcome = (handed : KeyingCommand) × IsHandedOn batch entry handed × (outcome ≡ step s clerk entry.id (command.Keying handed))
+
+-- the answer to what is asked at a state, and the state after it
+abbrev pub IsAnswer : OfficeState → AskedEntry → OfficeState → ResponseEntry → Type 0
+IsAnswer s (denied why) next answer = (next ≡ s) × (answer ≡ denied_response why)
+IsAnswer s (reading what) next answer = (next ≡ s) × (answer ≡ reading_response s what)
+IsAnswer s (keying clerk batch entry) next answer =
+    (outcome : Outcome) × IsOutcome s clerk batch entry outcome × (next ≡ state_after s outcome) × (answer ≡ told_response (told_of outcome))
+
+-- ---- what each exit leaves
+
+-- the office is open at the state after what was asked
+pub record IsAnswered (s : OfficeState) (asked : AskedEntry) (answer : ResponseEntry) (closed : Bool) (st : State) : Type 0 where
+  pub next : OfficeState
+  pub is : IsAnswer s asked next answer
+  pub open_at : IsOpenAt next closed st
+
+-- what a fault of the office leaves: the office as it was, or closed; then a stop leaves the state before, or, of a keying that is
+-- accepted, the one after
+abbrev pub FaultLeaves : OfficeState → AskedEntry → Fault → Bool → State → Type 0
+FaultLeaves s (denied why) f closed st = ⊥
+FaultLeaves s (reading what) f closed st = IsKeptOpen s f closed st ⊎ IsClosedReading s f closed st
+FaultLeaves s (keying clerk batch entry) f closed st =
+    (outcome : Outcome) × IsOutcome s clerk batch entry outcome × (IsKeptOpen s f closed st ⊎ IsClosedIn s outcome f closed st)
+
+-- an answer to what is asked and what it leaves, or the fault that the office met
+abbrev pub Leaves : OfficeState → AskedEntry → ResponseEntry → Bool → State → Type 0
+Leaves s asked answer closed st =
+    IsAnswered s asked answer closed st ⊎ ((f : Fault) × (answer ≡ fault_response (fault_number f)) × FaultLeaves s asked f closed st)
+
+-- the same of an answer that is ready to be written, for which memory may be wanting
+abbrev pub Readies : OfficeState → AskedEntry → Response → Bool → State → Type 0
+Readies s asked response closed st = (answer : ResponseEntry) × IsTold answer response × Leaves s asked answer closed st
+
+-- an answer that is ready tells what a read gave, by a view of it
+abbrev pub IsReadTold : {X Y : Type 0} → (X → ResponseEntry) → (Y → X) → Result Y Stop → Response → Type 0
+IsReadTold entry view (Ok y) response = IsTold (entry (view y)) response
+IsReadTold entry view (Err (Refused why)) response = IsTold (refused_for why) response
+IsReadTold entry view (Err (Failed f)) response = IsTold (fault_response (fault_number f)) response
+
+-- ---- one connection
+
+-- the answer to what a client asks is ready, with what it leaves, and where his bytes are known, they ask just that
+pub record ReadiesAsked (bytes : Option (List ℕ)) (s : OfficeState) (response : Response) (closed : Bool) (st : State) : Type 0 where
+  pub asked : AskedEntry
+  pub asks : IfSome bytes (λ xs. Asks xs asked)
+  pub readies : Readies s asked response closed st
+
+-- that; or memory was wanting to read what he asks, and nothing was handed on
+abbrev pub ReadiesFor : Option (List ℕ) → OfficeState → Response → Bool → State → Type 0
+ReadiesFor bytes s response closed st = ReadiesAsked bytes s response closed st ⊎ (IsWritten (fault_response 101) response × IsOpenAt s closed st)
+
+-- an answer was written whole, or, where the writer failed, a beginning of it
+abbrev pub IsPut : Option (List ℕ) → Option (List ℕ) → Response → Served → Type 0
+IsPut old new response (Answered status) = (status ≡ response.status) × Appends old new (told_bytes response.bytes)
+IsPut old new response ReadFailed = ⊥
+IsPut old new response WriteFailed = AppendsBeginning old new (told_bytes response.bytes)
+
+-- the answer that was ready, and what was written of it
+pub record IsServed (bytes old new : Option (List ℕ)) (s : OfficeState) (served : Served) (closed : Bool) (st : State) : Type 0 where
+  pub response : Response
+  pub ready : ReadiesFor bytes s response closed st
+  pub put : IsPut old new response served
+
+-- what each end of a connection tells and leaves: where the reader failed, nothing was handed on
+abbrev pub Serves : Option (List ℕ) → Option (List ℕ) → Option (List ℕ) → OfficeState → Served → Bool → State → Type 0
+Serves bytes old new s (Answered status) closed st = IsServed bytes old new s (Answered status) closed st
+Serves bytes old new s ReadFailed closed st = IsOpenAt s closed st
+Serves bytes old new s WriteFailed closed st = IsServed bytes old new s WriteFailed closed st
+
+-- P, where the reader failed
+abbrev pub OnReadFailed : Served → Type 0 → Type 0
+OnReadFailed (Answered status) P = ⊤
+OnReadFailed ReadFailed P = P
+OnReadFailed WriteFailed P = ⊤
+
+-- P, where the writer failed
+abbrev pub OnWriteFailed : Served → Type 0 → Type 0
+OnWriteFailed (Answered status) P = ⊤
+OnWriteFailed ReadFailed P = ⊤
+OnWriteFailed WriteFailed P = P

@@ -1,0 +1,20 @@
+-- What an answer that is ready to be written tells.
+use Rattle.std.specs.Prelude.{◌≡◌, ◌⊎◌, List, string_bytes, ℕ}
+use Rattle.wire.specs.Responses.{ResponseEntry, fault_response, response_bytes}
+use Rattle.wire.specs.declared.response.Bytes.{Bytes}
+use Rattle.wire.specs.declared.response.Bytes.TheVariants.{Fixed, Made}
+use Rattle.wire.specs.declared.response.Response.{Response}
+
+-- its bytes
+abbrev pub told_bytes : Bytes → List ℕ
+told_bytes (Fixed text) = text.now
+told_bytes (Made text) = string_bytes text
+
+-- it is this answer
+pub record IsWritten (entry : ResponseEntry) (response : Response) : Type 0 where
+  pub status : response.status ≡ entry.status
+  pub bytes : told_bytes response.bytes ≡ response_bytes entry
+
+-- it is this answer, or the one that tells that memory is wanting
+abbrev pub IsTold : ResponseEntry → Response → Type 0
+IsTold entry response = IsWritten entry response ⊎ IsWritten (fault_response 101) response

@@ -1,0 +1,140 @@
+//! What is asked of the office, and its answers.
+
+ghost use Rattle.std.specs.Prelude.{◌≡◌, false, map, true, string_bytes};
+ghost use Rattle.register.specs.Standings.{work_entry};
+ghost use Rattle.sqlite.specs.State.{HasCleanDisk};
+ghost use Rattle.sqlite.specs.Held.{state};
+ghost use Rattle.register.specs.Offices.{OfficeState};
+ghost use Rattle.store.specs.Offices.{IsAt};
+ghost use Rattle.tables.specs.Faults.{fault_number};
+ghost use Rattle.office.specs.Answers.{told};
+ghost use Rattle.wire.specs.Asking.{asked_entry, reading};
+ghost use Rattle.wire.specs.Responses.{fault_response, reply_response, text_response};
+ghost use Rattle.wire.specs.Serving.{IsReadTold, Readies, refused_for, told_response, work_response};
+ghost use Rattle.wire.specs.Told.{IsTold};
+
+use crate::asked::{Asked, Keying};
+use crate::bodies::{fault_body, refusal_body, reply_body};
+use crate::response::{Content, Response};
+use crate::target::Reading;
+use crate::work::work_body;
+use http::StatusCode;
+use office::{Answer, Office, Stop};
+use register::{Command, KeyingCommand, Refusal, Work};
+use sqlite::Alter;
+use std::alloc::{AllocError, Global};
+use store::Fault;
+
+/// The answer that tells a reply.
+fn replied(alloc: Global, text: &str) -> Response
+    ensures { IsTold (reply_response text.now) result }
+{
+    Response::made(
+        alloc,
+        StatusCode::OK,
+        Content::Json,
+        reply_body(alloc, text),
+    )
+}
+
+/// The answer that tells a refusal.
+fn refused(alloc: Global, why: &Refusal) -> Response
+    ensures { IsTold (refused_for why.now) result }
+{
+    let body = refusal_body(alloc, why.number(), why.text());
+    Response::made(alloc, StatusCode::CONFLICT, Content::Json, body)
+}
+
+/// The answer that tells a fault.
+fn faulted(alloc: Global, fault: Fault) -> Response
+    ensures { IsTold (fault_response (fault_number fault)) result }
+{
+    let body = fault_body(alloc, fault.number());
+    Response::made(alloc, StatusCode::SERVICE_UNAVAILABLE, Content::Json, body)
+}
+
+/// The answer that tells what the office answered to a keying.
+fn answered(alloc: Global, answer: &Answer) -> Response
+    ensures { IsTold (told_response (told answer.now)) result }
+{
+    match answer {
+        Answer::Done(reply) => replied(alloc, reply.as_str()),
+        Answer::Kept(reply) => replied(alloc, reply.as_str()),
+        Answer::Refused(why) => refused(alloc, why),
+    }
+}
+
+/// Hands a clerk's keying on to the office, and answers it.
+fn answer_keying<S: Alter>(alloc: Global, office: &mut Office<S>, keying: Keying) -> Response
+    ensures answers { HasCleanDisk (state S.Store office.new.held) → office.old.closed ≡ false → (s : OfficeState) → IsAt s (state S.Store office.old.held)
+        → Readies s (asked_entry (Asked.Keying keying)) result office.new.closed (state S.Store office.new.held) }
+    ensures closed { office.old.closed ≡ true → office.new ≡ office.old }
+{
+    let Keying {
+        clerk,
+        batch,
+        id,
+        round,
+        papers,
+    } = keying;
+    let command = Command::Keying(KeyingCommand {
+        batch,
+        round,
+        papers,
+    });
+    match office.handle(clerk, id.as_str(), &command) {
+        Ok(answer) => answered(alloc, &answer),
+        Err(fault) => faulted(alloc, fault),
+    }
+}
+
+/// The answer that tells a text of a ward, or why there is none.
+fn answer_text(alloc: Global, told: Result<String, Stop>) -> Response
+    ensures { IsReadTold text_response string_bytes told result }
+{
+    match told {
+        Ok(text) => Response::made(alloc, StatusCode::OK, Content::Text, Ok(text)),
+        Err(Stop::Refused(why)) => refused(alloc, &why),
+        Err(Stop::Fault(fault)) => faulted(alloc, fault),
+    }
+}
+
+/// The answer that tells the work of a clerk, or why there is none.
+fn answer_work(alloc: Global, clerk: u32, told: Result<Vec<Work>, Stop>) -> Response
+    ensures { IsReadTold (work_response clerk) (λ work. map work_entry work.items) told result }
+{
+    match told {
+        Ok(work) => {
+            let body = work_body(alloc, clerk, &work);
+            Response::made(alloc, StatusCode::OK, Content::Json, body)
+        }
+        Err(Stop::Refused(why)) => refused(alloc, &why),
+        Err(Stop::Fault(fault)) => faulted(alloc, fault),
+    }
+}
+
+/// Reads from the office, and answers that.
+fn answer_reading<S: Alter>(alloc: Global, office: &mut Office<S>, what: Reading) -> Response
+    ensures answers { HasCleanDisk (state S.Store office.new.held) → office.old.closed ≡ false → (s : OfficeState) → IsAt s (state S.Store office.old.held)
+        → Readies s (reading what) result office.new.closed (state S.Store office.new.held) }
+    ensures closed { office.old.closed ≡ true → office.new ≡ office.old }
+{
+    match what {
+        Reading::Work { clerk } => answer_work(alloc, clerk, office.work(clerk)),
+        Reading::Sheet { ward } => answer_text(alloc, office.sheet(ward)),
+        Reading::Declaration { ward } => answer_text(alloc, office.result(ward)),
+    }
+}
+
+/// Asks the office what a request asks, and answers that.
+pub(crate) fn answer<S: Alter>(alloc: Global, office: &mut Office<S>, asked: Asked) -> Response
+    ensures answers { HasCleanDisk (state S.Store office.new.held) → office.old.closed ≡ false → (s : OfficeState) → IsAt s (state S.Store office.old.held)
+        → Readies s (asked_entry asked) result office.new.closed (state S.Store office.new.held) }
+    ensures closed { office.old.closed ≡ true → office.new ≡ office.old }
+{
+    match asked {
+        Asked::Denied(why) => Response::denied(why),
+        Asked::Keying(keying) => answer_keying(alloc, office, keying),
+        Asked::Reading(what) => answer_reading(alloc, office, what),
+    }
+}

@@ -1,0 +1,21 @@
+//! Why a request is denied before the office is asked.
+
+/// The methods that are served.
+#[derive(Clone, Copy, Debug, PartialEq, Eq)]
+pub enum Verb {
+    Get,
+    Post,
+}
+
+/// Why a request is denied before the office is asked.
+#[derive(Clone, Copy, Debug, PartialEq, Eq)]
+pub enum Denial {
+    /// It has no head that can be read, its body's length can't be told, or the body is no keying.
+    BadRequest,
+    /// Its target names nothing that is served.
+    NotFound,
+    /// What its target names is served by another method.
+    MethodNotAllowed { allowed: Verb },
+    /// Its body is longer than the limit.
+    TooLarge,
+}

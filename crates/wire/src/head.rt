@@ -1,0 +1,60 @@
+//! The head of a request.
+
+ghost use Rattle.std.specs.Prelude.{◌≡◌, ◌+◌, ◌-◌, ◌^◌, ◌<◌, ◌≤◌, IfErr, IfNone, IfOk, IfSome, OnErr, OnOk, length, take};
+ghost use Rattle.std.specs.Io.KnownBytes.{Consumes};
+ghost use Rattle.httparse.specs.Spans.{IsRequestOf, IsRequestWithin};
+ghost use Rattle.wire.specs.Heads.{HasNoHead};
+
+use httparse::Status;
+use httparse::spans::{HeaderSpan, RequestSpans, parse_request};
+use votes::{Broken, Source};
+
+/// The most bytes that a head may have.
+pub const MAX_HEAD_BYTES: usize = 8192;
+
+/// The most headers that a head may have.
+pub const MAX_HEADERS: usize = 32;
+
+/// Where a head stands in the buffer that it was read into, and how much of the buffer is filled: with
+/// the head, and with bytes behind it.
+#[derive(Clone, Copy)]
+pub(crate) struct Front {
+    pub spans: RequestSpans,
+    pub filled: usize,
+}
+
+/// Reads until a head is whole, or `None` as soon as none can come.
+///
+/// `Broken` comes only from the source, which counts one failure more.
+pub(crate) fn read_head<R: Source>(
+    reader: &mut R,
+    buffer: &mut [u8],
+    headers: &mut [HeaderSpan],
+) -> Result<Option<Front>, Broken>
+    requires room { length buffer.old ≡ MAX_HEAD_BYTES }
+    requires places { length headers.old ≡ MAX_HEADERS }
+    requires failures { R.failed reader.old < 2 ^ 64 - 1 }
+    ensures filled { IfOk result (λ found. IfSome found (λ front. front.filled ≤ MAX_HEAD_BYTES)) }
+    ensures consumed { IfOk result (λ found. IfSome found (λ front. Consumes (R.held reader.old) (R.held reader.new) (take front.filled buffer.new))) }
+    ensures head { IfOk result (λ found. IfSome found (λ front. IsRequestOf (take front.filled buffer.new) headers.new front.spans)) }
+    ensures within { IfOk result (λ found. IfSome found (λ front. IsRequestWithin (take front.filled buffer.new) headers.new front.spans)) }
+    ensures none { IfOk result (λ found. IfNone found (IfSome (R.held reader.old) HasNoHead)) }
+    ensures ok { OnOk result (R.failed reader.new ≡ R.failed reader.old) }
+    ensures err { OnErr result (R.failed reader.new ≡ R.failed reader.old + 1) }
+{
+    let mut filled = 0;
+    'reading: loop {
+        match parse_request(&buffer[..filled], headers) {
+            Ok(Status::Complete(spans)) => return Ok(Some(Front { spans, filled })),
+            Ok(Status::Partial) => {}
+            Err(_) => return Ok(None),
+        }
+        if filled == buffer.len() {
+            return Ok(None);
+        }
+        match reader.fetch(&mut buffer[filled..])? {
+            0 => return Ok(None),
+            n => filled += n,
+        }
+    }
+}

@@ -1,0 +1,72 @@
+//! How long the body of a request is.
+
+ghost use Rattle.std.specs.Prelude.{◌≡◌, ◌<◌, IfErr, IfOk, length, map};
+ghost use Rattle.std.specs.List.{All};
+ghost use Rattle.std.specs.Str.{str_eq_ignore_ascii_case};
+ghost use Rattle.httparse.specs.Spans.{IsHeaderWithin, header_bytes};
+ghost use Rattle.wire.specs.Lengths.{body_length, length_in, value_listed, values_of};
+
+use crate::denial::Denial;
+use crate::digits::{all_digits, capped_value};
+use httparse::spans::HeaderSpan;
+
+/// The most bytes that a body may have.
+pub const MAX_BODY_BYTES: u32 = 1_048_576;
+
+/// The length that a text writes, up to the greatest.
+fn length_in(text: &[u8]) -> Result<usize, Denial>
+    ensures { result ≡ length_in text.now }
+{
+    if text.is_empty() || !all_digits(text) {
+        return Err(Denial::BadRequest);
+    }
+    let length = capped_value(text, MAX_BODY_BYTES + 1);
+    if length > u64::from(MAX_BODY_BYTES) {
+        return Err(Denial::TooLarge);
+    }
+    Ok(length as usize)
+}
+
+/// Whether a header's name is another in any case of its letters.
+fn is_named(name: &[u8], other: &[u8]) -> bool
+    ensures { result ≡ str_eq_ignore_ascii_case name.now other.now }
+{
+    name.eq_ignore_ascii_case(other)
+}
+
+/// The value of the header of a name, if there is one; `BadRequest` where there are several.
+fn value_of<'b>(
+    buffer: &'b [u8],
+    headers: &[HeaderSpan],
+    name: &[u8],
+) -> Result<Option<&'b [u8]>, Denial>
+    requires { All (IsHeaderWithin (length buffer.now)) headers.now }
+    ensures one { IfOk result (λ found. values_of name.now (map (header_bytes buffer.now) headers.now) ≡ value_listed found) }
+    ensures several { IfErr result (λ why. (why ≡ Denial.BadRequest) × (1 < length (values_of name.now (map (header_bytes buffer.now) headers.now)))) }
+{
+    let mut found = None;
+    for header in headers {
+        if is_named(header.name.of(buffer), name) {
+            if found.is_some() {
+                return Err(Denial::BadRequest);
+            }
+            found = Some(header.value.of(buffer));
+        }
+    }
+    Ok(found)
+}
+
+/// The length of a body, from the header fields, whose names and values stand in a buffer. No transfer
+/// coding may wrap it, and it may be told once; where it isn't told, there is none.
+pub(crate) fn body_length(buffer: &[u8], headers: &[HeaderSpan]) -> Result<usize, Denial>
+    requires { All (IsHeaderWithin (length buffer.now)) headers.now }
+    ensures { result ≡ body_length (map (header_bytes buffer.now) headers.now) }
+{
+    let Ok(None) = value_of(buffer, headers, b"transfer-encoding") else {
+        return Err(Denial::BadRequest);
+    };
+    match value_of(buffer, headers, b"content-length")? {
+        Some(text) => length_in(text),
+        None => Ok(0),
+    }
+}

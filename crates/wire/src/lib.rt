@@ -1,0 +1,44 @@
+//! Keying and reading over HTTP, one request a connection.
+//!
+//! [`serve_one`] reads a request, asks the office what it asks, and writes the answer. What may be asked:
+//! `POST /clerks/{c}/batches/{b}/keying`, `GET /clerks/{c}/work`, `GET /wards/{w}/sheet` and
+//! `GET /wards/{w}/result`. [`read_asked`] reads what is asked, [`Asked`], or why it is denied before the
+//! office is asked, [`Denial`].
+//!
+//! `specs/Asking.antt` says what the bytes of a client ask, `specs/Responses.antt` which bytes an answer
+//! has, and `specs/Serving.antt` what is answered at a state of the office, and what each end of a
+//! connection leaves.
+//!
+//! ```text
+//! match serve_one(alloc, &mut reader, &mut writer, &mut office) {
+//!     Served::Answered(status) => ..,
+//!     Served::ReadFailed => ..,       // nothing was handed on
+//!     Served::WriteFailed => ..,      // what the office answered stands
+//! }
+//! ```
+#![tactic(auto)]
+
+pub mod denial;
+// what is asked: the head, what its target names, and the body
+pub mod asked;
+mod body;
+mod digits;
+mod head;
+mod length;
+pub mod target;
+mod unread;
+// what is answered
+mod bodies;
+mod response;
+mod work;
+// one connection
+mod answering;
+mod serving;
+#[cfg(test)]
+mod tests;
+
+pub use asked::{Asked, Keying, read_asked};
+pub use denial::{Denial, Verb};
+pub use serving::{Served, serve_one};
+pub use target::Reading;
+pub use unread::Unread;

@@ -1,0 +1,88 @@
+//! One connection: a request is read, handed on, and answered.
+
+ghost use Rattle.std.specs.Prelude.{◌≡◌, ◌+◌, ◌-◌, ◌^◌, ◌<◌, false, true, IfOk, OnErr};
+ghost use Rattle.sqlite.specs.State.{HasCleanDisk};
+ghost use Rattle.sqlite.specs.Held.{state};
+ghost use Rattle.register.specs.Offices.{OfficeState};
+ghost use Rattle.store.specs.Offices.{IsAt};
+ghost use Rattle.wire.specs.Serving.{IsPut, OnReadFailed, OnWriteFailed, ReadiesFor, Serves};
+
+use crate::answering::answer;
+use crate::asked::read_asked;
+use crate::response::Response;
+use crate::unread::Unread;
+use office::Office;
+use sqlite::Alter;
+use std::alloc::Global;
+use votes::{Broken, Sink, Source, put_all};
+
+/// How a connection ended.
+#[derive(Clone, Copy, Debug, PartialEq, Eq)]
+pub enum Served {
+    /// An answer of this status was written whole.
+    Answered(u16),
+    /// The reader failed: nothing was written, and nothing was handed on.
+    ReadFailed,
+    /// The writer failed: a beginning of the answer was written.
+    WriteFailed,
+}
+
+/// The answer to what a client asks, which the office is asked.
+fn response_to<R: Source, S: Alter>(
+    alloc: Global,
+    reader: &mut R,
+    office: &mut Office<S>,
+) -> Result<Response, Broken>
+    requires { R.failed reader.old < 2 ^ 64 - 1 }
+    ensures answers { HasCleanDisk (state S.Store office.new.held) → office.old.closed ≡ false → (s : OfficeState) → IsAt s (state S.Store office.old.held)
+        → IfOk result (λ response. ReadiesFor (R.held reader.old) s response office.new.closed (state S.Store office.new.held)) }
+    ensures failed { OnErr result (R.failed reader.new ≡ R.failed reader.old + 1) }
+    ensures unasked { OnErr result (office.new ≡ office.old) }
+    ensures closed { office.old.closed ≡ true → office.new ≡ office.old }
+{
+    match read_asked(alloc, reader) {
+        Ok(asked) => Ok(answer(alloc, office, asked)),
+        Err(Unread::Memory) => Ok(Response::no_memory()),
+        Err(Unread::Broken) => Err(Broken),
+    }
+}
+
+/// Writes an answer.
+fn put<W: Sink>(writer: &mut W, response: &Response) -> Served
+    requires { W.failed writer.old < 2 ^ 64 - 1 }
+    ensures puts { IsPut (W.taken writer.old) (W.taken writer.new) response.now result }
+    ensures failed { OnWriteFailed result (W.failed writer.new ≡ W.failed writer.old + 1) }
+{
+    match put_all(writer, response.bytes.as_slice()) {
+        Ok(()) => Served::Answered(response.status),
+        Err(_) => Served::WriteFailed,
+    }
+}
+
+/// Serves one connection: reads a request, hands it on to the office, and writes the answer.
+///
+/// `Answered`: the answer to what the reader's bytes ask was written whole, and the office is at the state
+/// after it. After a fault of the office it tells that fault (503); where memory was wanting for the
+/// request or for the answer, it tells 101 (503), and the request wasn't handed on, or it was, and the
+/// office is at the state after it. `ReadFailed` comes only from the reader, which counts one failure more:
+/// nothing was written, and the office is as it was. `WriteFailed` comes only from the writer, which counts
+/// one failure more: a beginning of the answer was written, and what the office answered stands.
+pub fn serve_one<R: Source, W: Sink, S: Alter>(
+    alloc: Global,
+    reader: &mut R,
+    writer: &mut W,
+    office: &mut Office<S>,
+) -> Served
+    requires reads { R.failed reader.old < 2 ^ 64 - 1 }
+    requires writes { W.failed writer.old < 2 ^ 64 - 1 }
+    ensures served { HasCleanDisk (state S.Store office.new.held) → office.old.closed ≡ false → (s : OfficeState) → IsAt s (state S.Store office.old.held)
+        → Serves (R.held reader.old) (W.taken writer.old) (W.taken writer.new) s result office.new.closed (state S.Store office.new.held) }
+    ensures read_failed { OnReadFailed result ((R.failed reader.new ≡ R.failed reader.old + 1) × (writer.new ≡ writer.old) × (office.new ≡ office.old)) }
+    ensures write_failed { OnWriteFailed result (W.failed writer.new ≡ W.failed writer.old + 1) }
+    ensures closed { office.old.closed ≡ true → office.new ≡ office.old }
+{
+    match response_to(alloc, reader, office) {
+        Ok(response) => put(writer, &response),
+        Err(Broken) => Served::ReadFailed,
+    }
+}

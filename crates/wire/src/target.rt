@@ -1,0 +1,104 @@
+//! What the target of a request names.
+
+ghost use Rattle.std.specs.Prelude.{◌≡◌, IfOk};
+ghost use Rattle.matchit.specs.Params.{AllText};
+ghost use Rattle.wire.specs.Targets.{named_at, named_by, office_routes, parameter, taken_by};
+
+use crate::digits::number_in;
+use matchit::{InsertError, Params, Router};
+use std::alloc::{AllocError, Global};
+use std::str;
+
+/// What may be read.
+#[derive(Clone, Copy, Debug, PartialEq, Eq)]
+pub enum Reading {
+    /// The batches that a clerk is to key.
+    Work { clerk: u32 },
+    /// The stage sheet of a ward.
+    Sheet { ward: u32 },
+    /// The declaration of a ward.
+    Declaration { ward: u32 },
+}
+
+/// What a target names.
+#[derive(Clone, Copy)]
+pub(crate) enum Target {
+    /// A clerk's keying of a batch, which is sent.
+    Keying { clerk: u32, batch: u32 },
+    /// What may be read.
+    Reading(Reading),
+}
+
+/// Where a route leads.
+#[derive(Clone, Copy)]
+enum Place {
+    Keying,
+    Work,
+    Sheet,
+    Declaration,
+}
+
+/// The four routes.
+fn office_router(alloc: Global) -> Result<Router<Place>, InsertError>
+    ensures { IfOk result (λ router. router ≡ office_routes) }
+{
+    let mut router = Router::new(alloc);
+    router.insert("/clerks/{c}/batches/{b}/keying", Place::Keying)?;
+    router.insert("/clerks/{c}/work", Place::Work)?;
+    router.insert("/wards/{w}/sheet", Place::Sheet)?;
+    router.insert("/wards/{w}/result", Place::Declaration)?;
+    Ok(router)
+}
+
+/// The number that the parameter of a name writes.
+fn parameter(params: &Params<'_, '_>, name: &str) -> Option<u32>
+    requires { AllText (taken_by params.now) }
+    ensures { result ≡ parameter name.now (taken_by params.now) }
+{
+    number_in(params.get(name)?)
+}
+
+/// What a target names, by where its route leads and by what the parameters took.
+fn named_at(place: Place, params: &Params<'_, '_>) -> Option<Target>
+    requires { AllText (taken_by params.now) }
+    ensures { result ≡ named_at place (taken_by params.now) }
+{
+    match place {
+        Place::Keying => {
+            let clerk = parameter(params, "c")?;
+            let batch = parameter(params, "b")?;
+            Some(Target::Keying { clerk, batch })
+        }
+        Place::Work => {
+            let clerk = parameter(params, "c")?;
+            Some(Target::Reading(Reading::Work { clerk }))
+        }
+        Place::Sheet => {
+            let ward = parameter(params, "w")?;
+            Some(Target::Reading(Reading::Sheet { ward }))
+        }
+        Place::Declaration => {
+            let ward = parameter(params, "w")?;
+            Some(Target::Reading(Reading::Declaration { ward }))
+        }
+    }
+}
+
+/// What a target names, if anything is served there. The only error is want of memory.
+pub(crate) fn named_by(alloc: Global, target: &[u8]) -> Result<Option<Target>, AllocError>
+    ensures { IfOk result (λ found. found ≡ named_by target.now) }
+{
+    if !target.is_ascii() {
+        return Ok(None);
+    }
+    let Ok(text) = str::from_utf8(target) else {
+        return Ok(None);
+    };
+    let Ok(router) = office_router(alloc) else {
+        return Err(AllocError);
+    };
+    let Ok(found) = router.at(text) else {
+        return Ok(None);
+    };
+    Ok(named_at(*found.value, &found.params))
+}

@@ -1,0 +1,308 @@
+//! What requests ask, of readers that give all at once, one byte at a time, and that fail; and the bytes of
+//! answers.
+
+use crate::bodies::{fault_body, refusal_body, reply_body};
+use crate::head::{MAX_HEAD_BYTES, MAX_HEADERS};
+use crate::length::MAX_BODY_BYTES;
+use crate::response::{Content, Response};
+use crate::work::work_body;
+use crate::{Asked, Denial, Unread, Verb, read_asked};
+use http::StatusCode;
+use paper::Columns;
+use register::Work;
+use std::alloc::{AllocError, Global};
+use std::fmt::Write;
+use std::io::{ErrorKind, Read};
+use std::process::Abort;
+use std::test::Fail;
+use std::{fmt, io};
+use votes::{Counted, Source};
+
+/// Gives some bytes, one at a time; behind them the end comes, or a failure.
+#[derive(Drop)]
+struct Slow<'a> {
+    left: &'a [u8],
+    fails: bool,
+}
+
+impl<'a> Read for Slow<'a> {
+    fn read(&mut self, room: &mut [u8]) -> io::Result<usize> {
+        match self.left {
+            [] if self.fails => Err(io::Error::from(ErrorKind::BrokenPipe)),
+            [byte, others @ ..] if !room.is_empty() => {
+                room[0] = *byte;
+                self.left = others;
+                Ok(1)
+            }
+            _ => Ok(0),
+        }
+    }
+}
+
+/// What is asked, in short.
+fn asked_text<R: Source>(alloc: Global, reader: &mut R) -> Result<String, fmt::Error> {
+    let mut text = String::new(alloc);
+    match read_asked(alloc, reader) {
+        Ok(Asked::Keying(keying)) => {
+            let (id, papers) = (keying.id.as_str(), &keying.papers);
+            let (clerk, batch, round) = (keying.clerk, keying.batch, keying.round);
+            write!(text, "{clerk} keys {batch} round {round} as {id}:")?;
+            for paper in papers {
+                write!(text, " [{}]", paper.as_str())?;
+            }
+        }
+        Ok(Asked::Reading(what)) => write!(text, "{what:?}")?,
+        Ok(Asked::Denied(Denial::MethodNotAllowed { allowed })) => {
+            write!(text, "only {}", allowed.text())?;
+        }
+        Ok(Asked::Denied(why)) => write!(text, "{why:?}")?,
+        Err(Unread::Broken) => write!(text, "broken")?,
+        Err(Unread::Memory) => write!(text, "memory")?,
+    }
+    Ok(text)
+}
+
+/// Reads a request given at once, and one byte at a time.
+fn asks(rt: &(impl Abort + AllocGlobal), request: &[u8], asked: &str) -> Result<(), Fail> {
+    let mut reader = Counted::new(request);
+    assert_eq!(rt; asked_text(rt.alloc(), &mut reader)?.as_str(), asked);
+    let mut reader = Counted::new(Slow {
+        left: request,
+        fails: false,
+    });
+    assert_eq!(rt; asked_text(rt.alloc(), &mut reader)?.as_str(), asked);
+    Ok(())
+}
+
+/// A keying with these headers and this body.
+fn keying(alloc: Global, headers: &str, body: &str) -> Result<String, AllocError> {
+    format!(in alloc; "POST /clerks/4/batches/12/keying HTTP/1.1\r\n{headers}\r\n{body}")
+}
+
+const BODY: &str = r#"{"id":"h1","round":1,"papers":["1,2,","D"]}"#;
+
+const KEYED: &str = "4 keys 12 round 1 as h1: [1,2,] [D]";
+
+#[test]
+fn targets_and_methods(rt: HostRuntime) -> Result<(), Fail> {
+    let cases = [
+        ("GET /clerks/4/work HTTP/1.1", "Work { clerk: 4 }"),
+        ("GET /clerks/99999/work HTTP/1.0", "Work { clerk: 99999 }"),
+        ("GET /wards/7/sheet HTTP/1.1", "Sheet { ward: 7 }"),
+        ("GET /wards/7/result HTTP/1.1", "Declaration { ward: 7 }"),
+        ("GET /wards/07/sheet HTTP/1.1", "NotFound"),
+        ("GET /wards/100000/sheet HTTP/1.1", "NotFound"),
+        ("GET /wards/+7/sheet HTTP/1.1", "NotFound"),
+        ("GET /wards//sheet HTTP/1.1", "NotFound"),
+        ("GET /wards/7/sheet/ HTTP/1.1", "NotFound"),
+        ("GET /wards/7/sheet?x HTTP/1.1", "NotFound"),
+        ("GET /wards/%37/sheet HTTP/1.1", "NotFound"),
+        ("GET /w\u{e4}rds/7/sheet HTTP/1.1", "NotFound"),
+        ("POST /nothing HTTP/1.1", "NotFound"),
+        ("POST /wards/7/sheet HTTP/1.1", "only GET"),
+        ("get /wards/7/sheet HTTP/1.1", "only GET"),
+        ("GET /clerks/4/batches/12/keying HTTP/1.1", "only POST"),
+        ("PUT /clerks/4/batches/12/keying HTTP/1.1", "only POST"),
+        ("POST /clerks/4/batches/0/keying HTTP/1.1", "NotFound"),
+        ("GET /wards/7/sheet HTTP/2.0", "BadRequest"),
+        ("X", "BadRequest"),
+    ];
+    for (line, asked) in cases {
+        let request = format!(in rt.alloc(); "{line}\r\nContent-Length: x\r\n\r\n")?;
+        asks(&rt, request.as_bytes(), asked)?;
+    }
+    Ok(())
+}
+
+#[test]
+fn lengths_of_bodies(rt: HostRuntime) -> Result<(), Fail> {
+    let cases = [
+        ("Content-Length: 43\r\n", KEYED),
+        ("cONTENT-lENGTH:\t0043 \r\nHost: x\r\n", KEYED),
+        ("Content-Length: 42\r\n", "BadRequest"),
+        ("Content-Length: 44\r\n", "BadRequest"),
+        ("", "BadRequest"),
+        ("Content-Length:\r\n", "BadRequest"),
+        ("Content-Length: +43\r\n", "BadRequest"),
+        ("Content-Length: 4 3\r\n", "BadRequest"),
+        ("Content-Length: 43\r\nContent-Length: 43\r\n", "BadRequest"),
+        (
+            "Content-Length: 43\r\nTransfer-Encoding: identity\r\n",
+            "BadRequest",
+        ),
+        ("Transfer-Encoding: chunked\r\n", "BadRequest"),
+        ("Content-Length: 1048577\r\n", "TooLarge"),
+        (
+            "Content-Length: 123456789012345678901234567890\r\n",
+            "TooLarge",
+        ),
+        (
+            "Content-Length: 1048577\r\nContent-Length: 1048577\r\n",
+            "BadRequest",
+        ),
+    ];
+    for (headers, asked) in cases {
+        asks(&rt, keying(rt.alloc(), headers, BODY)?.as_bytes(), asked)?;
+    }
+    Ok(())
+}
+
+#[test]
+fn bodies(rt: HostRuntime) -> Result<(), Fail> {
+    let cases = [
+        (
+            r#" { "papers" : [] , "round" : 4294967295 , "id" : "" } "#,
+            "4 keys 12 round 4294967295 as :",
+        ),
+        (
+            r#"{"id":"a","id":"b","round":1,"papers":["\u0044"]}"#,
+            "4 keys 12 round 1 as b: [D]",
+        ),
+        (r#"{"id":"h1","round":1,"papers":[],"x":1}"#, "BadRequest"),
+        (r#"{"id":"h1","round":1}"#, "BadRequest"),
+        (r#"{"id":"h1","round":"1","papers":[]}"#, "BadRequest"),
+        (
+            r#"{"id":"h1","round":4294967296,"papers":[]}"#,
+            "BadRequest",
+        ),
+        (r#"{"id":"h1","round":1.0,"papers":[]}"#, "BadRequest"),
+        (r#"{"id":"h1","round":-0,"papers":[]}"#, "BadRequest"),
+        (r#"{"id":"h1","round":1,"papers":[1]}"#, "BadRequest"),
+        (r#"{"id":1,"round":1,"papers":[]}"#, "BadRequest"),
+        (r#"["h1",1,[]]"#, "BadRequest"),
+        (r#"{"id":"h1","round":1,"papers":[]"#, "BadRequest"),
+        ("", "BadRequest"),
+    ];
+    for (body, asked) in cases {
+        let headers = format!(in rt.alloc(); "Content-Length: {}\r\n", body.len())?;
+        asks(
+            &rt,
+            keying(rt.alloc(), headers.as_str(), body)?.as_bytes(),
+            asked,
+        )?;
+    }
+    Ok(())
+}
+
+#[test]
+fn long_heads_and_bodies(rt: HostRuntime) -> Result<(), Fail> {
+    for (length, asked) in [
+        (MAX_HEAD_BYTES, "Sheet { ward: 7 }"),
+        (MAX_HEAD_BYTES + 1, "BadRequest"),
+    ] {
+        let mut request = String::from_str(rt.alloc(), "GET /wards/7/sheet HTTP/1.1\r\nA: ")?;
+        for _ in request.len()..length - 4 {
+            request.push('x')?;
+        }
+        request.push_str("\r\n\r\n")?;
+        asks(&rt, request.as_bytes(), asked)?;
+    }
+    for (count, asked) in [
+        (MAX_HEADERS, "Sheet { ward: 7 }"),
+        (MAX_HEADERS + 1, "BadRequest"),
+    ] {
+        let mut request = String::from_str(rt.alloc(), "GET /wards/7/sheet HTTP/1.1\r\n")?;
+        for _ in 0..count {
+            request.push_str("A: b\r\n")?;
+        }
+        request.push_str("\r\n")?;
+        asks(&rt, request.as_bytes(), asked)?;
+    }
+    let mut nested = String::new(rt.alloc());
+    for _ in 0..200u32 {
+        nested.push('[')?;
+    }
+    let headers = "Content-Length: 200\r\n";
+    asks(
+        &rt,
+        keying(rt.alloc(), headers, nested.as_str())?.as_bytes(),
+        "BadRequest",
+    )?;
+    let headers = format!(in rt.alloc(); "Content-Length: {MAX_BODY_BYTES}\r\n")?;
+    let mut spaces = keying(rt.alloc(), headers.as_str(), "")?;
+    for _ in 0..MAX_BODY_BYTES {
+        spaces.push(' ')?;
+    }
+    let mut reader = Counted::new(spaces.as_bytes());
+    assert_eq!(&rt; asked_text(rt.alloc(), &mut reader)?.as_str(), "BadRequest");
+    Ok(())
+}
+
+#[test]
+fn a_reader_that_fails(rt: HostRuntime) -> Result<(), Fail> {
+    let request = keying(rt.alloc(), "Content-Length: 43\r\n", BODY)?;
+    for length in 0..request.len() + 1 {
+        let left = &request.as_bytes()[..length];
+        let wanted = if length < request.len() {
+            "broken"
+        } else {
+            KEYED
+        };
+        let mut reader = Counted::new(Slow { left, fails: true });
+        assert_eq!(&rt; asked_text(rt.alloc(), &mut reader)?.as_str(), wanted);
+        assert_eq!(&rt; reader.failures(), u64::from(length < request.len()));
+        let wanted = if length < request.len() {
+            "BadRequest"
+        } else {
+            KEYED
+        };
+        asks(&rt, left, wanted)?;
+    }
+    Ok(())
+}
+
+/// The lines of an answer, and its body.
+fn told(
+    rt: &(impl Abort + AllocGlobal),
+    status: StatusCode,
+    body: Result<String, AllocError>,
+    answer: &str,
+) -> Result<(), Fail> {
+    let response = Response::made(rt.alloc(), status, Content::Json, body);
+    assert_eq!(rt; response.status, status.as_u16());
+    assert_eq!(rt; response.bytes.as_slice(), answer.as_bytes());
+    Ok(())
+}
+
+#[test]
+fn answers(rt: HostRuntime) -> Result<(), Fail> {
+    let alloc = rt.alloc();
+    told(
+        &rt,
+        StatusCode::OK,
+        reply_body(alloc, "batch 12 round 1 keyed"),
+        "HTTP/1.1 200 OK\r\nContent-Type: application/json\r\nContent-Length: 34\r\nConnection: close\r\n\r\n{\"reply\":\"batch 12 round 1 keyed\"}",
+    )?;
+    told(
+        &rt,
+        StatusCode::CONFLICT,
+        refusal_body(alloc, 16, "already keyed"),
+        "HTTP/1.1 409 Conflict\r\nContent-Type: application/json\r\nContent-Length: 37\r\nConnection: close\r\n\r\n{\"refusal\":16,\"text\":\"already keyed\"}",
+    )?;
+    told(
+        &rt,
+        StatusCode::SERVICE_UNAVAILABLE,
+        fault_body(alloc, 104),
+        "HTTP/1.1 503 Service Unavailable\r\nContent-Type: application/json\r\nContent-Length: 13\r\nConnection: close\r\n\r\n{\"fault\":104}",
+    )?;
+    let work = Work {
+        batch: 12,
+        ward: 7,
+        columns: Columns::empty().with(1).with(2).with(3),
+        size: 2,
+        round: 1,
+        keyed: true,
+    };
+    assert_eq!(&rt;
+        work_body(alloc, 4, &[work])?.as_str(),
+        "{\"clerk\":4,\"work\":[{\"batch\":12,\"columns\":[1,2,3],\"keyed\":true,\"round\":1,\"size\":2,\"ward\":7}]}"
+    );
+    let allowed = Verb::Get;
+    assert_eq!(&rt;
+        Response::denied(Denial::MethodNotAllowed { allowed })
+            .bytes
+            .as_slice(),
+        b"HTTP/1.1 405 Method Not Allowed\r\nContent-Type: application/json\r\nContent-Length: 30\r\nAllow: GET\r\nConnection: close\r\n\r\n{\"error\":\"method not allowed\"}".as_slice()
+    );
+    Ok(())
+}

@@ -1,0 +1,32 @@
+//! Why a request wasn't read.
+
+ghost use Rattle.std.specs.Prelude.{◌≡◌};
+ghost use Rattle.wire.specs.declared.unread.Unread.TheVariants.{Broken, Memory};
+
+use std::alloc::AllocError;
+use votes::Broken;
+
+/// Why a request wasn't read.
+#[derive(Clone, Copy, Debug, PartialEq, Eq)]
+pub enum Unread {
+    /// The source failed, and counts one failure more.
+    Broken,
+    /// Memory was wanting.
+    Memory,
+}
+
+impl From<Broken> for Unread {
+    ghost from_gives = { λ _ why. why ≡ Broken };
+
+    fn from(_: Broken) -> Unread {
+        Unread::Broken
+    }
+}
+
+impl From<AllocError> for Unread {
+    ghost from_gives = { λ _ why. why ≡ Memory };
+
+    fn from(_: AllocError) -> Unread {
+        Unread::Memory
+    }
+}
