@@ -15,11 +15,13 @@ ghost use Rattle.std.specs.Prelude.{◌≡◌, ◌+◌, ◌-◌, ◌^◌, ◌<�
 mod tests;
 
 use desk::perform::perform;
-use desk::{Failure, Order, Progress, WordsFault, order, tell_failure, tell_words};
+use desk::{Failure, Order, Progress, WordsFault, order, serve_on, tell_failure, tell_words};
+use office::Office;
 use sqlite::{Alter, Connection, Wary};
 use std::alloc::Global;
 use std::fs::File;
 use std::io::IsTerminal;
+use std::net::{Ipv4Addr, TcpListener};
 use std::process::ExitCode;
 use std::{env, io};
 use store::Fault;
@@ -62,12 +64,46 @@ fn perform_on<S: Alter, O: Sink, E: Sink>(
     requires out { O.failed out.old < 2 ^ 64 - 1 }
     requires err { E.failed err.old < 2 ^ 64 - 1 }
 {
+    if let Order::Serve { port, connections } = order {
+        return serve(rt, conn, *port, *connections, err);
+    }
     let file = order.file().and_then(|path| File::open(rt, path).ok());
     if wants_progress(rt, order) {
         let mut watched = Progress::new(out, rt.stderr());
         return perform(rt.alloc(), order, conn, file, &mut watched, err);
     }
     perform(rt.alloc(), order, conn, file, out, err)
+}
+
+/// Listens on a port of this machine.
+fn listen(rt: &HostRuntime, port: u32) -> Option<TcpListener> {
+    let port = u16::try_from(port).ok()?;
+    TcpListener::bind(rt, (Ipv4Addr::LOCALHOST, port)).ok()
+}
+
+/// Answers so many connections on a port of this machine, over an opened connection to the database.
+fn serve<S: Alter, E: Sink>(
+    rt: &HostRuntime,
+    conn: Connection<S>,
+    port: u32,
+    connections: u32,
+    err: &mut E,
+) -> (u8, Connection<S>)
+    requires { E.failed err.old < 2 ^ 64 - 1 }
+{
+    let mut office = match Office::open_from(rt.alloc(), conn) {
+        Ok(office) => office,
+        Err((fault, conn)) => return (tell_failure(Failure::Office(fault), err), conn),
+    };
+    let served = match listen(rt, port) {
+        Some(listener) => serve_on(rt.alloc(), &listener, connections, &mut office),
+        None => Err(Failure::Output),
+    };
+    let status = match served {
+        Ok(()) => 0,
+        Err(failure) => tell_failure(failure, err),
+    };
+    (status, office.into_connection())
 }
 
 /// Does an order over the database at a path, which is made if it is missing: an empty file is no office

@@ -4,8 +4,12 @@
 mod steps;
 // The one store of these tests.
 mod disks;
+// Clients over HTTP.
+mod clients;
 // The tests.
+mod clerks;
 mod counts;
+mod http;
 mod imports;
 mod keyings;
 mod lists;
@@ -13,6 +17,7 @@ mod lots;
 mod nominations;
 mod order_stops;
 mod orders;
+mod sockets;
 mod statements;
 mod stops;
 mod words;

@@ -31,6 +31,13 @@ entry_of e = record { name = e.name.now; words = map word_of e.words.now }
 abbrev pub number : Text → WordEntry
 number name = record { name = name; kind = kind.Number }
 
+-- a word that is a port, and one that is a number of connections
+abbrev pub port : Text → WordEntry
+port name = record { name = name; kind = kind.Port }
+
+abbrev pub connections : Text → WordEntry
+connections name = record { name = name; kind = kind.Connections }
+
 -- a word that is any text
 abbrev pub text : Text → WordEntry
 text name = record { name = name; kind = kind.Text }
@@ -67,6 +74,7 @@ orders =
     ∷ takes (codes "status") (number (codes "WARD") ∷ [])
     ∷ takes (codes "sheet") (number (codes "WARD") ∷ [])
     ∷ takes (codes "result") (number (codes "WARD") ∷ [])
+    ∷ takes (codes "serve") (port (codes "PORT") ∷ connections (codes "CONNECTIONS") ∷ [])
     ∷ []
 
 -- a value of an order; a verdict is none where its word says none
@@ -94,3 +102,4 @@ told (order.Declare ward id) = (codes "declare", numbered ward ∷ worded id.now
 told (order.Status ward) = (codes "status", numbered ward ∷ [])
 told (order.Sheet ward) = (codes "sheet", numbered ward ∷ [])
 told (order.Result ward) = (codes "result", numbered ward ∷ [])
+told (order.Serve port connections) = (codes "serve", numbered port ∷ numbered connections ∷ [])

@@ -80,6 +80,7 @@ pub data Work : Type 0 where
   importing_keying : KeyingFile → Work
   telling_status : ℕ → Work
   printing : ℕ → WardText → Work
+  serving : ℕ → ℕ → Work
 
 -- what a task is
 abbrev pub work_of : Task → Work
@@ -89,6 +90,7 @@ work_of (task.ImportCandidates id) = importing_candidates id.now
 work_of (task.ImportKeying keying) = importing_keying keying
 work_of (task.TellStatus ward) = telling_status ward
 work_of (task.Print ward text) = printing ward text
+work_of (task.Serve port connections) = serving port connections
 
 -- what each order is done by
 abbrev pub work_for : Order → Work
@@ -109,6 +111,7 @@ work_for (order.Declare ward id) = sending (by_office id.now (ward_to_declare wa
 work_for (order.Status ward) = telling_status ward
 work_for (order.Sheet ward) = printing ward ward_text.Sheet
 work_for (order.Result ward) = printing ward ward_text.Declaration
+work_for (order.Serve port connections) = serving port connections
 
 -- the file that an order names
 abbrev pub file_of : Order → Option Text

@@ -5,6 +5,7 @@ use Rattle.std.specs.List.{list_any}
 use Rattle.std.specs.Str.{bytes_eq}
 use Rattle.clap.specs.Words.{App, Row, Rule, Text, first_of, new_app, new_rule, one_of, with_rule, with_subcommand}
 use Rattle.clap.specs.Simple.{on_top}
+use Rattle.clap.specs.declared.builder.value_parser.ValueParser.{ValueParser}
 use Rattle.clap.specs.declared.builder.value_parser.ValueParser.TheVariants as parser
 use Rattle.desk.specs.declared.table.Kind.{Kind}
 use Rattle.desk.specs.declared.table.Kind.TheVariants as kind
@@ -12,9 +13,19 @@ use Rattle.desk.specs.Numbers.{number_of}
 use Rattle.desk.specs.Orders.{OrderEntry, Value, WordEntry, judged, numbered, orders, worded}
 use Rattle.desk.specs.Verdicts.{judgement_in}
 
--- a word that is a number of 0 to 4294967295
-abbrev pub number_rule : Text → Rule
-number_rule name = record (new_rule name) { parser = Some (parser.Signed (pos 0) (pos 4294967295)); required = true }
+-- the numbers that a word may be
+abbrev pub any_number : ValueParser
+any_number = parser.Signed (pos 0) (pos 4294967295)
+
+abbrev pub any_port : ValueParser
+any_port = parser.Signed (pos 1) (pos 65535)
+
+abbrev pub any_connections : ValueParser
+any_connections = parser.Signed (pos 1) (pos 1000000)
+
+-- a word that is one of some numbers
+abbrev pub number_rule : ValueParser → Text → Rule
+number_rule numbers name = record (new_rule name) { parser = Some numbers; required = true }
 
 -- a word that is any text
 abbrev pub text_rule : Text → Rule
@@ -26,7 +37,9 @@ id_rule name = record (new_rule name) { long = Some name; value_names = 1; requi
 
 -- what `clap` is told of a word
 abbrev pub rule_of_kind : Kind → Text → Rule
-rule_of_kind kind.Number = number_rule
+rule_of_kind kind.Number = number_rule any_number
+rule_of_kind kind.Port = number_rule any_port
+rule_of_kind kind.Connections = number_rule any_connections
 rule_of_kind kind.Text = text_rule
 rule_of_kind kind.Verdict = text_rule
 rule_of_kind kind.Id = id_rule
@@ -65,6 +78,8 @@ text_at name rows = unwrap_or (first_of name rows) []
 -- the value that the matches give a word
 abbrev pub value_of_kind : Kind → List Row → Text → Value
 value_of_kind kind.Number rows name = numbered (number_at name rows)
+value_of_kind kind.Port rows name = numbered (number_at name rows)
+value_of_kind kind.Connections rows name = numbered (number_at name rows)
 value_of_kind kind.Text rows name = worded (text_at name rows)
 value_of_kind kind.Verdict rows name = judged (judgement_in (text_at name rows))
 value_of_kind kind.Id rows name = worded (text_at name rows)

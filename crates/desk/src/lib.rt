@@ -2,8 +2,9 @@
 //!
 //! [`order`](words) reads the words to an [`Order`](orders), and [`perform`](perform) does an order over an
 //! opened connection, to any store of `sqlite`, and prints its lines. An order may read a file, whose path
-//! [`file`](orders) tells. Words that are no order, and other failures, are told by [`lines`](lines).
-//! Which files and outputs these are, the program says.
+//! [`file`](orders) tells. Words that are no order, and other failures, are told by [`lines`](lines). An
+//! order to serve is followed by [`serve_on`](serving), over an opened office. Which files, outputs and
+//! sockets these are, the program says.
 //!
 //! ```text
 //! match order(alloc, words) {
@@ -29,6 +30,7 @@ pub mod perform;
 mod printing;
 pub mod progress;
 mod sending;
+pub mod serving;
 mod standing;
 
 pub use lines::{Failure, tell_failure, tell_words};
@@ -36,4 +38,5 @@ pub use orders::{
     Drawing, Judging, KeyingFile, NewBatch, NewCandidate, NewWard, Order, VerdictWord, Withdrawal,
 };
 pub use progress::Progress;
+pub use serving::serve_on;
 pub use words::{WordsFault, order};

@@ -10,8 +10,8 @@ use crate::orders::{
     Drawing, Judging, KeyingFile, NewBatch, NewCandidate, NewWard, Order, Withdrawal,
 };
 use crate::table::{
-    BATCH, CANDIDATE, CLERK, FILE, FIRST_CLERK, ID, NAME, PAPER, ROUND, SEATS, SECOND_CLERK, SIZE,
-    STAGE, VERDICT, WARD, Word,
+    BATCH, CANDIDATE, CLERK, CONNECTIONS, FILE, FIRST_CLERK, ID, NAME, PAPER, PORT, ROUND, SEATS,
+    SECOND_CLERK, SIZE, STAGE, VERDICT, WARD, Word,
 };
 use crate::verdicts::verdict_in;
 use clap::ArgMatches;
@@ -201,6 +201,15 @@ fn result<'a>(matches: &ArgMatches<'a>) -> Order<'a>
     }
 }
 
+fn serve<'a>(matches: &ArgMatches<'a>) -> Order<'a>
+    ensures { meaning_of (codes "serve") (rows_of (found_of matches.now)) ≡ Some (told result) }
+{
+    Order::Serve {
+        port: number_in(matches, PORT),
+        connections: number_in(matches, CONNECTIONS),
+    }
+}
+
 /// The order of this name, with the values that were matched.
 fn order_named<'a>(name: &str, matches: &ArgMatches<'a>) -> Result<Order<'a>, NoOrder>
     ensures ok { IfOk result (λ o. meaning_of name.now (rows_of (found_of matches.now)) ≡ Some (told o)) }
@@ -225,6 +234,7 @@ fn order_named<'a>(name: &str, matches: &ArgMatches<'a>) -> Result<Order<'a>, No
         "status" => Ok(status(matches)),
         "sheet" => Ok(sheet(matches)),
         "result" => Ok(result(matches)),
+        "serve" => Ok(serve(matches)),
         _ => Err(NoOrder::Unknown),
     }
 }

@@ -115,6 +115,8 @@ pub enum Order<'a> {
     Sheet { ward: u32 },
     /// Print the declaration of a ward.
     Result { ward: u32 },
+    /// Answer so many connections on a port of this machine.
+    Serve { port: u32, connections: u32 },
 }
 
 impl<'a> Order<'a> {

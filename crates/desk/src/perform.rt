@@ -42,6 +42,9 @@ fn make_office<S: Alter, O: Sink, E: Sink>(
 /// `out`; 1 where a request or the file was
 /// refused and 3 at a fault, which `err` is told; and 3 where one of the two failed. What was replied
 /// before the first refusal or fault stands.
+///
+/// An order to serve needs a socket, which is none of these: `serve_on` follows it, and here it is told as
+/// a failed one.
 pub fn perform<S: Alter, R: Read + Drop, O: Sink, E: Sink>(
     alloc: Global,
     order: &Order<'_>,
@@ -61,6 +64,7 @@ pub fn perform<S: Alter, R: Read + Drop, O: Sink, E: Sink>(
         Ok(Task::ImportKeying(keying)) => import_keying(alloc, conn, keying, file, out, err),
         Ok(Task::TellStatus { ward }) => tell_standing(alloc, conn, ward, out, err),
         Ok(Task::Print { ward, text }) => print_text(alloc, conn, ward, text, out, err),
+        Ok(Task::Serve { .. }) => (tell_failure(Failure::Output, err), conn),
         Err(AllocError) => (tell_failure(Failure::Office(Fault::Memory), err), conn),
     }
 }

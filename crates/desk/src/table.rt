@@ -12,6 +12,10 @@ ghost use Rattle.desk.specs.Orders.{entry_of, orders};
 pub(crate) enum Kind {
     /// A number of 0 to 4294967295.
     Number,
+    /// A port, 1 to 65535.
+    Port,
+    /// A number of connections, 1 to 1000000.
+    Connections,
     /// Any text.
     Text,
     /// A verdict: `accept:` and a marks text, or `reject:` and a number of 0 to 4294967295.
@@ -120,6 +124,24 @@ pub(crate) const FILE: Word = Word {
     help: "The import file",
 };
 
+/// The highest port.
+pub(crate) const MAX_PORT: i64 = 65535;
+
+/// The most connections that one order answers.
+pub(crate) const MAX_CONNECTIONS: i64 = 1_000_000;
+
+pub(crate) const PORT: Word = Word {
+    name: "PORT",
+    kind: Kind::Port,
+    help: "The port of this machine, 1 to 65535",
+};
+
+pub(crate) const CONNECTIONS: Word = Word {
+    name: "CONNECTIONS",
+    kind: Kind::Connections,
+    help: "How many connections are answered, 1 to 1000000",
+};
+
 pub(crate) const ID: Word = Word {
     name: "id",
     kind: Kind::Id,
@@ -127,7 +149,7 @@ pub(crate) const ID: Word = Word {
 };
 
 /// All orders, in the sequence of an election.
-const ORDERS: [Entry; 17] = [
+const ORDERS: [Entry; 18] = [
     Entry {
         name: "init",
         words: &[],
@@ -212,6 +234,11 @@ const ORDERS: [Entry; 17] = [
         name: "result",
         words: &[WARD],
         help: "Prints the declaration of a declared ward:\nresult 7",
+    },
+    Entry {
+        name: "serve",
+        words: &[PORT, CONNECTIONS],
+        help: "Answers clerks over HTTP on this machine, so many connections:\nserve 8080 1000",
     },
 ];
 

@@ -27,6 +27,8 @@ pub(crate) enum Task<'a> {
     TellStatus { ward: u32 },
     /// This text of this ward is to be printed.
     Print { ward: u32, text: Text },
+    /// So many connections on a port are to be answered.
+    Serve { port: u32, connections: u32 },
 }
 
 /// Sends a command of the office itself.
@@ -69,6 +71,10 @@ pub(crate) fn task_for<'a>(alloc: Global, order: &Order<'a>) -> Result<Task<'a>,
         Order::Result { ward } => Ok(Task::Print {
             ward: *ward,
             text: Text::Declaration,
+        }),
+        Order::Serve { port, connections } => Ok(Task::Serve {
+            port: *port,
+            connections: *connections,
         }),
     }
 }

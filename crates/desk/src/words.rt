@@ -8,8 +8,9 @@ ghost use Rattle.desk.specs.Words.{has_bad_verdict, id_rule, meaning, number_rul
 
 use crate::matched::{NoOrder, order_in};
 use crate::orders::Order;
-use crate::table::{Entry, Kind, Word, entries};
+use crate::table::{Entry, Kind, MAX_CONNECTIONS, MAX_PORT, Word, entries};
 use clap::error::ErrorKind;
+use clap::builder::ValueParser;
 use clap::{Arg, Command, Error, value_parser};
 use std::alloc::{AllocError, Global};
 
@@ -40,19 +41,20 @@ pub enum WordsFault {
     Words { text: String, status: u8 },
 }
 
-/// Adds a word that is a number of 0 to 4294967295.
+/// Adds a word that is a number, as a parser takes it.
 fn with_number<'a>(
     alloc: Global,
     command: Command<'a>,
     name: &'a str,
     help: &'a str,
+    parser: ValueParser<'a>,
 ) -> Result<Command<'a>, AllocError>
-    ensures app { IfOk result (λ c. app_of c ≡ with_rule (app_of command.entry) (number_rule name.entry.now)) }
+    ensures app { IfOk result (λ c. app_of c ≡ with_rule (app_of command.entry) (number_rule parser.entry name.entry.now)) }
     ensures local { (fields_of command.entry).has_globals ≡ false → IfOk result (λ c. (fields_of c).has_globals ≡ false) }
 {
     let arg = Arg::new(alloc, name)
         .help(help)
-        .value_parser(value_parser!(u32))
+        .value_parser(parser)
         .required(true);
     Ok(command.arg(arg)?)
 }
@@ -94,7 +96,15 @@ fn with_word<'a>(alloc: Global, command: Command<'a>, word: Word) -> Result<Comm
     ensures local { (fields_of command.entry).has_globals ≡ false → IfOk result (λ c. (fields_of c).has_globals ≡ false) }
 {
     match word.kind {
-        Kind::Number => with_number(alloc, command, word.name, word.help),
+        Kind::Number => with_number(alloc, command, word.name, word.help, value_parser!(u32)),
+        Kind::Port => {
+            let parser = value_parser!(u32).range(1..=MAX_PORT);
+            with_number(alloc, command, word.name, word.help, parser)
+        }
+        Kind::Connections => {
+            let parser = value_parser!(u32).range(1..=MAX_CONNECTIONS);
+            with_number(alloc, command, word.name, word.help, parser)
+        }
         Kind::Text | Kind::Verdict => with_text(alloc, command, word.name, word.help),
         Kind::Id => with_id(alloc, command, word.name, word.help),
     }

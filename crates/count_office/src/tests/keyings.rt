@@ -22,7 +22,9 @@ pub const POLLED: Told<'static> = (0, "ward 7 polled\n", "");
 
 pub const STATUS: Step<'static> = Step::Order(&["DB", "status", "7"]);
 
-const TWELVE: Step<'static> = Step::Order(&["DB", "batch", "12", "7", "2", "4", "9", "--id", "b1"]);
+pub const TWELVE: Step<'static> = Step::Order(&[
+    "DB", "batch", "12", "7", "2", "4", "9", "--id", "b1",
+]);
 
 /// Ward 7 with three candidates and two seats in keying; batch 12 of two papers for the clerks 4 and 9,
 /// and batch 13 of one paper for the clerks 9 and 5.

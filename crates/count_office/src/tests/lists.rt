@@ -20,7 +20,7 @@ fn office_asks(alloc: Global, id: &str, command: Command) -> Result<Request, All
 }
 
 /// A clerk's keying of two papers of batch 12, the second of which is doubtful.
-fn keying(alloc: Global, clerk: u32, id: &str, marks: &str) -> Result<Request, AllocError> {
+pub fn keying(alloc: Global, clerk: u32, id: &str, marks: &str) -> Result<Request, AllocError> {
     let papers = vec![in alloc;
         String::from_str(alloc, marks)?,
         String::from_str(alloc, "D")?,
@@ -37,7 +37,7 @@ fn keying(alloc: Global, clerk: u32, id: &str, marks: &str) -> Result<Request, A
 }
 
 /// Ward 7 with three candidates, and batch 12 of it.
-fn begun(alloc: Global) -> Result<Vec<Request>, AllocError> {
+pub fn begun(alloc: Global) -> Result<Vec<Request>, AllocError> {
     let ward = WardCommand::Add {
         ward: 7,
         seats: 2,

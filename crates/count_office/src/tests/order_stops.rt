@@ -2,9 +2,10 @@
 //! again, or all that the order makes, and the same order given again ends as if nothing had happened.
 
 use super::disks::{Disks, File};
+use super::http::{GIVEN_OUT, KEYED, KEYING};
 use super::keyings::{CANDIDATES, CANDIDATES_ADDED, CLOSE, POLLED};
 use super::orders::{ADDED, HARBOUR, INIT, READY};
-use super::steps::{Case, STOPPED, Step};
+use super::steps::{Case, Step};
 use std::process::Abort;
 use std::test::Fail;
 
@@ -28,7 +29,7 @@ fn stop_once(
     let (said, left) = disks.play(rt.alloc(), &[order])?;
     let answered = match said.as_slice() {
         [] => false,
-        [said] if said.told() == STOPPED => false,
+        [said] if said.is_stopped() => false,
         [said] => {
             assert_eq!(rt; said.told(), reply, "{order:?}");
             true
@@ -223,4 +224,22 @@ fn a_keying_stops_whole_at_its_log(rt: HostRuntime) -> Result<(), Fail> {
 #[test]
 fn a_keying_stops_whole_at_its_database(rt: HostRuntime) -> Result<(), Fail> {
     stop_a_keying(&rt, File::Database)
+}
+
+/// A keying over HTTP.
+fn stop_a_client(rt: &(impl Abort + AllocGlobal), file: File) -> Result<(), Fail> {
+    let disks = Disks::lasting(rt.alloc()).hear(rt, &GIVEN_OUT)?;
+    let keying = (Step::Ask(KEYING), (0, KEYED, "Answered(200)"));
+    stop_each(rt, disks, keying, file)?;
+    Ok(())
+}
+
+#[test]
+fn a_keying_over_http_stops_whole_at_its_log(rt: HostRuntime) -> Result<(), Fail> {
+    stop_a_client(&rt, File::Log)
+}
+
+#[test]
+fn a_keying_over_http_stops_whole_at_its_database(rt: HostRuntime) -> Result<(), Fail> {
+    stop_a_client(&rt, File::Database)
 }

@@ -2,16 +2,19 @@
 
 ghost use Rattle.std.specs.Prelude.{◌≡◌, ◌+◌, ◌-◌, ◌^◌, ◌<◌};
 
+use super::clients::{Client, Taking};
 use desk::perform::perform;
-use desk::{WordsFault, order};
+use desk::{WordsFault, order, serve_on};
 use office::{Answer, Office, Run, Stop, Work};
 use register::Request;
 use sqlite::{Alter, Connection};
 use std::alloc::{AllocError, Global};
 use std::io;
 use std::io::{ErrorKind, Write};
+use std::net::TcpListener;
 use std::test::Fail;
 use votes::{Counted, Sink};
+use wire::serve_one;
 
 /// One step of a script.
 #[derive(Clone, Copy, Debug)]
@@ -26,6 +29,13 @@ pub enum Step<'a> {
     List(&'a [Request]),
     /// The office opened, and asked for the work of a clerk; what it tells stands as the output.
     Work(u32),
+    /// The office opened, and a client answered that sends these bytes; what it took stands as the output,
+    /// and how the connection ended as the error output.
+    Ask(&'a [u8]),
+    /// The same of a client whose connection may break.
+    Serve(Client<'a>),
+    /// The office opened, and so many connections answered; how that ended stands as the output.
+    Listen(&'a TcpListener, u32),
     /// Statements, whatever is in the database.
     Change(&'a str),
     /// Every row of every table, as the output.
@@ -40,6 +50,9 @@ pub type Case<'a> = (Step<'a>, Told<'a>);
 
 /// What an order is told that the store stopped, and never that memory was wanting.
 pub const STOPPED: Told<'static> = (3, "", "fault 102: store\n");
+
+/// What a client is told then.
+const STOPPED_BODY: &str = "{\"fault\":102}";
 
 /// What a step printed.
 #[derive(Debug, Drop)]
@@ -56,6 +69,11 @@ impl Said {
             out,
             err: String::new(alloc),
         }
+    }
+
+    /// It was told that the store stopped, by an order or over HTTP.
+    pub fn is_stopped(&self) -> bool {
+        self.told() == STOPPED || self.out.as_str().ends_with(STOPPED_BODY)
     }
 
     pub fn told(&self) -> Told<'_> {
@@ -165,6 +183,55 @@ fn work<S: Alter + Drop>(
     Ok((Said::quietly(alloc, text), conn))
 }
 
+fn serve<S: Alter + Drop>(
+    alloc: Global,
+    conn: Connection<S>,
+    client: Client<'_>,
+) -> Result<(Said, Connection<S>), Fail> {
+    let mut office = match Office::open_from(alloc, conn) {
+        Ok(office) => office,
+        Err((_, conn)) => {
+            let (status, out, err) = STOPPED;
+            let out = String::from_str(alloc, out)?;
+            let err = String::from_str(alloc, err)?;
+            return Ok((Said { status, out, err }, conn));
+        }
+    };
+    let mut reader = Counted::new(client.sending());
+    let mut taking = client.taking(alloc);
+    let served = {
+        let mut writer = Counted::new(&mut taking);
+        serve_one(alloc, &mut reader, &mut writer, &mut office)
+    };
+    let conn = office.into_connection();
+    let Taking { taken, .. } = taking;
+    let out = String::from_utf8(taken)?;
+    let err = format!(in alloc; "{served:?}")?;
+    Ok((
+        Said {
+            status: 0,
+            out,
+            err,
+        },
+        conn,
+    ))
+}
+
+fn listen<S: Alter + Drop>(
+    alloc: Global,
+    conn: Connection<S>,
+    listener: &TcpListener,
+    connections: u32,
+) -> Result<(Said, Connection<S>), Fail> {
+    let Ok(mut office) = Office::open_from(alloc, conn) else {
+        return Err(Fail::from("no office is opened"));
+    };
+    let served = serve_on(alloc, listener, connections, &mut office);
+    let conn = office.into_connection();
+    let text = format!(in alloc; "{served:?}")?;
+    Ok((Said::quietly(alloc, text), conn))
+}
+
 const TABLES: &str = "SELECT name FROM sqlite_schema WHERE type = 'table' ORDER BY name";
 
 /// Every row of every table, in the order of the tables' names.
@@ -209,6 +276,9 @@ fn done<S: Alter + Drop>(
         }
         Step::List(requests) => list(alloc, conn, requests),
         Step::Work(clerk) => work(alloc, conn, clerk),
+        Step::Ask(sends) => serve(alloc, conn, Client::whole(sends)),
+        Step::Serve(client) => serve(alloc, conn, client),
+        Step::Listen(listener, connections) => listen(alloc, conn, listener, connections),
         Step::Change(statements) => {
             conn.execute_batch(statements)?;
             Ok((Said::quietly(alloc, String::new(alloc)), conn))
@@ -230,7 +300,7 @@ pub fn play<S: Alter + Drop>(
     for step in script {
         let (last, back) = done(alloc, conn, *step)?;
         conn = back;
-        let stopped = last.told() == STOPPED;
+        let stopped = last.is_stopped();
         said.push(last)?;
         if stopped {
             break;

@@ -1,0 +1,36 @@
+//! Connections over loopback, in one process with their clients.
+
+use super::disks::Disks;
+use super::http::{BAD_REQUEST, GIVEN_OUT, KEYED, KEYING};
+use super::steps::Step;
+use std::io::{Read, Write};
+use std::net::{OpenListener, OpenStream, Shutdown, TcpListener, TcpStream};
+use std::process::Abort;
+use std::test::Fail;
+
+/// A client that has sent its whole request.
+fn connected(rt: &HostRuntime, listener: &TcpListener, sends: &[u8]) -> Result<TcpStream, Fail> {
+    let mut stream = TcpStream::connect(rt, listener.local_addr()?)?;
+    stream.write_all(sends)?;
+    stream.shutdown(Shutdown::Write)?;
+    Ok(stream)
+}
+
+/// What a client is sent.
+fn received(rt: &HostRuntime, mut stream: TcpStream) -> Result<String, Fail> {
+    let mut text = Vec::new(rt.alloc());
+    stream.read_to_end(&mut text)?;
+    Ok(String::from_utf8(text)?)
+}
+
+#[test]
+fn connections_are_answered_in_turn(rt: HostRuntime) -> Result<(), Fail> {
+    let disks = Disks::lasting(rt.alloc()).hear(&rt, &GIVEN_OUT)?;
+    let listener = TcpListener::bind(&rt, "127.0.0.1:0")?;
+    let first = connected(&rt, &listener, b"X\r\n\r\n")?;
+    let second = connected(&rt, &listener, KEYING)?;
+    disks.hear(&rt, &[(Step::Listen(&listener, 2), (0, "Ok(())", ""))])?;
+    assert_eq!(rt; received(&rt, first)?.as_str(), BAD_REQUEST);
+    assert_eq!(rt; received(&rt, second)?.as_str(), KEYED);
+    Ok(())
+}

@@ -1,0 +1,65 @@
+#!/usr/bin/env bash
+# Plays a keying over HTTP: two clerks ask for their work, key a batch from a client, and the sheet is asked for.
+source "$(dirname "$(readlink -f "${BASH_SOURCE[0]}")")/play.bash"
+
+# Asks the office that serves: a target, and for a keying its body.
+ask() {
+    local target=$1 port=$2
+    shift 2
+    echo "\$ curl ${*:+-d '$2' }$target"
+    curl --silent --show-error --max-time 60 --write-out '\nstatus %{http_code}\n' "$@" "http://127.0.0.1:$port$target"
+}
+
+# Serves so many connections on a port that is free, until the commands of a function have been played.
+serve() {
+    local connections=$1 port server tries=0
+    shift
+    port=$((20000 + RANDOM % 20000))
+    (cd "$folder" && exec "$office" town.db serve "$port" "$connections") &
+    server=$!
+    # The office answers once it was opened; a connection that isn't accepted isn't counted.
+    until (exec 3<>"/dev/tcp/127.0.0.1/$port") 2>/dev/null; do
+        tries=$((tries + 1))
+        [[ $tries -lt 200 ]] || { echo "no office answers on port $port"; return 1; }
+        sleep 0.05
+    done
+    "$@" "$port"
+    wait "$server" && echo "the office ends with status 0"
+}
+
+key() {
+    local port=$1 keyed='{"id":"k1","round":1,"papers":["1,2,","D"]}'
+    ask /clerks/4/work "$port"
+    ask /clerks/4/batches/12/keying "$port" -d "$keyed"
+    ask /clerks/4/batches/12/keying "$port" -d "$keyed"
+    ask /clerks/4/batches/12/keying "$port" -d '{"id":"k2","round":1,"papers":["1,2,","D"]}'
+    ask /clerks/9/batches/12/keying "$port" -d "$keyed"
+    ask /clerks/4/work "$port"
+    ask /wards/7/sheet "$port"
+    ask /wards/07/sheet "$port"
+    ask /wards/7/sheet "$port" -d ''
+}
+
+read_count() {
+    local port=$1
+    ask /wards/7/sheet "$port"
+    ask /wards/7/result "$port"
+}
+
+{
+    play town.db init
+    play town.db ward 7 1 Harbour --id w1
+    play town.db candidate 7 1 Ann --id c1
+    play town.db candidate 7 2 Bob --id c2
+    play town.db candidate 7 3 Cy --id c3
+    play town.db close 7 --id w2
+    play town.db batch 12 7 2 4 9 --id b1
+    # The connection that tried the port is one of those that are answered.
+    serve 10 key
+    play town.db judge 12 2 accept:1,,2 --id j1
+    play town.db seal 7 --id s1
+    play town.db advance 7 --id n1
+    serve 3 read_count
+} >"$folder/played"
+
+compare http
