@@ -1,6 +1,8 @@
 //! What requests ask, of readers that give all at once, one byte at a time, and that fail; and the bytes of
 //! answers.
 
+ghost use Rattle.std.specs.Prelude.{◌-◌, ◌^◌, ◌<◌};
+
 use crate::bodies::{fault_body, refusal_body, reply_body};
 use crate::head::{MAX_HEAD_BYTES, MAX_HEADERS};
 use crate::length::MAX_BODY_BYTES;
@@ -40,7 +42,9 @@ impl<'a> Read for Slow<'a> {
 }
 
 /// What is asked, in short.
-fn asked_text<R: Source>(alloc: Global, reader: &mut R) -> Result<String, fmt::Error> {
+fn asked_text<R: Source>(alloc: Global, reader: &mut R) -> Result<String, fmt::Error>
+    requires { R.failed reader.old < 2 ^ 64 - 1 }
+{
     let mut text = String::new(alloc);
     match read_asked(alloc, reader) {
         Ok(Asked::Keying(keying)) => {
