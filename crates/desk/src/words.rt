@@ -9,8 +9,8 @@ ghost use Rattle.desk.specs.Words.{has_bad_verdict, id_rule, meaning, number_rul
 use crate::matched::{NoOrder, order_in};
 use crate::orders::Order;
 use crate::table::{Entry, Kind, MAX_CONNECTIONS, MAX_PORT, Word, entries};
-use clap::error::ErrorKind;
 use clap::builder::ValueParser;
+use clap::error::ErrorKind;
 use clap::{Arg, Command, Error, value_parser};
 use std::alloc::{AllocError, Global};
 
