@@ -1,4 +1,5 @@
 pub mod NumbersRead
 pub mod FrontsRead
 pub mod OrdersNamed
+pub mod PageLemmas
 pub mod SentLemmas

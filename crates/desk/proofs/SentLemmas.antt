@@ -1,34 +1,132 @@
--- Requests that got replies, one after the other.
-use Rattle.std.proofs.Common.{◌≡◌, ◌⊎◌, ◌+◌, ◌<◌, ◌∙◌, ℕ, Bool, List, [], ◌∷◌, length, drop, get_or, inl, inr, refl, sym, ap, subst, arith, add-one, suc}
+-- Requests that are sent one after the other, and what was told of them so far.
+use Rattle.std.proofs.Common.{◌≡◌, ◌≢◌, ◌⊎◌, ◌+◌, ◌<◌, ◌∙◌, inl, inr, ℕ, Bool, true, false, List, [], ◌∷◌, ◌++◌, length, drop, take, get_or, if◌then◌else◌, refl, sym, ap, subst, arith, add-one, suc}
 use Rattle.std.proofs.Math.Seq.{drop-cons}
+use Rattle.std.proofs.KnownBytes.{Appends-nil}
+use Rattle.std.proofs.lemmas.List.{append-nil, append_assoc, take_more, take-append-drop}
 use Rattle.sqlite.specs.State.{State}
 use Rattle.register.specs.Offices.{OfficeState}
 use Rattle.register.specs.Machine.{after, after_one, step_of}
+use Rattle.register.proofs.ListLaws.{after-more}
 use Rattle.register.specs.declared.command.Request.{Request}
-use Rattle.office.specs.Answers.{IsOpenAt}
-use Rattle.desk.specs.Outcomes.{IsOutcomeOf, LeadsTo, status_of}
+use Rattle.keyfile.specs.Faults.{is_stop}
+use Rattle.office.specs.Answers.{IsOpenAt, Told, again, done, no, told_of}
+use Rattle.clap.specs.Words.{Text}
+use Rattle.desk.specs.Errands.{IsAnswered, IsReplyAbove, IsSent}
+use Rattle.desk.specs.Pages.{IsShown, IsWhole, Outputs, Page, Shows, below, empty_page, page_of, page_told, printed, replied}
 use Rattle.desk.specs.declared.lines.Outcome.{Outcome}
 use Rattle.desk.specs.declared.lines.Outcome.TheVariants as outcome
+use Rattle.desk.proofs.PageLemmas.{shown_below}
 
--- an outcome with status 0 leaves the office open at the state after the request
-pub opened : (s : OfficeState) (r : Request) (o : Outcome) (closed : Bool) (st : State) → IsOutcomeOf s (step_of s r) o closed st → status_of o ≡ 0
-    → IsOpenAt (after_one s r) closed st
-opened s r outcome.Ready closed st h zero = absurd h
-opened s r (outcome.Replied reply) closed st (inl h) zero = h.1
-opened s r (outcome.Printed text) closed st h zero = absurd h
-opened s r (outcome.Replied reply) closed st (inr h) zero = h.1
-opened s r (outcome.Refused refusal) closed st h zero = cc
-opened s r (outcome.Unread fault) closed st h zero = absurd h
-opened s r (outcome.Failed fault) closed st h zero = cc
+-- requests that all got replies, and these in lines
+abbrev pub Replies : OfficeState → List Request → Text → Type 0
+Replies s [] said = said ≡ []
+Replies s (r ∷ rs) said = (rest : Text) × IsReplyAbove (told_of (step_of s r)) (printed rest) (printed said) × Replies (after_one s r) rs rest
 
--- the first of the requests that are left got its reply
-pub one_more : (end : OfficeState) (rs : List Request) (i : ℕ) (r : Request) (was : Bool) (before : State) (o : Outcome) (closed : Bool) (st : State) → i < length rs → r ≡ get_or rs i r
-    → (way : LeadsTo end (drop i rs) was before) → IsOutcomeOf way.here (step_of way.here r) o closed st → status_of o ≡ 0 → LeadsTo end (drop (i + 1) rs) closed st
-one_more end rs i r was before o closed st within is way h zero =
-    let next : drop i rs ≡ r ∷ drop (i + 1) rs = drop-cons rs i r within ∙ (ap (λ x. x ∷ drop (suc i) rs) (sym is) ∙ ap (λ n. r ∷ drop n rs) (sym (add-one i))) in
-    record { here = after_one way.here r; open_at = opened way.here r o closed st h zero; leads = sym (ap (after way.here) next) ∙ way.leads }
+-- the office is open where the replies so far led
+pub record SentSo (s : OfficeState) (front : List Request) (said : Text) (closed : Bool) (st : State) : Type 0 where
+  pub open_at : IsOpenAt (after s front) closed st
+  pub replies : Replies s front said
 
--- a told outcome with status 0 has that status itself, and no output failed
-pub replied : {A B : Type 0} (status : ℕ) (o : Outcome) → status ≡ 0 → (status ≡ 3) ⊎ ((status ≡ status_of o) × A × B) → (status_of o ≡ 0) × A × B
-replied status o zero (inl three) = let bad : 3 ≡ 0 = sym three ∙ zero in absurd (omega arith)
-replied status o zero (inr told) = (sym told.0 ∙ zero, told.1, told.2)
+-- the replies so far were told whole
+pub record ToldSo (old new : Outputs) (P : Text → Type 0) : Type 0 where
+  pub said : Text
+  pub shown : IsWhole old new (printed said) 0
+  pub is : P said
+
+pub nothing_told : (old : Outputs) → IsWhole old old (printed []) 0
+nothing_told old = record { out = Appends-nil old.out; out_failed = refl; err = Appends-nil old.err; err_failed = refl; ends = refl }
+
+-- a page with status 0 tells nothing on the error output
+file_ends : (stopped : Bool) (status : ℕ) → status ≡ (if stopped then 3 else 1) → status ≢ 0
+file_ends true status is zero = absurd (omega arith)
+file_ends false status is zero = absurd (omega arith)
+
+silent : (o : Outcome) → (page_of o).status ≡ 0 → (page_of o).err ≡ []
+silent outcome.Ready zero = refl
+silent (outcome.Replied reply) zero = refl
+silent (outcome.Printed text) zero = refl
+silent (outcome.Refused why) zero = absurd (omega arith)
+silent (outcome.Unread fault) zero = absurd (file_ends (is_stop fault.flaw) (page_of (outcome.Unread fault)).status refl zero)
+silent (outcome.Failed fault) zero = absurd (omega arith)
+
+-- an outcome that was told with status 0 was told whole
+whole : (old new : Outputs) (page : Page) (status : ℕ) → status ≡ 0 → Shows old new page status → IsWhole old new page status
+whole old new page status zero (false, shown) = shown
+whole old new page status zero (true, inl cut) = let bad : 3 ≡ 0 = sym cut.ends ∙ zero in absurd (omega arith)
+whole old new page status zero (true, inr cut) = let bad : 3 ≡ 0 = sym cut.ends ∙ zero in absurd (omega arith)
+
+pub status_zero : (old new : Outputs) (page : Page) (status : ℕ) → status ≡ 0 → Shows old new page status → page.status ≡ 0
+status_zero old new page status zero shown = sym (whole old new page status zero shown).ends ∙ zero
+
+-- one reply more
+pub told_more : (old mid new : Outputs) (said : Text) (o : Outcome) (status : ℕ) → status ≡ 0 → IsWhole old mid (printed said) 0 → Shows mid new (page_of o) status → IsWhole old new (printed (said ++ (page_of o).out)) 0
+told_more old mid new said o status zero first next =
+    let it = whole mid new (page_of o) status zero next in
+    let both = shown_below false old mid new said (page_of o) status first it in
+    record { out = both.out; out_failed = both.out_failed; err = rw (silent o (sym it.ends ∙ zero)) at both.err; err_failed = both.err_failed; ends = refl }
+
+reply_above : (t : Told) (page rest : Page) → page ≡ page_told t → page.status ≡ 0 → IsReplyAbove t rest (below page.out rest)
+reply_above (done reply) page rest is zero = rw is refl
+reply_above (again reply) page rest is zero = rw is refl
+reply_above (no why) page rest is zero = let one : page.status ≡ 1 = ap (λ (p : Page). p.status) is in absurd (omega arith)
+
+-- a reply above some that stand above a page
+reply_joined : (t : Told) (rest said : Text) (page : Page) → IsReplyAbove t (printed rest) (printed said) → IsReplyAbove t (below rest page) (below said page)
+reply_joined (done reply) rest said page is = ap (λ (p : Page). below p.out page) is ∙ ap (λ text. record { out = text; err = page.err; status = page.status }) (append_assoc (replied reply).out rest page.out)
+reply_joined (again reply) rest said page is = ap (λ (p : Page). below p.out page) is ∙ ap (λ text. record { out = text; err = page.err; status = page.status }) (append_assoc (replied reply).out rest page.out)
+reply_joined (no why) rest said page is = is
+
+-- one reply more
+replies_more : (s : OfficeState) (front : List Request) (said : Text) (r : Request) (page : Page) → Replies s front said → page ≡ page_told (told_of (step_of (after s front) r)) → page.status ≡ 0
+    → Replies s (front ++ r ∷ []) (said ++ page.out)
+replies_more s [] said r page none is zero =
+    let above = reply_above (told_of (step_of s r)) page (printed []) is zero in
+    ([], rw none (subst (λ text. IsReplyAbove (told_of (step_of s r)) (printed []) (printed text)) (append-nil page.out) above), refl)
+replies_more s (x ∷ rs) said r page so is zero =
+    let rest = replies_more (after_one s x) rs so.0 r page so.2 is zero in
+    (so.0 ++ page.out, reply_joined (told_of (step_of s x)) so.0 said (printed page.out) so.1, rest)
+
+-- what comes of the requests that are left stands below the replies
+replies_then : (broke : Bool) (s : OfficeState) (front left : List Request) (said : Text) (page : Page) (closed : Bool) (st : State) → Replies s front said → IsSent broke (after s front) left page closed st
+    → IsSent broke s (front ++ left) (below said page) closed st
+replies_then broke s [] left said page closed st none sent = rw none sent
+replies_then broke s (x ∷ rs) left said page closed st so sent =
+    inl (below so.0 page, reply_joined (told_of (step_of s x)) so.0 said page so.1, replies_then broke (after_one s x) rs left so.0 page closed st so.2 sent)
+
+next_left : (rs : List Request) (i : ℕ) (r : Request) → i < length rs → r ≡ get_or rs i r → drop i rs ≡ r ∷ drop (i + 1) rs
+next_left rs i r within is = drop-cons rs i r within ∙ (ap (λ x. x ∷ drop (suc i) rs) (sym is) ∙ ap (λ n. r ∷ drop n rs) (sym (add-one i)))
+
+-- the first of the requests that are left got a reply
+pub sent_more : (s : OfficeState) (rs : List Request) (i : ℕ) (r : Request) (said : Text) (was : Bool) (before : State) (page : Page) (closed : Bool) (st : State) → i < length rs → r ≡ get_or rs i r
+    → SentSo s (take i rs) said was before → IsAnswered (after s (take i rs)) (step_of (after s (take i rs)) r) page closed st → page.status ≡ 0 → SentSo s (take (i + 1) rs) (said ++ page.out) closed st
+sent_more s rs i r said was before page closed st within is so answered zero = elim answered [
+  | inl told ↦
+    let one_more : take (i + 1) rs ≡ take i rs ++ r ∷ [] = take_more rs i r within ∙ ap (λ x. take i rs ++ x ∷ []) (sym is) in
+    let there : after_one (after s (take i rs)) r ≡ after s (take (i + 1) rs) = ap (after_one (after s (take i rs))) is ∙ sym (after-more s rs i r within) in
+    record {
+      open_at = subst (λ x. IsOpenAt x closed st) there told.1;
+      replies = subst (λ front. Replies s front (said ++ page.out)) (sym one_more) (replies_more s (take i rs) said r page so.replies told.0 zero);
+    }
+  | inr met ↦ let three : page.status ≡ 3 = ap (λ (p : Page). p.status) met.1 in absurd (omega arith)
+]
+
+-- or it ended the sending
+pub sent_last : (s : OfficeState) (rs : List Request) (i : ℕ) (r : Request) (said : Text) (was : Bool) (before : State) (broke : Bool) (mid new : Outputs) (status : ℕ) (page : Page) (closed : Bool) (st : State)
+    → i < length rs → r ≡ get_or rs i r → SentSo s (take i rs) said was before → IsAnswered (after s (take i rs)) (step_of (after s (take i rs)) r) page closed st → status ≢ 0 → IsShown broke mid new page status
+    → IsSent broke s rs (below said page) closed st
+sent_last s rs i r said was before broke mid new status page closed st within is so answered ends shown =
+    let here : IsSent broke (after s (take i rs)) (r ∷ drop (i + 1) rs) page closed st = inr (by broke shown, answered) in
+    let there = subst (λ left. IsSent broke (after s (take i rs)) left page closed st) (sym (next_left rs i r within is)) here in
+    subst (λ all. IsSent broke s all (below said page) closed st) (take-append-drop i rs) (replies_then broke s (take i rs) (drop i rs) said page closed st so.replies there)
+  where
+    by : (b : Bool) → IsShown b mid new page status → page.status ≡ 0 → b ≡ true
+    by true cut zero = refl
+    by false all zero = absurd (ends (all.ends ∙ zero))
+
+-- all got replies
+pub sent_all : (s : OfficeState) (rs front : List Request) (said : Text) (closed : Bool) (st : State) → front ≡ rs → SentSo s front said closed st → IsSent false s rs (below said empty_page) closed st
+sent_all s rs front said closed st all so =
+    subst (λ xs. IsSent false s xs (below said empty_page) closed st) (append-nil front ∙ all) (replies_then false s front [] said empty_page closed st so.replies (refl, so.open_at))
+
+pub told_all : (old new : Outputs) (said : Text) → IsWhole old new (printed said) 0 → IsWhole old new (below said empty_page) 0
+told_all old new said all = record { out = rw (append-nil said) all.out; out_failed = all.out_failed; err = all.err; err_failed = all.err_failed; ends = refl }

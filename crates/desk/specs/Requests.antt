@@ -19,6 +19,8 @@ use Rattle.desk.specs.Verdicts.{Judgement, accepted, judgement_of, rejected}
 use Rattle.desk.specs.declared.orders.KeyingFile.{KeyingFile}
 use Rattle.desk.specs.declared.orders.Order.{Order}
 use Rattle.desk.specs.declared.orders.Order.TheVariants as order
+use Rattle.desk.specs.declared.tasks.OfficeTask.{OfficeTask}
+use Rattle.desk.specs.declared.tasks.OfficeTask.TheVariants as office_task
 use Rattle.desk.specs.declared.tasks.Task.{Task}
 use Rattle.desk.specs.declared.tasks.Task.TheVariants as task
 use Rattle.desk.specs.declared.requests.TheConstants.{OFFICE}
@@ -72,45 +74,57 @@ sent_as r = record { actor = r.actor; id = string_bytes r.id; asked = asked_by r
 abbrev pub by_office : Text → Asked → Sent
 by_office id asked = record { actor = OFFICE; id = id; asked = asked }
 
+-- what is done in an opened office
+pub data Errand : Type 0 where
+  sending : Sent → Errand
+  importing_candidates : Text → Errand
+  importing_keying : KeyingFile → Errand
+  telling_status : ℕ → Errand
+  printing : ℕ → WardText → Errand
+
 -- what is to be done for an order
 pub data Work : Type 0 where
   making : Work
-  sending : Sent → Work
-  importing_candidates : Text → Work
-  importing_keying : KeyingFile → Work
-  telling_status : ℕ → Work
-  printing : ℕ → WardText → Work
+  running : Errand → Work
   serving : ℕ → ℕ → Work
+
+-- what a task in an opened office is
+abbrev pub errand_of : OfficeTask → Errand
+errand_of (office_task.Send request) = sending (sent_as request)
+errand_of (office_task.ImportCandidates id) = importing_candidates id.now
+errand_of (office_task.ImportKeying keying) = importing_keying keying
+errand_of (office_task.TellStatus ward) = telling_status ward
+errand_of (office_task.Print ward text) = printing ward text
 
 -- what a task is
 abbrev pub work_of : Task → Work
 work_of task.Make = making
-work_of (task.Send request) = sending (sent_as request)
-work_of (task.ImportCandidates id) = importing_candidates id.now
-work_of (task.ImportKeying keying) = importing_keying keying
-work_of (task.TellStatus ward) = telling_status ward
-work_of (task.Print ward text) = printing ward text
+work_of (task.Run errand) = running (errand_of errand)
 work_of (task.Serve port connections) = serving port connections
+
+-- an order of the office itself sends one request
+abbrev pub office_sends : Text → Asked → Work
+office_sends id asked = running (sending (by_office id asked))
 
 -- what each order is done by
 abbrev pub work_for : Order → Work
 work_for order.Init = making
-work_for (order.Ward w) = sending (by_office w.id.now (ward_to_add w.ward w.seats w.name.now))
-work_for (order.Candidate c) = sending (by_office c.id.now (candidate_to_add c.ward c.candidate c.name.now))
-work_for (order.ImportCandidates file id) = importing_candidates id.now
-work_for (order.Withdraw w) = sending (by_office w.id.now (candidate_to_withdraw w.ward w.candidate))
-work_for (order.Close ward id) = sending (by_office id.now (ward_to_close ward))
-work_for (order.Batch b) = sending (by_office b.id.now (batch_to_add b.batch b.ward b.size b.first_clerk b.second_clerk))
-work_for (order.ImportKeying keying) = importing_keying keying
-work_for (order.Again batch id) = sending (by_office id.now (batch_to_key_again batch))
-work_for (order.Judge j) = sending (by_office j.id.now (paper_to_judge j.batch j.paper (judgement_of j.verdict)))
-work_for (order.Seal ward id) = sending (by_office id.now (ward_to_seal ward))
-work_for (order.Advance ward id) = sending (by_office id.now (stage_to_count ward))
-work_for (order.Lot l) = sending (by_office l.id.now (lot_to_record l.ward l.stage l.candidate))
-work_for (order.Declare ward id) = sending (by_office id.now (ward_to_declare ward))
-work_for (order.Status ward) = telling_status ward
-work_for (order.Sheet ward) = printing ward ward_text.Sheet
-work_for (order.Result ward) = printing ward ward_text.Declaration
+work_for (order.Ward w) = office_sends w.id.now (ward_to_add w.ward w.seats w.name.now)
+work_for (order.Candidate c) = office_sends c.id.now (candidate_to_add c.ward c.candidate c.name.now)
+work_for (order.ImportCandidates file id) = running (importing_candidates id.now)
+work_for (order.Withdraw w) = office_sends w.id.now (candidate_to_withdraw w.ward w.candidate)
+work_for (order.Close ward id) = office_sends id.now (ward_to_close ward)
+work_for (order.Batch b) = office_sends b.id.now (batch_to_add b.batch b.ward b.size b.first_clerk b.second_clerk)
+work_for (order.ImportKeying keying) = running (importing_keying keying)
+work_for (order.Again batch id) = office_sends id.now (batch_to_key_again batch)
+work_for (order.Judge j) = office_sends j.id.now (paper_to_judge j.batch j.paper (judgement_of j.verdict))
+work_for (order.Seal ward id) = office_sends id.now (ward_to_seal ward)
+work_for (order.Advance ward id) = office_sends id.now (stage_to_count ward)
+work_for (order.Lot l) = office_sends l.id.now (lot_to_record l.ward l.stage l.candidate)
+work_for (order.Declare ward id) = office_sends id.now (ward_to_declare ward)
+work_for (order.Status ward) = running (telling_status ward)
+work_for (order.Sheet ward) = running (printing ward ward_text.Sheet)
+work_for (order.Result ward) = running (printing ward ward_text.Declaration)
 work_for (order.Serve port connections) = serving port connections
 
 -- the file that an order names
@@ -141,7 +155,7 @@ requests_for id (Err fault) = Err fault
 abbrev pub keying_by : KeyingFile → List Text → Sent
 keying_by k papers = record { actor = k.clerk; id = k.id.now; asked = keying_to_keep k.batch k.round papers }
 
--- the request for the papers of a file
-abbrev pub keying_for : KeyingFile → Result (List Text) FileFault → Result Sent FileFault
-keying_for k (Ok papers) = Ok (keying_by k papers)
-keying_for k (Err fault) = Err fault
+-- the one request for the papers of a file
+abbrev pub keyings_for : KeyingFile → Result (List Text) FileFault → Result (List Sent) FileFault
+keyings_for k (Ok papers) = Ok (keying_by k papers ∷ [])
+keyings_for k (Err fault) = Err fault

@@ -1,27 +1,25 @@
-//! Orders that send the requests of a whole file.
+//! The requests that import files hold.
 
-ghost use Rattle.std.specs.Prelude.{◌≡◌, ◌⊎◌, ◌+◌, ◌-◌, ◌^◌, ◌<◌, map, IfErr, IfNone, IfOk, IfSome, Err, Ok};
+ghost use Rattle.std.specs.Prelude.{option_map, [], ◌∷◌, IfErr, IfOk};
+ghost use Rattle.sqlite.specs.Held.{state};
+ghost use Rattle.tables.specs.Reading.{OnlyReads};
 ghost use Rattle.keyfile.specs.Candidates.{candidates};
-ghost use Rattle.keyfile.specs.Files.{file_rows};
 ghost use Rattle.keyfile.specs.Keying.{keying};
-ghost use Rattle.keyfile.specs.Reading.{Known};
-ghost use Rattle.keyfile.specs.Records.{file_records};
-ghost use Rattle.desk.specs.Outcomes.{IsUnread};
-ghost use Rattle.desk.specs.Requests.{keying_for, requests_for, sent_as};
+ghost use Rattle.desk.specs.Errands.{HoldsRequests, IsKeyingRead, IsUnread, WhereOpen};
+ghost use Rattle.desk.specs.Pages.{page_of};
+ghost use Rattle.desk.specs.Requests.{keyings_for, requests_for};
 
-use crate::lines::{Failure, Outcome, tell, tell_failure};
+use crate::lines::Outcome;
 use crate::orders::KeyingFile;
 use crate::requests::{keying_request, requests_for};
-use crate::sending::{outcome_of, send_all};
 use keyfile::{FileFault, Flaw, read_candidates, read_keying};
 use office::{Office, Stop};
 use paper::Columns;
 use register::Request;
-use sqlite::{Alter, Connection};
-use std::alloc::Global;
+use sqlite::Alter;
+use std::alloc::{AllocError, Global};
 use std::io::Read;
 use store::Fault;
-use votes::Sink;
 
 /// The fault of a file that can't be opened.
 const UNOPENED: FileFault = FileFault {
@@ -29,15 +27,15 @@ const UNOPENED: FileFault = FileFault {
     record_number: 0,
 };
 
-/// The requests that add the candidates of a file, which is read whole; or why there are none.
-fn candidate_requests<R: Read + Drop>(
+/// The requests that add the candidates of a file, None where it can't be opened; or why there are none.
+/// The file is read whole.
+pub(crate) fn candidate_requests<R: Read + Drop>(
     alloc: Global,
     id: &str,
     file: Option<R>,
 ) -> Result<Vec<Request>, Outcome>
-    ensures rows { IfSome file (λ f. Known (R.remaining f) (λ bytes. IfOk result (λ requests. requests_for id.now (file_rows candidates (file_records bytes)) ≡ Ok (map sent_as requests.items)))) }
-    ensures refused { IfSome file (λ f. Known (R.remaining f) (λ bytes. IfErr result (IsUnread candidates (file_records bytes)))) }
-    ensures unopened { IfNone file (result ≡ Err (Outcome.Unread UNOPENED)) }
+    ensures rows { IfOk result (λ requests. HoldsRequests candidates (requests_for id.now) (option_map R.remaining file) requests.items) }
+    ensures refused { IfErr result (λ outcome. IsUnread candidates (option_map R.remaining file) (page_of outcome)) }
 {
     let Some(file) = file else {
         return Err(Outcome::Unread(UNOPENED));
@@ -52,43 +50,16 @@ fn candidate_requests<R: Read + Drop>(
     }
 }
 
-/// Adds the candidates of a file, None where it can't be opened, to the office that the connection has.
-///
-/// The file is read whole before the first request is sent. Each reply goes to `out`; the first request
-/// that gets none is told on `err`, and ends the import.
-pub(crate) fn import_candidates<S: Alter, R: Read + Drop, O: Sink, E: Sink>(
-    alloc: Global,
-    conn: Connection<S>,
-    id: &str,
-    file: Option<R>,
-    out: &mut O,
-    err: &mut E,
-) -> (u8, Connection<S>)
-    requires out { O.failed out.old < 2 ^ 64 - 1 }
-    requires err { E.failed err.old < 2 ^ 64 - 1 }
-    ensures broken { (result.0 ≡ 3) ⊎ ((O.failed out.new ≡ O.failed out.old) × (E.failed err.new ≡ E.failed err.old)) }
-{
-    let mut office = match Office::open_from(alloc, conn) {
-        Ok(office) => office,
-        Err((fault, conn)) => return (tell_failure(Failure::Office(fault), err), conn),
-    };
-    let status = match candidate_requests(alloc, id, file) {
-        Ok(requests) => send_all(&mut office, &requests, out, err),
-        Err(outcome) => tell(&outcome, out, err),
-    };
-    (status, office.into_connection())
-}
-
-/// The request that keeps the keying that a file holds, of papers with some columns; or why there is none.
+/// The request that keeps the keying that a file holds, None where it can't be opened, of papers with some
+/// columns; or why there is none. The file is read whole.
 fn keying_in<R: Read + Drop>(
     alloc: Global,
     keyed: KeyingFile<'_>,
     columns: Columns,
     file: Option<R>,
 ) -> Result<Request, Outcome>
-    ensures papers { IfSome file (λ f. Known (R.remaining f) (λ bytes. IfOk result (λ request. keying_for keyed.entry (file_rows (keying columns) (file_records bytes)) ≡ Ok (sent_as request)))) }
-    ensures refused { IfSome file (λ f. Known (R.remaining f) (λ bytes. IfErr result (IsUnread (keying columns) (file_records bytes)))) }
-    ensures unopened { IfNone file (result ≡ Err (Outcome.Unread UNOPENED)) }
+    ensures papers { IfOk result (λ request. HoldsRequests (keying columns) (keyings_for keyed.entry) (option_map R.remaining file) (request ∷ [])) }
+    ensures refused { IfErr result (λ outcome. IsUnread (keying columns) (option_map R.remaining file) (page_of outcome)) }
 {
     let Some(file) = file else {
         return Err(Outcome::Unread(UNOPENED));
@@ -99,49 +70,27 @@ fn keying_in<R: Read + Drop>(
     };
     match keying_request(alloc, keyed, papers) {
         Ok(request) => Ok(request),
-        Err(_) => Err(Outcome::Failed(Fault::Memory)),
+        Err(AllocError) => Err(Outcome::Failed(Fault::Memory)),
     }
 }
 
-/// What comes of a clerk's keying in a file, None where it can't be opened.
-fn outcome_of_keying<S: Alter, R: Read + Drop>(
-    alloc: Global,
-    office: &mut Office<S>,
-    keying: KeyingFile<'_>,
-    file: Option<R>,
-) -> Outcome {
-    let columns = match office.columns(keying.batch) {
-        Ok(columns) => columns,
-        Err(Stop::Refused(refusal)) => return Outcome::Refused(refusal),
-        Err(Stop::Fault(fault)) => return Outcome::Failed(fault),
-    };
-    match keying_in(alloc, keying, columns, file) {
-        Ok(request) => outcome_of(office, &request),
-        Err(outcome) => outcome,
-    }
-}
-
-/// Sends the keying of a batch that a file holds, None where it can't be opened, to the office that the
-/// connection has, and tells what came of it.
+/// The request that keeps the keying of a batch that a file holds, None where it can't be opened; or why
+/// there is none.
 ///
 /// The columns are those of the batch's ward; where there is no such batch, the file isn't read.
-pub(crate) fn import_keying<S: Alter, R: Read + Drop, O: Sink, E: Sink>(
+pub(crate) fn keying_of<S: Alter, R: Read + Drop>(
     alloc: Global,
-    conn: Connection<S>,
-    keying: KeyingFile<'_>,
+    office: &mut Office<S>,
+    keyed: KeyingFile<'_>,
     file: Option<R>,
-    out: &mut O,
-    err: &mut E,
-) -> (u8, Connection<S>)
-    requires out { O.failed out.old < 2 ^ 64 - 1 }
-    requires err { E.failed err.old < 2 ^ 64 - 1 }
-    ensures broken { (result.0 ≡ 3) ⊎ ((O.failed out.new ≡ O.failed out.old) × (E.failed err.new ≡ E.failed err.old)) }
+) -> Result<Request, Outcome>
+    ensures read { WhereOpen office.old.closed (state S.Store office.old.held) (state S.Store office.new.held)
+        (λ s. IsKeyingRead s keyed.entry (option_map R.remaining file) page_of result office.new.closed (state S.Store office.new.held)) }
+    ensures same { OnlyReads (state S.Store office.old.held) (state S.Store office.new.held) }
 {
-    match Office::open_from(alloc, conn) {
-        Ok(mut office) => {
-            let outcome = outcome_of_keying(alloc, &mut office, keying, file);
-            (tell(&outcome, out, err), office.into_connection())
-        }
-        Err((fault, conn)) => (tell_failure(Failure::Office(fault), err), conn),
+    match office.columns(keyed.batch) {
+        Ok(columns) => keying_in(alloc, keyed, columns, file),
+        Err(Stop::Refused(refusal)) => Err(Outcome::Refused(refusal)),
+        Err(Stop::Fault(fault)) => Err(Outcome::Failed(fault)),
     }
 }

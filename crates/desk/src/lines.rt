@@ -1,19 +1,16 @@
 //! The lines that an order prints, and its exit status.
 
-ghost use Rattle.std.specs.Prelude.{◌≡◌, ◌⊎◌, ◌+◌, ◌-◌, ◌^◌, ◌<◌, OnOk, OnErr};
-ghost use Rattle.desk.specs.Outcomes.{status_of, status_of_file};
+ghost use Rattle.std.specs.Prelude.{◌≡◌, ◌⊎◌, ◌-◌, ◌^◌, ◌<◌};
+ghost use Rattle.std.specs.List.{flat_map};
+ghost use Rattle.desk.specs.Pages.{IsErrorTold, IsPut, Shows, failed, failure_number, failure_text, fault_text, flaw_text, outputs_of, page_of, printed, refused, status_of_file, unread};
 
 use crate::words::WordsFault;
-use arrayvec::ArrayString;
+use itoa::Buffer;
 use keyfile::{FileFault, Flaw};
 use register::{Refusal, Reply};
-use std::fmt::Write;
 use store::Fault;
 use thiserror::Error;
 use votes::{Broken, Sink, put_all};
-
-/// Room for a line about a refusal or a fault, which therefore takes no memory. None is longer.
-const LINE: usize = 240;
 
 /// What an order came to.
 #[derive(Debug, Drop)]
@@ -43,57 +40,100 @@ pub enum Failure {
 }
 
 impl Failure {
-    fn number(&self) -> u32 {
+    fn number(&self) -> u32
+        ensures { result ≡ failure_number self.now }
+    {
         match self {
             Failure::Office(fault) => fault.number(),
             Failure::Output => 107,
         }
     }
+
+    fn text(&self) -> &'static str
+        ensures { result.now ≡ failure_text self.now }
+    {
+        match self {
+            Failure::Office(fault) => fault_text(*fault),
+            Failure::Output => "socket or output",
+        }
+    }
 }
 
-fn put_line<O: Sink>(text: &str, out: &mut O) -> Result<(), Broken>
-    requires { O.failed out.old < 2 ^ 64 - 1 }
-    ensures ok { OnOk result (O.failed out.new ≡ O.failed out.old) }
+/// A fault of the office in words.
+fn fault_text(fault: Fault) -> &'static str
+    ensures { result.now ≡ fault_text fault }
 {
-    put_all(out, text.as_bytes())?;
-    put_all(out, b"\n")
+    match fault {
+        Fault::Memory => "memory",
+        Fault::Store => "store",
+        Fault::Damaged => "damaged",
+        Fault::Closed => "closed",
+        Fault::WrongDatabase => "wrong database",
+        Fault::NewerSchema => "newer schema",
+    }
 }
 
-/// Tells a text, and gives the status: 0, or 3 where the output fails.
-fn tell_text<O: Sink, E: Sink>(text: &str, out: &mut O, err: &mut E) -> u8
+/// What is wrong with a record of a file, in words.
+fn flaw_text(flaw: Flaw) -> &'static str
+    ensures { result.now ≡ flaw_text flaw }
+{
+    match flaw {
+        Flaw::Header => "header",
+        Flaw::RecordLength => "record length",
+        Flaw::Number => "number",
+        Flaw::PaperOrder => "paper order",
+        Flaw::Marks => "marks",
+        Flaw::NotUtf8 => "not UTF-8",
+        Flaw::TooManyRecords => "too many records",
+        Flaw::ReadFailed => "read failed",
+        Flaw::Memory => "memory",
+    }
+}
+
+/// Puts pieces of text one behind the other.
+fn put_pieces<W: Sink>(pieces: &[&str], sink: &mut W) -> Result<(), Broken>
+    requires { W.failed sink.old < 2 ^ 64 - 1 }
+    ensures { IsPut W.taken W.failed sink.old sink.new (flat_map (λ piece. piece.now) pieces.now) result }
+{
+    for piece in pieces {
+        put_all(sink, piece.as_bytes())?;
+    }
+    Ok(())
+}
+
+/// Tells a text in pieces on the output, and gives the status: 0, or 3 where the output fails, which is
+/// told on the error output.
+fn tell_text<O: Sink, E: Sink>(pieces: &[&str], out: &mut O, err: &mut E) -> u8
     requires out { O.failed out.old < 2 ^ 64 - 1 }
     requires err { E.failed err.old < 2 ^ 64 - 1 }
-    ensures { (result ≡ 3) ⊎ ((result ≡ 0) × (O.failed out.new ≡ O.failed out.old) × (E.failed err.new ≡ E.failed err.old)) }
+    ensures { Shows (outputs_of O.taken O.failed E.taken E.failed out.old err.old) (outputs_of O.taken O.failed E.taken E.failed out.new err.new) (printed (flat_map (λ piece. piece.now) pieces.now)) result }
 {
-    match put_line(text, out) {
+    match put_pieces(pieces, out) {
         Ok(()) => 0,
         Err(Broken) => tell_failure(Failure::Output, err),
     }
 }
 
-/// Prints a text as it is, and gives the status: 0, or 3 where the output fails.
-fn print<O: Sink, E: Sink>(text: &str, out: &mut O, err: &mut E) -> u8
-    requires out { O.failed out.old < 2 ^ 64 - 1 }
-    requires err { E.failed err.old < 2 ^ 64 - 1 }
-    ensures { (result ≡ 3) ⊎ ((result ≡ 0) × (O.failed out.new ≡ O.failed out.old) × (E.failed err.new ≡ E.failed err.old)) }
+/// Tells a line in pieces on the error output, and gives the status: this one, or 3 where the error output
+/// fails.
+fn tell_error<E: Sink>(pieces: &[&str], status: u8, err: &mut E) -> u8
+    requires { E.failed err.old < 2 ^ 64 - 1 }
+    ensures { IsErrorTold E.taken E.failed err.old err.new (flat_map (λ piece. piece.now) pieces.now) status result }
 {
-    match put_all(out, text.as_bytes()) {
-        Ok(()) => 0,
-        Err(Broken) => tell_failure(Failure::Output, err),
+    match put_pieces(pieces, err) {
+        Ok(()) => status,
+        Err(Broken) => 3,
     }
 }
 
 /// Tells a refusal, and gives the status: 1, or 3 where the error output fails.
 fn tell_refusal<E: Sink>(refusal: &Refusal, err: &mut E) -> u8
     requires { E.failed err.old < 2 ^ 64 - 1 }
-    ensures { (result ≡ 3) ⊎ ((result ≡ 1) × (E.failed err.new ≡ E.failed err.old)) }
+    ensures { IsErrorTold E.taken E.failed err.old err.new (refused refusal.now).err 1 result }
 {
-    let mut line = ArrayString::<LINE>::new();
-    let _ = writeln!(line, "refused {}: {}", refusal.number(), refusal.text());
-    match put_all(err, line.as_bytes()) {
-        Ok(()) => 1,
-        Err(Broken) => 3,
-    }
+    let mut number = Buffer::new();
+    let pieces = ["refused ", number.format(refusal.number()), ": ", refusal.text(), "\n"];
+    tell_error(&pieces, 1, err)
 }
 
 /// The status of a file that isn't taken: 3 where its reading was stopped.
@@ -110,41 +150,45 @@ fn status_of_file(fault: FileFault) -> u8
 /// output fails.
 fn tell_file_fault<E: Sink>(fault: FileFault, err: &mut E) -> u8
     requires { E.failed err.old < 2 ^ 64 - 1 }
-    ensures { (result ≡ 3) ⊎ ((result ≡ status_of_file fault) × (E.failed err.new ≡ E.failed err.old)) }
+    ensures { IsErrorTold E.taken E.failed err.old err.new (unread fault).err (status_of_file fault) result }
 {
-    let mut line = ArrayString::<LINE>::new();
-    let _ = writeln!(line, "{fault}");
-    match put_all(err, line.as_bytes()) {
-        Ok(()) => status_of_file(fault),
-        Err(Broken) => 3,
-    }
+    let (mut number, mut record) = (Buffer::new(), Buffer::new());
+    let pieces = [
+        "file fault ",
+        number.format(fault.number()),
+        " at record ",
+        record.format(fault.record_number),
+        ": ",
+        flaw_text(fault.flaw),
+        "\n",
+    ];
+    tell_error(&pieces, status_of_file(fault), err)
 }
 
-/// Tells a failure on the error output, and gives its status.
+/// Tells a failure on the error output, and gives its status, 3.
 ///
 /// Where the error output fails too, nothing more can be told.
 pub fn tell_failure<E: Sink>(failure: Failure, err: &mut E) -> u8
     requires { E.failed err.old < 2 ^ 64 - 1 }
-    ensures { result ≡ 3 }
+    ensures { IsErrorTold E.taken E.failed err.old err.new (failed failure).err 3 result }
 {
-    let mut line = ArrayString::<LINE>::new();
-    let _ = writeln!(line, "fault {}: {failure}", failure.number());
-    let _ = put_all(err, line.as_bytes());
-    3
+    let mut number = Buffer::new();
+    let pieces = ["fault ", number.format(failure.number()), ": ", failure.text(), "\n"];
+    tell_error(&pieces, 3, err)
 }
 
 /// Tells an outcome, and gives its status: 0 with a line on the output; 1 with a refusal of a request or a
 /// file, or 3 with a fault or a file that couldn't be read, on the error output; and 3 where one of the two
-/// fails.
+/// fails, which has then taken a beginning.
 pub(crate) fn tell<O: Sink, E: Sink>(outcome: &Outcome, out: &mut O, err: &mut E) -> u8
     requires out { O.failed out.old < 2 ^ 64 - 1 }
     requires err { E.failed err.old < 2 ^ 64 - 1 }
-    ensures told { (result ≡ 3) ⊎ ((result ≡ status_of outcome.now) × (O.failed out.new ≡ O.failed out.old) × (E.failed err.new ≡ E.failed err.old)) }
+    ensures { Shows (outputs_of O.taken O.failed E.taken E.failed out.old err.old) (outputs_of O.taken O.failed E.taken E.failed out.new err.new) (page_of outcome.now) result }
 {
     match outcome {
-        Outcome::Ready => tell_text("office ready", out, err),
-        Outcome::Replied(reply) => tell_text(reply.as_str(), out, err),
-        Outcome::Printed(text) => print(text.as_str(), out, err),
+        Outcome::Ready => tell_text(&["office ready", "\n"], out, err),
+        Outcome::Replied(reply) => tell_text(&[reply.as_str(), "\n"], out, err),
+        Outcome::Printed(text) => tell_text(&[text.as_str()], out, err),
         Outcome::Refused(refusal) => tell_refusal(refusal, err),
         Outcome::Unread(fault) => tell_file_fault(*fault, err),
         Outcome::Failed(fault) => tell_failure(Failure::Office(*fault), err),

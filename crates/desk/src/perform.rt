@@ -1,20 +1,87 @@
 //! What the program does for an order.
 
-ghost use Rattle.std.specs.Prelude.{◌≡◌, ◌⊎◌, ◌+◌, ◌-◌, ◌^◌, ◌<◌};
+ghost use Rattle.std.specs.Prelude.{◌≡◌, ◌⊎◌, ◌-◌, ◌^◌, ◌<◌, List, option_map};
+ghost use Rattle.sqlite.specs.Effect.{Database};
+ghost use Rattle.sqlite.specs.State.{HasCleanDisk};
+ghost use Rattle.sqlite.specs.Held.{state};
+ghost use Rattle.register.specs.Machine.{after};
+ghost use Rattle.register.specs.Offices.{OfficeState, empty_office};
+ghost use Rattle.register.specs.declared.command.Request.{Request};
+ghost use Rattle.tables.specs.Contents.{RestsAt};
+ghost use Rattle.store.specs.Openings.{IsBlank, IsLeftAt};
+ghost use Rattle.desk.specs.Errands.{IsKept, IsMade, IsRun, Performs, WhereOpen};
+ghost use Rattle.desk.specs.Pages.{Shows, Tells, failed, outputs_of};
+ghost use Rattle.desk.specs.Requests.{errand_of, making, running, work_for};
 
-use crate::import::{import_candidates, import_keying};
+use crate::import::{candidate_requests, keying_of};
 use crate::lines::{Failure, Outcome, tell, tell_failure};
 use crate::orders::Order;
-use crate::printing::print_text;
-use crate::sending::send;
-use crate::standing::tell_standing;
-use crate::tasks::{Task, task_for};
+use crate::printing::text_of;
+use crate::sending::send_all;
+use crate::standing::standing_of;
+use crate::tasks::{OfficeTask, Task, task_for};
 use office::Office;
+use register::Request;
 use sqlite::{Alter, Connection};
 use std::alloc::{AllocError, Global};
 use std::io::Read;
 use store::Fault;
 use votes::Sink;
+
+/// Does a task in an opened office, tells what comes of it, and gives the status.
+fn run<S: Alter, R: Read + Drop, O: Sink, E: Sink>(
+    alloc: Global,
+    office: &mut Office<S>,
+    task: OfficeTask<'_>,
+    file: Option<R>,
+    out: &mut O,
+    err: &mut E,
+) -> u8
+    requires out { O.failed out.old < 2 ^ 64 - 1 }
+    requires err { E.failed err.old < 2 ^ 64 - 1 }
+    ensures ran { Tells (outputs_of O.taken O.failed E.taken E.failed out.old err.old) (outputs_of O.taken O.failed E.taken E.failed out.new err.new) result
+        (λ broke page. WhereOpen office.old.closed (state S.Store office.old.held) (state S.Store office.new.held)
+            (λ s. IsRun broke s (errand_of task.entry) (option_map R.remaining file) page office.new.closed (state S.Store office.new.held))) }
+    ensures clean { HasCleanDisk (state S.Store office.new.held) → HasCleanDisk (state S.Store office.old.held) }
+{
+    match task {
+        OfficeTask::Send(request) => send_all(office, &[request], out, err),
+        OfficeTask::ImportCandidates { id } => match candidate_requests(alloc, id, file) {
+            Ok(requests) => send_all(office, &requests, out, err),
+            Err(outcome) => tell(&outcome, out, err),
+        },
+        OfficeTask::ImportKeying(keyed) => match keying_of(alloc, office, keyed, file) {
+            Ok(request) => send_all(office, &[request], out, err),
+            Err(outcome) => tell(&outcome, out, err),
+        },
+        OfficeTask::TellStatus { ward } => tell(&standing_of(alloc, office, ward), out, err),
+        OfficeTask::Print { ward, text } => tell(&text_of(office, ward, text), out, err),
+    }
+}
+
+/// Opens the office that a connection has, and does a task in it.
+fn run_opened<S: Alter, R: Read + Drop, O: Sink, E: Sink>(
+    alloc: Global,
+    conn: Connection<S>,
+    task: OfficeTask<'_>,
+    file: Option<R>,
+    out: &mut O,
+    err: &mut E,
+) -> (u8, Connection<S>)
+    requires out { O.failed out.old < 2 ^ 64 - 1 }
+    requires err { E.failed err.old < 2 ^ 64 - 1 }
+    ensures ran { Tells (outputs_of O.taken O.failed E.taken E.failed out.old err.old) (outputs_of O.taken O.failed E.taken E.failed out.new err.new) result.0
+        (λ broke page. HasCleanDisk (state S.Store result.1) → (db : Database) → RestsAt db (state S.Store conn) → (s : OfficeState) → IsLeftAt s db
+            → Performs broke s (running (errand_of task.entry)) (option_map R.remaining file) page (state S.Store result.1)) }
+{
+    match Office::open_from(alloc, conn) {
+        Ok(mut office) => {
+            let status = run(alloc, &mut office, task, file, out, err);
+            (status, office.into_connection())
+        }
+        Err((fault, conn)) => (tell(&Outcome::Failed(fault), out, err), conn),
+    }
+}
 
 /// Makes an office, and tells what came of it.
 fn make_office<S: Alter, O: Sink, E: Sink>(
@@ -25,11 +92,14 @@ fn make_office<S: Alter, O: Sink, E: Sink>(
 ) -> (u8, Connection<S>)
     requires out { O.failed out.old < 2 ^ 64 - 1 }
     requires err { E.failed err.old < 2 ^ 64 - 1 }
-    ensures broken { (result.0 ≡ 3) ⊎ ((O.failed out.new ≡ O.failed out.old) × (E.failed err.new ≡ E.failed err.old)) }
+    ensures made { Tells (outputs_of O.taken O.failed E.taken E.failed out.old err.old) (outputs_of O.taken O.failed E.taken E.failed out.new err.new) result.0
+        (λ broke page. HasCleanDisk (state S.Store result.1)
+            → (IsBlank (state S.Store conn) → IsMade page (state S.Store conn) (state S.Store result.1))
+            × ((db : Database) → RestsAt db (state S.Store conn) → (s : OfficeState) → IsLeftAt s db → Performs broke s making None page (state S.Store result.1))) }
 {
     match Office::create(alloc, conn) {
         Ok(office) => (tell(&Outcome::Ready, out, err), office.into_connection()),
-        Err((fault, conn)) => (tell_failure(Failure::Office(fault), err), conn),
+        Err((fault, conn)) => (tell(&Outcome::Failed(fault), out, err), conn),
     }
 }
 
@@ -40,8 +110,8 @@ fn make_office<S: Alter, O: Sink, E: Sink>(
 ///
 /// The status is 0 where each reply, `office ready`, how a ward stands, or its sheet or declaration went to
 /// `out`; 1 where a request or the file was
-/// refused and 3 at a fault, which `err` is told; and 3 where one of the two failed. What was replied
-/// before the first refusal or fault stands.
+/// refused and 3 at a fault, which `err` is told; and 3 where one of the two failed, which has then taken a
+/// beginning. What was replied before the first refusal or fault stands.
 ///
 /// An order to serve needs a socket, which is none of these: `serve_on` follows it, and here it is told as
 /// a failed one.
@@ -55,16 +125,18 @@ pub fn perform<S: Alter, R: Read + Drop, O: Sink, E: Sink>(
 ) -> (u8, Connection<S>)
     requires out { O.failed out.old < 2 ^ 64 - 1 }
     requires err { E.failed err.old < 2 ^ 64 - 1 }
-    ensures broken { (result.0 ≡ 3) ⊎ ((O.failed out.new ≡ O.failed out.old) × (E.failed err.new ≡ E.failed err.old)) }
+    ensures performed { Tells (outputs_of O.taken O.failed E.taken E.failed out.old err.old) (outputs_of O.taken O.failed E.taken E.failed out.new err.new) result.0
+        (λ broke page. HasCleanDisk (state S.Store result.1) → (db : Database) → RestsAt db (state S.Store conn) → (s : OfficeState) → IsLeftAt s db
+            → Performs broke s (work_for order.now) (option_map R.remaining file) page (state S.Store result.1)) }
+    ensures made { work_for order.now ≡ making → Tells (outputs_of O.taken O.failed E.taken E.failed out.old err.old) (outputs_of O.taken O.failed E.taken E.failed out.new err.new) result.0
+        (λ broke page. HasCleanDisk (state S.Store result.1) → IsBlank (state S.Store conn) → IsMade page (state S.Store conn) (state S.Store result.1)) }
+    ensures headline { HasCleanDisk (state S.Store result.1) → (db : Database) → RestsAt db (state S.Store conn) → (earlier : List Request) → IsLeftAt (after empty_office earlier) db
+        → IsKept earlier (work_for order.now) (option_map R.remaining file) result.0 (state S.Store result.1) }
 {
     match task_for(alloc, order) {
         Ok(Task::Make) => make_office(alloc, conn, out, err),
-        Ok(Task::Send(request)) => send(alloc, conn, &request, out, err),
-        Ok(Task::ImportCandidates { id }) => import_candidates(alloc, conn, id, file, out, err),
-        Ok(Task::ImportKeying(keying)) => import_keying(alloc, conn, keying, file, out, err),
-        Ok(Task::TellStatus { ward }) => tell_standing(alloc, conn, ward, out, err),
-        Ok(Task::Print { ward, text }) => print_text(alloc, conn, ward, text, out, err),
+        Ok(Task::Run(task)) => run_opened(alloc, conn, task, file, out, err),
         Ok(Task::Serve { .. }) => (tell_failure(Failure::Output, err), conn),
-        Err(AllocError) => (tell_failure(Failure::Office(Fault::Memory), err), conn),
+        Err(AllocError) => (tell(&Outcome::Failed(Fault::Memory), out, err), conn),
     }
 }

@@ -1,35 +1,28 @@
 //! The stage sheet and the declaration of a ward, printed.
 
-ghost use Rattle.std.specs.Prelude.{◌≡◌, ◌⊎◌, ◌+◌, ◌-◌, ◌^◌, ◌<◌};
+ghost use Rattle.sqlite.specs.Held.{state};
+ghost use Rattle.office.specs.Sheets.{text_told};
+ghost use Rattle.tables.specs.Reading.{OnlyReads};
+ghost use Rattle.desk.specs.Errands.{IsFound, WhereOpen};
+ghost use Rattle.desk.specs.Pages.{page_of, printed};
 
-use crate::lines::{Outcome, tell as tell_outcome};
-use office::{Stop, Text, tell};
-use sqlite::{Alter, Connection};
-use std::alloc::Global;
-use votes::Sink;
+use crate::lines::Outcome;
+use office::{Office, Stop, Text};
+use sqlite::Alter;
 
-/// What a text comes to, or why it isn't told.
-fn printed(text: Result<String, Stop>) -> Outcome {
-    match text {
+/// A text of a ward, or why it isn't told.
+pub(crate) fn text_of<S: Alter>(office: &mut Office<S>, ward: u32, text: Text) -> Outcome
+    ensures found { WhereOpen office.old.closed (state S.Store office.old.held) (state S.Store office.new.held)
+        (λ s. IsFound s printed (text_told text s ward) (page_of result) office.new.closed (state S.Store office.new.held)) }
+    ensures same { OnlyReads (state S.Store office.old.held) (state S.Store office.new.held) }
+{
+    let told = match text {
+        Text::Sheet => office.sheet(ward),
+        Text::Declaration => office.result(ward),
+    };
+    match told {
         Ok(text) => Outcome::Printed(text),
         Err(Stop::Refused(refusal)) => Outcome::Refused(refusal),
         Err(Stop::Fault(fault)) => Outcome::Failed(fault),
     }
-}
-
-/// Opens the office that the connection has, and prints a text of a ward.
-pub(crate) fn print_text<S: Alter, O: Sink, E: Sink>(
-    alloc: Global,
-    conn: Connection<S>,
-    ward: u32,
-    text: Text,
-    out: &mut O,
-    err: &mut E,
-) -> (u8, Connection<S>)
-    requires out { O.failed out.old < 2 ^ 64 - 1 }
-    requires err { E.failed err.old < 2 ^ 64 - 1 }
-    ensures broken { (result.0 ≡ 3) ⊎ ((O.failed out.new ≡ O.failed out.old) × (E.failed err.new ≡ E.failed err.old)) }
-{
-    let (told, conn) = tell(alloc, conn, ward, text);
-    (tell_outcome(&printed(told), out, err), conn)
 }

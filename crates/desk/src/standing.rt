@@ -1,16 +1,20 @@
 //! How the election of a ward stands, told in a line.
 
-ghost use Rattle.std.specs.Prelude.{◌≡◌, ◌⊎◌, ◌+◌, ◌-◌, ◌^◌, ◌<◌, IfOk, string_bytes};
+ghost use Rattle.std.specs.Prelude.{◌≡◌, IfOk, string_bytes};
+ghost use Rattle.sqlite.specs.Held.{state};
 ghost use Rattle.register.specs.Standings.{status_entry};
+ghost use Rattle.tables.specs.Reading.{OnlyReads};
+ghost use Rattle.office.specs.Reads.{status_told};
+ghost use Rattle.desk.specs.Errands.{IsFound, WhereOpen};
+ghost use Rattle.desk.specs.Pages.{page_of, replied};
 ghost use Rattle.desk.specs.Standings.{batch_words, count_words, phase_word, status_text, ward_words};
 
-use crate::lines::{Failure, Outcome, tell, tell_failure};
+use crate::lines::Outcome;
 use office::{Office, Stop};
 use register::{Phase, Status};
-use sqlite::{Alter, Connection};
+use sqlite::Alter;
 use std::alloc::{AllocError, Global};
 use store::Fault;
-use votes::Sink;
 
 fn phase_word(phase: Phase) -> &'static str
     ensures { result.now ≡ phase_word phase }
@@ -63,7 +67,11 @@ pub(crate) fn status_text(alloc: Global, status: &Status) -> Result<String, Allo
 }
 
 /// How a ward stands, in words; or why that isn't told.
-fn standing_of<S: Alter>(alloc: Global, office: &mut Office<S>, ward: u32) -> Outcome {
+pub(crate) fn standing_of<S: Alter>(alloc: Global, office: &mut Office<S>, ward: u32) -> Outcome
+    ensures found { WhereOpen office.old.closed (state S.Store office.old.held) (state S.Store office.new.held)
+        (λ s. IsFound s (λ status. replied (status_text status)) (status_told s ward) (page_of result) office.new.closed (state S.Store office.new.held)) }
+    ensures same { OnlyReads (state S.Store office.old.held) (state S.Store office.new.held) }
+{
     match office.status(ward) {
         Ok(status) => match status_text(alloc, &status) {
             Ok(text) => Outcome::Replied(text),
@@ -71,26 +79,5 @@ fn standing_of<S: Alter>(alloc: Global, office: &mut Office<S>, ward: u32) -> Ou
         },
         Err(Stop::Refused(refusal)) => Outcome::Refused(refusal),
         Err(Stop::Fault(fault)) => Outcome::Failed(fault),
-    }
-}
-
-/// Opens the office that the connection has, and tells how a ward stands.
-pub(crate) fn tell_standing<S: Alter, O: Sink, E: Sink>(
-    alloc: Global,
-    conn: Connection<S>,
-    ward: u32,
-    out: &mut O,
-    err: &mut E,
-) -> (u8, Connection<S>)
-    requires out { O.failed out.old < 2 ^ 64 - 1 }
-    requires err { E.failed err.old < 2 ^ 64 - 1 }
-    ensures broken { (result.0 ≡ 3) ⊎ ((O.failed out.new ≡ O.failed out.old) × (E.failed err.new ≡ E.failed err.old)) }
-{
-    match Office::open_from(alloc, conn) {
-        Ok(mut office) => {
-            let outcome = standing_of(alloc, &mut office, ward);
-            (tell(&outcome, out, err), office.into_connection())
-        }
-        Err((fault, conn)) => (tell_failure(Failure::Office(fault), err), conn),
     }
 }

@@ -1,22 +1,67 @@
-use Rattle.std.proofs.Common.{◌∙◌, ◌+◌, ◌<◌, length, arith}
+-- Why `send_all` keeps its promise.
+use Rattle.std.proofs.Common.{◌+◌, ◌<◌, ◌++◌, length, take, refl, arith}
+use Rattle.std.proofs.lemmas.List.{take_all}
 use Rattle.sqlite.specs.Held.{state}
-use Rattle.register.specs.Machine.{after}
-use Rattle.desk.proofs.SentLemmas.{one_more, replied}
+use Rattle.register.specs.Machine.{after, step_of}
+use Rattle.desk.specs.Pages.{below, empty_page, outputs_of, page_of}
+use Rattle.desk.proofs.PageLemmas.{shown_below}
+use Rattle.desk.proofs.SentLemmas.{nothing_told, sent_all, sent_last, sent_more, status_zero, told_all, told_more}
 use Rattle.desk.proofs.sending.send_all.Goals as goal
+
+pub loop-request-init : goal.loop-request-init
+loop-request-init g c = record {
+  clean = λ clean. clean;
+  so_far = record { said = _; shown = nothing_told _; is = λ clean is_open s at. record { open_at = record { is_open = is_open; at = at }; replies = refl } };
+}
 
 pub loop-request-preserved : goal.loop-request-preserved
 loop-request-preserved g c =
     let rs = c.args.requests.now in
     let i = c.loop-request.request-index in
     let within : i < length rs = omega arith in
-    let told = replied c.tell-status.result c.outcome_of.result c.if-status-ne0.false c.tell-status.ensures.told in
+    let so_far = c.loop-request.invariant.so_far in
+    let o = c.outcome_of.result in
     record {
-      out = told.1 ∙ c.loop-request.invariant.out;
-      err = told.2 ∙ c.loop-request.invariant.err;
       clean = λ clean. c.loop-request.invariant.clean (c.outcome_of.ensures.clean clean);
-      way = λ clean is_open s at.
-          let way = c.loop-request.invariant.way (c.outcome_of.ensures.clean clean) is_open s at in
-          one_more (after s rs) rs i c.request-item.result c.loop-request.office.closed (state g.S.Store c.loop-request.office.held)
-          c.outcome_of.result c.outcome_of.new.office.closed (state g.S.Store c.outcome_of.new.office.held) within c.request-item.is way
-          (c.outcome_of.ensures.told clean way.open_at.is_open way.here way.open_at.at) told.0;
+      so_far = record {
+        said = so_far.said ++ (page_of o).out;
+        shown = told_more _ _ _ so_far.said o c.tell-status.result c.if-status-ne0.false so_far.shown c.tell-status.ensures;
+        is = λ clean is_open s at.
+            let so = so_far.is (c.outcome_of.ensures.clean clean) is_open s at in
+            sent_more s rs i c.request-item.result so_far.said c.loop-request.office.closed (state g.S.Store c.loop-request.office.held) (page_of o) c.outcome_of.new.office.closed
+            (state g.S.Store c.outcome_of.new.office.held) within c.request-item.is so
+            (c.outcome_of.ensures.told clean so.open_at.is_open (after s (take i rs)) so.open_at.at)
+            (status_zero _ _ (page_of o) c.tell-status.result c.if-status-ne0.false c.tell-status.ensures);
+      };
+    }
+
+pub returns-then-status-ne0-clause-sent : goal.returns-then-status-ne0-clause-sent
+returns-then-status-ne0-clause-sent g c =
+    let rs = c.args.requests.now in
+    let i = c.loop-request.request-index in
+    let within : i < length rs = omega arith in
+    let so_far = c.loop-request.invariant.so_far in
+    let page = page_of c.outcome_of.result in
+    let told = c.tell-status.ensures in
+    record {
+      page = below so_far.said page;
+      broke = told.0;
+      shown = shown_below told.0 _ _ _ so_far.said page c.tell-status.result so_far.shown told.1;
+      is = λ clean is_open s at.
+          let so = so_far.is (c.outcome_of.ensures.clean clean) is_open s at in
+          sent_last s rs i c.request-item.result so_far.said c.loop-request.office.closed (state g.S.Store c.loop-request.office.held) told.0 _ _ c.tell-status.result page c.outcome_of.new.office.closed
+          (state g.S.Store c.outcome_of.new.office.held) within c.request-item.is so
+          (c.outcome_of.ensures.told clean so.open_at.is_open (after s (take i rs)) so.open_at.at) c.if-status-ne0.true told.1;
+    }
+
+pub returns-clause-sent : goal.returns-clause-sent
+returns-clause-sent g c =
+    let rs = c.args.requests.now in
+    let so_far = c.loop-request.invariant.so_far in
+    record {
+      page = below so_far.said empty_page;
+      broke = _;
+      shown = told_all _ _ so_far.said so_far.shown;
+      is = λ clean is_open s at. sent_all s rs (take c.loop-request.request-index rs) so_far.said c.loop-request.office.closed (state g.S.Store c.loop-request.office.held)
+          (take_all _ _ c.loop-request-test.false) (so_far.is clean is_open s at);
     }

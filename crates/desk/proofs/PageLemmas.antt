@@ -1,0 +1,99 @@
+-- Texts that are put one behind the other, and what was told of a page.
+use Rattle.std.specs.Prelude.{IsErr, OnOk, OnErr}
+use Rattle.std.proofs.Common.{◌≡◌, ◌⊎◌, ◌∙◌, ◌+◌, ◌<◌, inl, inr, ℕ, Bool, true, false, List, [], ◌∷◌, ◌++◌, length, take, drop, get_or, Option, Result, Ok, Err, refl, sym, ap, subst, arith}
+use Rattle.std.specs.List.{flat_map}
+use Rattle.std.specs.Io.KnownBytes.{Appends}
+use Rattle.std.proofs.KnownBytes.{Appends-nil, Appends-trans}
+use Rattle.std.proofs.lemmas.Grind.{flat_map-append}
+use Rattle.std.proofs.lemmas.List.{append-nil, take_more, take-append-drop}
+use Rattle.clap.specs.Words.{Text}
+use Rattle.votes.specs.Streams.{AppendsBeginning}
+use Rattle.votes.proofs.Beginnings.{AppendsBeginning-front, AppendsBeginning-behind}
+use Rattle.desk.specs.declared.lines.Failure.TheVariants.{Output}
+use Rattle.desk.specs.Pages.{IsErrorTold, IsPut, IsShown, IsWhole, Outputs, Page, Shows, below, failed, outputs_of, printed}
+
+-- the pieces of one more
+pieces_more : {X : Type 0} (f : X → Text) (xs : List X) (i : ℕ) (d : X) → i < length xs → flat_map f (take (i + 1) xs) ≡ flat_map f (take i xs) ++ f (get_or xs i d)
+pieces_more f xs i d within =
+    ap (flat_map f) (take_more xs i d within) ∙ flat_map-append f (take i xs) (get_or xs i d ∷ []) ∙ ap (λ text. flat_map f (take i xs) ++ text) (append-nil (f (get_or xs i d)))
+
+module _ {W : Type 0} {taken : W → Option (List ℕ)} {failed : W → ℕ} {X E : Type 0} where
+  -- nothing was put yet
+  pub put_none : (s : W) (x : X) → IsPut {E = E} taken failed s s [] (Ok x)
+  put_none s x = record { all = Appends-nil (taken s); ok = refl; cut_off = tt; err = tt }
+
+  -- a text behind another
+  pub put_behind : {Y F : Type 0} {old mid new : W} {xs ys : Text} {x : X} (r : Result Y F) → IsPut {E = E} taken failed old mid xs (Ok x) → IsPut taken failed mid new ys r
+      → IsPut taken failed old new (xs ++ ys) r
+  put_behind (Ok y) one two = record { all = Appends-trans _ _ _ _ _ one.all two.all; ok = two.ok ∙ one.ok; cut_off = tt; err = tt }
+  put_behind (Err f) one two = record { all = tt; ok = tt; cut_off = AppendsBeginning-behind _ _ _ _ _ one.all two.cut_off; err = two.err ∙ ap (λ n. n + 1) one.ok }
+
+  -- a failure that is passed on: what stands behind isn't put
+  pub put_failed : {Y F : Type 0} {old new : W} {xs : Text} {e : E} (ys : Text) (r : Result Y F) → IsErr r → IsPut {X = X} taken failed old new xs (Err e) → IsPut taken failed old new (xs ++ ys) r
+  put_failed ys (Ok y) is cut = absurd (cc is)
+  put_failed ys (Err f) is cut = record { all = tt; ok = tt; cut_off = AppendsBeginning-front _ _ _ ys cut.cut_off; err = cut.err }
+
+  -- the next of some pieces fails: those behind it don't come
+  pub put_next_failed : {A : Type 0} {old mid new : W} {x : X} {e : E} (f : A → Text) (items : List A) (i : ℕ) (d : A) (text : Text) (r : Result X E) → i < length items → text ≡ f (get_or items i d)
+      → IsPut {E = E} taken failed old mid (flat_map f (take i items)) (Ok x) → IsPut {X = X} taken failed mid new text (Err e) → IsErr r → IsPut taken failed old new (flat_map f items) r
+  put_next_failed {old = old} {mid = mid} {new = new} {e = e} f items i d text r within is front next failure =
+      let there = subst (λ a. IsPut {X = X} taken failed mid new a (Err e)) is next in
+      let cut = subst (λ t. IsPut {X = X} taken failed old new t (Err e)) (sym (pieces_more f items i d within)) (put_behind {F = E} (Err e) front there) in
+      let whole : flat_map f (take (i + 1) items) ++ flat_map f (drop (i + 1) items) ≡ flat_map f items = sym (flat_map-append f (take (i + 1) items) (drop (i + 1) items)) ∙ ap (flat_map f) (take-append-drop (i + 1) items) in
+      subst (λ t. IsPut taken failed old new t r) whole (put_failed (flat_map f (drop (i + 1) items)) r failure cut)
+
+-- ---- pages
+
+-- whatever was told of a line on the error output, a beginning of it was
+begun : (old new : Option (List ℕ)) (text : Text) → Appends old new text → AppendsBeginning old new text
+begun old new text all = record { count = length text; appends = rw (take_whole text) all }
+  where
+    take_whole : (xs : List ℕ) → take (length xs) xs ≡ xs
+    take_whole [] = refl
+    take_whole (x ∷ xs) = ap (λ ys. x ∷ ys) (take_whole xs)
+
+module _ {O E : Type 0} (taken : O → Option (List ℕ)) (failed_out : O → ℕ) (taken_err : E → Option (List ℕ)) (failed_err : E → ℕ) where
+  -- a text on the output
+  pub text_shown : {X F : Type 0} {x : X} (old new : O) (err : E) (text : Text) → IsPut {E = F} taken failed_out old new text (Ok x)
+      → Shows (outputs_of taken failed_out taken_err failed_err old err) (outputs_of taken failed_out taken_err failed_err new err) (printed text) 0
+  text_shown old new err text put = (false, record { out = put.all; out_failed = put.ok; err = Appends-nil (taken_err err); err_failed = refl; ends = refl })
+
+  -- a beginning of one, which is told on the error output
+  pub output_broken : {X F : Type 0} {f : F} (old new : O) (err told : E) (text : Text) (status : ℕ) → IsPut {X = X} taken failed_out old new text (Err f)
+      → IsErrorTold taken_err failed_err err told (failed Output).err 3 status
+      → Shows (outputs_of taken failed_out taken_err failed_err old err) (outputs_of taken failed_out taken_err failed_err new told) (printed text) status
+  output_broken old new err told text status put line = (true, inl (record { out = put.cut_off; out_failed = put.err; err = said.0; ends = said.1 }))
+    where
+      said : AppendsBeginning (taken_err err) (taken_err told) (failed Output).err × (status ≡ 3)
+      said = elim line [ inl whole ↦ (begun _ _ _ whole.0, whole.2) | inr cut ↦ (cut.0, cut.2) ]
+
+  -- a line on the error output
+  pub error_shown : (out : O) (old new : E) (page : Page) (status : ℕ) → page.out ≡ [] → IsErrorTold taken_err failed_err old new page.err page.status status
+      → Shows (outputs_of taken failed_out taken_err failed_err out old) (outputs_of taken failed_out taken_err failed_err out new) page status
+  error_shown out old new page status none told = elim told [
+    | inl whole ↦ (false, record { out = rw none (Appends-nil (taken out)); out_failed = refl; err = whole.0; err_failed = whole.1; ends = whole.2 })
+    | inr cut ↦ (true, inr (record { out = rw none (Appends-nil (taken out)); out_failed = refl; err = cut.0; err_failed = cut.1; ends = cut.2 }))
+  ]
+
+-- a page that is told below a text
+pub shown_below : (broke : Bool) (old mid new : Outputs) (text : Text) (page : Page) (status : ℕ) → IsWhole old mid (printed text) 0 → IsShown broke mid new page status → IsShown broke old new (below text page) status
+shown_below false old mid new text page status first next = record {
+  out = Appends-trans _ _ _ _ _ first.out next.out;
+  out_failed = next.out_failed ∙ first.out_failed;
+  err = Appends-trans _ _ _ _ _ first.err next.err;
+  err_failed = next.err_failed ∙ first.err_failed;
+  ends = next.ends;
+}
+shown_below true old mid new text page status first (inl next) = inl (record {
+  out = AppendsBeginning-behind _ _ _ _ _ first.out next.out;
+  out_failed = next.out_failed ∙ ap (λ n. n + 1) first.out_failed;
+  err = AppendsBeginning-behind _ _ _ _ _ first.err next.err;
+  ends = next.ends;
+})
+shown_below true old mid new text page status first (inr next) = inr (record {
+  out = Appends-trans _ _ _ _ _ first.out next.out;
+  out_failed = next.out_failed ∙ first.out_failed;
+  err = AppendsBeginning-behind _ _ _ _ _ first.err next.err;
+  err_failed = next.err_failed ∙ ap (λ n. n + 1) first.err_failed;
+  ends = next.ends;
+})

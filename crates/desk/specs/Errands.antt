@@ -1,0 +1,173 @@
+-- What comes of an order at a state of the office.
+use Rattle.std.specs.Prelude.{◌≡◌, ◌⊎◌, ⊤, ℕ, Bool, true, false, List, [], ◌∷◌, codes, length, map, Option, Some, None, Result, Ok, Err}
+use Rattle.sqlite.specs.Tree.{Trees}
+use Rattle.sqlite.specs.State.{State, HasCleanDisk}
+use Rattle.register.specs.Machine.{Outcome as Ruled, after, after_one, state_after, step_of}
+use Rattle.register.specs.Offices.{OfficeState, empty_office}
+use Rattle.register.specs.declared.command.Request.{Request}
+use Rattle.register.specs.declared.refusal.Reason.{Reason}
+use Rattle.tables.specs.declared.fault.Fault.{Fault}
+use Rattle.tables.specs.declared.fault.Fault.TheVariants.{Memory, Store, WrongDatabase}
+use Rattle.tables.specs.Contents.{Stores}
+use Rattle.store.specs.Offices.{IsAt, LeavesState, tables_of}
+use Rattle.office.specs.Answers.{IsClosedIn, IsKeptOpen, IsOpenAt, Told, again, done, no, told_of}
+use Rattle.office.specs.Reads.{IsClosedReading, columns_told, status_told}
+use Rattle.office.specs.Runs.{IsAfterBeginning}
+use Rattle.office.specs.Sheets.{text_told}
+use Rattle.keyfile.specs.Candidates.{candidates}
+use Rattle.keyfile.specs.Files.{Format, IsFaultOf, file_rows}
+use Rattle.keyfile.specs.Keying.{keying}
+use Rattle.keyfile.specs.Reading.{Known}
+use Rattle.keyfile.specs.Records.{file_records}
+use Rattle.keyfile.specs.declared.fault.FileFault.{FileFault}
+use Rattle.desk.specs.Pages.{Page, below, empty_page, failed, page_found, page_told, printed, refused, replied, unread}
+use Rattle.desk.specs.Requests.{Errand, Sent, Work, importing_candidates, importing_keying, keyings_for, making, printing, requests_for, running, sending, sent_as, serving, telling_status}
+use Rattle.desk.specs.Standings.{status_text}
+use Rattle.desk.specs.declared.import.TheConstants.{UNOPENED}
+use Rattle.desk.specs.declared.orders.KeyingFile.{KeyingFile}
+use Rattle.desk.specs.declared.lines.Failure.TheVariants.{Office, Output}
+
+-- the file of an order: none where it can't be opened, and of one that is, its bytes, as far as they are told
+abbrev pub File : Type 0
+File = Option (Option (List ℕ))
+
+-- P of the state that an open office kept, where the disk is as `sqlite` states it
+abbrev pub WhereOpen : Bool → State → State → (OfficeState → Type 0) → Type 0
+WhereOpen closed old new P = HasCleanDisk new → closed ≡ false → (s : OfficeState) → IsAt s old → P s
+
+-- ---- what an errand sends
+
+-- the file holds these requests
+abbrev pub HoldsRequests : {Row : Type 0} → Format Row → (Result (List Row) FileFault → Result (List Sent) FileFault) → File → List Request → Type 0
+HoldsRequests format sent None requests = ⊥
+HoldsRequests format sent (Some told) requests = Known told (λ bytes. sent (file_rows format (file_records bytes)) ≡ Ok (map sent_as requests))
+
+-- the file of a keying of a batch whose columns are told so
+abbrev pub HoldsKeying : Result (List ℕ) Reason → (Result (List (List ℕ)) FileFault → Result (List Sent) FileFault) → File → List Request → Type 0
+HoldsKeying (Ok columns) sent file requests = HoldsRequests (keying columns) sent file requests
+HoldsKeying (Err why) sent file requests = ⊥
+
+-- the requests that an errand sends at a state
+abbrev pub Sends : OfficeState → Errand → File → List Request → Type 0
+Sends s (sending sent) file requests = map sent_as requests ≡ sent ∷ []
+Sends s (importing_candidates id) file requests = HoldsRequests candidates (requests_for id) file requests
+Sends s (importing_keying k) file requests = HoldsKeying (columns_told s k.batch) (keyings_for k) file requests
+Sends s (telling_status ward) file requests = ⊥
+Sends s (printing ward text) file requests = ⊥
+
+-- ---- what comes of the requests
+
+-- a request is answered as the machine says, and that is told, at the state after it; or a fault is told, and a stop leaves the state before
+-- or, of an accepted request, the one after
+abbrev pub IsAnswered : OfficeState → Ruled → Page → Bool → State → Type 0
+IsAnswered s ruled page closed st =
+    ((page ≡ page_told (told_of ruled)) × IsOpenAt (state_after s ruled) closed st)
+    ⊎ ((fault : Fault) × (page ≡ failed (Office fault)) × (IsKeptOpen s fault closed st ⊎ IsClosedIn s ruled fault closed st))
+
+-- one of the replies, above what comes of the other requests
+abbrev pub IsReplyAbove : Told → Page → Page → Type 0
+IsReplyAbove (done reply) rest page = page ≡ below (replied reply).out rest
+IsReplyAbove (again reply) rest page = page ≡ below (replied reply).out rest
+IsReplyAbove (no why) rest page = ⊥
+
+-- Requests sent in turn: each reply is told, and the next request is sent. The first refusal or fault ends it, and so does an output
+-- that breaks.
+abbrev pub IsSent : Bool → OfficeState → List Request → Page → Bool → State → Type 0
+IsSent broke s [] page closed st = (page ≡ empty_page) × IsOpenAt s closed st
+IsSent broke s (r ∷ rs) page closed st =
+    ((rest : Page) × IsReplyAbove (told_of (step_of s r)) rest page × IsSent broke (after_one s r) rs rest closed st)
+    ⊎ ((page.status ≡ 0 → broke ≡ true) × IsAnswered s (step_of s r) page closed st)
+
+-- ---- what comes of an errand that sends nothing
+
+-- why the file isn't taken
+abbrev pub IsRefusedFile : {Row : Type 0} → Format Row → File → Page → Type 0
+IsRefusedFile format None page = page ≡ unread UNOPENED
+IsRefusedFile format (Some told) page = (fault : FileFault) × (page ≡ unread fault) × Known told (λ bytes. IsFaultOf format (file_records bytes) fault)
+
+-- the same of the keying of a batch, which may not be there
+abbrev pub IsRefusedKeying : Result (List ℕ) Reason → File → Page → Type 0
+IsRefusedKeying (Ok columns) file page = IsRefusedFile (keying columns) file page
+IsRefusedKeying (Err why) file page = page ≡ refused why
+
+-- what is told of a state, or why nothing is sent
+abbrev pub IsTold : OfficeState → Errand → File → Page → Type 0
+IsTold s (sending sent) file page = ⊥
+IsTold s (importing_candidates id) file page = IsRefusedFile candidates file page
+IsTold s (importing_keying k) file page = IsRefusedKeying (columns_told s k.batch) file page
+IsTold s (telling_status ward) file page = page ≡ page_found (λ status. replied (status_text status)) (status_told s ward)
+IsTold s (printing ward text) file page = page ≡ page_found printed (text_told text s ward)
+
+-- a fault before anything was sent: nothing is changed
+abbrev pub IsStopped : OfficeState → Page → Bool → State → Type 0
+IsStopped s page closed st = (fault : Fault) × (page ≡ failed (Office fault)) × (IsKeptOpen s fault closed st ⊎ IsClosedReading s fault closed st)
+
+-- what is found of a state is told, or why there is nothing; or a fault
+abbrev pub IsFound : {X : Type 0} → OfficeState → (X → Page) → Result X Reason → Page → Bool → State → Type 0
+IsFound s shown found page closed st = ((page ≡ page_found shown found) × IsOpenAt s closed st) ⊎ IsStopped s page closed st
+
+-- why a file that was read isn't taken, or want of memory
+abbrev pub IsUnread : {Row : Type 0} → Format Row → File → Page → Type 0
+IsUnread format file page = IsRefusedFile format file page ⊎ (page ≡ failed (Office Memory))
+
+-- the keying that a file holds, of a batch at a state; or why there is none
+abbrev pub IsKeyingRead : {O : Type 0} → OfficeState → KeyingFile → File → (O → Page) → Result Request O → Bool → State → Type 0
+IsKeyingRead s k file page_of (Ok request) closed st = HoldsKeying (columns_told s k.batch) (keyings_for k) file (request ∷ []) × IsOpenAt s closed st
+IsKeyingRead s k file page_of (Err outcome) closed st = (IsRefusedKeying (columns_told s k.batch) file (page_of outcome) × IsOpenAt s closed st) ⊎ IsStopped s (page_of outcome) closed st
+
+-- What comes of an errand in an open office: its requests are sent; or what is told of the state, or why nothing is sent; or a fault.
+abbrev pub IsRun : Bool → OfficeState → Errand → File → Page → Bool → State → Type 0
+IsRun broke s errand file page closed st =
+    ((requests : List Request) × Sends s errand file requests × IsSent broke s requests page closed st)
+    ⊎ ((IsTold s errand file page × IsOpenAt s closed st) ⊎ IsStopped s page closed st)
+
+-- ---- what comes of an order over a connection to an office at a state
+
+-- want of memory, or a failing store
+abbrev pub IsPlain : Fault → Type 0
+IsPlain fault = (fault ≡ Memory) ⊎ (fault ≡ Store)
+
+-- the faults that may end what is to be done before an office is open: none is made where one is
+abbrev pub IsEndOf : Work → Fault → Type 0
+IsEndOf making fault = IsPlain fault ⊎ (fault ≡ WrongDatabase)
+IsEndOf (serving port connections) fault = IsPlain fault
+IsEndOf (running errand) fault = IsPlain fault
+
+-- a fault before an office was open: a stop leaves the state as it was
+abbrev pub IsUnopened : OfficeState → Work → Page → State → Type 0
+IsUnopened s work page st = (fault : Fault) × (page ≡ failed (Office fault)) × IsEndOf work fault × LeavesState st (λ x. x ≡ s)
+
+-- what comes of what is to be done: an errand is run; what needs a socket is told as a failed one
+abbrev pub IsDone : Bool → OfficeState → Work → File → Page → State → Type 0
+IsDone broke s making file page st = ⊥
+IsDone broke s (serving port connections) file page st = (page ≡ failed Output) × LeavesState st (λ x. x ≡ s)
+IsDone broke s (running errand) file page st = (closed : Bool) × IsRun broke s errand file page closed st
+
+-- that, or a fault before
+abbrev pub Performs : Bool → OfficeState → Work → File → Page → State → Type 0
+Performs broke s work file page st = IsDone broke s work file page st ⊎ IsUnopened s work page st
+
+-- An office that was to be made in an empty database is made; or a fault is told, and a stop leaves what it could leave before, or the
+-- empty office.
+abbrev pub IsMade : Page → State → State → Type 0
+IsMade page old new =
+    ((page ≡ replied (codes "office ready")) × IsAt empty_office new)
+    ⊎ ((fault : Fault) × (page ≡ failed (Office fault)) × ((trees : Trees) → new.may_leave trees → old.may_leave trees ⊎ Stores (tables_of empty_office) trees))
+
+-- ---- what is kept of an order
+
+-- the requests of what is to be done, none where nothing was sent
+abbrev pub SendsSome : OfficeState → Work → File → List Request → Type 0
+SendsSome s work file [] = ⊤
+SendsSome s making file (r ∷ rs) = ⊥
+SendsSome s (serving port connections) file (r ∷ rs) = ⊥
+SendsSome s (running errand) file (r ∷ rs) = Sends s errand file (r ∷ rs)
+
+-- Of the requests of an order so many were answered. Whatever a stop leaves is the state after the accepted requests of a beginning, which
+-- contains every earlier one, every answered one, and at most one more; with status 0 all were answered.
+pub record IsKept (earlier : List Request) (work : Work) (file : File) (status : ℕ) (st : State) : Type 0 where
+  pub requests : List Request
+  pub sends : SendsSome (after empty_office earlier) work file requests
+  pub answered : ℕ
+  pub leaves : LeavesState st (IsAfterBeginning earlier requests answered)
+  pub all : status ≡ 0 → answered ≡ length requests

@@ -1,0 +1,197 @@
+-- What the program prints, and how it ends.
+use Rattle.std.specs.Prelude.{◌≡◌, ◌⊎◌, ◌+◌, ◌++◌, ℕ, Bool, true, false, List, [], ◌∷◌, Option, Result, Ok, Err, codes, string_bytes, if◌then◌else◌, OnOk, OnErr}
+use Rattle.std.specs.Fmt.{decimal}
+use Rattle.std.specs.Io.KnownBytes.{Appends}
+use Rattle.std.specs.List.{flat_map}
+use Rattle.clap.specs.Words.{Text}
+use Rattle.votes.specs.Streams.{AppendsBeginning}
+use Rattle.register.specs.Reasons.{reason_number, reason_text}
+use Rattle.register.specs.declared.refusal.Reason.{Reason}
+use Rattle.tables.specs.Faults.{fault_number}
+use Rattle.tables.specs.declared.fault.Fault.{Fault}
+use Rattle.tables.specs.declared.fault.Fault.TheVariants as fault
+use Rattle.keyfile.specs.Faults.{flaw_number, is_stop}
+use Rattle.keyfile.specs.declared.fault.FileFault.{FileFault}
+use Rattle.keyfile.specs.declared.fault.Flaw.{Flaw}
+use Rattle.keyfile.specs.declared.fault.Flaw.TheVariants as flaw
+use Rattle.office.specs.Answers.{Told, again, done, no}
+use Rattle.desk.specs.declared.lines.Failure.{Failure}
+use Rattle.desk.specs.declared.lines.Failure.TheVariants.{Office, Output}
+use Rattle.desk.specs.declared.lines.Outcome.{Outcome}
+use Rattle.desk.specs.declared.lines.Outcome.TheVariants as outcome
+
+-- what goes to the output and to the error output, and the status that the program ends with
+pub record Page : Type 0 where
+  pub out : Text
+  pub err : Text
+  pub status : ℕ
+
+-- pieces of text, one behind the other
+abbrev pub joined : List Text → Text
+joined pieces = flat_map (λ piece. piece) pieces
+
+-- a text, and the end of its line
+abbrev pub line : Text → Text
+line text = joined (text ∷ codes "\n" ∷ [])
+
+-- a line of a kind, a number and a text
+abbrev pub numbered_line : Text → ℕ → Text → Text
+numbered_line kind number text = joined (kind ∷ decimal number ∷ codes ": " ∷ text ∷ codes "\n" ∷ [])
+
+-- ---- faults in words
+
+-- a fault of the office
+abbrev pub fault_text : Fault → Text
+fault_text fault.Memory = codes "memory"
+fault_text fault.Store = codes "store"
+fault_text fault.Damaged = codes "damaged"
+fault_text fault.Closed = codes "closed"
+fault_text fault.WrongDatabase = codes "wrong database"
+fault_text fault.NewerSchema = codes "newer schema"
+
+-- why the program gives up: its number,
+abbrev pub failure_number : Failure → ℕ
+failure_number (Office fault) = fault_number fault
+failure_number Output = 107
+
+-- and its text
+abbrev pub failure_text : Failure → Text
+failure_text (Office fault) = fault_text fault
+failure_text Output = codes "socket or output"
+
+-- what is wrong with a record of a file
+abbrev pub flaw_text : Flaw → Text
+flaw_text flaw.Header = codes "header"
+flaw_text flaw.RecordLength = codes "record length"
+flaw_text flaw.Number = codes "number"
+flaw_text flaw.PaperOrder = codes "paper order"
+flaw_text flaw.Marks = codes "marks"
+flaw_text flaw.NotUtf8 = codes "not UTF-8"
+flaw_text flaw.TooManyRecords = codes "too many records"
+flaw_text flaw.ReadFailed = codes "read failed"
+flaw_text flaw.Memory = codes "memory"
+
+-- the status of a file that isn't taken: a fault where its reading was stopped
+abbrev pub status_of_file : FileFault → ℕ
+status_of_file fault = if is_stop fault.flaw then 3 else 1
+
+-- ---- pages
+
+-- nothing
+abbrev pub empty_page : Page
+empty_page = record { out = []; err = []; status = 0 }
+
+-- a text as it is
+abbrev pub printed : Text → Page
+printed text = record { out = text; err = []; status = 0 }
+
+-- a reply, in a line
+abbrev pub replied : Text → Page
+replied text = printed (line text)
+
+-- a refusal, in a line on the error output
+abbrev pub refused : Reason → Page
+refused why = record { out = []; err = numbered_line (codes "refused ") (reason_number why) (reason_text why); status = 1 }
+
+-- why a file isn't taken
+abbrev pub unread : FileFault → Page
+unread fault = record {
+  out = [];
+  err = joined (codes "file fault " ∷ decimal (flaw_number fault.flaw) ∷ codes " at record " ∷ decimal fault.record_number ∷ codes ": " ∷ flaw_text fault.flaw ∷ codes "\n" ∷ []);
+  status = status_of_file fault;
+}
+
+-- why the program gives up
+abbrev pub failed : Failure → Page
+failed failure = record { out = []; err = numbered_line (codes "fault ") (failure_number failure) (failure_text failure); status = 3 }
+
+-- what the machine tells
+abbrev pub page_told : Told → Page
+page_told (done reply) = replied reply
+page_told (again reply) = replied reply
+page_told (no why) = refused why
+
+-- what was found of a state, or why there is nothing
+abbrev pub page_found : {X : Type 0} → (X → Page) → Result X Reason → Page
+page_found page (Ok x) = page x
+page_found page (Err why) = refused why
+
+-- an outcome
+abbrev pub page_of : Outcome → Page
+page_of outcome.Ready = replied (codes "office ready")
+page_of (outcome.Replied reply) = replied (string_bytes reply)
+page_of (outcome.Printed text) = printed (string_bytes text)
+page_of (outcome.Refused why) = refused why
+page_of (outcome.Unread fault) = unread fault
+page_of (outcome.Failed fault) = failed (Office fault)
+
+-- a page with a text above it on the output
+abbrev pub below : Text → Page → Page
+below text page = record { out = text ++ page.out; err = page.err; status = page.status }
+
+-- ---- what was told of a page
+
+-- the two outputs: the bytes that each took, as far as it tells them, and how many of its calls failed
+pub record Outputs : Type 0 where
+  pub out : Option (List ℕ)
+  pub out_failed : ℕ
+  pub err : Option (List ℕ)
+  pub err_failed : ℕ
+
+-- two outputs, by what each tells of itself
+abbrev pub outputs_of : {O E : Type 0} → (O → Option (List ℕ)) → (O → ℕ) → (E → Option (List ℕ)) → (E → ℕ) → O → E → Outputs
+outputs_of taken failed taken_err failed_err out err = record { out = taken out; out_failed = failed out; err = taken_err err; err_failed = failed_err err }
+
+-- the page was told whole, and the program ends with its status
+pub record IsWhole (old new : Outputs) (page : Page) (status : ℕ) : Type 0 where
+  pub out : Appends old.out new.out page.out
+  pub out_failed : new.out_failed ≡ old.out_failed
+  pub err : Appends old.err new.err page.err
+  pub err_failed : new.err_failed ≡ old.err_failed
+  pub ends : status ≡ page.status
+
+-- the output failed: it took a beginning, and that is told on the error output, or a beginning of it
+pub record IsOutputBroken (old new : Outputs) (page : Page) (status : ℕ) : Type 0 where
+  pub out : AppendsBeginning old.out new.out page.out
+  pub out_failed : new.out_failed ≡ old.out_failed + 1
+  pub err : AppendsBeginning old.err new.err (failed Output).err
+  pub ends : status ≡ 3
+
+-- the error output failed: it took a beginning
+pub record IsErrorOutputBroken (old new : Outputs) (page : Page) (status : ℕ) : Type 0 where
+  pub out : Appends old.out new.out page.out
+  pub out_failed : new.out_failed ≡ old.out_failed
+  pub err : AppendsBeginning old.err new.err page.err
+  pub err_failed : new.err_failed ≡ old.err_failed + 1
+  pub ends : status ≡ 3
+
+-- a page was told; or, where an output broke, a beginning of it
+abbrev pub IsShown : Bool → Outputs → Outputs → Page → ℕ → Type 0
+IsShown false old new page status = IsWhole old new page status
+IsShown true old new page status = IsOutputBroken old new page status ⊎ IsErrorOutputBroken old new page status
+
+-- the same, whichever of both
+abbrev pub Shows : Outputs → Outputs → Page → ℕ → Type 0
+Shows old new page status = (broke : Bool) × IsShown broke old new page status
+
+-- what was told is some page of a kind
+pub record Tells (old new : Outputs) (status : ℕ) (P : Bool → Page → Type 0) : Type 0 where
+  pub page : Page
+  pub broke : Bool
+  pub shown : IsShown broke old new page status
+  pub is : P broke page
+
+-- ---- the parts of it: a text that is put to one output
+
+-- the text was taken; or a beginning of it, and a call failed
+pub record IsPut {W X E : Type 0} (taken : W → Option (List ℕ)) (failed : W → ℕ) (old new : W) (text : Text) (result : Result X E) : Type 0 where
+  pub all : OnOk result (Appends (taken old) (taken new) text)
+  pub ok : OnOk result (failed new ≡ failed old)
+  pub cut_off : OnErr result (AppendsBeginning (taken old) (taken new) text)
+  pub err : OnErr result (failed new ≡ failed old + 1)
+
+-- the text was told on the error output, with this status; or a beginning of it, and the status is 3
+abbrev pub IsErrorTold : {E : Type 0} → (E → Option (List ℕ)) → (E → ℕ) → E → E → Text → ℕ → ℕ → Type 0
+IsErrorTold taken failed old new text wanted status =
+    (Appends (taken old) (taken new) text × (failed new ≡ failed old) × (status ≡ wanted))
+    ⊎ (AppendsBeginning (taken old) (taken new) text × (failed new ≡ failed old + 1) × (status ≡ 3))
