@@ -3,3 +3,4 @@ pub mod FrontsRead
 pub mod OrdersNamed
 pub mod PageLemmas
 pub mod SentLemmas
+pub mod KeptLemmas

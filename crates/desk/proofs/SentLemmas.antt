@@ -52,8 +52,8 @@ silent (outcome.Failed fault) zero = absurd (omega arith)
 -- an outcome that was told with status 0 was told whole
 whole : (old new : Outputs) (page : Page) (status : ℕ) → status ≡ 0 → Shows old new page status → IsWhole old new page status
 whole old new page status zero (false, shown) = shown
-whole old new page status zero (true, inl cut) = let bad : 3 ≡ 0 = sym cut.ends ∙ zero in absurd (omega arith)
-whole old new page status zero (true, inr cut) = let bad : 3 ≡ 0 = sym cut.ends ∙ zero in absurd (omega arith)
+whole old new page status zero (true, inl cut) = let three : status ≡ 3 = cut.ends in absurd (omega arith)
+whole old new page status zero (true, inr cut) = let three : status ≡ 3 = cut.ends in absurd (omega arith)
 
 pub status_zero : (old new : Outputs) (page : Page) (status : ℕ) → status ≡ 0 → Shows old new page status → page.status ≡ 0
 status_zero old new page status zero shown = sym (whole old new page status zero shown).ends ∙ zero

@@ -70,7 +70,7 @@ fn run_opened<S: Alter, R: Read + Drop, O: Sink, E: Sink>(
 ) -> (u8, Connection<S>)
     requires out { O.failed out.old < 2 ^ 64 - 1 }
     requires err { E.failed err.old < 2 ^ 64 - 1 }
-    ensures ran { Tells (outputs_of O.taken O.failed E.taken E.failed out.old err.old) (outputs_of O.taken O.failed E.taken E.failed out.new err.new) result.0
+    ensures { Tells (outputs_of O.taken O.failed E.taken E.failed out.old err.old) (outputs_of O.taken O.failed E.taken E.failed out.new err.new) result.0
         (λ broke page. HasCleanDisk (state S.Store result.1) → (db : Database) → RestsAt db (state S.Store conn) → (s : OfficeState) → IsLeftAt s db
             → Performs broke s (running (errand_of task.entry)) (option_map R.remaining file) page (state S.Store result.1)) }
 {
@@ -92,7 +92,7 @@ fn make_office<S: Alter, O: Sink, E: Sink>(
 ) -> (u8, Connection<S>)
     requires out { O.failed out.old < 2 ^ 64 - 1 }
     requires err { E.failed err.old < 2 ^ 64 - 1 }
-    ensures made { Tells (outputs_of O.taken O.failed E.taken E.failed out.old err.old) (outputs_of O.taken O.failed E.taken E.failed out.new err.new) result.0
+    ensures { Tells (outputs_of O.taken O.failed E.taken E.failed out.old err.old) (outputs_of O.taken O.failed E.taken E.failed out.new err.new) result.0
         (λ broke page. HasCleanDisk (state S.Store result.1)
             → (IsBlank (state S.Store conn) → IsMade page (state S.Store conn) (state S.Store result.1))
             × ((db : Database) → RestsAt db (state S.Store conn) → (s : OfficeState) → IsLeftAt s db → Performs broke s making None page (state S.Store result.1))) }

@@ -1,0 +1,145 @@
+-- What is kept of an order, and what a connection that stays at rest leaves.
+use Rattle.std.proofs.Common.{◌≡◌, ◌⊎◌, ◌≤◌, ◌+◌, ◌∙◌, inl, inr, ℕ, Bool, true, false, List, [], ◌∷◌, length, take, Some, None, IsTrue, refl, sym, ap, subst, arith, suc, rules}
+use Rattle.sqlite.specs.Tree.{Trees}
+use Rattle.sqlite.specs.Schema.{Schema}
+use Rattle.sqlite.specs.Effect.{Database}
+use Rattle.sqlite.specs.State.{State, HasCleanDisk}
+use Rattle.sqlite_schema.specs.Names.{same_name}
+use Rattle.register.specs.Offices.{OfficeState, empty_office}
+use Rattle.register.specs.Machine.{after, after_one, state_after, step_of}
+use Rattle.register.specs.declared.command.Request.{Request}
+use Rattle.tables.specs.Contents.{Contents, IsOffice, RestsAt, Stores}
+use Rattle.tables.specs.Presence.{has_some_table}
+use Rattle.tables.specs.Reading.{OnlyReads}
+use Rattle.tables.specs.Schema.{IsOfficeSchema}
+use Rattle.tables.specs.declared.fault.Fault.TheVariants.{Memory}
+use Rattle.store.specs.Offices.{LeavesState, tables_of}
+use Rattle.store.specs.Openings.{IsLeftAt}
+use Rattle.store.proofs.ReopenLemmas.{left_holds}
+use Rattle.office.specs.Answers.{Told, again, done, no, told_of}
+use Rattle.office.specs.Runs.{IsAfterBeginning}
+use Rattle.office.proofs.RunLemmas.{beginning}
+use Rattle.desk.specs.Errands.{File, IsAnswered, IsEndOf, IsKept, IsReplyAbove, IsRun, IsSent, IsStopped, Performs, Sends, SendsSome}
+use Rattle.desk.specs.Pages.{IsShown, Outputs, Page}
+use Rattle.desk.specs.Requests.{Errand, Work, making, running, serving}
+
+-- ---- a connection at rest
+
+-- a connection that rests at a database leaves that alone
+pub rests_leaves : (s : OfficeState) (db : Database) (st : State) → ((trees : Trees) → IsTrue st.is_open → st.may_leave trees → trees ≡ st.committed.trees) → RestsAt db st → IsLeftAt s db → LeavesState st (λ x. x ≡ s)
+rests_leaves s db st settled rests left trees may =
+    let same : db.trees ≡ trees = sym (settled trees rests.is_open may ∙ ap (λ (d : Database). d.trees) rests.committed) in
+    (s, refl, subst (Stores (tables_of s)) same left.stores)
+
+-- and so it does after reads
+pub read_leaves : (s : OfficeState) (db : Database) (old new : State) → ((trees : Trees) → IsTrue old.is_open → old.may_leave trees → trees ≡ old.committed.trees) → OnlyReads old new → HasCleanDisk new → RestsAt db old
+    → IsLeftAt s db → LeavesState new (λ x. x ≡ s)
+read_leaves s db old new settled reads clean rests left trees may = rests_leaves s db old settled rests left trees (reads.leaves clean trees may)
+
+office_begins : (c : Contents) (db : Database) → IsOffice c db → IsOfficeSchema db.schema
+unfolding IsOffice
+office_begins c db office = office.begins
+
+some_there : (s : Schema) → IsOfficeSchema s → has_some_table s ≡ true
+unfolding same_name
+some_there s h = subst (λ (x : Schema). has_some_table x ≡ true) (sym h.is) refl
+
+-- at an office there is a table of an office
+pub has_tables : (s : OfficeState) (db : Database) (st : State) → RestsAt db st → IsLeftAt s db → has_some_table st.now.schema ≡ true
+has_tables s db st rests left =
+    let there = some_there db.schema (office_begins (tables_of s) db (left_holds s db left).office) in
+    subst (λ (d : Database). has_some_table d.schema ≡ true) (sym rests.now) there
+
+pub memory_ends : (work : Work) → IsEndOf work Memory
+memory_ends making = inl (inl refl)
+memory_ends (serving port connections) = inl refl
+memory_ends (running errand) = inl refl
+
+-- ---- what is kept
+
+-- after some of the requests: those that were answered, and at most one more
+abbrev pub IsAfterSome : OfficeState → List Request → ℕ → OfficeState → Type 0
+IsAfterSome s rs n x = (k : ℕ) × (n ≤ k) × (k ≤ n + 1) × (k ≤ length rs) × (x ≡ after s (take k rs))
+
+-- what requests that were sent leave
+abbrev pub LeavesSome : Bool → OfficeState → List Request → Page → State → Type 0
+LeavesSome broke s rs page st = (n : ℕ) × (n ≤ length rs) × LeavesState st (IsAfterSome s rs n) × (page.status ≡ 0 → broke ≡ false → n ≡ length rs)
+
+reply_status : (t : Told) (rest page : Page) → IsReplyAbove t rest page → page.status ≡ rest.status
+reply_status (done reply) rest page is = ap (λ (p : Page). p.status) is
+reply_status (again reply) rest page is = ap (λ (p : Page). p.status) is
+reply_status (no why) rest page is = absurd is
+
+last_leaves : (broke : Bool) (s : OfficeState) (r : Request) (rs : List Request) (page : Page) (closed : Bool) (st : State) → (page.status ≡ 0 → broke ≡ true) → IsAnswered s (step_of s r) page closed st → LeavesSome broke s (r ∷ rs) page st
+last_leaves broke s r rs page closed st ends (inl told) =
+    (1, omega arith,
+    (λ trees may. let it = told.1.at.leaves trees may in (it.0, (1, omega arith, omega arith, omega arith, it.1), it.2)),
+    (λ zero whole. let bad : true ≡ false = sym (ends zero) ∙ whole in absurd (cc bad)))
+last_leaves broke s r rs page closed st ends (inr (fault, is, inl kept)) =
+    (0, omega arith,
+    (λ trees may. let it = kept.open_at.at.leaves trees may in (it.0, (0, omega arith, omega arith, omega arith, it.1), it.2)),
+    (λ zero whole. let three : page.status ≡ 3 = ap (λ (p : Page). p.status) is in absurd (omega arith)))
+last_leaves broke s r rs page closed st ends (inr (fault, is, inr shut)) =
+    (0, omega arith,
+    (λ trees may. let it = shut.leaves trees may in elim it.1 [
+      | inl before ↦ (it.0, (0, omega arith, omega arith, omega arith, before), it.2)
+      | inr next ↦ (it.0, (1, omega arith, omega arith, omega arith, next), it.2)
+    ]),
+    (λ zero whole. let three : page.status ≡ 3 = ap (λ (p : Page). p.status) is in absurd (omega arith)))
+
+sent_leaves : (broke : Bool) (s : OfficeState) (rs : List Request) (page : Page) (closed : Bool) (st : State) → IsSent broke s rs page closed st → LeavesSome broke s rs page st
+sent_leaves broke s [] page closed st sent =
+    (0, omega arith, (λ trees may. let it = sent.1.at.leaves trees may in (it.0, (0, omega arith, omega arith, omega arith, it.1), it.2)), (λ zero whole. refl))
+sent_leaves broke s (r ∷ rs) page closed st (inl goes) =
+    let rest = sent_leaves broke (after_one s r) rs goes.0 closed st goes.2 in
+    (suc rest.0, omega arith,
+    (λ trees may. let it = rest.2 trees may in (it.0, (suc it.1.0, omega arith, omega arith, omega arith, it.1.4), it.2)),
+    (λ zero whole. ap suc (rest.3 (sym (reply_status (told_of (step_of s r)) goes.0 page goes.1) ∙ zero) whole)))
+sent_leaves broke s (r ∷ rs) page closed st (inr last) = last_leaves broke s r rs page closed st last.0 last.1
+
+-- a status 0 comes of a page that was told whole
+shown_zero : (broke : Bool) (old new : Outputs) (page : Page) (status : ℕ) → IsShown broke old new page status → status ≡ 0 → (broke ≡ false) × (page.status ≡ 0)
+shown_zero false old new page status all zero = (refl, sym all.ends ∙ zero)
+shown_zero true old new page status (inl cut) zero = let three : status ≡ 3 = cut.ends in absurd (omega arith)
+shown_zero true old new page status (inr cut) zero = let three : status ≡ 3 = cut.ends in absurd (omega arith)
+
+sends_some : (s : OfficeState) (errand : Errand) (file : File) (requests : List Request) → Sends s errand file requests → SendsSome s (running errand) file requests
+sends_some s errand file [] sends = tt
+sends_some s errand file (r ∷ rs) sends = sends
+
+-- nothing was sent, and a stop leaves the state as it was
+nothing_kept : (earlier : List Request) (work : Work) (file : File) (status : ℕ) (st : State) → LeavesState st (λ x. x ≡ after empty_office earlier) → IsKept earlier work file status st
+nothing_kept earlier work file status st leaves = record {
+  requests = [];
+  sends = tt;
+  answered = 0;
+  leaves = λ trees may. let it = leaves trees may in (it.0, beginning earlier [] 0 0 (omega arith) (omega arith) (omega arith) it.0 it.1, it.2);
+  all = λ zero. refl;
+}
+
+stopped_leaves : (s : OfficeState) (page : Page) (closed : Bool) (st : State) → IsStopped s page closed st → LeavesState st (λ x. x ≡ s)
+stopped_leaves s page closed st (fault, is, inl kept) = kept.open_at.at.leaves
+stopped_leaves s page closed st (fault, is, inr shut) = shut.leaves
+
+run_kept : (earlier : List Request) (errand : Errand) (file : File) (broke : Bool) (old new : Outputs) (page : Page) (status : ℕ) (closed : Bool) (st : State) → IsShown broke old new page status
+    → IsRun broke (after empty_office earlier) errand file page closed st → IsKept earlier (running errand) file status st
+run_kept earlier errand file broke old new page status closed st shown (inl sent) =
+    let it = sent_leaves broke (after empty_office earlier) sent.0 page closed st sent.2 in
+    record {
+      requests = sent.0;
+      sends = sends_some (after empty_office earlier) errand file sent.0 sent.1;
+      answered = it.0;
+      leaves = λ trees may. let x = it.2 trees may in (x.0, beginning earlier sent.0 it.0 x.1.0 x.1.1 x.1.2 x.1.3 x.0 x.1.4, x.2);
+      all = λ zero. let whole = shown_zero broke old new page status shown zero in it.3 whole.1 whole.0;
+    }
+run_kept earlier errand file broke old new page status closed st shown (inr (inl told)) = nothing_kept earlier (running errand) file status st told.1.at.leaves
+run_kept earlier errand file broke old new page status closed st shown (inr (inr stopped)) =
+    nothing_kept earlier (running errand) file status st (stopped_leaves (after empty_office earlier) page closed st stopped)
+
+-- what is kept of an order
+pub kept : (earlier : List Request) (work : Work) (file : File) (broke : Bool) (old new : Outputs) (page : Page) (status : ℕ) (st : State) → IsShown broke old new page status
+    → Performs broke (after empty_office earlier) work file page st → IsKept earlier work file status st
+kept earlier work file broke old new page status st shown (inr unopened) = nothing_kept earlier work file status st unopened.3
+kept earlier making file broke old new page status st shown (inl it) = absurd it
+kept earlier (serving port connections) file broke old new page status st shown (inl it) = nothing_kept earlier (serving port connections) file status st it.1
+kept earlier (running errand) file broke old new page status st shown (inl it) = run_kept earlier errand file broke old new page status it.0 st shown it.1

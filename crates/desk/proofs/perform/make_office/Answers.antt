@@ -1,0 +1,49 @@
+-- Why `make_office` keeps its promise.
+use Rattle.std.proofs.Common.{inl, inr, refl, subst, sym, ◌∙◌, ◌≡◌}
+use Rattle.sqlite.specs.State.{HasCleanDisk}
+use Rattle.sqlite.specs.Held.{state}
+use Rattle.register.specs.Offices.{empty_office}
+use Rattle.tables.specs.declared.fault.Fault.TheVariants.{Memory, Store, WrongDatabase}
+use Rattle.store.specs.Offices.{IsAt, LeavesState}
+use Rattle.desk.specs.Pages.{failed, page_of}
+use Rattle.desk.specs.declared.lines.Failure.TheVariants.{Office}
+use Rattle.desk.specs.declared.lines.Outcome.TheVariants.{Ready}
+use Rattle.desk.proofs.KeptLemmas.{has_tables, rests_leaves}
+use Rattle.desk.proofs.perform.make_office.Goals as goal
+
+pub returns-in-Ok : goal.returns-in-Ok
+returns-in-Ok g c =
+    let told = c.tell.ensures in
+    record {
+      page = page_of Ready;
+      broke = told.0;
+      shown = told.1;
+      is = λ clean.
+          let made = subst (λ conn. HasCleanDisk (state g.S.Store conn)) c.into_connection.ensures clean in
+          (
+            (λ blank. inl (refl, subst (λ conn. IsAt empty_office (state g.S.Store conn)) (sym c.into_connection.ensures) (c.in-Ok.ensures.made made blank).at)),
+            (λ db rests s left. absurd (c.in-Ok.ensures.taken (has_tables s db (state g.S.Store c.args.conn) rests left)))
+          );
+    }
+
+pub returns-in-Err : goal.returns-in-Err
+returns-in-Err g c =
+    let told = c.tell-in-Err.ensures in
+    record {
+      page = failed (Office c.in-Err.fault);
+      broke = told.0;
+      shown = told.1;
+      is = λ clean. (
+        (λ blank. inr (c.in-Err.fault, refl, c.in-Err.ensures.stops clean blank)),
+        (λ db rests s left.
+            let wrong = c.in-Err.ensures.wrong (has_tables s db (state g.S.Store c.args.conn) rests left) rests.outside in
+            let here = rests_leaves s db (state g.S.Store c.args.conn) (λ trees is_open may. g.met.S.Store.settled c.args.conn.store trees is_open may) rests left in
+            elim c.in-Err.ensures.told [
+              | inl memory ↦ let bad : WrongDatabase ≡ Memory = sym wrong ∙ memory in absurd (cc bad)
+              | inr others ↦ elim others [
+                | inl failing ↦ let bad : WrongDatabase ≡ Store = sym wrong ∙ failing in absurd (cc bad)
+                | inr there ↦ inr (c.in-Err.fault, refl, inr wrong, subst (λ conn. LeavesState (state g.S.Store conn) (λ x. x ≡ s)) (sym there.2) here)
+              ]
+            ])
+      );
+    }

@@ -1,0 +1,36 @@
+-- Why `run_opened` keeps its promise.
+use Rattle.std.proofs.Common.{inl, inr, option_map, refl, subst, sym}
+use Rattle.sqlite.specs.State.{HasCleanDisk}
+use Rattle.sqlite.specs.Held.{state}
+use Rattle.desk.specs.Errands.{IsDone}
+use Rattle.desk.specs.Pages.{failed}
+use Rattle.desk.specs.Requests.{errand_of, running}
+use Rattle.desk.specs.declared.lines.Failure.TheVariants.{Office}
+use Rattle.desk.proofs.KeptLemmas.{read_leaves}
+use Rattle.desk.proofs.perform.run_opened.Goals as goal
+
+pub returns-in-Ok : goal.returns-in-Ok
+returns-in-Ok g c =
+    let told = c.run-status.ensures.ran in
+    record {
+      page = told.page;
+      broke = told.broke;
+      shown = told.shown;
+      is = λ clean db rests s left.
+          let ended = subst (λ conn. HasCleanDisk (state g.S.Store conn)) c.into_connection.ensures clean in
+          let here = c.in-Ok.ensures.reopens (c.run-status.ensures.clean ended) db rests s left in
+          let ran = told.is ended here.is_open s here.at in
+          inl (subst (λ conn. IsDone told.broke s (running (errand_of c.args.task)) (option_map g.R.Read.remaining c.args.file) told.page (state g.S.Store conn)) (sym c.into_connection.ensures) (c.run-status.new.office.closed, ran));
+    }
+
+pub returns-in-Err : goal.returns-in-Err
+returns-in-Err g c =
+    let told = c.tell.ensures in
+    record {
+      page = failed (Office c.in-Err.fault);
+      broke = told.0;
+      shown = told.1;
+      is = λ clean db rests s left.
+          inr (c.in-Err.fault, refl, c.in-Err.ensures.refuses clean db rests s left,
+          read_leaves s db (state g.S.Store c.args.conn) (state g.S.Store c.in-Err.conn) (λ trees is_open may. g.met.S.Store.settled c.args.conn.store trees is_open may) c.in-Err.ensures.reads_too clean rests left);
+    }
