@@ -1,4 +1,3 @@
 pub mod HandleLemmas
 pub mod RunLemmas
 mod ClerkLemmas
-mod TellLemmas

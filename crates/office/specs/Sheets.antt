@@ -60,10 +60,3 @@ text_told text s ward = if is_ward_number ward then text_found text s (ward_at s
 abbrev pub StopsText : Text → Phase → Bool → Stop → Type 0
 StopsText text phase closed (Refused why) = (why ≡ WrongPhase) × (is_told_in text phase ≡ false) × (closed ≡ false)
 StopsText text phase closed (Failed f) = ((f ≡ Memory) × (closed ≡ false)) ⊎ ((f ≡ Store) × (closed ≡ true))
-
--- What each exit of a telling says: the text is the one that is told of the state, a refusal is for the reason why none is, and
--- a fault is want of memory or a failing store. What was read stands for the text by a view.
-abbrev pub IsTelling : {Y : Type 0} → (Y → List ℕ) → Result (List ℕ) Reason → Result Y Stop → Type 0
-IsTelling view told (Ok y) = told ≡ Ok (view y)
-IsTelling view told (Err (Refused why)) = told ≡ Err why
-IsTelling view told (Err (Failed f)) = (f ≡ Memory) ⊎ (f ≡ Store)

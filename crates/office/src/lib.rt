@@ -22,10 +22,8 @@ pub mod offices;
 // what is told of the state
 mod reads;
 mod sheets;
-mod telling;
 
 pub use answers::{Answer, Run, Stop};
 pub use offices::Office;
 pub use register::{Status, Work};
 pub use sheets::Text;
-pub use telling::tell;

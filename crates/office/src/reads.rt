@@ -146,7 +146,7 @@ impl<S: Alter> Office<S> {
     }
 
     /// A text of a ward: what `sheet` and `result` give.
-    pub(crate) fn text(&mut self, ward: u32, text: Text) -> Result<String, Stop>
+    fn text(&mut self, ward: u32, text: Text) -> Result<String, Stop>
         ensures reads { HasCleanDisk (state S.Store self.new.held) → self.old.closed ≡ false → (s : OfficeState) → IsAt s (state S.Store self.old.held)
             → Read string_bytes s (text_told text s ward) result self.new.closed (state S.Store self.new.held) }
         ensures same { OnlyReads (state S.Store self.old.held) (state S.Store self.new.held) }
