@@ -8,7 +8,11 @@ use Rattle.register.specs.declared.command.Request.{Request}
 use Rattle.register.specs.declared.refusal.Reason.{Reason}
 use Rattle.tables.specs.declared.fault.Fault.{Fault}
 use Rattle.tables.specs.declared.fault.Fault.TheVariants.{Memory, Store, WrongDatabase}
-use Rattle.tables.specs.Contents.{Stores}
+use Rattle.sqlite.specs.Effect.{Database}
+use Rattle.tables.specs.Contents.{RestsAt, Stores}
+use Rattle.tables.specs.Presence.{IsOurs}
+use Rattle.tables.specs.Reading.{OnlyReads}
+use Rattle.store.specs.Openings.{HoldsNoState, IsBlank, IsLeftAt, IsToldBy}
 use Rattle.store.specs.Offices.{IsAt, LeavesState, tables_of}
 use Rattle.office.specs.Answers.{IsClosedIn, IsKeptOpen, IsOpenAt, Told, again, done, no, told_of}
 use Rattle.office.specs.Reads.{IsClosedReading, columns_told, status_told}
@@ -153,6 +157,20 @@ abbrev pub IsMade : Page → State → State → Type 0
 IsMade page old new =
     ((page ≡ replied (codes "office ready")) × IsAt empty_office new)
     ⊎ ((fault : Fault) × (page ≡ failed (Office fault)) × ((trees : Trees) → new.may_leave trees → old.may_leave trees ⊎ Stores (tables_of empty_office) trees))
+
+-- At a database that holds the tables of no state the fault is told that it gives, or want of memory or a failing store, and nothing is
+-- changed.
+pub record IsForeign (db : Database) (page : Page) (old new : State) : Type 0 where
+  pub fault : Fault
+  pub told : page ≡ failed (Office fault)
+  pub given : IsToldBy db fault
+  pub same : OnlyReads old new
+
+-- what comes of what is to be done, by what the connection rests at: an office at a state, a database with nothing in it, or one of no office
+pub record IsPerformed (broke : Bool) (work : Work) (file : File) (page : Page) (old new : State) : Type 0 where
+  pub in_office : (db : Database) → RestsAt db old → (s : OfficeState) → IsLeftAt s db → Performs broke s work file page new
+  pub in_nothing : work ≡ making → IsBlank old → IsMade page old new
+  pub elsewhere : (errand : Errand) → work ≡ running errand → (db : Database) → IsOurs db.schema → RestsAt db old → HoldsNoState db → IsForeign db page old new
 
 -- ---- what is kept of an order
 

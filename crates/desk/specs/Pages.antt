@@ -1,5 +1,5 @@
 -- What the program prints, and how it ends.
-use Rattle.std.specs.Prelude.{◌≡◌, ◌⊎◌, ◌+◌, ◌++◌, ℕ, Bool, true, false, List, [], ◌∷◌, Option, Result, Ok, Err, codes, string_bytes, if◌then◌else◌, OnOk, OnErr}
+use Rattle.std.specs.Prelude.{◌≡◌, ◌⊎◌, ◌+◌, ◌++◌, ◌==◌, ℕ, Bool, true, false, List, [], ◌∷◌, Option, Result, Ok, Err, codes, string_bytes, if◌then◌else◌, OnOk, OnErr}
 use Rattle.std.specs.Fmt.{decimal}
 use Rattle.std.specs.Io.KnownBytes.{Appends}
 use Rattle.std.specs.List.{flat_map}
@@ -17,6 +17,8 @@ use Rattle.keyfile.specs.declared.fault.Flaw.TheVariants as flaw
 use Rattle.office.specs.Answers.{Told, again, done, no}
 use Rattle.desk.specs.declared.lines.Failure.{Failure}
 use Rattle.desk.specs.declared.lines.Failure.TheVariants.{Office, Output}
+use Rattle.desk.specs.declared.words.WordsFault.{WordsFault}
+use Rattle.desk.specs.declared.words.WordsFault.TheVariants as words
 use Rattle.desk.specs.declared.lines.Outcome.{Outcome}
 use Rattle.desk.specs.declared.lines.Outcome.TheVariants as outcome
 
@@ -124,6 +126,12 @@ page_of (outcome.Printed text) = printed (string_bytes text)
 page_of (outcome.Refused why) = refused why
 page_of (outcome.Unread fault) = unread fault
 page_of (outcome.Failed fault) = failed (Office fault)
+
+-- why words are no order: help goes to the output, and what isn't understood to the error output
+abbrev pub words_page : WordsFault → Page
+words_page words.Memory = failed (Office fault.Memory)
+words_page words.Verdict = record { out = []; err = codes "bad verdict word\n"; status = 2 }
+words_page (words.Words text status) = if status == 0 then printed (string_bytes text) else record { out = []; err = string_bytes text; status = status }
 
 -- a page with a text above it on the output
 abbrev pub below : Text → Page → Page

@@ -2,7 +2,7 @@
 
 ghost use Rattle.std.specs.Prelude.{◌≡◌, ◌⊎◌, ◌-◌, ◌^◌, ◌<◌};
 ghost use Rattle.std.specs.List.{flat_map};
-ghost use Rattle.desk.specs.Pages.{IsErrorTold, IsPut, Shows, failed, failure_number, failure_text, fault_text, flaw_text, outputs_of, page_of, printed, refused, status_of_file, unread};
+ghost use Rattle.desk.specs.Pages.{IsErrorTold, IsPut, Shows, failed, failure_number, failure_text, fault_text, flaw_text, outputs_of, page_of, printed, refused, status_of_file, unread, words_page};
 
 use crate::words::WordsFault;
 use itoa::Buffer;
@@ -196,25 +196,17 @@ pub(crate) fn tell<O: Sink, E: Sink>(outcome: &Outcome, out: &mut O, err: &mut E
 }
 
 /// Tells why the words are no order, and gives the status: 0 with help on the output, 2 with a text on
-/// the error output, and 3 for want of memory or where one of the two fails.
+/// the error output, and 3 for want of memory or where one of the two fails, which has then taken a
+/// beginning.
 pub fn tell_words<O: Sink, E: Sink>(fault: &WordsFault, out: &mut O, err: &mut E) -> u8
     requires out { O.failed out.old < 2 ^ 64 - 1 }
     requires err { E.failed err.old < 2 ^ 64 - 1 }
-    ensures broken { (result ≡ 3) ⊎ ((O.failed out.new ≡ O.failed out.old) × (E.failed err.new ≡ E.failed err.old)) }
+    ensures { Shows (outputs_of O.taken O.failed E.taken E.failed out.old err.old) (outputs_of O.taken O.failed E.taken E.failed out.new err.new) (words_page fault.now) result }
 {
     match fault {
         WordsFault::Memory => tell_failure(Failure::Office(Fault::Memory), err),
-        WordsFault::Verdict => match put_all(err, b"bad verdict word\n") {
-            Ok(()) => 2,
-            Err(Broken) => 3,
-        },
-        WordsFault::Words { text, status: 0 } => match put_all(out, text.as_bytes()) {
-            Ok(()) => 0,
-            Err(Broken) => tell_failure(Failure::Output, err),
-        },
-        WordsFault::Words { text, status } => match put_all(err, text.as_bytes()) {
-            Ok(()) => *status,
-            Err(Broken) => 3,
-        },
+        WordsFault::Verdict => tell_error(&["bad verdict word\n"], 2, err),
+        WordsFault::Words { text, status: 0 } => tell_text(&[text.as_str()], out, err),
+        WordsFault::Words { text, status } => tell_error(&[text.as_str()], *status, err),
     }
 }

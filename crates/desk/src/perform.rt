@@ -1,16 +1,16 @@
 //! What the program does for an order.
 
-ghost use Rattle.std.specs.Prelude.{◌≡◌, ◌⊎◌, ◌-◌, ◌^◌, ◌<◌, List, option_map};
+ghost use Rattle.std.specs.Prelude.{◌-◌, ◌^◌, ◌<◌, List, option_map};
 ghost use Rattle.sqlite.specs.Effect.{Database};
 ghost use Rattle.sqlite.specs.State.{HasCleanDisk};
 ghost use Rattle.sqlite.specs.Held.{state};
 ghost use Rattle.register.specs.Machine.{after};
-ghost use Rattle.register.specs.Offices.{OfficeState, empty_office};
+ghost use Rattle.register.specs.Offices.{empty_office};
 ghost use Rattle.register.specs.declared.command.Request.{Request};
 ghost use Rattle.tables.specs.Contents.{RestsAt};
-ghost use Rattle.store.specs.Openings.{IsBlank, IsLeftAt};
-ghost use Rattle.desk.specs.Errands.{IsKept, IsMade, IsRun, Performs, WhereOpen};
-ghost use Rattle.desk.specs.Pages.{Shows, Tells, failed, outputs_of};
+ghost use Rattle.store.specs.Openings.{IsLeftAt};
+ghost use Rattle.desk.specs.Errands.{File, IsKept, IsPerformed, IsRun, WhereOpen};
+ghost use Rattle.desk.specs.Pages.{Tells, outputs_of};
 ghost use Rattle.desk.specs.Requests.{errand_of, making, running, work_for};
 
 use crate::import::{candidate_requests, keying_of};
@@ -71,8 +71,7 @@ fn run_opened<S: Alter, R: Read + Drop, O: Sink, E: Sink>(
     requires out { O.failed out.old < 2 ^ 64 - 1 }
     requires err { E.failed err.old < 2 ^ 64 - 1 }
     ensures { Tells (outputs_of O.taken O.failed E.taken E.failed out.old err.old) (outputs_of O.taken O.failed E.taken E.failed out.new err.new) result.0
-        (λ broke page. HasCleanDisk (state S.Store result.1) → (db : Database) → RestsAt db (state S.Store conn) → (s : OfficeState) → IsLeftAt s db
-            → Performs broke s (running (errand_of task.entry)) (option_map R.remaining file) page (state S.Store result.1)) }
+        (λ broke page. HasCleanDisk (state S.Store result.1) → IsPerformed broke (running (errand_of task.entry)) (option_map R.remaining file) page (state S.Store conn) (state S.Store result.1)) }
 {
     match Office::open_from(alloc, conn) {
         Ok(mut office) => {
@@ -93,9 +92,7 @@ fn make_office<S: Alter, O: Sink, E: Sink>(
     requires out { O.failed out.old < 2 ^ 64 - 1 }
     requires err { E.failed err.old < 2 ^ 64 - 1 }
     ensures { Tells (outputs_of O.taken O.failed E.taken E.failed out.old err.old) (outputs_of O.taken O.failed E.taken E.failed out.new err.new) result.0
-        (λ broke page. HasCleanDisk (state S.Store result.1)
-            → (IsBlank (state S.Store conn) → IsMade page (state S.Store conn) (state S.Store result.1))
-            × ((db : Database) → RestsAt db (state S.Store conn) → (s : OfficeState) → IsLeftAt s db → Performs broke s making None page (state S.Store result.1))) }
+        (λ broke page. HasCleanDisk (state S.Store result.1) → (told : File) → IsPerformed broke making told page (state S.Store conn) (state S.Store result.1)) }
 {
     match Office::create(alloc, conn) {
         Ok(office) => (tell(&Outcome::Ready, out, err), office.into_connection()),
@@ -109,9 +106,13 @@ fn make_office<S: Alter, O: Sink, E: Sink>(
 /// after the office was opened, and whole before anything is sent.
 ///
 /// The status is 0 where each reply, `office ready`, how a ward stands, or its sheet or declaration went to
-/// `out`; 1 where a request or the file was
-/// refused and 3 at a fault, which `err` is told; and 3 where one of the two failed, which has then taken a
-/// beginning. What was replied before the first refusal or fault stands.
+/// `out`; 1 where a request or the file was refused and 3 at a fault, which `err` is told; and 3 where one of
+/// the two failed, which has then taken a beginning. What was replied before the first refusal or fault
+/// stands. Whatever a stop then leaves is the state after the accepted requests of a beginning of all that
+/// were ever sent, which contains every answered one and at most one more; with status 0 all of the order's
+/// were answered.
+///
+/// A database that holds no office, or a newer or damaged one, is told as that fault, and not changed.
 ///
 /// An order to serve needs a socket, which is none of these: `serve_on` follows it, and here it is told as
 /// a failed one.
@@ -126,10 +127,7 @@ pub fn perform<S: Alter, R: Read + Drop, O: Sink, E: Sink>(
     requires out { O.failed out.old < 2 ^ 64 - 1 }
     requires err { E.failed err.old < 2 ^ 64 - 1 }
     ensures performed { Tells (outputs_of O.taken O.failed E.taken E.failed out.old err.old) (outputs_of O.taken O.failed E.taken E.failed out.new err.new) result.0
-        (λ broke page. HasCleanDisk (state S.Store result.1) → (db : Database) → RestsAt db (state S.Store conn) → (s : OfficeState) → IsLeftAt s db
-            → Performs broke s (work_for order.now) (option_map R.remaining file) page (state S.Store result.1)) }
-    ensures made { work_for order.now ≡ making → Tells (outputs_of O.taken O.failed E.taken E.failed out.old err.old) (outputs_of O.taken O.failed E.taken E.failed out.new err.new) result.0
-        (λ broke page. HasCleanDisk (state S.Store result.1) → IsBlank (state S.Store conn) → IsMade page (state S.Store conn) (state S.Store result.1)) }
+        (λ broke page. HasCleanDisk (state S.Store result.1) → IsPerformed broke (work_for order.now) (option_map R.remaining file) page (state S.Store conn) (state S.Store result.1)) }
     ensures headline { HasCleanDisk (state S.Store result.1) → (db : Database) → RestsAt db (state S.Store conn) → (earlier : List Request) → IsLeftAt (after empty_office earlier) db
         → IsKept earlier (work_for order.now) (option_map R.remaining file) result.0 (state S.Store result.1) }
 {

@@ -18,12 +18,13 @@ returns-in-Ok g c =
       page = page_of Ready;
       broke = told.0;
       shown = told.1;
-      is = λ clean.
+      is = λ clean file.
           let made = subst (λ conn. HasCleanDisk (state g.S.Store conn)) c.into_connection.ensures clean in
-          (
-            (λ blank. inl (refl, subst (λ conn. IsAt empty_office (state g.S.Store conn)) (sym c.into_connection.ensures) (c.in-Ok.ensures.made made blank).at)),
-            (λ db rests s left. absurd (c.in-Ok.ensures.taken (has_tables s db (state g.S.Store c.args.conn) rests left)))
-          );
+          record {
+            in_office = λ db rests s left. absurd (c.in-Ok.ensures.taken (has_tables s db (state g.S.Store c.args.conn) rests left));
+            in_nothing = λ is blank. inl (refl, subst (λ conn. IsAt empty_office (state g.S.Store conn)) (sym c.into_connection.ensures) (c.in-Ok.ensures.made made blank).at);
+            elsewhere = λ errand is. absurd (cc is);
+          };
     }
 
 pub returns-in-Err : goal.returns-in-Err
@@ -33,9 +34,10 @@ returns-in-Err g c =
       page = failed (Office c.in-Err.fault);
       broke = told.0;
       shown = told.1;
-      is = λ clean. (
-        (λ blank. inr (c.in-Err.fault, refl, c.in-Err.ensures.stops clean blank)),
-        (λ db rests s left.
+      is = λ clean file. record {
+        in_nothing = λ is blank. inr (c.in-Err.fault, refl, c.in-Err.ensures.stops clean blank);
+        elsewhere = λ errand is. absurd (cc is);
+        in_office = λ db rests s left.
             let wrong = c.in-Err.ensures.wrong (has_tables s db (state g.S.Store c.args.conn) rests left) rests.outside in
             let here = rests_leaves s db (state g.S.Store c.args.conn) (λ trees is_open may. g.met.S.Store.settled c.args.conn.store trees is_open may) rests left in
             elim c.in-Err.ensures.told [
@@ -44,6 +46,6 @@ returns-in-Err g c =
                 | inl failing ↦ let bad : WrongDatabase ≡ Store = sym wrong ∙ failing in absurd (cc bad)
                 | inr there ↦ inr (c.in-Err.fault, refl, inr wrong, subst (λ conn. LeavesState (state g.S.Store conn) (λ x. x ≡ s)) (sym there.2) here)
               ]
-            ])
-      );
+            ];
+      };
     }

@@ -4,7 +4,8 @@ use Rattle.sqlite.specs.Held.{state}
 use Rattle.register.specs.Machine.{after}
 use Rattle.register.specs.Offices.{empty_office}
 use Rattle.tables.specs.declared.fault.Fault.TheVariants.{Memory}
-use Rattle.desk.specs.Errands.{Performs}
+use Rattle.tables.proofs.ReadLemmas.{only_reads_itself}
+use Rattle.desk.specs.Errands.{IsPerformed}
 use Rattle.desk.specs.Pages.{failed}
 use Rattle.desk.specs.Requests.{work_for}
 use Rattle.desk.specs.declared.lines.Failure.TheVariants.{Office, Output}
@@ -15,64 +16,75 @@ use Rattle.desk.proofs.perform.perform.Goals as goal
 pub returns-in-Ok-Make-clause-performed : goal.returns-in-Ok-Make-clause-performed
 returns-in-Ok-Make-clause-performed g c =
     let told = c.make_office.ensures in
+    let file = option_map g.R.Read.remaining c.args.file in
     record {
       page = told.page;
       broke = told.broke;
       shown = told.shown;
-      is = λ clean db rests s left.
-          subst (λ work. Performs told.broke s work (option_map g.R.Read.remaining c.args.file) told.page (state g.S.Store c.make_office.result.1)) (rw c.in-Ok-Make.field-0-is at c.in-Ok-Make.ensures) ((told.is clean).1 db rests s left);
+      is = λ clean.
+          subst (λ work. IsPerformed told.broke work file told.page (state g.S.Store c.args.conn) (state g.S.Store c.make_office.result.1)) (rw c.in-Ok-Make.field-0-is at c.in-Ok-Make.ensures) (told.is clean file);
     }
 
 pub returns-in-Ok-Run-clause-performed : goal.returns-in-Ok-Run-clause-performed
 returns-in-Ok-Run-clause-performed g c =
     let told = c.run_opened.ensures in
+    let file = option_map g.R.Read.remaining c.args.file in
     record {
       page = told.page;
       broke = told.broke;
       shown = told.shown;
-      is = λ clean db rests s left.
-          subst (λ work. Performs told.broke s work (option_map g.R.Read.remaining c.args.file) told.page (state g.S.Store c.run_opened.result.1)) (rw c.in-Ok-Run.field-0-is at c.in-Ok-Run.ensures) (told.is clean db rests s left);
+      is = λ clean.
+          subst (λ work. IsPerformed told.broke work file told.page (state g.S.Store c.args.conn) (state g.S.Store c.run_opened.result.1)) (rw c.in-Ok-Run.field-0-is at c.in-Ok-Run.ensures) (told.is clean);
     }
 
 pub returns-in-Ok-Serve-clause-performed : goal.returns-in-Ok-Serve-clause-performed
 returns-in-Ok-Serve-clause-performed g c =
     let told = error_shown g.O.Sink.taken g.O.Sink.failed g.E.Sink.taken g.E.Sink.failed c.args.out.now c.args.err.now c.tell_failure.new.err (failed Output) c.tell_failure.result refl c.tell_failure.ensures in
+    let file = option_map g.R.Read.remaining c.args.file in
+    let st = state g.S.Store c.args.conn in
     record {
       page = failed Output;
       broke = told.0;
       shown = told.1;
-      is = λ clean db rests s left.
-          subst (λ work. Performs told.0 s work (option_map g.R.Read.remaining c.args.file) (failed Output) (state g.S.Store c.args.conn)) (rw c.in-Ok-Serve.field-0-is at c.in-Ok-Serve.ensures)
-          (inl (refl, rests_leaves s db (state g.S.Store c.args.conn) (λ trees is_open may. g.met.S.Store.settled c.args.conn.store trees is_open may) rests left));
+      is = λ clean.
+          subst (λ work. IsPerformed told.0 work file (failed Output) st st) (rw c.in-Ok-Serve.field-0-is at c.in-Ok-Serve.ensures) (record {
+            in_office = λ db rests s left. inl (refl, rests_leaves s db st (λ trees is_open may. g.met.S.Store.settled c.args.conn.store trees is_open may) rests left);
+            in_nothing = λ is. absurd (cc is);
+            elsewhere = λ errand is. absurd (cc is);
+          });
     }
 
 pub returns-in-Err-clause-performed : goal.returns-in-Err-clause-performed
 returns-in-Err-clause-performed g c =
     let told = c.tell.ensures in
+    let st = state g.S.Store c.args.conn in
     record {
       page = failed (Office Memory);
       broke = told.0;
       shown = told.1;
-      is = λ clean db rests s left.
-          inr (Memory, refl, memory_ends (work_for c.args.order.now), rests_leaves s db (state g.S.Store c.args.conn) (λ trees is_open may. g.met.S.Store.settled c.args.conn.store trees is_open may) rests left);
+      is = λ clean. record {
+        in_office = λ db rests s left. inr (Memory, refl, memory_ends (work_for c.args.order.now), rests_leaves s db st (λ trees is_open may. g.met.S.Store.settled c.args.conn.store trees is_open may) rests left);
+        in_nothing = λ is blank. inr (Memory, refl, λ trees may. inl may);
+        elsewhere = λ errand is db ours rests none. record { fault = Memory; told = refl; given = tt; same = only_reads_itself st };
+      };
     }
 
 pub returns-in-Ok-Make-clause-headline : goal.returns-in-Ok-Make-clause-headline
 returns-in-Ok-Make-clause-headline g c clean db rests earlier left =
     let told = returns-in-Ok-Make-clause-performed g c in
-    kept earlier (work_for c.args.order.now) (option_map g.R.Read.remaining c.args.file) told.broke _ _ told.page c.make_office.result.0 (state g.S.Store c.make_office.result.1) told.shown (told.is clean db rests (after empty_office earlier) left)
+    kept earlier (work_for c.args.order.now) (option_map g.R.Read.remaining c.args.file) told.broke _ _ told.page c.make_office.result.0 (state g.S.Store c.make_office.result.1) told.shown ((told.is clean).in_office db rests (after empty_office earlier) left)
 
 pub returns-in-Ok-Run-clause-headline : goal.returns-in-Ok-Run-clause-headline
 returns-in-Ok-Run-clause-headline g c clean db rests earlier left =
     let told = returns-in-Ok-Run-clause-performed g c in
-    kept earlier (work_for c.args.order.now) (option_map g.R.Read.remaining c.args.file) told.broke _ _ told.page c.run_opened.result.0 (state g.S.Store c.run_opened.result.1) told.shown (told.is clean db rests (after empty_office earlier) left)
+    kept earlier (work_for c.args.order.now) (option_map g.R.Read.remaining c.args.file) told.broke _ _ told.page c.run_opened.result.0 (state g.S.Store c.run_opened.result.1) told.shown ((told.is clean).in_office db rests (after empty_office earlier) left)
 
 pub returns-in-Ok-Serve-clause-headline : goal.returns-in-Ok-Serve-clause-headline
 returns-in-Ok-Serve-clause-headline g c clean db rests earlier left =
     let told = returns-in-Ok-Serve-clause-performed g c in
-    kept earlier (work_for c.args.order.now) (option_map g.R.Read.remaining c.args.file) told.broke _ _ told.page c.tell_failure.result (state g.S.Store c.args.conn) told.shown (told.is clean db rests (after empty_office earlier) left)
+    kept earlier (work_for c.args.order.now) (option_map g.R.Read.remaining c.args.file) told.broke _ _ told.page c.tell_failure.result (state g.S.Store c.args.conn) told.shown ((told.is clean).in_office db rests (after empty_office earlier) left)
 
 pub returns-in-Err-clause-headline : goal.returns-in-Err-clause-headline
 returns-in-Err-clause-headline g c clean db rests earlier left =
     let told = returns-in-Err-clause-performed g c in
-    kept earlier (work_for c.args.order.now) (option_map g.R.Read.remaining c.args.file) told.broke _ _ told.page c.tell.result (state g.S.Store c.args.conn) told.shown (told.is clean db rests (after empty_office earlier) left)
+    kept earlier (work_for c.args.order.now) (option_map g.R.Read.remaining c.args.file) told.broke _ _ told.page c.tell.result (state g.S.Store c.args.conn) told.shown ((told.is clean).in_office db rests (after empty_office earlier) left)

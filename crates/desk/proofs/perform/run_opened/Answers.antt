@@ -16,11 +16,17 @@ returns-in-Ok g c =
       page = told.page;
       broke = told.broke;
       shown = told.shown;
-      is = λ clean db rests s left.
+      is = λ clean.
           let ended = subst (λ conn. HasCleanDisk (state g.S.Store conn)) c.into_connection.ensures clean in
-          let here = c.in-Ok.ensures.reopens (c.run-status.ensures.clean ended) db rests s left in
-          let ran = told.is ended here.is_open s here.at in
-          inl (subst (λ conn. IsDone told.broke s (running (errand_of c.args.task)) (option_map g.R.Read.remaining c.args.file) told.page (state g.S.Store conn)) (sym c.into_connection.ensures) (c.run-status.new.office.closed, ran));
+          let opened = c.run-status.ensures.clean ended in
+          record {
+            in_office = λ db rests s left.
+                let here = c.in-Ok.ensures.reopens opened db rests s left in
+                let ran = told.is ended here.is_open s here.at in
+                inl (subst (λ conn. IsDone told.broke s (running (errand_of c.args.task)) (option_map g.R.Read.remaining c.args.file) told.page (state g.S.Store conn)) (sym c.into_connection.ensures) (c.run-status.new.office.closed, ran));
+            in_nothing = λ is. absurd (cc is);
+            elsewhere = λ errand is db ours rests none. let held = c.in-Ok.ensures.opened opened db ours rests in absurd (none held.0 held.1);
+          };
     }
 
 pub returns-in-Err : goal.returns-in-Err
@@ -30,7 +36,11 @@ returns-in-Err g c =
       page = failed (Office c.in-Err.fault);
       broke = told.0;
       shown = told.1;
-      is = λ clean db rests s left.
-          inr (c.in-Err.fault, refl, c.in-Err.ensures.refuses clean db rests s left,
-          read_leaves s db (state g.S.Store c.args.conn) (state g.S.Store c.in-Err.conn) (λ trees is_open may. g.met.S.Store.settled c.args.conn.store trees is_open may) c.in-Err.ensures.reads_too clean rests left);
+      is = λ clean. record {
+        in_office = λ db rests s left.
+            inr (c.in-Err.fault, refl, c.in-Err.ensures.refuses clean db rests s left,
+            read_leaves s db (state g.S.Store c.args.conn) (state g.S.Store c.in-Err.conn) (λ trees is_open may. g.met.S.Store.settled c.args.conn.store trees is_open may) c.in-Err.ensures.reads_too clean rests left);
+        in_nothing = λ is. absurd (cc is);
+        elsewhere = λ errand is db ours rests none. record { fault = c.in-Err.fault; told = refl; given = c.in-Err.ensures.told clean db ours rests; same = c.in-Err.ensures.reads_too };
+      };
     }
