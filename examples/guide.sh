@@ -4,13 +4,21 @@
 source "$(dirname "$(readlink -f "${BASH_SOURCE[0]}")")/play.bash"
 
 guide=$here/../docs/ELECTION.md
-# The guide serves on port 8080. Here it is a port that is free.
-port=$((20000 + RANDOM % 20000))
+# The guide serves on port 8080. Here it is a port that nothing answers on.
+port=8080
+
+is_answered() {
+    (exec 4<>"/dev/tcp/127.0.0.1/$port") 2>/dev/null
+}
+
+while is_answered; do
+    port=$((20000 + RANDOM % 20000))
+done
 
 # Waits until the office answers. The connection that tries the port is one of those that are answered.
 await_office() {
     local tries=0
-    until (exec 4<>"/dev/tcp/127.0.0.1/$port") 2>/dev/null; do
+    until is_answered; do
         tries=$((tries + 1))
         [[ $tries -lt 200 ]] || { echo "no office answers on port $port" >&2; return 1; }
         sleep 0.05
