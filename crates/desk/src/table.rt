@@ -32,7 +32,7 @@ pub(crate) struct Word {
     pub(crate) help: &'static str,
 }
 
-/// An order's name and words, and its help, which ends with an example.
+/// An order's name and words, and its help, which ends with an example as it is typed.
 #[derive(Clone, Copy)]
 pub(crate) struct Entry {
     pub(crate) name: &'static str,
@@ -49,13 +49,13 @@ pub(crate) const WARD: Word = Word {
 pub(crate) const SEATS: Word = Word {
     name: "SEATS",
     kind: Kind::Number,
-    help: "How many it elects, 1 to 15",
+    help: "How many candidates it elects, 1 to 15",
 };
 
 pub(crate) const NAME: Word = Word {
     name: "NAME",
     kind: Kind::Text,
-    help: "The name, 1 to 120 bytes",
+    help: "The name, 1 to 120 bytes of UTF-8; in quotes where it has spaces",
 };
 
 pub(crate) const CANDIDATE: Word = Word {
@@ -67,7 +67,7 @@ pub(crate) const CANDIDATE: Word = Word {
 pub(crate) const BATCH: Word = Word {
     name: "BATCH",
     kind: Kind::Number,
-    help: "The batch's number, 1 to 9999",
+    help: "The batch's number, over all wards, 1 to 9999",
 };
 
 pub(crate) const SIZE: Word = Word {
@@ -85,7 +85,7 @@ pub(crate) const FIRST_CLERK: Word = Word {
 pub(crate) const SECOND_CLERK: Word = Word {
     name: "SECOND_CLERK",
     kind: Kind::Number,
-    help: "The other clerk who keys it",
+    help: "The other clerk who keys it, 1 to 999",
 };
 
 pub(crate) const CLERK: Word = Word {
@@ -97,7 +97,7 @@ pub(crate) const CLERK: Word = Word {
 pub(crate) const ROUND: Word = Word {
     name: "ROUND",
     kind: Kind::Number,
-    help: "The round of the batch, 1 to 99",
+    help: "The round that the batch is in, 1 to 99; it begins with 1",
 };
 
 pub(crate) const PAPER: Word = Word {
@@ -109,7 +109,7 @@ pub(crate) const PAPER: Word = Word {
 pub(crate) const VERDICT: Word = Word {
     name: "VERDICT",
     kind: Kind::Verdict,
-    help: "accept: and the marks, one field a candidate, or reject: and a code, 3 to 5",
+    help: "accept: and the marks, a field for each candidate, parted by commas; or\nreject: and 3 no official mark, 4 voter identifiable, 5 void for uncertainty",
 };
 
 pub(crate) const STAGE: Word = Word {
@@ -121,7 +121,7 @@ pub(crate) const STAGE: Word = Word {
 pub(crate) const FILE: Word = Word {
     name: "FILE",
     kind: Kind::Text,
-    help: "The import file",
+    help: "The path of an import file; docs/FORMATS.md tells its form",
 };
 
 /// The highest port.
@@ -145,7 +145,7 @@ pub(crate) const CONNECTIONS: Word = Word {
 pub(crate) const ID: Word = Word {
     name: "id",
     kind: Kind::Id,
-    help: "The request's id: 1 to 40 of a-z, 0-9 and -",
+    help: "An id that you choose for this order, 1 to 40 of a-z, 0-9 and -;\nsent again under the same id, it does nothing twice",
 };
 
 /// All orders, in the sequence of an election.
@@ -153,92 +153,92 @@ const ORDERS: [Entry; 18] = [
     Entry {
         name: "init",
         words: &[],
-        help: "Makes an office in DB, a new file or an empty one:\ninit",
+        help: "Makes an office in DB, a new file or an empty one:\ncount-office town.db init",
     },
     Entry {
         name: "ward",
         words: &[WARD, SEATS, NAME, ID],
-        help: "Adds a ward, its nominations open:\nward 7 2 Harbour --id w1",
+        help: "Adds a ward, its nominations open:\ncount-office town.db ward 7 2 Harbour --id w1",
     },
     Entry {
         name: "candidate",
         words: &[WARD, CANDIDATE, NAME, ID],
-        help: "Adds a candidate to a ward:\ncandidate 7 1 Ann --id c1",
+        help: "Adds a candidate to a ward:\ncount-office town.db candidate 7 1 Ann --id c1",
     },
     Entry {
         name: "import-candidates",
         words: &[FILE, ID],
-        help: "Adds the candidates of a file, the first under ID-1:\nimport-candidates harbour.csv --id c",
+        help: "Adds the candidates of a file, the first under ID-1:\ncount-office town.db import-candidates names.csv --id c",
     },
     Entry {
         name: "withdraw",
         words: &[WARD, CANDIDATE, ID],
-        help: "Takes a candidate off a ward:\nwithdraw 7 1 --id c3",
+        help: "Takes a candidate off a ward, while nominations are open:\ncount-office town.db withdraw 7 5 --id x1",
     },
     Entry {
         name: "close",
         words: &[WARD, ID],
-        help: "Closes the nominations of a ward:\nclose 7 --id w2",
+        help: "Closes the nominations of a ward:\ncount-office town.db close 7 --id n1",
     },
     Entry {
         name: "batch",
         words: &[BATCH, WARD, SIZE, FIRST_CLERK, SECOND_CLERK, ID],
-        help: "Adds a batch of papers, which two clerks key:\nbatch 12 7 2 4 9 --id b1",
+        help: "Gives out a batch of papers of a ward to two clerks, who key it:\ncount-office town.db batch 12 7 8 4 9 --id b1",
     },
     Entry {
         name: "import-keying",
         words: &[CLERK, BATCH, ROUND, FILE, ID],
-        help: "Keeps a clerk's keying of a batch from a file:\nimport-keying 4 12 1 keyed.csv --id k1",
+        help: "Keeps a clerk's keying of a batch, in a round, from a file:\ncount-office town.db import-keying 4 12 1 k4-12.csv --id k1",
     },
     Entry {
         name: "again",
         words: &[BATCH, ID],
-        help: "Opens the next round of a batch whose keyings differ:\nagain 12 --id a1",
+        help: "Opens the next round of a batch whose keyings differ:\ncount-office town.db again 13 --id r1",
     },
     Entry {
         name: "judge",
         words: &[BATCH, PAPER, VERDICT, ID],
-        help: "Judges a doubtful paper:\njudge 12 2 accept:1,,2 --id v1",
+        help: "Keeps the verdict on a paper that both clerks keyed as doubtful:\ncount-office town.db judge 12 6 accept:1,,, --id v1",
     },
     Entry {
         name: "seal",
         words: &[WARD, ID],
-        help: "Seals a ward whose papers are all agreed and judged:\nseal 7 --id s1",
+        help: "Seals a ward whose papers are all agreed and judged:\ncount-office town.db seal 7 --id s1",
     },
     Entry {
         name: "advance",
         words: &[WARD, ID],
-        help: "Counts the stage that is due in a sealed ward:\nadvance 7 --id n1",
+        help: "Counts the one stage that is due in a sealed ward:\ncount-office town.db advance 7 --id a1",
     },
     Entry {
         name: "lot",
         words: &[WARD, STAGE, CANDIDATE, ID],
-        help: "Records a lot that was drawn for a stage:\nlot 7 2 3 --id l1",
+        help: "Records whom a lot named that was drawn for a stage:\ncount-office town.db lot 7 3 4 --id l1",
     },
     Entry {
         name: "declare",
         words: &[WARD, ID],
-        help: "Declares the result of a ward whose count is finished:\ndeclare 7 --id d1",
+        help: "Declares the result of a ward whose count is finished:\ncount-office town.db declare 7 --id d1",
     },
     Entry {
         name: "status",
         words: &[WARD],
-        help: "Tells how a ward stands:\nstatus 7",
+        help: "Tells how a ward stands, at any moment:\ncount-office town.db status 7",
     },
     Entry {
         name: "sheet",
         words: &[WARD],
-        help: "Prints the stage sheet of a sealed ward:\nsheet 7",
+        help: "Prints the stage sheet of a sealed ward:\ncount-office town.db sheet 7",
     },
     Entry {
         name: "result",
         words: &[WARD],
-        help: "Prints the declaration of a declared ward:\nresult 7",
+        help: "Prints the declaration of a declared ward:\ncount-office town.db result 7",
     },
     Entry {
         name: "serve",
         words: &[PORT, CONNECTIONS],
-        help: "Answers clerks over HTTP on this machine, so many connections:\nserve 8080 1000",
+        help: "Answers clerks over HTTP on this machine, so many connections:\ncount-office town.db serve 8080 1000",
     },
 ];
 

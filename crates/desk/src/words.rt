@@ -23,11 +23,15 @@ candidates, their batches of papers as the clerks keyed them, and a receipt of e
 that it accepted: the same request, sent again under the same id, prints the same reply and
 changes nothing.";
 
-const OUTCOMES: &str = "An example stands under each order. DB comes before it, as in
-  count-office town.db ward 7 2 Harbour --id w1
+const OUTCOMES: &str =
+    "An example stands under each order. Its words, with their ranges, are shown by
+  count-office DB ORDER --help
 
 A reply goes to standard output, with status 0. What the office refuses goes to standard
-error, with status 1; words that are not understood with 2, and faults with 3.";
+error, with status 1; words that are not understood with 2, and faults with 3.
+
+docs/ELECTION.md leads through an election, order by order. docs/FORMATS.md tells what each
+refusal and each fault means, and what to do about it.";
 
 /// Why the words are no order.
 #[derive(Debug, Drop)]

@@ -1,0 +1,29 @@
+#!/usr/bin/env bash
+# Plays the help: of the program, of each order, and where words aren't understood.
+source "$(dirname "$(readlink -f "${BASH_SOURCE[0]}")")/play.bash"
+
+{
+    play --help
+    for order in init ward candidate import-candidates withdraw close batch import-keying again judge seal advance lot declare \
+        status sheet result serve; do
+        play town.db "$order" --help
+    done
+
+    # words that are no order
+    play
+    play town.db
+    play town.db jugde 12 6 accept:1 --id v1
+    play town.db tally 7
+    play town.db close 7
+    play town.db close 7 --id
+    play town.db close 7 8 --id n1
+    play town.db close seven --id n1
+    play town.db close 7 --id n1 --id n2
+    play town.db ward 7 2 Old Harbour --id w1
+    play town.db ward 7 2 -Harbour --id w1
+    play town.db judge 12 6 maybe --id v1
+    play town.db serve 0 10
+    play town.db serve 8080 0
+} >"$folder/played"
+
+compare help
