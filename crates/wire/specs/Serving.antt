@@ -60,9 +60,11 @@ pub record IsHandedOn (number : ℕ) (entry : KeyingEntry) (command : KeyingComm
   pub round : command.round ≡ entry.round
   pub papers : map string_bytes command.papers.items ≡ entry.papers
 
--- the outcome of a clerk's keying at a state
-abbrev pub IsOutcome : OfficeState → ℕ → ℕ → KeyingEntry → Outcome → Type 0
-IsOutcome s clerk batch entry outcome = (handed : KeyingCommand) × IsHandedOn batch entry handed × (outcome ≡ step s clerk entry.id (command.Keying handed))
+-- the outcome of a clerk's keying at a state: that of each command which it can be handed on as
+pub record IsOutcome (s : OfficeState) (clerk batch : ℕ) (entry : KeyingEntry) (outcome : Outcome) : Type 0 where
+  pub handed : KeyingCommand
+  pub is : IsHandedOn batch entry handed
+  pub each : (other : KeyingCommand) → IsHandedOn batch entry other → outcome ≡ step s clerk entry.id (command.Keying other)
 
 -- the answer to what is asked at a state, and the state after it
 abbrev pub IsAnswer : OfficeState → AskedEntry → OfficeState → ResponseEntry → Type 0
