@@ -2,3 +2,4 @@ pub mod NumbersRead
 pub mod FrontsRead
 pub mod OrdersNamed
 pub mod SentLemmas
+pub mod ServedLemmas
