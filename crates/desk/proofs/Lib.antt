@@ -4,3 +4,4 @@ pub mod OrdersNamed
 pub mod PageLemmas
 pub mod SentLemmas
 pub mod KeptLemmas
+pub mod ServedLemmas

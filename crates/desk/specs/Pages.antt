@@ -7,13 +7,11 @@ use Rattle.clap.specs.Words.{Text}
 use Rattle.votes.specs.Streams.{AppendsBeginning}
 use Rattle.register.specs.Reasons.{reason_number, reason_text}
 use Rattle.register.specs.declared.refusal.Reason.{Reason}
-use Rattle.tables.specs.Faults.{fault_number}
+use Rattle.tables.specs.Faults.{fault_number, fault_text}
 use Rattle.tables.specs.declared.fault.Fault.{Fault}
 use Rattle.tables.specs.declared.fault.Fault.TheVariants as fault
-use Rattle.keyfile.specs.Faults.{flaw_number, is_stop}
+use Rattle.keyfile.specs.Faults.{flaw_number, flaw_text, is_stop}
 use Rattle.keyfile.specs.declared.fault.FileFault.{FileFault}
-use Rattle.keyfile.specs.declared.fault.Flaw.{Flaw}
-use Rattle.keyfile.specs.declared.fault.Flaw.TheVariants as flaw
 use Rattle.office.specs.Answers.{Told, again, done, no}
 use Rattle.desk.specs.declared.lines.Failure.{Failure}
 use Rattle.desk.specs.declared.lines.Failure.TheVariants.{Office, Output}
@@ -40,16 +38,7 @@ line text = joined (text ∷ codes "\n" ∷ [])
 abbrev pub numbered_line : Text → ℕ → Text → Text
 numbered_line kind number text = joined (kind ∷ decimal number ∷ codes ": " ∷ text ∷ codes "\n" ∷ [])
 
--- ---- faults in words
-
--- a fault of the office
-abbrev pub fault_text : Fault → Text
-fault_text fault.Memory = codes "memory"
-fault_text fault.Store = codes "store"
-fault_text fault.Damaged = codes "damaged"
-fault_text fault.Closed = codes "closed"
-fault_text fault.WrongDatabase = codes "wrong database"
-fault_text fault.NewerSchema = codes "newer schema"
+-- ---- failures in words
 
 -- why the program gives up: its number,
 abbrev pub failure_number : Failure → ℕ
@@ -60,18 +49,6 @@ failure_number Output = 107
 abbrev pub failure_text : Failure → Text
 failure_text (Office fault) = fault_text fault
 failure_text Output = codes "socket or output"
-
--- what is wrong with a record of a file
-abbrev pub flaw_text : Flaw → Text
-flaw_text flaw.Header = codes "header"
-flaw_text flaw.RecordLength = codes "record length"
-flaw_text flaw.Number = codes "number"
-flaw_text flaw.PaperOrder = codes "paper order"
-flaw_text flaw.Marks = codes "marks"
-flaw_text flaw.NotUtf8 = codes "not UTF-8"
-flaw_text flaw.TooManyRecords = codes "too many records"
-flaw_text flaw.ReadFailed = codes "read failed"
-flaw_text flaw.Memory = codes "memory"
 
 -- the status of a file that isn't taken: a fault where its reading was stopped
 abbrev pub status_of_file : FileFault → ℕ

@@ -2,7 +2,7 @@
 
 ghost use Rattle.std.specs.Prelude.{◌≡◌, ◌⊎◌, ◌-◌, ◌^◌, ◌<◌};
 ghost use Rattle.std.specs.List.{flat_map};
-ghost use Rattle.desk.specs.Pages.{IsErrorTold, IsPut, Shows, failed, failure_number, failure_text, fault_text, flaw_text, outputs_of, page_of, printed, refused, status_of_file, unread, words_page};
+ghost use Rattle.desk.specs.Pages.{IsErrorTold, IsPut, Shows, failed, failure_number, failure_text, outputs_of, page_of, printed, refused, status_of_file, unread, words_page};
 
 use crate::words::WordsFault;
 use itoa::Buffer;
@@ -32,10 +32,9 @@ pub(crate) enum Outcome {
 /// Why the program gives up: a fault of the office, told by its number 101 to 106, or an output that
 /// fails, 107.
 #[derive(Clone, Copy, Debug, PartialEq, Eq, Drop, Error)]
+#[error("{}", self.text())]
 pub enum Failure {
-    #[error("{0}")]
     Office(Fault),
-    #[error("socket or output")]
     Output,
 }
 
@@ -53,40 +52,9 @@ impl Failure {
         ensures { result.now ≡ failure_text self.now }
     {
         match self {
-            Failure::Office(fault) => fault_text(*fault),
+            Failure::Office(fault) => fault.text(),
             Failure::Output => "socket or output",
         }
-    }
-}
-
-/// A fault of the office in words.
-fn fault_text(fault: Fault) -> &'static str
-    ensures { result.now ≡ fault_text fault }
-{
-    match fault {
-        Fault::Memory => "memory",
-        Fault::Store => "store",
-        Fault::Damaged => "damaged",
-        Fault::Closed => "closed",
-        Fault::WrongDatabase => "wrong database",
-        Fault::NewerSchema => "newer schema",
-    }
-}
-
-/// What is wrong with a record of a file, in words.
-fn flaw_text(flaw: Flaw) -> &'static str
-    ensures { result.now ≡ flaw_text flaw }
-{
-    match flaw {
-        Flaw::Header => "header",
-        Flaw::RecordLength => "record length",
-        Flaw::Number => "number",
-        Flaw::PaperOrder => "paper order",
-        Flaw::Marks => "marks",
-        Flaw::NotUtf8 => "not UTF-8",
-        Flaw::TooManyRecords => "too many records",
-        Flaw::ReadFailed => "read failed",
-        Flaw::Memory => "memory",
     }
 }
 
@@ -159,7 +127,7 @@ fn tell_file_fault<E: Sink>(fault: FileFault, err: &mut E) -> u8
         " at record ",
         record.format(fault.record_number),
         ": ",
-        flaw_text(fault.flaw),
+        fault.flaw.text(),
         "\n",
     ];
     tell_error(&pieces, status_of_file(fault), err)

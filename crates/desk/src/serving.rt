@@ -1,6 +1,11 @@
 //! Connections, answered one after the other.
 
-ghost use Rattle.std.specs.Prelude.{◌≡◌, IfErr};
+ghost use Rattle.std.specs.Prelude.{◌≡◌, ◌+◌, IfErr, false, true, ℕ};
+ghost use Rattle.sqlite.specs.State.{HasCleanDisk};
+ghost use Rattle.sqlite.specs.Held.{state};
+ghost use Rattle.register.specs.Offices.{OfficeState};
+ghost use Rattle.store.specs.Offices.{IsAt};
+ghost use Rattle.desk.specs.Serving.{IsLeftFrom};
 
 use crate::lines::Failure;
 use office::Office;
@@ -23,7 +28,12 @@ fn limit_waiting(stream: &TcpStream) -> io::Result<()> {
 }
 
 /// Answers one connection. One that can't be limited is let go unanswered, as one that can't be read.
-fn serve_stream<S: Alter>(alloc: Global, stream: &TcpStream, office: &mut Office<S>) {
+fn serve_stream<S: Alter>(alloc: Global, stream: &TcpStream, office: &mut Office<S>)
+    ensures leaves { HasCleanDisk (state S.Store office.new.held) → (s : OfficeState) → (most : ℕ) → IsLeftFrom s most office.old.closed (state S.Store office.old.held)
+        → IsLeftFrom s (most + 1) office.new.closed (state S.Store office.new.held) }
+    ensures closed { office.old.closed ≡ true → office.new ≡ office.old }
+    ensures clean { HasCleanDisk (state S.Store office.new.held) → HasCleanDisk (state S.Store office.old.held) }
+{
     if limit_waiting(stream).is_err() {
         return;
     }
@@ -37,6 +47,10 @@ fn serve_stream<S: Alter>(alloc: Global, stream: &TcpStream, office: &mut Office
 /// A connection that can't be read or written to the end counts, and so does one that is answered with a
 /// fault: after a fault that closed the office, each further one is told that it is closed. `Output` where
 /// no connection can be accepted; what was answered before stands.
+///
+/// Of an open office nothing is changed but by clerks' keyings, at most one a connection: it is left open
+/// at a state that they lead to, or a fault closed it, and then whatever a stop leaves is such a state. A
+/// closed office stays as it is.
 pub fn serve_on<S: Alter>(
     alloc: Global,
     listener: &TcpListener,
@@ -44,6 +58,10 @@ pub fn serve_on<S: Alter>(
     office: &mut Office<S>,
 ) -> Result<(), Failure>
     ensures told { IfErr result (λ failure. failure ≡ Failure.Output) }
+    ensures leaves { HasCleanDisk (state S.Store office.new.held) → office.old.closed ≡ false → (s : OfficeState) → IsAt s (state S.Store office.old.held)
+        → IsLeftFrom s connections office.new.closed (state S.Store office.new.held) }
+    ensures closed { office.old.closed ≡ true → office.new ≡ office.old }
+    ensures clean { HasCleanDisk (state S.Store office.new.held) → HasCleanDisk (state S.Store office.old.held) }
 {
     for (_, stream) in (0..connections).zip(listener.incoming()) {
         match stream {

@@ -1,5 +1,5 @@
 -- How the flaws of import files are told.
-use Rattle.std.specs.Prelude.{ℕ, Bool, true, false}
+use Rattle.std.specs.Prelude.{ℕ, List, codes, Bool, true, false}
 use Rattle.csv.specs.declared.error.ErrorKind.{ErrorKind}
 use Rattle.csv.specs.declared.error.ErrorKind.TheVariants as kind
 use Rattle.keyfile.specs.declared.fault.Flaw.{Flaw}
@@ -16,6 +16,18 @@ flaw_number NotUtf8 = 6
 flaw_number TooManyRecords = 7
 flaw_number ReadFailed = 8
 flaw_number Memory = 9
+
+-- and its text
+abbrev pub flaw_text : Flaw → List ℕ
+flaw_text Header = codes "header"
+flaw_text RecordLength = codes "record length"
+flaw_text Number = codes "number"
+flaw_text PaperOrder = codes "paper order"
+flaw_text Marks = codes "marks"
+flaw_text NotUtf8 = codes "not UTF-8"
+flaw_text TooManyRecords = codes "too many records"
+flaw_text ReadFailed = codes "read failed"
+flaw_text Memory = codes "memory"
 
 -- whether a flaw is none of the file, but stopped its reading
 abbrev pub is_stop : Flaw → Bool

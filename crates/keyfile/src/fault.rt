@@ -2,7 +2,7 @@
 
 ghost use Rattle.std.specs.Prelude.{◌≡◌, IfOk, IfErr, Ok, Err};
 ghost use Rattle.keyfile.specs.declared.fault.Flaw.TheVariants.{Memory};
-ghost use Rattle.keyfile.specs.Faults.{flaw_number};
+ghost use Rattle.keyfile.specs.Faults.{flaw_number, flaw_text};
 
 use std::alloc::AllocError;
 use thiserror::Error;
@@ -10,33 +10,25 @@ use thiserror::Error;
 /// Why a record of an import file can't be taken. Of several the first in this order is told: header,
 /// record length, too many records, not UTF-8, number, paper order, marks.
 #[derive(Clone, Copy, Debug, PartialEq, Eq, Error)]
+#[error("{}", self.text())]
 pub enum Flaw {
     /// There is no record, or the first isn't the header.
-    #[error("header")]
     Header,
     /// It isn't as long as the header.
-    #[error("record length")]
     RecordLength,
     /// A number field isn't 1 to 5 digits, the first not 0.
-    #[error("number")]
     Number,
     /// The paper's number isn't the record's.
-    #[error("paper order")]
     PaperOrder,
     /// A mark field holds a comma, a double quote or a line end.
-    #[error("marks")]
     Marks,
     /// A field isn't UTF-8.
-    #[error("not UTF-8")]
     NotUtf8,
     /// It stands past the limit.
-    #[error("too many records")]
     TooManyRecords,
     /// The file can't be opened, or a read failed.
-    #[error("read failed")]
     ReadFailed,
     /// Memory was wanting.
-    #[error("memory")]
     Memory,
 }
 
@@ -64,6 +56,23 @@ impl Flaw {
             Flaw::TooManyRecords => 7,
             Flaw::ReadFailed => 8,
             Flaw::Memory => 9,
+        }
+    }
+
+    /// The flaw in words.
+    pub fn text(&self) -> &'static str
+        ensures { result.now ≡ flaw_text self.now }
+    {
+        match self {
+            Flaw::Header => "header",
+            Flaw::RecordLength => "record length",
+            Flaw::Number => "number",
+            Flaw::PaperOrder => "paper order",
+            Flaw::Marks => "marks",
+            Flaw::NotUtf8 => "not UTF-8",
+            Flaw::TooManyRecords => "too many records",
+            Flaw::ReadFailed => "read failed",
+            Flaw::Memory => "memory",
         }
     }
 }

@@ -1,5 +1,5 @@
 -- The faults of a store, and which error of `sqlite` each tells.
-use Rattle.std.specs.Prelude.{◌≡◌, ◌<◌, ℕ, List, [], length, slice_index_or, take, Err, IsTrue}
+use Rattle.std.specs.Prelude.{◌≡◌, ◌<◌, ℕ, List, [], codes, length, slice_index_or, take, Err, IsTrue}
 use Rattle.sqlite.specs.declared.error.Error.{Error}
 use Rattle.sqlite.specs.declared.error.Error.TheVariants.{SqliteFailure}
 use Rattle.sqlite.specs.declared.error.ErrorCode.TheVariants.{OutOfMemory}
@@ -21,6 +21,15 @@ fault_number Damaged = 103
 fault_number Closed = 104
 fault_number WrongDatabase = 105
 fault_number NewerSchema = 106
+
+-- and its text
+abbrev pub fault_text : Fault → List ℕ
+fault_text Memory = codes "memory"
+fault_text Store = codes "store"
+fault_text Damaged = codes "damaged"
+fault_text Closed = codes "closed"
+fault_text WrongDatabase = codes "wrong database"
+fault_text NewerSchema = codes "newer schema"
 
 -- want of memory, or another refusal of the store
 abbrev pub fault_of : Error → Fault

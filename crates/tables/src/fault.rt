@@ -1,31 +1,26 @@
 //! Why a call of the office gave up.
 
 ghost use Rattle.std.specs.Prelude.{◌≡◌, ◌↔◌};
-ghost use Rattle.tables.specs.Faults.{fault_number, fault_of};
+ghost use Rattle.tables.specs.Faults.{fault_number, fault_text, fault_of};
 
 use sqlite::{Error, ErrorCode};
 use thiserror::Error as Describe;
 
 /// The faults of an office, which are told by their numbers, 101 to 106.
 #[derive(Clone, Copy, Debug, PartialEq, Eq, Drop, Describe)]
+#[error("{}", self.text())]
 pub enum Fault {
     /// Memory was wanting.
-    #[error("memory")]
     Memory,
     /// The store refused a call for another cause.
-    #[error("store")]
     Store,
     /// The rows are the tables of no state of an office.
-    #[error("damaged")]
     Damaged,
     /// An earlier fault closed the office.
-    #[error("closed")]
     Closed,
     /// The database has no office, or, where one is to be made, has a table of its name.
-    #[error("wrong database")]
     WrongDatabase,
     /// A later program made the tables.
-    #[error("newer schema")]
     NewerSchema,
 }
 
@@ -41,6 +36,20 @@ impl Fault {
             Fault::Closed => 104,
             Fault::WrongDatabase => 105,
             Fault::NewerSchema => 106,
+        }
+    }
+
+    /// The fault in words.
+    pub fn text(&self) -> &'static str
+        ensures { result.now ≡ fault_text self.now }
+    {
+        match self {
+            Fault::Memory => "memory",
+            Fault::Store => "store",
+            Fault::Damaged => "damaged",
+            Fault::Closed => "closed",
+            Fault::WrongDatabase => "wrong database",
+            Fault::NewerSchema => "newer schema",
         }
     }
 }

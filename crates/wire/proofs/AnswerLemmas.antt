@@ -13,6 +13,7 @@ use Rattle.office.specs.Reads.{Read}
 use Rattle.office.specs.declared.answers.Answer.{Answer}
 use Rattle.office.specs.declared.answers.Stop.{Stop}
 use Rattle.office.specs.declared.answers.Stop.TheVariants.{Refused, Fault as Failed}
+use Rattle.wire.proofs.OutcomeLemmas.{IsOutcome-handed}
 use Rattle.wire.specs.Asking.{AskedEntry, keying, reading}
 use Rattle.wire.specs.Bodies.{KeyingEntry}
 use Rattle.wire.specs.Responses.{ResponseEntry, fault_response}
@@ -28,7 +29,7 @@ Readies-answered s clerk batch entry id handed a response closed st is own handl
     let outcome = step s clerk id (command.Keying handed) in (
       told_response (told_of outcome),
       subst (λ t. IsTold (told_response t) response) handled.0 tells,
-      inl (record { next = state_after s outcome; is = (outcome, (handed, is, ap (λ i. step s clerk i (command.Keying handed)) own), refl, refl); open_at = handled.1 }),
+      inl (record { next = state_after s outcome; is = (outcome, IsOutcome-handed s clerk batch entry id handed is own, refl, refl); open_at = handled.1 }),
     )
 
 -- a keying at which it met a fault
@@ -36,7 +37,7 @@ pub Readies-faulted : (s : OfficeState) (clerk batch : ℕ) (entry : KeyingEntry
     → Handled s (step s clerk id (command.Keying handed)) (Err f) closed st → IsTold (fault_response (fault_number f)) response → Readies s (keying clerk batch entry) response closed st
 Readies-faulted s clerk batch entry id handed f response closed st is own handled tells =
     let outcome = step s clerk id (command.Keying handed) in
-    (fault_response (fault_number f), tells, inr (f, refl, (outcome, (handed, is, ap (λ i. step s clerk i (command.Keying handed)) own), handled)))
+    (fault_response (fault_number f), tells, inr (f, refl, (outcome, IsOutcome-handed s clerk batch entry id handed is own, handled)))
 
 -- what was read
 pub Readies-read : {X Y : Type 0} (s : OfficeState) (what : Reading) (entry : X → ResponseEntry) (view : Y → X) (reads : Result X Reason) (r : Result Y Stop) (response : Response) (closed : Bool) (st : State)

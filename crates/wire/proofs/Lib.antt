@@ -8,5 +8,6 @@ pub mod LengthLemmas
 pub mod AskingLemmas
 pub mod ReplyLemmas
 pub mod ResponseLemmas
+pub mod OutcomeLemmas
 pub mod AnswerLemmas
 pub mod ServingLemmas

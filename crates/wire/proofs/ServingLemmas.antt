@@ -1,5 +1,5 @@
 -- What a connection tells and leaves.
-use Rattle.std.proofs.Common.{ℕ, Bool, List, Option, Some, None, inl}
+use Rattle.std.proofs.Common.{ℕ, Bool, List, Option, inl}
 use Rattle.std.specs.Prelude.{IfSome}
 use Rattle.sqlite.specs.State.{State}
 use Rattle.register.specs.Offices.{OfficeState}

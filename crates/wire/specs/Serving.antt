@@ -12,6 +12,7 @@ use Rattle.register.specs.declared.refusal.Reason.{Reason}
 use Rattle.register.specs.Standings.{WorkEntry}
 use Rattle.tables.specs.Faults.{fault_number}
 use Rattle.tables.specs.declared.fault.Fault.{Fault}
+use Rattle.tables.specs.declared.fault.Fault.TheVariants.{Closed}
 use Rattle.office.specs.Answers.{IsClosedIn, IsKeptOpen, IsOpenAt, Told, again, done, no, told_of}
 use Rattle.office.specs.Reads.{IsClosedReading, work_told}
 use Rattle.office.specs.Sheets.{text_told}
@@ -60,9 +61,11 @@ pub record IsHandedOn (number : ℕ) (entry : KeyingEntry) (command : KeyingComm
   pub round : command.round ≡ entry.round
   pub papers : map string_bytes command.papers.items ≡ entry.papers
 
--- the outcome of a clerk's keying at a state
-abbrev pub IsOutcome : OfficeState → ℕ → ℕ → KeyingEntry → Outcome → Type 0
-IsOutcome s clerk batch entry outcome = (handed : KeyingCommand) × IsHandedOn batch entry handed × (outcome ≡ step s clerk entry.id (command.Keying handed))
+-- the outcome of a clerk's keying at a state: that of each command which it can be handed on as
+pub record IsOutcome (s : OfficeState) (clerk batch : ℕ) (entry : KeyingEntry) (outcome : Outcome) : Type 0 where
+  pub handed : KeyingCommand
+  pub is : IsHandedOn batch entry handed
+  pub each : (other : KeyingCommand) → IsHandedOn batch entry other → outcome ≡ step s clerk entry.id (command.Keying other)
 
 -- the answer to what is asked at a state, and the state after it
 abbrev pub IsAnswer : OfficeState → AskedEntry → OfficeState → ResponseEntry → Type 0
@@ -102,6 +105,24 @@ IsReadTold entry view (Ok y) response = IsTold (entry (view y)) response
 IsReadTold entry view (Err (Refused why)) response = IsTold (refused_for why) response
 IsReadTold entry view (Err (Failed f)) response = IsTold (fault_response (fault_number f)) response
 
+-- ---- a closed office
+
+-- its answer to what is asked: what is denied is denied, and everything else meets the fault that it is closed
+abbrev pub closed_response : AskedEntry → ResponseEntry
+closed_response (denied why) = denied_response why
+closed_response (reading what) = fault_response (fault_number Closed)
+closed_response (keying clerk batch entry) = fault_response (fault_number Closed)
+
+-- this answer is ready to be written, and where the client's bytes are known, they ask just that
+pub record TellsClosed (bytes : Option (List ℕ)) (response : Response) : Type 0 where
+  pub asked : AskedEntry
+  pub asks : IfSome bytes (λ xs. Asks xs asked)
+  pub tells : IsTold (closed_response asked) response
+
+-- that; or memory was wanting to read what he asks
+abbrev pub ReadiesClosed : Option (List ℕ) → Response → Type 0
+ReadiesClosed bytes response = TellsClosed bytes response ⊎ IsWritten (fault_response 101) response
+
 -- ---- one connection
 
 -- the answer to what a client asks is ready, with what it leaves, and where his bytes are known, they ask just that
@@ -120,17 +141,23 @@ IsPut old new response (Answered status) = (status ≡ response.status) × Appen
 IsPut old new response ReadFailed = ⊥
 IsPut old new response WriteFailed = AppendsBeginning old new (told_bytes response.bytes)
 
--- the answer that was ready, and what was written of it
-pub record IsServed (bytes old new : Option (List ℕ)) (s : OfficeState) (served : Served) (closed : Bool) (st : State) : Type 0 where
+-- an answer that was ready, and what was written of it
+pub record IsServed (IsReady : Response → Type 0) (old new : Option (List ℕ)) (served : Served) : Type 0 where
   pub response : Response
-  pub ready : ReadiesFor bytes s response closed st
+  pub ready : IsReady response
   pub put : IsPut old new response served
 
 -- what each end of a connection tells and leaves: where the reader failed, nothing was handed on
 abbrev pub Serves : Option (List ℕ) → Option (List ℕ) → Option (List ℕ) → OfficeState → Served → Bool → State → Type 0
-Serves bytes old new s (Answered status) closed st = IsServed bytes old new s (Answered status) closed st
+Serves bytes old new s (Answered status) closed st = IsServed (λ response. ReadiesFor bytes s response closed st) old new (Answered status)
 Serves bytes old new s ReadFailed closed st = IsOpenAt s closed st
-Serves bytes old new s WriteFailed closed st = IsServed bytes old new s WriteFailed closed st
+Serves bytes old new s WriteFailed closed st = IsServed (λ response. ReadiesFor bytes s response closed st) old new WriteFailed
+
+-- what each end of a connection tells where the office is closed: where the reader failed, nothing was written
+abbrev pub ServesClosed : Option (List ℕ) → Option (List ℕ) → Option (List ℕ) → Served → Type 0
+ServesClosed bytes old new (Answered status) = IsServed (ReadiesClosed bytes) old new (Answered status)
+ServesClosed bytes old new ReadFailed = new ≡ old
+ServesClosed bytes old new WriteFailed = IsServed (ReadiesClosed bytes) old new WriteFailed
 
 -- P, where the reader failed
 abbrev pub OnReadFailed : Served → Type 0 → Type 0

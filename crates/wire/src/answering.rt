@@ -10,7 +10,7 @@ ghost use Rattle.tables.specs.Faults.{fault_number};
 ghost use Rattle.office.specs.Answers.{told};
 ghost use Rattle.wire.specs.Asking.{asked_entry, reading};
 ghost use Rattle.wire.specs.Responses.{fault_response, reply_response, text_response};
-ghost use Rattle.wire.specs.Serving.{IsReadTold, Readies, refused_for, told_response, work_response};
+ghost use Rattle.wire.specs.Serving.{IsReadTold, Readies, closed_response, refused_for, told_response, work_response};
 ghost use Rattle.wire.specs.Told.{IsTold};
 
 use crate::asked::{Asked, Keying};
@@ -69,6 +69,8 @@ fn answer_keying<S: Alter>(alloc: Global, office: &mut Office<S>, keying: Keying
     ensures answers { HasCleanDisk (state S.Store office.new.held) → office.old.closed ≡ false → (s : OfficeState) → IsAt s (state S.Store office.old.held)
         → Readies s (asked_entry (Asked.Keying keying)) result office.new.closed (state S.Store office.new.held) }
     ensures closed { office.old.closed ≡ true → office.new ≡ office.old }
+    ensures closed_told { office.old.closed ≡ true → IsTold (fault_response (fault_number Fault.Closed)) result }
+    ensures clean { HasCleanDisk (state S.Store office.new.held) → HasCleanDisk (state S.Store office.old.held) }
 {
     let Keying {
         clerk,
@@ -118,6 +120,8 @@ fn answer_reading<S: Alter>(alloc: Global, office: &mut Office<S>, what: Reading
     ensures answers { HasCleanDisk (state S.Store office.new.held) → office.old.closed ≡ false → (s : OfficeState) → IsAt s (state S.Store office.old.held)
         → Readies s (reading what) result office.new.closed (state S.Store office.new.held) }
     ensures closed { office.old.closed ≡ true → office.new ≡ office.old }
+    ensures closed_told { office.old.closed ≡ true → IsTold (fault_response (fault_number Fault.Closed)) result }
+    ensures clean { HasCleanDisk (state S.Store office.new.held) → HasCleanDisk (state S.Store office.old.held) }
 {
     match what {
         Reading::Work { clerk } => answer_work(alloc, clerk, office.work(clerk)),
@@ -131,6 +135,8 @@ pub(crate) fn answer<S: Alter>(alloc: Global, office: &mut Office<S>, asked: Ask
     ensures answers { HasCleanDisk (state S.Store office.new.held) → office.old.closed ≡ false → (s : OfficeState) → IsAt s (state S.Store office.old.held)
         → Readies s (asked_entry asked) result office.new.closed (state S.Store office.new.held) }
     ensures closed { office.old.closed ≡ true → office.new ≡ office.old }
+    ensures closed_told { office.old.closed ≡ true → IsTold (closed_response (asked_entry asked)) result }
+    ensures clean { HasCleanDisk (state S.Store office.new.held) → HasCleanDisk (state S.Store office.old.held) }
 {
     match asked {
         Asked::Denied(why) => Response::denied(why),

@@ -5,7 +5,7 @@ ghost use Rattle.sqlite.specs.State.{HasCleanDisk};
 ghost use Rattle.sqlite.specs.Held.{state};
 ghost use Rattle.register.specs.Offices.{OfficeState};
 ghost use Rattle.store.specs.Offices.{IsAt};
-ghost use Rattle.wire.specs.Serving.{IsPut, OnReadFailed, OnWriteFailed, ReadiesFor, Serves};
+ghost use Rattle.wire.specs.Serving.{IsPut, OnReadFailed, OnWriteFailed, ReadiesClosed, ReadiesFor, Serves, ServesClosed};
 
 use crate::answering::answer;
 use crate::asked::read_asked;
@@ -39,6 +39,8 @@ fn response_to<R: Source, S: Alter>(
     ensures failed { OnErr result (R.failed reader.new ≡ R.failed reader.old + 1) }
     ensures unasked { OnErr result (office.new ≡ office.old) }
     ensures closed { office.old.closed ≡ true → office.new ≡ office.old }
+    ensures closed_told { office.old.closed ≡ true → IfOk result (λ response. ReadiesClosed (R.held reader.old) response) }
+    ensures clean { HasCleanDisk (state S.Store office.new.held) → HasCleanDisk (state S.Store office.old.held) }
 {
     match read_asked(alloc, reader) {
         Ok(asked) => Ok(answer(alloc, office, asked)),
@@ -66,7 +68,8 @@ fn put<W: Sink>(writer: &mut W, response: &Response) -> Served
 /// request or for the answer, it tells 101 (503), and the request wasn't handed on, or it was, and the
 /// office is at the state after it. `ReadFailed` comes only from the reader, which counts one failure more:
 /// nothing was written, and the office is as it was. `WriteFailed` comes only from the writer, which counts
-/// one failure more: a beginning of the answer was written, and what the office answered stands.
+/// one failure more: a beginning of the answer was written, and what the office answered stands. A closed
+/// office tells that it is closed, 104 (503), where it is asked anything, and stays as it is.
 pub fn serve_one<R: Source, W: Sink, S: Alter>(
     alloc: Global,
     reader: &mut R,
@@ -80,6 +83,8 @@ pub fn serve_one<R: Source, W: Sink, S: Alter>(
     ensures read_failed { OnReadFailed result ((R.failed reader.new ≡ R.failed reader.old + 1) × (writer.new ≡ writer.old) × (office.new ≡ office.old)) }
     ensures write_failed { OnWriteFailed result (W.failed writer.new ≡ W.failed writer.old + 1) }
     ensures closed { office.old.closed ≡ true → office.new ≡ office.old }
+    ensures closed_served { office.old.closed ≡ true → ServesClosed (R.held reader.old) (W.taken writer.old) (W.taken writer.new) result }
+    ensures clean { HasCleanDisk (state S.Store office.new.held) → HasCleanDisk (state S.Store office.old.held) }
 {
     match response_to(alloc, reader, office) {
         Ok(response) => put(writer, &response),
