@@ -11,15 +11,16 @@ use Rattle.register.specs.declared.command.Request.{Request}
 use Rattle.tables.specs.Contents.{Contents, IsOffice, RestsAt, Stores}
 use Rattle.tables.specs.Presence.{has_some_table}
 use Rattle.tables.specs.Reading.{OnlyReads}
-use Rattle.tables.specs.Schema.{IsOfficeSchema}
-use Rattle.tables.specs.declared.fault.Fault.TheVariants.{Memory}
+use Rattle.tables.specs.Schema.{IsOfficeSchema, no_schema}
+use Rattle.tables.specs.declared.fault.Fault.{Fault}
+use Rattle.tables.specs.declared.fault.Fault.TheVariants.{Memory, Store, WrongDatabase}
 use Rattle.store.specs.Offices.{LeavesState, tables_of}
-use Rattle.store.specs.Openings.{IsLeftAt}
+use Rattle.store.specs.Openings.{IsBlank, IsLeftAt}
 use Rattle.store.proofs.ReopenLemmas.{left_holds}
 use Rattle.office.specs.Answers.{Told, again, done, no, told_of}
 use Rattle.office.specs.Runs.{IsAfterBeginning}
 use Rattle.office.proofs.RunLemmas.{beginning}
-use Rattle.desk.specs.Errands.{File, IsAnswered, IsEndOf, IsKept, IsReplyAbove, IsRun, IsSent, IsStopped, Performs, Sends, SendsSome}
+use Rattle.desk.specs.Errands.{File, IsAnswered, IsEndOf, IsKept, IsPlain, IsReplyAbove, IsRun, IsSent, IsStopped, Performs, Sends, SendsSome}
 use Rattle.desk.specs.Pages.{IsShown, Outputs, Page}
 use Rattle.desk.specs.Requests.{Errand, Work, making, running, serving}
 
@@ -49,6 +50,15 @@ pub has_tables : (s : OfficeState) (db : Database) (st : State) → RestsAt db s
 has_tables s db st rests left =
     let there = some_there db.schema (office_begins (tables_of s) db (left_holds s db left).office) in
     subst (λ (d : Database). has_some_table d.schema ≡ true) (sym rests.now) there
+
+-- no table of an office is in a database with nothing in it, so the faults of making one there are want of memory and a failing store
+pub blank_told : {P : Type 0} (st : State) (fault : Fault) → IsBlank st → (fault ≡ Memory) ⊎ ((fault ≡ Store) ⊎ ((fault ≡ WrongDatabase) × (has_some_table st.now.schema ≡ true) × P)) → IsPlain fault
+blank_told st fault blank (inl memory) = inl memory
+blank_told st fault blank (inr (inl failing)) = inr failing
+blank_told st fault blank (inr (inr there)) =
+    let none : has_some_table no_schema ≡ false = refl in
+    let bad : true ≡ false = sym there.1 ∙ ap has_some_table blank.schema ∙ none in
+    absurd (cc bad)
 
 pub memory_ends : (work : Work) → IsEndOf work Memory
 memory_ends making = inl (inl refl)

@@ -151,12 +151,12 @@ IsDone broke s (running errand) file page st = (closed : Bool) × IsRun broke s 
 abbrev pub Performs : Bool → OfficeState → Work → File → Page → State → Type 0
 Performs broke s work file page st = IsDone broke s work file page st ⊎ IsUnopened s work page st
 
--- An office that was to be made in an empty database is made; or a fault is told, and a stop leaves what it could leave before, or the
--- empty office.
+-- An office that was to be made in an empty database is made; or want of memory or a failing store is told, and a stop leaves what it could
+-- leave before, or the empty office.
 abbrev pub IsMade : Page → State → State → Type 0
 IsMade page old new =
     ((page ≡ replied (codes "office ready")) × IsAt empty_office new)
-    ⊎ ((fault : Fault) × (page ≡ failed (Office fault)) × ((trees : Trees) → new.may_leave trees → old.may_leave trees ⊎ Stores (tables_of empty_office) trees))
+    ⊎ ((fault : Fault) × (page ≡ failed (Office fault)) × IsPlain fault × ((trees : Trees) → new.may_leave trees → old.may_leave trees ⊎ Stores (tables_of empty_office) trees))
 
 -- At a database that holds the tables of no state the fault is told that it gives, or want of memory or a failing store, and nothing is
 -- changed.

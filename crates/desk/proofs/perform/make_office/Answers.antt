@@ -8,7 +8,7 @@ use Rattle.store.specs.Offices.{IsAt, LeavesState}
 use Rattle.desk.specs.Pages.{failed, page_of}
 use Rattle.desk.specs.declared.lines.Failure.TheVariants.{Office}
 use Rattle.desk.specs.declared.lines.Outcome.TheVariants.{Ready}
-use Rattle.desk.proofs.KeptLemmas.{has_tables, rests_leaves}
+use Rattle.desk.proofs.KeptLemmas.{blank_told, has_tables, rests_leaves}
 use Rattle.desk.proofs.perform.make_office.Goals as goal
 
 pub returns-in-Ok : goal.returns-in-Ok
@@ -35,7 +35,7 @@ returns-in-Err g c =
       broke = told.0;
       shown = told.1;
       is = λ clean file. record {
-        in_nothing = λ is blank. inr (c.in-Err.fault, refl, c.in-Err.ensures.stops clean blank);
+        in_nothing = λ is blank. inr (c.in-Err.fault, refl, blank_told (state g.S.Store c.args.conn) c.in-Err.fault blank c.in-Err.ensures.told, c.in-Err.ensures.stops clean blank);
         elsewhere = λ errand is. absurd (cc is);
         in_office = λ db rests s left.
             let wrong = c.in-Err.ensures.wrong (has_tables s db (state g.S.Store c.args.conn) rests left) rests.outside in

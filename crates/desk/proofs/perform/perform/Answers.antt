@@ -64,7 +64,7 @@ returns-in-Err-clause-performed g c =
       shown = told.1;
       is = λ clean. record {
         in_office = λ db rests s left. inr (Memory, refl, memory_ends (work_for c.args.order.now), rests_leaves s db st (λ trees is_open may. g.met.S.Store.settled c.args.conn.store trees is_open may) rests left);
-        in_nothing = λ is blank. inr (Memory, refl, λ trees may. inl may);
+        in_nothing = λ is blank. inr (Memory, refl, inl refl, λ trees may. inl may);
         elsewhere = λ errand is db ours rests none. record { fault = Memory; told = refl; given = tt; same = only_reads_itself st };
       };
     }
