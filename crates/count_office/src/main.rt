@@ -15,7 +15,7 @@ ghost use Rattle.std.specs.Prelude.{◌≡◌, ◌+◌, ◌-◌, ◌^◌, ◌<�
 mod tests;
 
 use desk::perform::perform;
-use desk::{Failure, Order, Progress, WordsFault, order, serve_on, tell_failure, tell_words};
+use desk::{Failure, Order, Progress, WordsFault, is_order, order, serve_on, tell_failure, tell_words};
 use office::Office;
 use sqlite::{Alter, Connection, Wary};
 use std::alloc::Global;
@@ -144,7 +144,8 @@ fn follow<O: Sink, E: Sink>(rt: &HostRuntime, words: &[&str], out: &mut O, err: 
     }
 }
 
-/// Does what the program's words ask, and gives the status. Help is told without a database too.
+/// Does what the program's words ask, and gives the status. Help is told without a database too, also that
+/// of an order.
 fn run<O: Sink, E: Sink>(rt: &HostRuntime, out: &mut O, err: &mut E) -> u8
     requires out { O.failed out.old < 2 ^ 64 - 1 }
     requires err { E.failed err.old < 2 ^ 64 - 1 }
@@ -159,6 +160,9 @@ fn run<O: Sink, E: Sink>(rt: &HostRuntime, out: &mut O, err: &mut E) -> u8
     };
     match words.as_slice() {
         ["--help" | "-h"] => follow(rt, &["DB", "--help"], out, err),
+        [name, "--help" | "-h"] if is_order(name) => {
+            follow(rt, &["DB", *name, "--help"], out, err)
+        }
         all => follow(rt, all, out, err),
     }
 }
