@@ -15,7 +15,7 @@ ghost use Rattle.std.specs.Prelude.{◌≡◌, ◌+◌, ◌-◌, ◌^◌, ◌<�
 mod tests;
 
 use desk::perform::perform;
-use desk::{Failure, Order, Progress, WordsFault, is_order, order, serve_on, tell_failure, tell_words};
+use desk::{Failure, Order, Progress, WordsFault, order, serve_on, tell_failure, tell_words};
 use office::Office;
 use sqlite::{Alter, Connection, Wary};
 use std::alloc::Global;
@@ -144,6 +144,20 @@ fn follow<O: Sink, E: Sink>(rt: &HostRuntime, words: &[&str], out: &mut O, err: 
     }
 }
 
+/// Tells the help of an order, or the help of all where the word names none, and so is DB.
+fn tell_help_of<O: Sink, E: Sink>(rt: &HostRuntime, name: &str, out: &mut O, err: &mut E) -> u8
+    requires out { O.failed out.old < 2 ^ 64 - 1 }
+    requires err { E.failed err.old < 2 ^ 64 - 1 }
+{
+    let words = ["DB", name, "--help"];
+    match order(rt.alloc(), &words) {
+        Err(help) if matches!(help, WordsFault::Words { status: 0, .. }) => {
+            tell_words(&help, out, err)
+        }
+        _ => follow(rt, &["DB", "--help"], out, err),
+    }
+}
+
 /// Does what the program's words ask, and gives the status. Help is told without a database too, also that
 /// of an order.
 fn run<O: Sink, E: Sink>(rt: &HostRuntime, out: &mut O, err: &mut E) -> u8
@@ -160,9 +174,7 @@ fn run<O: Sink, E: Sink>(rt: &HostRuntime, out: &mut O, err: &mut E) -> u8
     };
     match words.as_slice() {
         ["--help" | "-h"] => follow(rt, &["DB", "--help"], out, err),
-        [name, "--help" | "-h"] if is_order(name) => {
-            follow(rt, &["DB", *name, "--help"], out, err)
-        }
+        [name, "--help" | "-h"] => tell_help_of(rt, name, out, err),
         all => follow(rt, all, out, err),
     }
 }

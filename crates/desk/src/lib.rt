@@ -39,5 +39,4 @@ pub use orders::{
 };
 pub use progress::Progress;
 pub use serving::serve_on;
-pub use table::is_order;
 pub use words::{WordsFault, order};

@@ -6,7 +6,6 @@
 
 ghost use Rattle.std.specs.Prelude.{◌≡◌, map};
 ghost use Rattle.desk.specs.Orders.{entry_of, orders};
-ghost use Rattle.desk.specs.Words.{is_order_name};
 
 /// What a word of an order holds.
 #[derive(Clone, Copy)]
@@ -249,11 +248,4 @@ pub(crate) fn entries() -> &'static [Entry]
     ensures { map entry_of result.now ≡ orders }
 {
     &ORDERS
-}
-
-/// Whether a word is the name of an order.
-pub fn is_order(word: &str) -> bool
-    ensures { result ≡ is_order_name word.now }
-{
-    entries().iter().any(|entry| word == entry.name)
 }
