@@ -81,7 +81,7 @@ left-served s most here bytes old new WriteFailed closed st led serves = elim se
 pub left-first : (s : OfficeState) (closed : Bool) (st : State) → closed ≡ false → IsAt s st → IsLeftFrom s 0 closed st
 left-first s closed st is_open at = inl (s, record { keyings = []; few = omega arith; lead = refl }, record { is_open = is_open; at = at })
 
--- one connection more, which leaves the office as it is
+-- at most so many is at most more
 pub left-still : (s : OfficeState) (most more : ℕ) (closed : Bool) (st : State) → most ≤ more → IsLeftFrom s most closed st → IsLeftFrom s more closed st
 left-still s most more closed st within (inl (here, led, open_at)) = inl (here, record { keyings = led.keyings; few = omega (arith, within, led.few); lead = led.lead }, open_at)
 left-still s most more closed st within (inr left) =
