@@ -1,6 +1,6 @@
 -- What stands behind a front in a text is what the library strips of it.
 use Rattle.std.proofs.Common.{◌≡◌, ◌∙◌, ℕ, Bool, List, Option, Some, None, true, false, drop, length, ap, refl}
-use Rattle.std.specs.Prelude.{MatchOption, nat_eq, option_map}
+use Rattle.std.specs.Prelude.{MatchOption, nat_eq}
 use Rattle.std.specs.List.{starts_with}
 use Rattle.std.specs.Str.Pattern.{FindsTextPrefix, StripsPrefix}
 use Rattle.std.proofs.lemmas.Bool.Decides.{Decides-eqb}

@@ -1,12 +1,12 @@
 -- What is kept of an order, and what a connection that stays at rest leaves.
-use Rattle.std.proofs.Common.{◌≡◌, ◌⊎◌, ◌≤◌, ◌+◌, ◌∙◌, inl, inr, ℕ, Bool, true, false, List, [], ◌∷◌, length, take, Some, None, IsTrue, refl, sym, ap, subst, arith, suc, rules}
+use Rattle.std.proofs.Common.{◌≡◌, ◌⊎◌, ◌≤◌, ◌+◌, ◌∙◌, inl, inr, ℕ, Bool, true, false, List, [], ◌∷◌, length, take, IsTrue, refl, sym, ap, subst, arith, suc}
 use Rattle.sqlite.specs.Tree.{Trees}
 use Rattle.sqlite.specs.Schema.{Schema}
 use Rattle.sqlite.specs.Effect.{Database}
 use Rattle.sqlite.specs.State.{State, HasCleanDisk}
 use Rattle.sqlite_schema.specs.Names.{same_name}
 use Rattle.register.specs.Offices.{OfficeState, empty_office}
-use Rattle.register.specs.Machine.{after, after_one, state_after, step_of}
+use Rattle.register.specs.Machine.{after, after_one, step_of}
 use Rattle.register.specs.declared.command.Request.{Request}
 use Rattle.tables.specs.Contents.{Contents, IsOffice, RestsAt, Stores}
 use Rattle.tables.specs.Presence.{has_some_table}
@@ -18,7 +18,6 @@ use Rattle.store.specs.Offices.{LeavesState, tables_of}
 use Rattle.store.specs.Openings.{IsBlank, IsLeftAt}
 use Rattle.store.proofs.ReopenLemmas.{left_holds}
 use Rattle.office.specs.Answers.{Told, again, done, no, told_of}
-use Rattle.office.specs.Runs.{IsAfterBeginning}
 use Rattle.office.proofs.RunLemmas.{beginning}
 use Rattle.desk.specs.Errands.{File, IsAnswered, IsEndOf, IsKept, IsPlain, IsReplyAbove, IsRun, IsSent, IsStopped, Performs, Sends, SendsSome}
 use Rattle.desk.specs.Pages.{IsShown, Outputs, Page}
@@ -81,30 +80,38 @@ reply_status (again reply) rest page is = ap (λ (p : Page). p.status) is
 reply_status (no why) rest page is = absurd is
 
 last_leaves : (broke : Bool) (s : OfficeState) (r : Request) (rs : List Request) (page : Page) (closed : Bool) (st : State) → (page.status ≡ 0 → broke ≡ true) → IsAnswered s (step_of s r) page closed st → LeavesSome broke s (r ∷ rs) page st
-last_leaves broke s r rs page closed st ends (inl told) =
-    (1, omega arith,
-    (λ trees may. let it = told.1.at.leaves trees may in (it.0, (1, omega arith, omega arith, omega arith, it.1), it.2)),
-    (λ zero whole. let bad : true ≡ false = sym (ends zero) ∙ whole in absurd (cc bad)))
-last_leaves broke s r rs page closed st ends (inr (fault, is, inl kept)) =
-    (0, omega arith,
-    (λ trees may. let it = kept.open_at.at.leaves trees may in (it.0, (0, omega arith, omega arith, omega arith, it.1), it.2)),
-    (λ zero whole. let three : page.status ≡ 3 = ap (λ (p : Page). p.status) is in absurd (omega arith)))
-last_leaves broke s r rs page closed st ends (inr (fault, is, inr shut)) =
-    (0, omega arith,
-    (λ trees may. let it = shut.leaves trees may in elim it.1 [
-      | inl before ↦ (it.0, (0, omega arith, omega arith, omega arith, before), it.2)
-      | inr next ↦ (it.0, (1, omega arith, omega arith, omega arith, next), it.2)
-    ]),
-    (λ zero whole. let three : page.status ≡ 3 = ap (λ (p : Page). p.status) is in absurd (omega arith)))
+last_leaves broke s r rs page closed st ends (inl told) = (
+  1,
+  omega arith,
+  (λ trees may. let it = told.1.at.leaves trees may in (it.0, (1, omega arith, omega arith, omega arith, it.1), it.2)),
+  (λ zero whole. let bad : true ≡ false = sym (ends zero) ∙ whole in absurd (cc bad)),
+)
+last_leaves broke s r rs page closed st ends (inr (fault, is, inl kept)) = (
+  0,
+  omega arith,
+  (λ trees may. let it = kept.open_at.at.leaves trees may in (it.0, (0, omega arith, omega arith, omega arith, it.1), it.2)),
+  (λ zero whole. let three : page.status ≡ 3 = ap (λ (p : Page). p.status) is in absurd (omega arith)),
+)
+last_leaves broke s r rs page closed st ends (inr (fault, is, inr shut)) = (
+  0,
+  omega arith,
+  (λ trees may. let it = shut.leaves trees may in elim it.1 [
+    | inl before ↦ (it.0, (0, omega arith, omega arith, omega arith, before), it.2)
+    | inr next ↦ (it.0, (1, omega arith, omega arith, omega arith, next), it.2)
+  ]),
+  (λ zero whole. let three : page.status ≡ 3 = ap (λ (p : Page). p.status) is in absurd (omega arith)),
+)
 
 sent_leaves : (broke : Bool) (s : OfficeState) (rs : List Request) (page : Page) (closed : Bool) (st : State) → IsSent broke s rs page closed st → LeavesSome broke s rs page st
 sent_leaves broke s [] page closed st sent =
     (0, omega arith, (λ trees may. let it = sent.1.at.leaves trees may in (it.0, (0, omega arith, omega arith, omega arith, it.1), it.2)), (λ zero whole. refl))
 sent_leaves broke s (r ∷ rs) page closed st (inl goes) =
-    let rest = sent_leaves broke (after_one s r) rs goes.0 closed st goes.2 in
-    (suc rest.0, omega arith,
-    (λ trees may. let it = rest.2 trees may in (it.0, (suc it.1.0, omega arith, omega arith, omega arith, it.1.4), it.2)),
-    (λ zero whole. ap suc (rest.3 (sym (reply_status (told_of (step_of s r)) goes.0 page goes.1) ∙ zero) whole)))
+    let rest = sent_leaves broke (after_one s r) rs goes.0 closed st goes.2 in (
+      suc rest.0,
+      omega arith,
+      (λ trees may. let it = rest.2 trees may in (it.0, (suc it.1.0, omega arith, omega arith, omega arith, it.1.4), it.2)),
+      (λ zero whole. ap suc (rest.3 (sym (reply_status (told_of (step_of s r)) goes.0 page goes.1) ∙ zero) whole)),
+    )
 sent_leaves broke s (r ∷ rs) page closed st (inr last) = last_leaves broke s r rs page closed st last.0 last.1
 
 -- a status 0 comes of a page that was told whole

@@ -1,5 +1,5 @@
 -- Requests that are sent one after the other, and what was told of them so far.
-use Rattle.std.proofs.Common.{◌≡◌, ◌≢◌, ◌⊎◌, ◌+◌, ◌<◌, ◌∙◌, inl, inr, ℕ, Bool, true, false, List, [], ◌∷◌, ◌++◌, length, drop, take, get_or, if◌then◌else◌, refl, sym, ap, subst, arith, add-one, suc}
+use Rattle.std.proofs.Common.{◌≡◌, ◌≢◌, ◌+◌, ◌<◌, ◌∙◌, inl, inr, ℕ, Bool, true, false, List, [], ◌∷◌, ◌++◌, length, drop, take, get_or, if◌then◌else◌, refl, sym, ap, subst, arith, add-one, suc}
 use Rattle.std.proofs.Math.Seq.{drop-cons}
 use Rattle.std.proofs.KnownBytes.{Appends-nil}
 use Rattle.std.proofs.lemmas.List.{append-nil, append_assoc, take_more, take-append-drop}
@@ -101,12 +101,12 @@ pub sent_more : (s : OfficeState) (rs : List Request) (i : ℕ) (r : Request) (s
     → SentSo s (take i rs) said was before → IsAnswered (after s (take i rs)) (step_of (after s (take i rs)) r) page closed st → page.status ≡ 0 → SentSo s (take (i + 1) rs) (said ++ page.out) closed st
 sent_more s rs i r said was before page closed st within is so answered zero = elim answered [
   | inl told ↦
-    let one_more : take (i + 1) rs ≡ take i rs ++ r ∷ [] = take_more rs i r within ∙ ap (λ x. take i rs ++ x ∷ []) (sym is) in
-    let there : after_one (after s (take i rs)) r ≡ after s (take (i + 1) rs) = ap (after_one (after s (take i rs))) is ∙ sym (after-more s rs i r within) in
-    record {
-      open_at = subst (λ x. IsOpenAt x closed st) there told.1;
-      replies = subst (λ front. Replies s front (said ++ page.out)) (sym one_more) (replies_more s (take i rs) said r page so.replies told.0 zero);
-    }
+      let one_more : take (i + 1) rs ≡ take i rs ++ r ∷ [] = take_more rs i r within ∙ ap (λ x. take i rs ++ x ∷ []) (sym is) in
+      let there : after_one (after s (take i rs)) r ≡ after s (take (i + 1) rs) = ap (after_one (after s (take i rs))) is ∙ sym (after-more s rs i r within) in
+      record {
+        open_at = subst (λ x. IsOpenAt x closed st) there told.1;
+        replies = subst (λ front. Replies s front (said ++ page.out)) (sym one_more) (replies_more s (take i rs) said r page so.replies told.0 zero);
+      }
   | inr met ↦ let three : page.status ≡ 3 = ap (λ (p : Page). p.status) met.1 in absurd (omega arith)
 ]
 

@@ -8,7 +8,6 @@ use Rattle.votes.specs.Streams.{AppendsBeginning}
 use Rattle.register.specs.Reasons.{reason_number, reason_text}
 use Rattle.register.specs.declared.refusal.Reason.{Reason}
 use Rattle.tables.specs.Faults.{fault_number, fault_text}
-use Rattle.tables.specs.declared.fault.Fault.{Fault}
 use Rattle.tables.specs.declared.fault.Fault.TheVariants as fault
 use Rattle.keyfile.specs.Faults.{flaw_number, flaw_text, is_stop}
 use Rattle.keyfile.specs.declared.fault.FileFault.{FileFault}

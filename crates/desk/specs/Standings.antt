@@ -1,5 +1,5 @@
 -- How the election of a ward stands, in words.
-use Rattle.std.specs.Prelude.{List, ◌++◌, codes}
+use Rattle.std.specs.Prelude.{◌++◌, codes}
 use Rattle.std.specs.Fmt.{decimal}
 use Rattle.clap.specs.Words.{Text}
 use Rattle.register.specs.Standings.{StatusEntry}

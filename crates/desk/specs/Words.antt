@@ -1,5 +1,5 @@
 -- What `clap` takes for the words of an order, and the order that its matches mean, by the table of orders.
-use Rattle.std.specs.Prelude.{ℕ, Bool, true, false, List, [], ◌∷◌, Option, Some, None, pos, codes, map, find, if◌then◌else◌, is_none, option_map, unwrap_or}
+use Rattle.std.specs.Prelude.{ℕ, Bool, true, false, List, [], ◌∷◌, Option, Some, None, pos, codes, map, find, is_none, option_map, unwrap_or}
 use Rattle.std.specs.Option.{option_map_or}
 use Rattle.std.specs.List.{list_any}
 use Rattle.std.specs.Str.{bytes_eq}

@@ -100,7 +100,13 @@ fn tell_refusal<E: Sink>(refusal: &Refusal, err: &mut E) -> u8
     ensures { IsErrorTold E.taken E.failed err.old err.new (refused refusal.now).err 1 result }
 {
     let mut number = Buffer::new();
-    let pieces = ["refused ", number.format(refusal.number()), ": ", refusal.text(), "\n"];
+    let pieces = [
+        "refused ",
+        number.format(refusal.number()),
+        ": ",
+        refusal.text(),
+        "\n",
+    ];
     tell_error(&pieces, 1, err)
 }
 
@@ -141,7 +147,13 @@ pub fn tell_failure<E: Sink>(failure: Failure, err: &mut E) -> u8
     ensures { IsErrorTold E.taken E.failed err.old err.new (failed failure).err 3 result }
 {
     let mut number = Buffer::new();
-    let pieces = ["fault ", number.format(failure.number()), ": ", failure.text(), "\n"];
+    let pieces = [
+        "fault ",
+        number.format(failure.number()),
+        ": ",
+        failure.text(),
+        "\n",
+    ];
     tell_error(&pieces, 3, err)
 }
 

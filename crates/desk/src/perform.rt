@@ -41,7 +41,7 @@ fn run<S: Alter, R: Read + Drop, O: Sink, E: Sink>(
     requires err { E.failed err.old < 2 ^ 64 - 1 }
     ensures ran { Tells (outputs_of O.taken O.failed E.taken E.failed out.old err.old) (outputs_of O.taken O.failed E.taken E.failed out.new err.new) result
         (λ broke page. WhereOpen office.old.closed (state S.Store office.old.held) (state S.Store office.new.held)
-            (λ s. IsRun broke s (errand_of task.entry) (option_map R.remaining file) page office.new.closed (state S.Store office.new.held))) }
+        (λ s. IsRun broke s (errand_of task.entry) (option_map R.remaining file) page office.new.closed (state S.Store office.new.held))) }
     ensures clean { HasCleanDisk (state S.Store office.new.held) → HasCleanDisk (state S.Store office.old.held) }
 {
     match task {

@@ -38,8 +38,12 @@ returns-in-Err g c =
       shown = told.1;
       is = λ clean. record {
         in_office = λ db rests s left.
-            inr (c.in-Err.fault, refl, c.in-Err.ensures.refuses clean db rests s left,
-            read_leaves s db (state g.S.Store c.args.conn) (state g.S.Store c.in-Err.conn) (λ trees is_open may. g.met.S.Store.settled c.args.conn.store trees is_open may) c.in-Err.ensures.reads_too clean rests left);
+            inr (
+              c.in-Err.fault,
+              refl,
+              c.in-Err.ensures.refuses clean db rests s left,
+              read_leaves s db (state g.S.Store c.args.conn) (state g.S.Store c.in-Err.conn) (λ trees is_open may. g.met.S.Store.settled c.args.conn.store trees is_open may) c.in-Err.ensures.reads_too clean rests left,
+            );
         in_nothing = λ is. absurd (cc is);
         elsewhere = λ errand is db ours rests none. record { fault = c.in-Err.fault; told = refl; given = c.in-Err.ensures.told clean db ours rests; same = c.in-Err.ensures.reads_too };
       };

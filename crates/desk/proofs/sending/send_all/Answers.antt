@@ -1,9 +1,9 @@
 -- Why `send_all` keeps its promise.
-use Rattle.std.proofs.Common.{◌+◌, ◌<◌, ◌++◌, length, take, refl, arith}
+use Rattle.std.proofs.Common.{◌<◌, ◌++◌, length, take, refl, arith}
 use Rattle.std.proofs.lemmas.List.{take_all}
 use Rattle.sqlite.specs.Held.{state}
-use Rattle.register.specs.Machine.{after, step_of}
-use Rattle.desk.specs.Pages.{below, empty_page, outputs_of, page_of}
+use Rattle.register.specs.Machine.{after}
+use Rattle.desk.specs.Pages.{below, empty_page, page_of}
 use Rattle.desk.proofs.PageLemmas.{shown_below}
 use Rattle.desk.proofs.SentLemmas.{nothing_told, sent_all, sent_last, sent_more, status_zero, told_all, told_more}
 use Rattle.desk.proofs.sending.send_all.Goals as goal

@@ -12,5 +12,5 @@ invariant-loop-request g l = record {
   clean : HasCleanDisk (state g.S.Store l.office.held) → HasCleanDisk (state g.S.Store l.initial.office.held);
   so_far : ToldSo (outputs_of g.O.Sink.taken g.O.Sink.failed g.E.Sink.taken g.E.Sink.failed l.initial.out l.initial.err) (outputs_of g.O.Sink.taken g.O.Sink.failed g.E.Sink.taken g.E.Sink.failed l.out l.err)
       (λ said. WhereOpen l.initial.office.closed (state g.S.Store l.initial.office.held) (state g.S.Store l.office.held)
-          (λ s. SentSo s (take l.request-index l.requests) said l.office.closed (state g.S.Store l.office.held)));
+      (λ s. SentSo s (take l.request-index l.requests) said l.office.closed (state g.S.Store l.office.held)));
 }

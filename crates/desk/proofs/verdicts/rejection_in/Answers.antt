@@ -1,4 +1,4 @@
-use Rattle.std.proofs.Common.{◌≡◌, refl, ap, true, false, Some}
+use Rattle.std.proofs.Common.{refl, ap, Some}
 use Rattle.desk.specs.Verdicts.{rejected}
 use Rattle.desk.proofs.NumbersRead.{fitting_is_number, unfitting_is_none}
 use Rattle.desk.proofs.verdicts.rejection_in.Goals as goal
