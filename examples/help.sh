@@ -8,6 +8,8 @@ source "$(dirname "$(readlink -f "${BASH_SOURCE[0]}")")/play.bash"
         status sheet result serve; do
         play town.db "$order" --help
     done
+    # without a database too
+    play status --help
 
     # words that are no order
     play
