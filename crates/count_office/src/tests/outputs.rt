@@ -42,12 +42,12 @@ impl<'a> Heard<'a> {
 
     /// Does the order over outputs of which one fails, which must leave these rows, and then again.
     fn hear_twice(
-        &self,
+        &'a self,
         rt: &(impl Abort + AllocGlobal),
         disks: &Disks,
         rooms: Rooms,
-        told: Told<'_>,
-        rows: &str,
+        told: Told<'a>,
+        rows: &'a str,
     ) -> Result<(), Fail> {
         let cases = [
             (Step::BreakingOrder(self.words, self.file, rooms), told),
@@ -62,11 +62,11 @@ impl<'a> Heard<'a> {
 
     /// The output takes no more than so many bytes of the replies, which leaves these rows.
     fn break_output(
-        &self,
+        &'a self,
         rt: &(impl Abort + AllocGlobal),
         disks: &Disks,
         places: Range<usize>,
-        rows: &str,
+        rows: &'a str,
     ) -> Result<(), Fail> {
         for out in places {
             let taken = self.told.1.get(..out).unwrap_or("");
@@ -81,11 +81,11 @@ impl<'a> Heard<'a> {
 
     /// The error output takes a beginning of this text alone; the output takes so much of the replies.
     fn break_error_output(
-        &self,
+        &'a self,
         rt: &(impl Abort + AllocGlobal),
         disks: &Disks,
         out: usize,
-        text: &str,
+        text: &'a str,
     ) -> Result<(), Fail> {
         for err in 0..text.len() {
             let taken = text.get(..err).unwrap_or("");

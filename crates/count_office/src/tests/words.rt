@@ -163,11 +163,7 @@ const WRONG_NUMBERS: [(&str, &str); 3] = [
 ];
 
 /// A number of an order, put wrong in each way, is told.
-fn hear_wrong(
-    rt: &(impl Abort + AllocGlobal),
-    right: &[&str],
-    place: usize,
-) -> Result<(), Fail> {
+fn hear_wrong(rt: &(impl Abort + AllocGlobal), right: &[&str], place: usize) -> Result<(), Fail> {
     for (wrong, within) in WRONG_NUMBERS {
         let mut words = Vec::from_slice(rt.alloc(), right)?;
         let Some(number) = words.get_mut(place) else {
