@@ -17,6 +17,7 @@ mod lots;
 mod nominations;
 mod order_stops;
 mod orders;
+mod outputs;
 mod sockets;
 mod statements;
 mod stops;

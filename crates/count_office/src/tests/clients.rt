@@ -3,6 +3,7 @@
 use std::alloc::Global;
 use std::io;
 use std::io::{ErrorKind, Read, Write};
+use std::test::Fail;
 
 /// A client: the bytes that it sends before it ends its side, after how many of them reading it fails, and
 /// how many bytes of the answer it takes before writing to it fails.
@@ -33,10 +34,7 @@ impl<'a> Client<'a> {
 
     /// What it takes, as it is written.
     pub fn taking(&self, alloc: Global) -> Taking {
-        Taking {
-            taken: Vec::new(alloc),
-            room: self.takes,
-        }
+        Taking::new(alloc, self.takes)
     }
 }
 
@@ -61,11 +59,27 @@ impl Read for Sending<'_> {
     }
 }
 
-/// The bytes that a client took, up to a failure.
+/// The bytes that were taken, up to a failure.
 #[derive(Drop)]
 pub struct Taking {
-    pub taken: Vec<u8>,
+    taken: Vec<u8>,
     room: usize,
+}
+
+impl Taking {
+    /// A writer that takes so many bytes, and then fails.
+    pub fn new(alloc: Global, room: usize) -> Taking {
+        Taking {
+            taken: Vec::new(alloc),
+            room,
+        }
+    }
+
+    /// What was taken.
+    pub fn text(self) -> Result<String, Fail> {
+        let Taking { taken, .. } = self;
+        Ok(String::from_utf8(taken)?)
+    }
 }
 
 impl Write for Taking {

@@ -166,17 +166,21 @@ fn two_clerks_agree(rt: HostRuntime) -> Result<(), Fail> {
     Ok(())
 }
 
-/// The clerks key batch 12 unlike, and each is told the same; in the next round they agree.
-const DIFFERING: [Case<'static>; 9] = [
+/// Where batch 12 is the only one: the clerks key it unlike, and each is told the same; in the next round they agree.
+const DIFFERING: [Case<'static>; 10] = [
     (Step::FileOrder(BY_FOUR, PAPERS), KEYED),
     (Step::FileOrder(BY_NINE, OTHER_PAPERS), KEYED),
     (
         STATUS,
         (
             0,
-            "ward 7 keying: 3 candidates, 2 batches, 0 taken, 1 differing, 0 doubtful open, 0 stages\n",
+            "ward 7 keying: 3 candidates, 1 batches, 0 taken, 1 differing, 0 doubtful open, 0 stages\n",
             "",
         ),
+    ),
+    (
+        Step::Order(&["DB", "seal", "7", "--id", "s1"]),
+        (1, "", "refused 24: not ready to seal\n"),
     ),
     (
         Step::Order(&["DB", "again", "12", "--id", "a1"]),
@@ -211,7 +215,7 @@ const DIFFERING: [Case<'static>; 9] = [
         STATUS,
         (
             0,
-            "ward 7 keying: 3 candidates, 2 batches, 1 taken, 0 differing, 1 doubtful open, 0 stages\n",
+            "ward 7 keying: 3 candidates, 1 batches, 1 taken, 0 differing, 1 doubtful open, 0 stages\n",
             "",
         ),
     ),
@@ -220,7 +224,7 @@ const DIFFERING: [Case<'static>; 9] = [
 #[test]
 fn clerks_who_differ_key_again(rt: HostRuntime) -> Result<(), Fail> {
     Disks::lasting(rt.alloc())
-        .hear(&rt, &GIVEN_OUT)?
+        .hear(&rt, &GIVEN_OUT[..5])?
         .hear(&rt, &DIFFERING)?;
     Ok(())
 }

@@ -24,6 +24,9 @@ const CHANGED: Told<'static> = (0, "", "");
 
 pub const FOREIGN: Told<'static> = (3, "", "fault 105: wrong database\n");
 
+/// A socket or an output is wanting.
+const BROKEN: Told<'static> = (3, "", "fault 107: socket or output\n");
+
 pub const DAMAGED: Told<'static> = (3, "", "fault 103: damaged\n");
 
 const NEWER: Told<'static> = (3, "", "fault 106: newer schema\n");
@@ -64,7 +67,7 @@ const BEGUN: [Case<'static>; 8] = [
 ];
 
 /// What that office says to more orders, which change nothing.
-const ANSWERS: [Case<'static>; 21] = [
+const ANSWERS: [Case<'static>; 25] = [
     (
         Step::Order(&["DB", "ward", "7", "2", "Harbour", "--id", "w1"]),
         ADDED,
@@ -74,7 +77,7 @@ const ANSWERS: [Case<'static>; 21] = [
         (1, "", "refused 2: id used for another subject\n"),
     ),
     (
-        Step::Order(&["DB", "ward", "8", "2", "Quay", "--id", "QUAY"]),
+        Step::Order(&["DB", "ward", "8", "2", "Quay", "--id", "W1"]),
         (1, "", "refused 1: bad id\n"),
     ),
     (
@@ -143,6 +146,17 @@ const ANSWERS: [Case<'static>; 21] = [
         Step::Order(&["DB", "close", "9", "--id", "n2"]),
         (1, "", "refused 12: no candidates\n"),
     ),
+    (Step::Order(&["DB", "sheet", "7"]), WRONG_PHASE),
+    // words that are no order, and an order that needs a socket
+    (
+        Step::Order(&["DB", "judge", "12", "2", "maybe", "--id", "j1"]),
+        (2, "", "bad verdict word\n"),
+    ),
+    (
+        Step::Order(&["DB", "judge", "12", "2", "reject:", "--id", "j1"]),
+        (2, "", "bad verdict word\n"),
+    ),
+    (Step::Order(&["DB", "serve", "8080", "2"]), BROKEN),
 ];
 
 /// Ann and Bob stand in Harbour, which has two seats.
@@ -193,11 +207,8 @@ const CHANGES: [(&str, Told<'static>); 29] = [
 
 #[test]
 fn orders_are_told(rt: HostRuntime) -> Result<(), Fail> {
-    let torn = Step::TornOrder(&["DB", "ward", "7", "2", "Harbour", "--id", "w1"]);
-    let broken = (3, "1 failed", "fault 107: socket or output\n");
-    let runs: [&[Case<'_>]; 4] = [
+    let runs: [&[Case<'_>]; 3] = [
         &[(HARBOUR, FOREIGN), (INIT, READY), (HARBOUR, ADDED)],
-        &[(INIT, READY), (torn, broken), (HARBOUR, ADDED)],
         &[
             (Step::Change("CREATE TABLE note (text TEXT)"), CHANGED),
             (HARBOUR, FOREIGN),

@@ -4,13 +4,11 @@ ghost use Rattle.std.specs.Prelude.{◌≡◌, ◌+◌, ◌-◌, ◌^◌, ◌<�
 
 use super::clients::{Client, Taking};
 use desk::perform::perform;
-use desk::{WordsFault, order, serve_on};
+use desk::{order, serve_on, tell_words};
 use office::{Answer, Office, Run, Stop, Work};
 use register::Request;
 use sqlite::{Alter, Connection};
 use std::alloc::{AllocError, Global};
-use std::io;
-use std::io::{ErrorKind, Write};
 use std::net::TcpListener;
 use std::test::Fail;
 use votes::{Counted, Sink};
@@ -23,8 +21,8 @@ pub enum Step<'a> {
     Order(&'a [&'a str]),
     /// The same, where the file that it names has these bytes.
     FileOrder(&'a [&'a str], &'a [u8]),
-    /// The same, where the output takes nothing; how many of its calls failed stands as the output.
-    TornOrder(&'a [&'a str]),
+    /// The same, where each of the two outputs takes no more than so many bytes.
+    BreakingOrder(&'a [&'a str], &'a [u8], Rooms),
     /// A new office, and a list of requests handed to it; their answers stand as the output.
     List(&'a [Request]),
     /// The office opened, and asked for the work of a clerk; what it tells stands as the output.
@@ -41,6 +39,19 @@ pub enum Step<'a> {
     /// Every row of every table, as the output.
     Contents,
 }
+
+/// How many bytes the output takes before it fails, and how many the error output.
+#[derive(Clone, Copy, Debug)]
+pub struct Rooms {
+    pub out: usize,
+    pub err: usize,
+}
+
+/// Outputs that don't fail.
+const AMPLE: Rooms = Rooms {
+    out: usize::MAX,
+    err: usize::MAX,
+};
 
 /// A status, and what was printed to the output and the error output.
 pub type Told<'a> = (u8, &'a str, &'a str);
@@ -81,39 +92,22 @@ impl Said {
     }
 }
 
-/// A writer that takes nothing.
-#[derive(Drop)]
-struct Torn;
-
-impl Write for Torn {
-    fn write(&mut self, _bytes: &[u8]) -> io::Result<usize> {
-        Err(io::Error::from(ErrorKind::BrokenPipe))
-    }
-
-    fn flush(&mut self) -> io::Result<()> {
-        Ok(())
-    }
-}
-
-/// Does the order that the words are over a file, and gives its status and its text on the error output.
-fn give<S: Alter + Drop, O: Sink>(
+/// Does what the words ask over a file, and gives the status.
+fn give<S: Alter + Drop, O: Sink, E: Sink>(
     alloc: Global,
     conn: Connection<S>,
     words: &[&str],
     file: Option<&[u8]>,
     out: &mut O,
-) -> Result<(u8, String, Connection<S>), Fail>
-    requires { O.failed out.old < 2 ^ 64 - 1 }
+    err: &mut E,
+) -> (u8, Connection<S>)
+    requires out { O.failed out.old < 2 ^ 64 - 1 }
+    requires err { E.failed err.old < 2 ^ 64 - 1 }
 {
-    let order = match order(alloc, words) {
-        Ok(order) => order,
-        Err(WordsFault::Memory) => return Err(Fail::from("memory for the words")),
-        Err(WordsFault::Verdict) => return Err(Fail::from("bad verdict word")),
-        Err(WordsFault::Words { text, .. }) => return Err(Fail::from(text)),
-    };
-    let mut err = Vec::new(alloc);
-    let (status, conn) = perform(alloc, &order, conn, file, out, &mut Counted::new(&mut err));
-    Ok((status, String::from_utf8(err)?, conn))
+    match order(alloc, words) {
+        Ok(order) => perform(alloc, &order, conn, file, out, err),
+        Err(fault) => (tell_words(&fault, out, err), conn),
+    }
 }
 
 fn answered(alloc: Global, run: &Run) -> Result<String, AllocError> {
@@ -204,8 +198,7 @@ fn serve<S: Alter + Drop>(
         serve_one(alloc, &mut reader, &mut writer, &mut office)
     };
     let conn = office.into_connection();
-    let Taking { taken, .. } = taking;
-    let out = String::from_utf8(taken)?;
+    let out = taking.text()?;
     let err = format!(in alloc; "{served:?}")?;
     Ok((
         Said {
@@ -253,10 +246,16 @@ fn ordered<S: Alter + Drop>(
     conn: Connection<S>,
     words: &[&str],
     file: Option<&[u8]>,
+    rooms: Rooms,
 ) -> Result<(Said, Connection<S>), Fail> {
-    let mut out = Vec::new(alloc);
-    let (status, err, conn) = give(alloc, conn, words, file, &mut Counted::new(&mut out))?;
-    let out = String::from_utf8(out)?;
+    let mut out = Taking::new(alloc, rooms.out);
+    let mut err = Taking::new(alloc, rooms.err);
+    let (status, conn) = {
+        let mut out = Counted::new(&mut out);
+        let mut err = Counted::new(&mut err);
+        give(alloc, conn, words, file, &mut out, &mut err)
+    };
+    let (out, err) = (out.text()?, err.text()?);
     Ok((Said { status, out, err }, conn))
 }
 
@@ -266,13 +265,10 @@ fn done<S: Alter + Drop>(
     step: Step<'_>,
 ) -> Result<(Said, Connection<S>), Fail> {
     match step {
-        Step::Order(words) => ordered(alloc, conn, words, None),
-        Step::FileOrder(words, file) => ordered(alloc, conn, words, Some(file)),
-        Step::TornOrder(words) => {
-            let mut out = Counted::new(Torn);
-            let (status, err, conn) = give(alloc, conn, words, None, &mut out)?;
-            let out = format!(in alloc; "{} failed", out.failures())?;
-            Ok((Said { status, out, err }, conn))
+        Step::Order(words) => ordered(alloc, conn, words, None, AMPLE),
+        Step::FileOrder(words, file) => ordered(alloc, conn, words, Some(file), AMPLE),
+        Step::BreakingOrder(words, file, rooms) => {
+            ordered(alloc, conn, words, Some(file), rooms)
         }
         Step::List(requests) => list(alloc, conn, requests),
         Step::Work(clerk) => work(alloc, conn, clerk),

@@ -2,6 +2,7 @@
 
 use desk::{WordsFault, order};
 use std::alloc::{AllocError, Global};
+use std::process::Abort;
 use std::test::Fail;
 
 /// What the words are: an order, or the status and the text of a fault.
@@ -15,7 +16,7 @@ fn read(alloc: Global, words: &[&str]) -> Result<String, AllocError> {
 }
 
 /// Each order once, and what else its words may look like.
-const TAKEN: [(&[&str], &str); 16] = [
+const TAKEN: [(&[&str], &str); 23] = [
     (&["DB", "init"], "Init"),
     (
         &["DB", "ward", "7", "2", "Harbour", "--id", "w1"],
@@ -73,7 +74,29 @@ const TAKEN: [(&[&str], &str); 16] = [
         &["DB", "judge", "12", "2", "reject:4294967295", "--id", "v1"],
         "Judge(Judging { batch: 12, paper: 2, verdict: Reject(4294967295), id: \"v1\" })",
     ),
+    (
+        &["DB", "seal", "7", "--id", "s1"],
+        "Seal { ward: 7, id: \"s1\" }",
+    ),
+    (
+        &["DB", "advance", "7", "--id", "v1"],
+        "Advance { ward: 7, id: \"v1\" }",
+    ),
+    (
+        &["DB", "lot", "7", "2", "3", "--id", "l1"],
+        "Lot(Drawing { ward: 7, stage: 2, candidate: 3, id: \"l1\" })",
+    ),
+    (
+        &["DB", "declare", "7", "--id", "d1"],
+        "Declare { ward: 7, id: \"d1\" }",
+    ),
     (&["DB", "status", "7"], "Status { ward: 7 }"),
+    (&["DB", "sheet", "7"], "Sheet { ward: 7 }"),
+    (&["DB", "result", "7"], "Result { ward: 7 }"),
+    (
+        &["DB", "serve", "8080", "1000000"],
+        "Serve { port: 8080, connections: 1000000 }",
+    ),
 ];
 
 /// Words of verdicts that say none.
@@ -99,49 +122,37 @@ fn words_are_read_to_orders(rt: HostRuntime) -> Result<(), Fail> {
     Ok(())
 }
 
-/// Right words of each order that takes any, and the place of a number among them.
-const RIGHT: [(&[&str], usize); 8] = [
-    (&["DB", "ward", "--id=a", "7", "2", "Harbour"], 4),
-    (&["DB", "candidate", "--id=a", "7", "1", "Ann"], 4),
-    (&["DB", "withdraw", "--id=a", "7", "1"], 4),
-    (&["DB", "close", "--id=a", "7"], 3),
-    (&["DB", "batch", "--id=a", "12", "7", "2", "4", "9"], 7),
-    (&["DB", "again", "--id=a", "12"], 3),
-    (&["DB", "judge", "--id=a", "12", "2", "reject:3"], 4),
-    (&["DB", "status", "7"], 2),
+/// Right words of each order that takes any, and the places of the numbers of any size among them.
+const RIGHT: [(&[&str], &[usize]); 17] = [
+    (&["DB", "ward", "--id=a", "7", "2", "Harbour"], &[3, 4]),
+    (&["DB", "candidate", "--id=a", "7", "1", "Ann"], &[3, 4]),
+    (&["DB", "import-candidates", "--id=a", "harbour.csv"], &[]),
+    (&["DB", "withdraw", "--id=a", "7", "1"], &[3, 4]),
+    (&["DB", "close", "--id=a", "7"], &[3]),
+    (
+        &["DB", "batch", "--id=a", "12", "7", "2", "4", "9"],
+        &[3, 4, 5, 6, 7],
+    ),
+    (
+        &["DB", "import-keying", "--id=a", "4", "12", "1", "k.csv"],
+        &[3, 4, 5],
+    ),
+    (&["DB", "again", "--id=a", "12"], &[3]),
+    (&["DB", "judge", "--id=a", "12", "2", "reject:3"], &[3, 4]),
+    (&["DB", "seal", "--id=a", "7"], &[3]),
+    (&["DB", "advance", "--id=a", "7"], &[3]),
+    (&["DB", "lot", "--id=a", "7", "2", "3"], &[3, 4, 5]),
+    (&["DB", "declare", "--id=a", "7"], &[3]),
+    (&["DB", "status", "7"], &[2]),
+    (&["DB", "sheet", "7"], &[2]),
+    (&["DB", "result", "7"], &[2]),
+    (&["DB", "serve", "8080", "2"], &[]),
 ];
 
 /// Words that are no order are told with a text that holds this, and status 2.
 fn is_told(alloc: Global, words: &[&str], within: &str) -> Result<bool, AllocError> {
     let text = read(alloc, words)?;
     Ok(text.as_str().starts_with("2 error: ") && text.as_str().contains(within))
-}
-
-#[test]
-fn a_word_too_few_too_many_or_wrong_is_told(rt: HostRuntime) -> Result<(), Fail> {
-    let alloc = rt.alloc();
-    for (right, place) in RIGHT {
-        let mut words = Vec::from_slice(alloc, right)?;
-        words.push("more")?;
-        assert!(rt;
-            is_told(alloc, words.as_slice(), "unexpected argument 'more' found")?,
-            "{words:?}"
-        );
-        if let Some((_, fewer)) = right.split_last() {
-            assert!(rt;
-                is_told(alloc, fewer, "required arguments were not provided")?,
-                "{fewer:?}"
-            );
-        }
-        for (wrong, within) in WRONG_NUMBERS {
-            let mut words = Vec::from_slice(alloc, right)?;
-            if let Some(number) = words.get_mut(place) {
-                *number = wrong;
-                assert!(rt; is_told(alloc, words.as_slice(), within)?, "{words:?}");
-            }
-        }
-    }
-    Ok(())
 }
 
 /// Words that are no number of the range, and what is told of each.
@@ -151,10 +162,52 @@ const WRONG_NUMBERS: [(&str, &str); 3] = [
     ("-5", "unexpected argument '-5' found"),
 ];
 
+/// A number of an order, put wrong in each way, is told.
+fn hear_wrong(rt: &(impl Abort + AllocGlobal), right: &[&str], place: usize) -> Result<(), Fail> {
+    for (wrong, within) in WRONG_NUMBERS {
+        let mut words = Vec::from_slice(rt.alloc(), right)?;
+        let Some(number) = words.get_mut(place) else {
+            return Err(Fail::from("no such place"));
+        };
+        *number = wrong;
+        assert!(rt; is_told(rt.alloc(), words.as_slice(), within)?, "{words:?}");
+    }
+    Ok(())
+}
+
+/// A word more than the right ones, one fewer, or a wrong number among them is told.
+fn hear_near(
+    rt: &(impl Abort + AllocGlobal),
+    right: &[&str],
+    places: &[usize],
+) -> Result<(), Fail> {
+    let mut more = Vec::from_slice(rt.alloc(), right)?;
+    more.push("more")?;
+    let within = "unexpected argument 'more' found";
+    assert!(rt; is_told(rt.alloc(), more.as_slice(), within)?, "{more:?}");
+    let Some((_, fewer)) = right.split_last() else {
+        return Err(Fail::from("no words"));
+    };
+    let within = "required arguments were not provided";
+    assert!(rt; is_told(rt.alloc(), fewer, within)?, "{fewer:?}");
+    for place in places {
+        hear_wrong(rt, right, *place)?;
+    }
+    Ok(())
+}
+
+#[test]
+fn a_word_too_few_too_many_or_wrong_is_told(rt: HostRuntime) -> Result<(), Fail> {
+    for (right, places) in RIGHT {
+        hear_near(&rt, right, places)?;
+    }
+    Ok(())
+}
+
 #[test]
 fn words_that_are_no_order_get_help(rt: HostRuntime) -> Result<(), Fail> {
     let alloc = rt.alloc();
-    let cases: [(&[&str], &str, &str); 16] = [
+    let cases: [(&[&str], &str, &str); 19] = [
         (&[], "2 Runs the office", "Usage: count-office DB <COMMAND>"),
         (
             &["DB"],
@@ -193,14 +246,29 @@ fn words_that_are_no_order_get_help(rt: HostRuntime) -> Result<(), Fail> {
             "<NAME>",
         ),
         (
-            &["DB", "ward", "-5", "2", "Harbour", "--id", "w1"],
+            &["DB", "serve", "x", "2"],
             "2 error: ",
-            "'-5'",
+            "invalid value 'x' for '<PORT>'",
         ),
         (
-            &["DB", "ward", "4294967296", "2", "Harbour", "--id", "w1"],
+            &["DB", "serve", "0", "2"],
             "2 error: ",
-            "0..=4294967295",
+            "0 is not in 1..=65535",
+        ),
+        (
+            &["DB", "serve", "65536", "2"],
+            "2 error: ",
+            "65536 is not in 1..=65535",
+        ),
+        (
+            &["DB", "serve", "8080", "0"],
+            "2 error: ",
+            "0 is not in 1..=1000000",
+        ),
+        (
+            &["DB", "serve", "8080", "1000001"],
+            "2 error: ",
+            "1000001 is not in 1..=1000000",
         ),
         (
             &[
