@@ -1,5 +1,6 @@
 -- What is kept of an order, and what a connection that stays at rest leaves.
 use Rattle.std.proofs.Common.{◌≡◌, ◌⊎◌, ◌≤◌, ◌+◌, ◌∙◌, inl, inr, ℕ, Bool, true, false, List, [], ◌∷◌, length, take, IsTrue, refl, sym, ap, subst, arith, suc}
+use Rattle.std.proofs.lemmas.List.{append-nil}
 use Rattle.sqlite.specs.Tree.{Trees}
 use Rattle.sqlite.specs.Schema.{Schema}
 use Rattle.sqlite.specs.Effect.{Database}
@@ -19,8 +20,8 @@ use Rattle.store.specs.Openings.{IsBlank, IsLeftAt}
 use Rattle.store.proofs.ReopenLemmas.{left_holds}
 use Rattle.office.specs.Answers.{Told, again, done, no, told_of}
 use Rattle.office.proofs.RunLemmas.{beginning}
-use Rattle.desk.specs.Errands.{File, IsAnswered, IsEndOf, IsKept, IsPlain, IsReplyAbove, IsRun, IsSent, IsStopped, Performs, Sends, SendsSome}
-use Rattle.desk.specs.Pages.{IsShown, Outputs, Page}
+use Rattle.desk.specs.Errands.{File, IsAnswered, IsAnswerAbove, IsEndOf, IsKept, IsPlain, IsReplyAbove, IsRun, IsSent, IsStopped, Performs, Sends, SendsSome, TellsAnswers}
+use Rattle.desk.specs.Pages.{IsShown, Outputs, Page, empty_page, page_told, printed, replied}
 use Rattle.desk.specs.Requests.{Errand, Work, making, running, serving}
 
 -- ---- a connection at rest
@@ -72,12 +73,24 @@ IsAfterSome s rs n x = (k : ℕ) × (n ≤ k) × (k ≤ n + 1) × (k ≤ length 
 
 -- what requests that were sent leave
 abbrev pub LeavesSome : Bool → OfficeState → List Request → Page → State → Type 0
-LeavesSome broke s rs page st = (n : ℕ) × (n ≤ length rs) × LeavesState st (IsAfterSome s rs n) × (page.status ≡ 0 → broke ≡ false → n ≡ length rs)
+LeavesSome broke s rs page st = (n : ℕ) × (n ≤ length rs) × LeavesState st (IsAfterSome s rs n) × (page.status ≡ 0 → broke ≡ false → n ≡ length rs) × TellsAnswers s rs n page
 
 reply_status : (t : Told) (rest page : Page) → IsReplyAbove t rest page → page.status ≡ rest.status
 reply_status (done reply) rest page is = ap (λ (p : Page). p.status) is
 reply_status (again reply) rest page is = ap (λ (p : Page). p.status) is
 reply_status (no why) rest page is = absurd is
+
+-- the last answer is told, and nothing behind it
+last_told : (t : Told) (P : Page → Type 0) (page : Page) → page ≡ page_told t → P empty_page → IsAnswerAbove t 0 P page
+last_told (done reply) P page is none = (empty_page, is ∙ sym (ap printed (append-nil (replied reply).out)), none)
+last_told (again reply) P page is none = (empty_page, is ∙ sym (ap printed (append-nil (replied reply).out)), none)
+last_told (no why) P page is none = (refl, is)
+
+-- a reply is told above what comes of the requests behind it
+told_above : (t : Told) (others : ℕ) (P : Page → Type 0) (rest page : Page) → IsReplyAbove t rest page → P rest → IsAnswerAbove t others P page
+told_above (done reply) others P rest page is told = (rest, is, told)
+told_above (again reply) others P rest page is told = (rest, is, told)
+told_above (no why) others P rest page is told = absurd is
 
 last_leaves : (broke : Bool) (s : OfficeState) (r : Request) (rs : List Request) (page : Page) (closed : Bool) (st : State) → (page.status ≡ 0 → broke ≡ true) → IsAnswered s (step_of s r) page closed st → LeavesSome broke s (r ∷ rs) page st
 last_leaves broke s r rs page closed st ends (inl told) = (
@@ -85,12 +98,14 @@ last_leaves broke s r rs page closed st ends (inl told) = (
   omega arith,
   (λ trees may. let it = told.1.at.leaves trees may in (it.0, (1, omega arith, omega arith, omega arith, it.1), it.2)),
   (λ zero whole. let bad : true ≡ false = sym (ends zero) ∙ whole in absurd (cc bad)),
+  last_told (told_of (step_of s r)) (TellsAnswers (after_one s r) rs 0) page told.0 (inl refl),
 )
 last_leaves broke s r rs page closed st ends (inr (fault, is, inl kept)) = (
   0,
   omega arith,
   (λ trees may. let it = kept.open_at.at.leaves trees may in (it.0, (0, omega arith, omega arith, omega arith, it.1), it.2)),
   (λ zero whole. let three : page.status ≡ 3 = ap (λ (p : Page). p.status) is in absurd (omega arith)),
+  inr (fault, is),
 )
 last_leaves broke s r rs page closed st ends (inr (fault, is, inr shut)) = (
   0,
@@ -100,17 +115,19 @@ last_leaves broke s r rs page closed st ends (inr (fault, is, inr shut)) = (
     | inr next ↦ (it.0, (1, omega arith, omega arith, omega arith, next), it.2)
   ]),
   (λ zero whole. let three : page.status ≡ 3 = ap (λ (p : Page). p.status) is in absurd (omega arith)),
+  inr (fault, is),
 )
 
 sent_leaves : (broke : Bool) (s : OfficeState) (rs : List Request) (page : Page) (closed : Bool) (st : State) → IsSent broke s rs page closed st → LeavesSome broke s rs page st
 sent_leaves broke s [] page closed st sent =
-    (0, omega arith, (λ trees may. let it = sent.1.at.leaves trees may in (it.0, (0, omega arith, omega arith, omega arith, it.1), it.2)), (λ zero whole. refl))
+    (0, omega arith, (λ trees may. let it = sent.1.at.leaves trees may in (it.0, (0, omega arith, omega arith, omega arith, it.1), it.2)), (λ zero whole. refl), inl sent.0)
 sent_leaves broke s (r ∷ rs) page closed st (inl goes) =
     let rest = sent_leaves broke (after_one s r) rs goes.0 closed st goes.2 in (
       suc rest.0,
       omega arith,
       (λ trees may. let it = rest.2 trees may in (it.0, (suc it.1.0, omega arith, omega arith, omega arith, it.1.4), it.2)),
       (λ zero whole. ap suc (rest.3 (sym (reply_status (told_of (step_of s r)) goes.0 page goes.1) ∙ zero) whole)),
+      told_above (told_of (step_of s r)) rest.0 (TellsAnswers (after_one s r) rs rest.0) goes.0 page goes.1 rest.4,
     )
 sent_leaves broke s (r ∷ rs) page closed st (inr last) = last_leaves broke s r rs page closed st last.0 last.1
 
@@ -125,11 +142,12 @@ sends_some s errand file [] sends = tt
 sends_some s errand file (r ∷ rs) sends = sends
 
 -- nothing was sent, and a stop leaves the state as it was
-nothing_kept : (earlier : List Request) (work : Work) (file : File) (status : ℕ) (st : State) → LeavesState st (λ x. x ≡ after empty_office earlier) → IsKept earlier work file status st
-nothing_kept earlier work file status st leaves = record {
+nothing_kept : (earlier : List Request) (work : Work) (file : File) (page : Page) (status : ℕ) (st : State) → LeavesState st (λ x. x ≡ after empty_office earlier) → IsKept earlier work file page status st
+nothing_kept earlier work file page status st leaves = record {
   requests = [];
   sends = tt;
   answered = 0;
+  told = λ some. absurd (some refl);
   leaves = λ trees may. let it = leaves trees may in (it.0, beginning earlier [] 0 0 (omega arith) (omega arith) (omega arith) it.0 it.1, it.2);
   all = λ zero. refl;
 }
@@ -139,24 +157,25 @@ stopped_leaves s page closed st (fault, is, inl kept) = kept.open_at.at.leaves
 stopped_leaves s page closed st (fault, is, inr shut) = shut.leaves
 
 run_kept : (earlier : List Request) (errand : Errand) (file : File) (broke : Bool) (old new : Outputs) (page : Page) (status : ℕ) (closed : Bool) (st : State) → IsShown broke old new page status
-    → IsRun broke (after empty_office earlier) errand file page closed st → IsKept earlier (running errand) file status st
+    → IsRun broke (after empty_office earlier) errand file page closed st → IsKept earlier (running errand) file page status st
 run_kept earlier errand file broke old new page status closed st shown (inl sent) =
     let it = sent_leaves broke (after empty_office earlier) sent.0 page closed st sent.2 in
     record {
       requests = sent.0;
       sends = sends_some (after empty_office earlier) errand file sent.0 sent.1;
       answered = it.0;
+      told = λ some. it.4;
       leaves = λ trees may. let x = it.2 trees may in (x.0, beginning earlier sent.0 it.0 x.1.0 x.1.1 x.1.2 x.1.3 x.0 x.1.4, x.2);
       all = λ zero. let whole = shown_zero broke old new page status shown zero in it.3 whole.1 whole.0;
     }
-run_kept earlier errand file broke old new page status closed st shown (inr (inl told)) = nothing_kept earlier (running errand) file status st told.1.at.leaves
+run_kept earlier errand file broke old new page status closed st shown (inr (inl told)) = nothing_kept earlier (running errand) file page status st told.1.at.leaves
 run_kept earlier errand file broke old new page status closed st shown (inr (inr stopped)) =
-    nothing_kept earlier (running errand) file status st (stopped_leaves (after empty_office earlier) page closed st stopped)
+    nothing_kept earlier (running errand) file page status st (stopped_leaves (after empty_office earlier) page closed st stopped)
 
 -- what is kept of an order
 pub kept : (earlier : List Request) (work : Work) (file : File) (broke : Bool) (old new : Outputs) (page : Page) (status : ℕ) (st : State) → IsShown broke old new page status
-    → Performs broke (after empty_office earlier) work file page st → IsKept earlier work file status st
-kept earlier work file broke old new page status st shown (inr unopened) = nothing_kept earlier work file status st unopened.3
+    → Performs broke (after empty_office earlier) work file page st → IsKept earlier work file page status st
+kept earlier work file broke old new page status st shown (inr unopened) = nothing_kept earlier work file page status st unopened.3
 kept earlier making file broke old new page status st shown (inl it) = absurd it
-kept earlier (serving port connections) file broke old new page status st shown (inl it) = nothing_kept earlier (serving port connections) file status st it.1
+kept earlier (serving port connections) file broke old new page status st shown (inl it) = nothing_kept earlier (serving port connections) file page status st it.1
 kept earlier (running errand) file broke old new page status st shown (inl it) = run_kept earlier errand file broke old new page status it.0 st shown it.1

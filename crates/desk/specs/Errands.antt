@@ -1,5 +1,5 @@
 -- What comes of an order at a state of the office.
-use Rattle.std.specs.Prelude.{◌≡◌, ◌⊎◌, ⊤, ℕ, Bool, true, false, List, [], ◌∷◌, codes, length, map, Option, Some, None, Result, Ok, Err}
+use Rattle.std.specs.Prelude.{◌≡◌, ◌≢◌, zero, suc, ◌⊎◌, ⊤, ℕ, Bool, true, false, List, [], ◌∷◌, codes, length, map, Option, Some, None, Result, Ok, Err}
 use Rattle.sqlite.specs.Tree.{Trees}
 use Rattle.sqlite.specs.State.{State, HasCleanDisk}
 use Rattle.register.specs.Machine.{Outcome as Ruled, after, after_one, state_after, step_of}
@@ -181,11 +181,25 @@ SendsSome s making file (r ∷ rs) = ⊥
 SendsSome s (serving port connections) file (r ∷ rs) = ⊥
 SendsSome s (running errand) file (r ∷ rs) = Sends s errand file (r ∷ rs)
 
--- Of the requests of an order so many were answered. Whatever a stop leaves is the state after the accepted requests of a beginning, which
--- contains every earlier one, every answered one, and at most one more; with status 0 all were answered.
-pub record IsKept (earlier : List Request) (work : Work) (file : File) (status : ℕ) (st : State) : Type 0 where
+-- what an answer tells, above what was told of the requests behind it; after a refusal nothing is sent
+abbrev pub IsAnswerAbove : Told → ℕ → (Page → Type 0) → Page → Type 0
+IsAnswerAbove (done reply) others P page = (rest : Page) × (page ≡ below (replied reply).out rest) × P rest
+IsAnswerAbove (again reply) others P page = (rest : Page) × (page ≡ below (replied reply).out rest) × P rest
+IsAnswerAbove (no why) others P page = (others ≡ 0) × (page ≡ refused why)
+
+-- the page tells the answers to the first so many requests, each that of the machine where its turn comes, and behind them nothing or a fault
+abbrev pub TellsAnswers : OfficeState → List Request → ℕ → Page → Type 0
+TellsAnswers s requests zero page = (page ≡ empty_page) ⊎ ((fault : Fault) × (page ≡ failed (Office fault)))
+TellsAnswers s [] (suc others) page = ⊥
+TellsAnswers s (r ∷ rs) (suc others) page = IsAnswerAbove (told_of (step_of s r)) others (TellsAnswers (after_one s r) rs others) page
+
+-- Of the requests of an order so many were answered, as the page tells; where none was sent, it tells something else. Whatever a stop leaves
+-- is the state after the accepted requests of a beginning, which contains every earlier one, every answered one, and at most one more; with
+-- status 0 all were answered.
+pub record IsKept (earlier : List Request) (work : Work) (file : File) (page : Page) (ends : ℕ) (st : State) : Type 0 where
   pub requests : List Request
   pub sends : SendsSome (after empty_office earlier) work file requests
   pub answered : ℕ
+  pub told : requests ≢ [] → TellsAnswers (after empty_office earlier) requests answered page
   pub leaves : LeavesState st (IsAfterBeginning earlier requests answered)
-  pub all : status ≡ 0 → answered ≡ length requests
+  pub all : ends ≡ 0 → answered ≡ length requests

@@ -128,8 +128,9 @@ pub fn perform<S: Alter, R: Read + Drop, O: Sink, E: Sink>(
     requires err { E.failed err.old < 2 ^ 64 - 1 }
     ensures performed { Tells (outputs_of O.taken O.failed E.taken E.failed out.old err.old) (outputs_of O.taken O.failed E.taken E.failed out.new err.new) result.0
         (λ broke page. HasCleanDisk (state S.Store result.1) → IsPerformed broke (work_for order.now) (option_map R.remaining file) page (state S.Store conn) (state S.Store result.1)) }
-    ensures headline { HasCleanDisk (state S.Store result.1) → (db : Database) → RestsAt db (state S.Store conn) → (earlier : List Request) → IsLeftAt (after empty_office earlier) db
-        → IsKept earlier (work_for order.now) (option_map R.remaining file) result.0 (state S.Store result.1) }
+    ensures headline { Tells (outputs_of O.taken O.failed E.taken E.failed out.old err.old) (outputs_of O.taken O.failed E.taken E.failed out.new err.new) result.0
+        (λ broke page. HasCleanDisk (state S.Store result.1) → (db : Database) → RestsAt db (state S.Store conn) → (earlier : List Request) → IsLeftAt (after empty_office earlier) db
+        → IsKept earlier (work_for order.now) (option_map R.remaining file) page result.0 (state S.Store result.1)) }
 {
     match task_for(alloc, order) {
         Ok(Task::Make) => make_office(alloc, conn, out, err),

@@ -70,21 +70,49 @@ returns-in-Err-clause-performed g c =
     }
 
 pub returns-in-Ok-Make-clause-headline : goal.returns-in-Ok-Make-clause-headline
-returns-in-Ok-Make-clause-headline g c clean db rests earlier left =
+returns-in-Ok-Make-clause-headline g c =
     let told = returns-in-Ok-Make-clause-performed g c in
-    kept earlier (work_for c.args.order.now) (option_map g.R.Read.remaining c.args.file) told.broke _ _ told.page c.make_office.result.0 (state g.S.Store c.make_office.result.1) told.shown ((told.is clean).in_office db rests (after empty_office earlier) left)
+    record {
+      page = told.page;
+      broke = told.broke;
+      shown = told.shown;
+      is = λ clean db rests earlier left.
+          kept earlier (work_for c.args.order.now) (option_map g.R.Read.remaining c.args.file) told.broke _ _ told.page c.make_office.result.0 (state g.S.Store c.make_office.result.1) told.shown
+          ((told.is clean).in_office db rests (after empty_office earlier) left);
+    }
 
 pub returns-in-Ok-Run-clause-headline : goal.returns-in-Ok-Run-clause-headline
-returns-in-Ok-Run-clause-headline g c clean db rests earlier left =
+returns-in-Ok-Run-clause-headline g c =
     let told = returns-in-Ok-Run-clause-performed g c in
-    kept earlier (work_for c.args.order.now) (option_map g.R.Read.remaining c.args.file) told.broke _ _ told.page c.run_opened.result.0 (state g.S.Store c.run_opened.result.1) told.shown ((told.is clean).in_office db rests (after empty_office earlier) left)
+    record {
+      page = told.page;
+      broke = told.broke;
+      shown = told.shown;
+      is = λ clean db rests earlier left.
+          kept earlier (work_for c.args.order.now) (option_map g.R.Read.remaining c.args.file) told.broke _ _ told.page c.run_opened.result.0 (state g.S.Store c.run_opened.result.1) told.shown
+          ((told.is clean).in_office db rests (after empty_office earlier) left);
+    }
 
 pub returns-in-Ok-Serve-clause-headline : goal.returns-in-Ok-Serve-clause-headline
-returns-in-Ok-Serve-clause-headline g c clean db rests earlier left =
+returns-in-Ok-Serve-clause-headline g c =
     let told = returns-in-Ok-Serve-clause-performed g c in
-    kept earlier (work_for c.args.order.now) (option_map g.R.Read.remaining c.args.file) told.broke _ _ told.page c.tell_failure.result (state g.S.Store c.args.conn) told.shown ((told.is clean).in_office db rests (after empty_office earlier) left)
+    record {
+      page = told.page;
+      broke = told.broke;
+      shown = told.shown;
+      is = λ clean db rests earlier left.
+          kept earlier (work_for c.args.order.now) (option_map g.R.Read.remaining c.args.file) told.broke _ _ told.page c.tell_failure.result (state g.S.Store c.args.conn) told.shown
+          ((told.is clean).in_office db rests (after empty_office earlier) left);
+    }
 
 pub returns-in-Err-clause-headline : goal.returns-in-Err-clause-headline
-returns-in-Err-clause-headline g c clean db rests earlier left =
+returns-in-Err-clause-headline g c =
     let told = returns-in-Err-clause-performed g c in
-    kept earlier (work_for c.args.order.now) (option_map g.R.Read.remaining c.args.file) told.broke _ _ told.page c.tell.result (state g.S.Store c.args.conn) told.shown ((told.is clean).in_office db rests (after empty_office earlier) left)
+    record {
+      page = told.page;
+      broke = told.broke;
+      shown = told.shown;
+      is = λ clean db rests earlier left.
+          kept earlier (work_for c.args.order.now) (option_map g.R.Read.remaining c.args.file) told.broke _ _ told.page c.tell.result (state g.S.Store c.args.conn) told.shown
+          ((told.is clean).in_office db rests (after empty_office earlier) left);
+    }
