@@ -36,8 +36,6 @@ mod tally;
 // the book that keeps them
 mod act;
 mod parcel_book;
-#[cfg(test)]
-mod tests;
 
 pub use book::{AdvanceError, CountBook};
 pub use contest::is_contest;

@@ -18,8 +18,6 @@ mod fields;
 mod format;
 mod keying;
 mod records;
-#[cfg(test)]
-mod tests;
 
 pub use candidates::{CandidateRow, read_candidates};
 pub use fault::{FileFault, Flaw};

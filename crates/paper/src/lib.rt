@@ -25,8 +25,6 @@ mod prefs;
 mod validity;
 // where candidates stand, and the next available preference
 mod standing;
-#[cfg(test)]
-mod tests;
 
 pub use columns::{Columns, MAX_CANDIDATES};
 pub use marked::{Keyed, Marked};

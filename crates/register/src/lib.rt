@@ -60,6 +60,3 @@ pub use status::{Status, Work};
 pub use verdicts::{JudgedPaper, Verdict, VerdictCommand};
 pub use view::{Part, View};
 pub use wards::{Ward, WardCommand};
-
-#[cfg(test)]
-mod tests;

@@ -36,6 +36,3 @@ pub use polls::item6;
 pub use ranges::item1;
 pub use rows::Rows;
 pub use verdicts::item5;
-
-#[cfg(test)]
-mod tests;

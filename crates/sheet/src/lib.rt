@@ -27,6 +27,3 @@ pub use fitness::can_be_printed;
 pub use page::{declaration_text, sheet_text};
 pub use sheets::write_sheet;
 pub use ward::{Poll, Ward};
-
-#[cfg(test)]
-mod tests;

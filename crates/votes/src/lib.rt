@@ -19,8 +19,6 @@ mod units;
 mod streams;
 // streams of the standard library
 mod counted;
-#[cfg(test)]
-mod tests;
 
 pub use counted::Counted;
 pub use streams::{Broken, Sink, Source, put_all};

@@ -34,8 +34,6 @@ mod work;
 // one connection
 mod answering;
 mod serving;
-#[cfg(test)]
-mod tests;
 
 pub use asked::{Asked, Keying, read_asked};
 pub use denial::{Denial, Verb};

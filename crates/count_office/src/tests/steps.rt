@@ -63,7 +63,8 @@ pub type Case<'a> = (Step<'a>, Told<'a>);
 pub const STOPPED: Told<'static> = (3, "", "fault 102: store\n");
 
 /// What a client is told then.
-const STOPPED_BODY: &str = "{\"fault\":102}";
+const STOPPED_ANSWER: &str =
+    "HTTP/1.1 503 Service Unavailable\r\nContent-Type: application/json\r\nContent-Length: 13\r\nConnection: close\r\n\r\n{\"fault\":102}";
 
 /// What a step printed.
 #[derive(Debug, Drop)]
@@ -84,7 +85,7 @@ impl Said {
 
     /// It was told that the store stopped, by an order or over HTTP.
     pub fn is_stopped(&self) -> bool {
-        self.told() == STOPPED || self.out.as_str().ends_with(STOPPED_BODY)
+        self.told() == STOPPED || self.out.as_str() == STOPPED_ANSWER
     }
 
     pub fn told(&self) -> Told<'_> {

@@ -1,10 +1,10 @@
 //! Sheets and declarations, byte for byte.
 
-use crate::{
-    Poll, Ward, can_be_printed, declaration_text, sheet_text, write_declaration, write_sheet,
-};
 use count::{Action, Stage};
 use paper::Columns;
+use sheet::{
+    Poll, Ward, can_be_printed, declaration_text, sheet_text, write_declaration, write_sheet,
+};
 use std::alloc::{AllocError, Global};
 use std::process::Abort;
 use std::test::Fail;

@@ -1,6 +1,6 @@
 //! Import files, read whole or refused, and the texts of their faults.
 
-use crate::{FileFault, Flaw, read_candidates, read_keying};
+use keyfile::{FileFault, Flaw, read_candidates, read_keying};
 use paper::Columns;
 use std::alloc::{AllocError, Global};
 use std::fmt::Write;

@@ -1,26 +1,21 @@
 //! The first morning of an office, request by request.
 
-use crate::batches::{Batch, BatchCommand};
-use crate::candidates::{Candidate, CandidateCommand};
-use crate::command::Command;
-use crate::decision::Decision;
-use crate::keyings::{KeyedPaper, KeyingCommand, is_its_clerk};
-use crate::machine::decide;
-use crate::marks::{columns_of, is_readable, is_valid};
-use crate::papers::{are_taken, count_open, differ, has_doubtful, is_keyed};
-use crate::phase::Phase;
-use crate::ranges::{
+use register::keyings::is_its_clerk;
+use register::marks::{columns_of, is_readable, is_valid};
+use register::papers::{are_taken, count_open, differ, has_doubtful, is_keyed};
+use register::ranges::{
     is_batch_number, is_candidate_number, is_clerk, is_paper_number, is_reply, is_round,
     is_seat_number,
 };
-use crate::receipt::Receipt;
-use crate::verdicts::{JudgedPaper, Verdict, VerdictCommand, is_rejection_code};
-use crate::view::{Part, View};
-use crate::wards::{Ward, WardCommand};
+use register::verdicts::is_rejection_code;
+use register::{
+    Batch, BatchCommand, Candidate, CandidateCommand, Command, Decision, JudgedPaper, KeyedPaper,
+    KeyingCommand, Part, Phase, Receipt, Verdict, VerdictCommand, View, Ward, WardCommand, decide,
+};
 use std::alloc::{AllocError, Global};
 use std::test::Fail;
 
-mod counts;
+mod judged;
 
 fn add(alloc: Global, ward: u32, seats: u32, name: &str) -> Result<Command, AllocError> {
     Ok(Command::Ward(WardCommand::Add {

@@ -1,14 +1,9 @@
 //! A ward's papers as they are judged, and its count from stage to stage.
 
-use crate::candidates::Candidate;
-use crate::elections::{Election, elections_are_fair};
-use crate::keyings::KeyedPaper;
-use crate::phase::Phase;
-use crate::polls::Ballots;
-use crate::verdicts::JudgedPaper;
-use crate::wards::Ward;
 use count::{Action, CountBook, Due, Kind};
 use paper::Columns;
+use register::elections::elections_are_fair;
+use register::{Ballots, Candidate, Election, JudgedPaper, KeyedPaper, Phase, Ward};
 use std::alloc::{AllocError, Global};
 use std::test::Fail;
 

@@ -2,7 +2,7 @@
 
 mod worked;
 
-use super::{
+use count::{
     Action, AdvanceError, CountBook, CountEnd, Due, Kind, ParcelBook, Stage, count_to, due_by,
     dues_to, is_contest, run_count,
 };

@@ -1,17 +1,7 @@
-//! What requests ask, of readers that give all at once, one byte at a time, and that fail; and the bytes of
-//! answers.
+//! What requests over HTTP ask, of readers that give all at once, one byte at a time, and that fail.
 
 ghost use Rattle.std.specs.Prelude.{◌-◌, ◌^◌, ◌<◌};
 
-use crate::bodies::{fault_body, refusal_body, reply_body};
-use crate::head::{MAX_HEAD_BYTES, MAX_HEADERS};
-use crate::length::MAX_BODY_BYTES;
-use crate::response::{Content, Response};
-use crate::work::work_body;
-use crate::{Asked, Denial, Unread, Verb, read_asked};
-use http::StatusCode;
-use paper::Columns;
-use register::Work;
 use std::alloc::{AllocError, Global};
 use std::fmt::Write;
 use std::io::{ErrorKind, Read};
@@ -19,6 +9,14 @@ use std::process::Abort;
 use std::test::Fail;
 use std::{fmt, io};
 use votes::{Counted, Source};
+use wire::{Asked, Denial, Unread, read_asked};
+
+/// How long a head may be, in bytes, how many headers it may have, and how long a body may be.
+const MAX_HEAD_BYTES: usize = 8192;
+
+const MAX_HEADERS: usize = 32;
+
+const MAX_BODY_BYTES: u32 = 1_048_576;
 
 /// Gives some bytes, one at a time; behind them the end comes, or a failure.
 #[derive(Drop)]
@@ -57,7 +55,7 @@ fn asked_text<R: Source>(alloc: Global, reader: &mut R) -> Result<String, fmt::E
         }
         Ok(Asked::Reading(what)) => write!(text, "{what:?}")?,
         Ok(Asked::Denied(Denial::MethodNotAllowed { allowed })) => {
-            write!(text, "only {}", allowed.text())?;
+            write!(text, "only {allowed:?}")?;
         }
         Ok(Asked::Denied(why)) => write!(text, "{why:?}")?,
         Err(Unread::Broken) => write!(text, "broken")?,
@@ -103,10 +101,10 @@ fn targets_and_methods(rt: HostRuntime) -> Result<(), Fail> {
         ("GET /wards/%37/sheet HTTP/1.1", "NotFound"),
         ("GET /w\u{e4}rds/7/sheet HTTP/1.1", "NotFound"),
         ("POST /nothing HTTP/1.1", "NotFound"),
-        ("POST /wards/7/sheet HTTP/1.1", "only GET"),
-        ("get /wards/7/sheet HTTP/1.1", "only GET"),
-        ("GET /clerks/4/batches/12/keying HTTP/1.1", "only POST"),
-        ("PUT /clerks/4/batches/12/keying HTTP/1.1", "only POST"),
+        ("POST /wards/7/sheet HTTP/1.1", "only Get"),
+        ("get /wards/7/sheet HTTP/1.1", "only Get"),
+        ("GET /clerks/4/batches/12/keying HTTP/1.1", "only Post"),
+        ("PUT /clerks/4/batches/12/keying HTTP/1.1", "only Post"),
         ("POST /clerks/4/batches/0/keying HTTP/1.1", "NotFound"),
         ("GET /wards/7/sheet HTTP/2.0", "BadRequest"),
         ("X", "BadRequest"),
@@ -252,61 +250,5 @@ fn a_reader_that_fails(rt: HostRuntime) -> Result<(), Fail> {
         };
         asks(&rt, left, wanted)?;
     }
-    Ok(())
-}
-
-/// The lines of an answer, and its body.
-fn told(
-    rt: &(impl Abort + AllocGlobal),
-    status: StatusCode,
-    body: Result<String, AllocError>,
-    answer: &str,
-) -> Result<(), Fail> {
-    let response = Response::made(rt.alloc(), status, Content::Json, body);
-    assert_eq!(rt; response.status, status.as_u16());
-    assert_eq!(rt; response.bytes.as_slice(), answer.as_bytes());
-    Ok(())
-}
-
-#[test]
-fn answers(rt: HostRuntime) -> Result<(), Fail> {
-    let alloc = rt.alloc();
-    told(
-        &rt,
-        StatusCode::OK,
-        reply_body(alloc, "batch 12 round 1 keyed"),
-        "HTTP/1.1 200 OK\r\nContent-Type: application/json\r\nContent-Length: 34\r\nConnection: close\r\n\r\n{\"reply\":\"batch 12 round 1 keyed\"}",
-    )?;
-    told(
-        &rt,
-        StatusCode::CONFLICT,
-        refusal_body(alloc, 16, "already keyed"),
-        "HTTP/1.1 409 Conflict\r\nContent-Type: application/json\r\nContent-Length: 37\r\nConnection: close\r\n\r\n{\"refusal\":16,\"text\":\"already keyed\"}",
-    )?;
-    told(
-        &rt,
-        StatusCode::SERVICE_UNAVAILABLE,
-        fault_body(alloc, 104),
-        "HTTP/1.1 503 Service Unavailable\r\nContent-Type: application/json\r\nContent-Length: 13\r\nConnection: close\r\n\r\n{\"fault\":104}",
-    )?;
-    let work = Work {
-        batch: 12,
-        ward: 7,
-        columns: Columns::empty().with(1).with(2).with(3),
-        size: 2,
-        round: 1,
-        keyed: true,
-    };
-    assert_eq!(&rt;
-        work_body(alloc, 4, &[work])?.as_str(),
-        "{\"clerk\":4,\"work\":[{\"batch\":12,\"columns\":[1,2,3],\"keyed\":true,\"round\":1,\"size\":2,\"ward\":7}]}"
-    );
-    let allowed = Verb::Get;
-    assert_eq!(&rt;
-        Response::denied(Denial::MethodNotAllowed { allowed })
-            .bytes
-            .as_slice(),
-        b"HTTP/1.1 405 Method Not Allowed\r\nContent-Type: application/json\r\nContent-Length: 30\r\nAllow: GET\r\nConnection: close\r\n\r\n{\"error\":\"method not allowed\"}".as_slice()
-    );
     Ok(())
 }

@@ -4,15 +4,8 @@ ghost use Rattle.std.specs.Prelude.{◌≡◌, IfOk};
 ghost use Rattle.register.specs.Offices.{MapsRise};
 ghost use Rattle.rowcheck.specs.States.{state_of};
 
-use crate::batches::item3;
-use crate::counts::item7;
-use crate::keyings::item4;
-use crate::nominations::item2;
-use crate::polls::item6;
-use crate::ranges::item1;
-use crate::rows::Rows;
-use crate::verdicts::item5;
 use register::{Batch, Candidate, DrawnLot, JudgedPaper, KeyedPaper, Phase, Receipt, Ward};
+use rowcheck::{Rows, item1, item2, item3, item4, item5, item6, item7};
 use std::alloc::{AllocError, Global};
 use std::test::Fail;
 

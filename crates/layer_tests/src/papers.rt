@@ -1,4 +1,6 @@
-use crate::{
+//! Marks as they are read, and papers as they are judged.
+
+use paper::{
     Columns, Keyed, MarkFault, Marked, Marks, Prefs, Rejection, Standing, Status, available_from,
     judge, next_available,
 };

@@ -1,6 +1,6 @@
 //! Small elections counted by hand, stage by stage.
 
-use crate::stages::Action;
+use count::Action;
 
 /// A stage as it has to come: its action, the figures of candidates 1, 2 and so on, the newly
 /// elected, and the non-transferable and the lost, in units.

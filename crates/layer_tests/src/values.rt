@@ -1,8 +1,10 @@
-use crate::{Counted, Sink, Source, Votes, put_all, quota, transfer_value};
+//! Votes, their text, and the streams that it goes to.
+
 use std::io;
 use std::io::{ErrorKind, Read, Write};
 use std::process::Abort;
 use std::test::Fail;
+use votes::{Counted, Sink, Source, Votes, put_all, quota, transfer_value};
 
 /// Writes three bytes at a time, and fails once it has room no more.
 #[derive(Drop)]
