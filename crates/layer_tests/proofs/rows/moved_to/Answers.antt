@@ -1,4 +1,4 @@
-use Rattle.rowcheck.proofs.tests.moved_to.Goals as goal
+use Rattle.layer_tests.proofs.rows.moved_to.Goals as goal
 
 pub returns : goal.returns
 returns c =

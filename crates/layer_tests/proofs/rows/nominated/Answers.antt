@@ -3,7 +3,7 @@ use Rattle.std.specs.declared.cmp.Ordering.TheVariants.{Equal}
 use Rattle.std.specs.Ordering.{nat_cmp}
 use Rattle.std.specs.Cmp.{nat_cmp_is}
 use Rattle.std.specs.List.Sorted.{IsStrictlySortedBy}
-use Rattle.rowcheck.proofs.tests.nominated.Goals as goal
+use Rattle.layer_tests.proofs.rows.nominated.Goals as goal
 
 pub returns : goal.returns
 unfolding IsStrictlySortedBy

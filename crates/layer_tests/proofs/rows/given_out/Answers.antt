@@ -1,5 +1,5 @@
 use Rattle.std.specs.List.Sorted.{IsStrictlySortedBy}
-use Rattle.rowcheck.proofs.tests.paper_judged.Goals as goal
+use Rattle.layer_tests.proofs.rows.given_out.Goals as goal
 
 pub returns : goal.returns
 unfolding IsStrictlySortedBy
@@ -7,9 +7,9 @@ returns c =
     record {
       wards = c.in_ok-rows.ensures.wards;
       candidates = c.in_ok-rows.ensures.candidates;
-      batches = c.in_ok-rows.ensures.batches;
+      batches = rw c.in_ok-vec.ensures.items (tt, tt);
       keyings = c.in_ok-rows.ensures.keyings;
-      verdicts = rw c.in_ok-vec.ensures.items (tt, tt);
+      verdicts = c.in_ok-rows.ensures.verdicts;
       lots = c.in_ok-rows.ensures.lots;
       receipts = c.in_ok-rows.ensures.receipts;
     }

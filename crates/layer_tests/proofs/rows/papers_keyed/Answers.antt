@@ -1,6 +1,6 @@
 use Rattle.std.proofs.Common.{refl}
 use Rattle.std.specs.List.Sorted.{IsStrictlySortedBy}
-use Rattle.rowcheck.proofs.tests.papers_keyed.Goals as goal
+use Rattle.layer_tests.proofs.rows.papers_keyed.Goals as goal
 
 pub returns : goal.returns
 unfolding IsStrictlySortedBy

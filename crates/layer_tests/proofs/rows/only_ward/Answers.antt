@@ -1,5 +1,5 @@
 use Rattle.std.specs.List.Sorted.{IsStrictlySortedBy}
-use Rattle.rowcheck.proofs.tests.only_ward.Goals as goal
+use Rattle.layer_tests.proofs.rows.only_ward.Goals as goal
 
 pub returns : goal.returns
 unfolding IsStrictlySortedBy
