@@ -4,6 +4,8 @@
 mod steps;
 // The one store of these tests.
 mod disks;
+// What is typed and told, as a text.
+mod transcripts;
 // Clients over HTTP.
 mod clients;
 // The tests.

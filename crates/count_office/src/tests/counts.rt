@@ -6,13 +6,14 @@ use super::steps::{Case, Step};
 use std::process::Abort;
 use std::test::Fail;
 
-/// An election in ward 7 up to its count: its import files, and what adding the candidates is told.
+/// An election in ward 7: its import files, what adding the candidates is told, and its count.
 struct Worked {
     seats: &'static str,
     candidates: &'static [u8],
     added: &'static str,
     size: &'static str,
     papers: &'static [u8],
+    count: &'static str,
 }
 
 /// A surplus whose values are cut to 0.33333, and an exclusion that fills the last vacancy.
@@ -22,34 +23,16 @@ const SURPLUS_CUT_BY_FRACTIONS: Worked = Worked {
     added: "candidate 1 of ward 7 added\ncandidate 2 of ward 7 added\ncandidate 3 of ward 7 added\n",
     size: "9",
     papers: b"paper,1,2,3\n1,1,2,\n2,1,2,\n3,1,2,\n4,1,2,\n5,1,,2\n6,1,,2\n7,,1,\n8,,,1\n9,,,1\n",
-};
-
-/// Its count.
-const SURPLUS_CUT_BY_FRACTIONS_COUNT: [Case<'static>; 11] = [
-    (
-        Step::Order(&["DB", "seal", "7", "--id", "s1"]),
-        (0, "ward 7 sealed: 9 valid, 0 rejected, quota 4.00000\n", ""),
-    ),
-    (
-        Step::Order(&["DB", "sheet", "7"]),
-        (
-            0,
-            "Ward 7 Harbour
+    count: "$ seal 7 --id s1
+ward 7 sealed: 9 valid, 0 rejected, quota 4.00000
+$ sheet 7
+Ward 7 Harbour
 Seats 2, valid 9, quota 4.00000
 Rejected 1: 0, 2: 0, 3: 0, 4: 0, 5: 0
-",
-            "",
-        ),
-    ),
-    (
-        Step::Order(&["DB", "advance", "7", "--id", "n1"]),
-        (0, "ward 7 stage 1 first preferences\n", ""),
-    ),
-    (
-        Step::Order(&["DB", "sheet", "7"]),
-        (
-            0,
-            "Ward 7 Harbour
+$ advance 7 --id n1
+ward 7 stage 1 first preferences
+$ sheet 7
+Ward 7 Harbour
 Seats 2, valid 9, quota 4.00000
 Rejected 1: 0, 2: 0, 3: 0, 4: 0, 5: 0
 Stage 1: first preferences
@@ -58,19 +41,10 @@ Stage 1: first preferences
  3       2.00000 - Cy
          0.00000 non-transferable
          0.00000 lost by fractions
-",
-            "",
-        ),
-    ),
-    (
-        Step::Order(&["DB", "advance", "7", "--id", "n2"]),
-        (0, "ward 7 stage 2 surplus of 1\n", ""),
-    ),
-    (
-        Step::Order(&["DB", "sheet", "7"]),
-        (
-            0,
-            "Ward 7 Harbour
+$ advance 7 --id n2
+ward 7 stage 2 surplus of 1
+$ sheet 7
+Ward 7 Harbour
 Seats 2, valid 9, quota 4.00000
 Rejected 1: 0, 2: 0, 3: 0, 4: 0, 5: 0
 Stage 1: first preferences
@@ -85,19 +59,10 @@ Stage 2: surplus of 1
  3       2.66666 - Cy
          0.00000 non-transferable
          0.00002 lost by fractions
-",
-            "",
-        ),
-    ),
-    (
-        Step::Order(&["DB", "advance", "7", "--id", "n3"]),
-        (0, "ward 7 stage 3 exclusion of 2, last vacancies\n", ""),
-    ),
-    (
-        Step::Order(&["DB", "sheet", "7"]),
-        (
-            0,
-            "Ward 7 Harbour
+$ advance 7 --id n3
+ward 7 stage 3 exclusion of 2, last vacancies
+$ sheet 7
+Ward 7 Harbour
 Seats 2, valid 9, quota 4.00000
 Rejected 1: 0, 2: 0, 3: 0, 4: 0, 5: 0
 Stage 1: first preferences
@@ -118,31 +83,17 @@ Stage 3: exclusion of 2, last vacancies
  3       2.66666 E Cy
          0.00000 non-transferable
          0.00002 lost by fractions
-",
-            "",
-        ),
-    ),
-    (
-        Step::Order(&["DB", "advance", "7", "--id", "n4"]),
-        (1, "", "refused 25: count finished\n"),
-    ),
-    (
-        Step::Order(&["DB", "declare", "7", "--id", "d1"]),
-        (0, "ward 7 declared: 1, 3\n", ""),
-    ),
-    (
-        Step::Order(&["DB", "result", "7"]),
-        (
-            0,
-            "Ward 7 Harbour
+$ advance 7 --id n4
+1| refused 25: count finished
+$ declare 7 --id d1
+ward 7 declared: 1, 3
+$ result 7
+Ward 7 Harbour
 Elected
  1 Ann
  3 Cy
 ",
-            "",
-        ),
-    ),
-];
+};
 
 /// A second surplus, whose papers are cut at the value at which each came.
 const SECOND_SURPLUS_AT_CUT_VALUES: Worked = Worked {
@@ -151,43 +102,20 @@ const SECOND_SURPLUS_AT_CUT_VALUES: Worked = Worked {
     added: "candidate 1 of ward 7 added\ncandidate 2 of ward 7 added\ncandidate 3 of ward 7 added\ncandidate 4 of ward 7 added\ncandidate 5 of ward 7 added\n",
     size: "15",
     papers: b"paper,1,2,3,4,5\n1,1,2,3,,\n2,1,2,3,,\n3,1,2,3,,\n4,1,2,3,,\n5,1,2,3,,\n6,1,2,3,,\n7,1,2,3,,\n8,1,,,2,\n9,,1,2,,\n10,,1,2,,\n11,,1,2,,\n12,,,1,,\n13,,,,1,\n14,,,,1,\n15,,,,,1\n",
-};
-
-/// Its count.
-const SECOND_SURPLUS_AT_CUT_VALUES_COUNT: [Case<'static>; 10] = [
-    (
-        Step::Order(&["DB", "seal", "7", "--id", "s1"]),
-        (
-            0,
-            "ward 7 sealed: 15 valid, 0 rejected, quota 4.00000\n",
-            "",
-        ),
-    ),
-    (
-        Step::Order(&["DB", "advance", "7", "--id", "n1"]),
-        (0, "ward 7 stage 1 first preferences\n", ""),
-    ),
-    (
-        Step::Order(&["DB", "advance", "7", "--id", "n2"]),
-        (0, "ward 7 stage 2 surplus of 1\n", ""),
-    ),
-    (
-        Step::Order(&["DB", "advance", "7", "--id", "n3"]),
-        (0, "ward 7 stage 3 surplus of 2\n", ""),
-    ),
-    (
-        Step::Order(&["DB", "advance", "7", "--id", "n4"]),
-        (0, "ward 7 stage 4 exclusion of 5\n", ""),
-    ),
-    (
-        Step::Order(&["DB", "advance", "7", "--id", "n5"]),
-        (0, "ward 7 stage 5 exclusion of 4, last vacancies\n", ""),
-    ),
-    (
-        Step::Order(&["DB", "sheet", "7"]),
-        (
-            0,
-            "Ward 7 Harbour
+    count: "$ seal 7 --id s1
+ward 7 sealed: 15 valid, 0 rejected, quota 4.00000
+$ advance 7 --id n1
+ward 7 stage 1 first preferences
+$ advance 7 --id n2
+ward 7 stage 2 surplus of 1
+$ advance 7 --id n3
+ward 7 stage 3 surplus of 2
+$ advance 7 --id n4
+ward 7 stage 4 exclusion of 5
+$ advance 7 --id n5
+ward 7 stage 5 exclusion of 4, last vacancies
+$ sheet 7
+Ward 7 Harbour
 Seats 3, valid 15, quota 4.00000
 Rejected 1: 0, 2: 0, 3: 0, 4: 0, 5: 0
 Stage 1: first preferences
@@ -230,32 +158,18 @@ Stage 5: exclusion of 4, last vacancies
  5       0.00000 x Eve
          1.00000 non-transferable
          0.00007 lost by fractions
-",
-            "",
-        ),
-    ),
-    (
-        Step::Order(&["DB", "advance", "7", "--id", "n6"]),
-        (1, "", "refused 25: count finished\n"),
-    ),
-    (
-        Step::Order(&["DB", "declare", "7", "--id", "d1"]),
-        (0, "ward 7 declared: 1, 2, 3\n", ""),
-    ),
-    (
-        Step::Order(&["DB", "result", "7"]),
-        (
-            0,
-            "Ward 7 Harbour
+$ advance 7 --id n6
+1| refused 25: count finished
+$ declare 7 --id d1
+ward 7 declared: 1, 2, 3
+$ result 7
+Ward 7 Harbour
 Elected
  1 Ann
  2 Bob
  3 Cy
 ",
-            "",
-        ),
-    ),
-];
+};
 
 /// Equal lowest votes, settled by an earlier stage.
 const TIE_BY_EARLIER_STAGE: Worked = Worked {
@@ -264,39 +178,18 @@ const TIE_BY_EARLIER_STAGE: Worked = Worked {
     added: "candidate 1 of ward 7 added\ncandidate 2 of ward 7 added\ncandidate 3 of ward 7 added\ncandidate 4 of ward 7 added\n",
     size: "11",
     papers: b"paper,1,2,3,4\n1,1,,,\n2,1,,,\n3,1,,,\n4,1,,,\n5,1,,,\n6,,1,,\n7,,1,,\n8,,1,,\n9,,,1,\n10,,,1,\n11,,,2,1\n",
-};
-
-/// Its count.
-const TIE_BY_EARLIER_STAGE_COUNT: [Case<'static>; 9] = [
-    (
-        Step::Order(&["DB", "seal", "7", "--id", "s1"]),
-        (
-            0,
-            "ward 7 sealed: 11 valid, 0 rejected, quota 6.00000\n",
-            "",
-        ),
-    ),
-    (
-        Step::Order(&["DB", "advance", "7", "--id", "n1"]),
-        (0, "ward 7 stage 1 first preferences\n", ""),
-    ),
-    (
-        Step::Order(&["DB", "advance", "7", "--id", "n2"]),
-        (0, "ward 7 stage 2 exclusion of 4\n", ""),
-    ),
-    (
-        Step::Order(&["DB", "advance", "7", "--id", "n3"]),
-        (0, "ward 7 stage 3 exclusion of 3\n", ""),
-    ),
-    (
-        Step::Order(&["DB", "advance", "7", "--id", "n4"]),
-        (0, "ward 7 stage 4 exclusion of 2, last vacancies\n", ""),
-    ),
-    (
-        Step::Order(&["DB", "sheet", "7"]),
-        (
-            0,
-            "Ward 7 Harbour
+    count: "$ seal 7 --id s1
+ward 7 sealed: 11 valid, 0 rejected, quota 6.00000
+$ advance 7 --id n1
+ward 7 stage 1 first preferences
+$ advance 7 --id n2
+ward 7 stage 2 exclusion of 4
+$ advance 7 --id n3
+ward 7 stage 3 exclusion of 3
+$ advance 7 --id n4
+ward 7 stage 4 exclusion of 2, last vacancies
+$ sheet 7
+Ward 7 Harbour
 Seats 1, valid 11, quota 6.00000
 Rejected 1: 0, 2: 0, 3: 0, 4: 0, 5: 0
 Stage 1: first preferences
@@ -327,30 +220,16 @@ Stage 4: exclusion of 2, last vacancies
  4       0.00000 x Dee
          3.00000 non-transferable
          0.00000 lost by fractions
-",
-            "",
-        ),
-    ),
-    (
-        Step::Order(&["DB", "advance", "7", "--id", "n5"]),
-        (1, "", "refused 25: count finished\n"),
-    ),
-    (
-        Step::Order(&["DB", "declare", "7", "--id", "d1"]),
-        (0, "ward 7 declared: 1\n", ""),
-    ),
-    (
-        Step::Order(&["DB", "result", "7"]),
-        (
-            0,
-            "Ward 7 Harbour
+$ advance 7 --id n5
+1| refused 25: count finished
+$ declare 7 --id d1
+ward 7 declared: 1
+$ result 7
+Ward 7 Harbour
 Elected
  1 Ann
 ",
-            "",
-        ),
-    ),
-];
+};
 
 /// A tie of three, settled by two earlier stages in turn.
 const TIE_OF_THREE: Worked = Worked {
@@ -359,47 +238,22 @@ const TIE_OF_THREE: Worked = Worked {
     added: "candidate 1 of ward 7 added\ncandidate 2 of ward 7 added\ncandidate 3 of ward 7 added\ncandidate 4 of ward 7 added\ncandidate 5 of ward 7 added\ncandidate 6 of ward 7 added\n",
     size: "21",
     papers: b"paper,1,2,3,4,5,6\n1,1,,,,,\n2,1,,,,,\n3,1,,,,,\n4,1,,,,,\n5,1,,,,,\n6,1,,,,,\n7,1,,,,,\n8,1,,,,,\n9,1,,,,,\n10,,1,,,,\n11,,1,,,,\n12,,,1,,,\n13,,,1,,,\n14,,,1,,,\n15,,,,1,,\n16,,,,1,,\n17,,,,1,,\n18,,,,1,,\n19,,2,,,1,\n20,,2,,,,1\n21,,,2,,,1\n",
-};
-
-/// Its count.
-const TIE_OF_THREE_COUNT: [Case<'static>; 11] = [
-    (
-        Step::Order(&["DB", "seal", "7", "--id", "s1"]),
-        (
-            0,
-            "ward 7 sealed: 21 valid, 0 rejected, quota 11.00000\n",
-            "",
-        ),
-    ),
-    (
-        Step::Order(&["DB", "advance", "7", "--id", "n1"]),
-        (0, "ward 7 stage 1 first preferences\n", ""),
-    ),
-    (
-        Step::Order(&["DB", "advance", "7", "--id", "n2"]),
-        (0, "ward 7 stage 2 exclusion of 5\n", ""),
-    ),
-    (
-        Step::Order(&["DB", "advance", "7", "--id", "n3"]),
-        (0, "ward 7 stage 3 exclusion of 6\n", ""),
-    ),
-    (
-        Step::Order(&["DB", "advance", "7", "--id", "n4"]),
-        (0, "ward 7 stage 4 exclusion of 2\n", ""),
-    ),
-    (
-        Step::Order(&["DB", "advance", "7", "--id", "n5"]),
-        (0, "ward 7 stage 5 exclusion of 3\n", ""),
-    ),
-    (
-        Step::Order(&["DB", "advance", "7", "--id", "n6"]),
-        (0, "ward 7 stage 6 exclusion of 4, last vacancies\n", ""),
-    ),
-    (
-        Step::Order(&["DB", "sheet", "7"]),
-        (
-            0,
-            "Ward 7 Harbour
+    count: "$ seal 7 --id s1
+ward 7 sealed: 21 valid, 0 rejected, quota 11.00000
+$ advance 7 --id n1
+ward 7 stage 1 first preferences
+$ advance 7 --id n2
+ward 7 stage 2 exclusion of 5
+$ advance 7 --id n3
+ward 7 stage 3 exclusion of 6
+$ advance 7 --id n4
+ward 7 stage 4 exclusion of 2
+$ advance 7 --id n5
+ward 7 stage 5 exclusion of 3
+$ advance 7 --id n6
+ward 7 stage 6 exclusion of 4, last vacancies
+$ sheet 7
+Ward 7 Harbour
 Seats 1, valid 21, quota 11.00000
 Rejected 1: 0, 2: 0, 3: 0, 4: 0, 5: 0
 Stage 1: first preferences
@@ -456,30 +310,16 @@ Stage 6: exclusion of 4, last vacancies
  6       0.00000 x Fay
          8.00000 non-transferable
          0.00000 lost by fractions
-",
-            "",
-        ),
-    ),
-    (
-        Step::Order(&["DB", "advance", "7", "--id", "n7"]),
-        (1, "", "refused 25: count finished\n"),
-    ),
-    (
-        Step::Order(&["DB", "declare", "7", "--id", "d1"]),
-        (0, "ward 7 declared: 1\n", ""),
-    ),
-    (
-        Step::Order(&["DB", "result", "7"]),
-        (
-            0,
-            "Ward 7 Harbour
+$ advance 7 --id n7
+1| refused 25: count finished
+$ declare 7 --id d1
+ward 7 declared: 1
+$ result 7
+Ward 7 Harbour
 Elected
  1 Ann
 ",
-            "",
-        ),
-    ),
-];
+};
 
 /// Equal surpluses, settled by lot.
 const LOT_BETWEEN_SURPLUSES: Worked = Worked {
@@ -488,51 +328,24 @@ const LOT_BETWEEN_SURPLUSES: Worked = Worked {
     added: "candidate 1 of ward 7 added\ncandidate 2 of ward 7 added\ncandidate 3 of ward 7 added\ncandidate 4 of ward 7 added\ncandidate 5 of ward 7 added\n",
     size: "14",
     papers: b"paper,1,2,3,4,5\n1,1,,2,,\n2,1,,2,,\n3,1,,2,,\n4,1,,2,,\n5,1,,2,,\n6,,1,,2,\n7,,1,,2,\n8,,1,,2,\n9,,1,,2,\n10,,1,,2,\n11,,,1,,\n12,,,1,,\n13,,,,1,\n14,,,,,1\n",
-};
-
-/// Its count.
-const LOT_BETWEEN_SURPLUSES_COUNT: [Case<'static>; 12] = [
-    (
-        Step::Order(&["DB", "seal", "7", "--id", "s1"]),
-        (
-            0,
-            "ward 7 sealed: 14 valid, 0 rejected, quota 4.00000\n",
-            "",
-        ),
-    ),
-    (
-        Step::Order(&["DB", "advance", "7", "--id", "n1"]),
-        (0, "ward 7 stage 1 first preferences\n", ""),
-    ),
-    (
-        Step::Order(&["DB", "advance", "7", "--id", "n2"]),
-        (1, "", "refused 26: lot needed at stage 2 among 1, 2\n"),
-    ),
-    (
-        Step::Order(&["DB", "lot", "7", "2", "1", "--id", "l2"]),
-        (0, "lot at ward 7 stage 2: candidate 1\n", ""),
-    ),
-    (
-        Step::Order(&["DB", "advance", "7", "--id", "n2"]),
-        (0, "ward 7 stage 2 surplus of 1\n", ""),
-    ),
-    (
-        Step::Order(&["DB", "advance", "7", "--id", "n3"]),
-        (0, "ward 7 stage 3 surplus of 2\n", ""),
-    ),
-    (
-        Step::Order(&["DB", "advance", "7", "--id", "n4"]),
-        (0, "ward 7 stage 4 exclusion of 5\n", ""),
-    ),
-    (
-        Step::Order(&["DB", "advance", "7", "--id", "n5"]),
-        (0, "ward 7 stage 5 exclusion of 4, last vacancies\n", ""),
-    ),
-    (
-        Step::Order(&["DB", "sheet", "7"]),
-        (
-            0,
-            "Ward 7 Harbour
+    count: "$ seal 7 --id s1
+ward 7 sealed: 14 valid, 0 rejected, quota 4.00000
+$ advance 7 --id n1
+ward 7 stage 1 first preferences
+$ advance 7 --id n2
+1| refused 26: lot needed at stage 2 among 1, 2
+$ lot 7 2 1 --id l2
+lot at ward 7 stage 2: candidate 1
+$ advance 7 --id n2
+ward 7 stage 2 surplus of 1
+$ advance 7 --id n3
+ward 7 stage 3 surplus of 2
+$ advance 7 --id n4
+ward 7 stage 4 exclusion of 5
+$ advance 7 --id n5
+ward 7 stage 5 exclusion of 4, last vacancies
+$ sheet 7
+Ward 7 Harbour
 Seats 3, valid 14, quota 4.00000
 Rejected 1: 0, 2: 0, 3: 0, 4: 0, 5: 0
 Stage 1: first preferences
@@ -575,32 +388,18 @@ Stage 5: exclusion of 4, last vacancies
  5       0.00000 x Eve
          1.00000 non-transferable
          0.00000 lost by fractions
-",
-            "",
-        ),
-    ),
-    (
-        Step::Order(&["DB", "advance", "7", "--id", "n6"]),
-        (1, "", "refused 25: count finished\n"),
-    ),
-    (
-        Step::Order(&["DB", "declare", "7", "--id", "d1"]),
-        (0, "ward 7 declared: 1, 2, 3\n", ""),
-    ),
-    (
-        Step::Order(&["DB", "result", "7"]),
-        (
-            0,
-            "Ward 7 Harbour
+$ advance 7 --id n6
+1| refused 25: count finished
+$ declare 7 --id d1
+ward 7 declared: 1, 2, 3
+$ result 7
+Ward 7 Harbour
 Elected
  1 Ann
  2 Bob
  3 Cy
 ",
-            "",
-        ),
-    ),
-];
+};
 
 /// Both seats filled at the first stage, with exactly the quota.
 const QUOTA_AT_THE_FIRST_STAGE: Worked = Worked {
@@ -609,23 +408,12 @@ const QUOTA_AT_THE_FIRST_STAGE: Worked = Worked {
     added: "candidate 1 of ward 7 added\ncandidate 2 of ward 7 added\ncandidate 3 of ward 7 added\n",
     size: "9",
     papers: b"paper,1,2,3\n1,1,,2\n2,1,,2\n3,1,,2\n4,1,,2\n5,,1,2\n6,,1,2\n7,,1,2\n8,,1,2\n9,,,1\n",
-};
-
-/// Its count.
-const QUOTA_AT_THE_FIRST_STAGE_COUNT: [Case<'static>; 6] = [
-    (
-        Step::Order(&["DB", "seal", "7", "--id", "s1"]),
-        (0, "ward 7 sealed: 9 valid, 0 rejected, quota 4.00000\n", ""),
-    ),
-    (
-        Step::Order(&["DB", "advance", "7", "--id", "n1"]),
-        (0, "ward 7 stage 1 first preferences\n", ""),
-    ),
-    (
-        Step::Order(&["DB", "sheet", "7"]),
-        (
-            0,
-            "Ward 7 Harbour
+    count: "$ seal 7 --id s1
+ward 7 sealed: 9 valid, 0 rejected, quota 4.00000
+$ advance 7 --id n1
+ward 7 stage 1 first preferences
+$ sheet 7
+Ward 7 Harbour
 Seats 2, valid 9, quota 4.00000
 Rejected 1: 0, 2: 0, 3: 0, 4: 0, 5: 0
 Stage 1: first preferences
@@ -634,31 +422,17 @@ Stage 1: first preferences
  3       1.00000 - Cy
          0.00000 non-transferable
          0.00000 lost by fractions
-",
-            "",
-        ),
-    ),
-    (
-        Step::Order(&["DB", "advance", "7", "--id", "n2"]),
-        (1, "", "refused 25: count finished\n"),
-    ),
-    (
-        Step::Order(&["DB", "declare", "7", "--id", "d1"]),
-        (0, "ward 7 declared: 1, 2\n", ""),
-    ),
-    (
-        Step::Order(&["DB", "result", "7"]),
-        (
-            0,
-            "Ward 7 Harbour
+$ advance 7 --id n2
+1| refused 25: count finished
+$ declare 7 --id d1
+ward 7 declared: 1, 2
+$ result 7
+Ward 7 Harbour
 Elected
  1 Ann
  2 Bob
 ",
-            "",
-        ),
-    ),
-];
+};
 
 /// Papers that pass over a candidate elected earlier.
 const PASSED_OVER_THE_ELECTED: Worked = Worked {
@@ -667,43 +441,20 @@ const PASSED_OVER_THE_ELECTED: Worked = Worked {
     added: "candidate 1 of ward 7 added\ncandidate 2 of ward 7 added\ncandidate 3 of ward 7 added\ncandidate 4 of ward 7 added\ncandidate 5 of ward 7 added\n",
     size: "15",
     papers: b"paper,1,2,3,4,5\n1,1,2,3,,\n2,1,2,3,,\n3,1,2,3,,\n4,1,2,3,,\n5,1,2,3,,\n6,1,2,3,,\n7,,1,,,\n8,,1,,,\n9,,1,,,\n10,,1,,,\n11,,1,,,\n12,,,1,,\n13,,,,1,\n14,,,,1,\n15,,,,,1\n",
-};
-
-/// Its count.
-const PASSED_OVER_THE_ELECTED_COUNT: [Case<'static>; 10] = [
-    (
-        Step::Order(&["DB", "seal", "7", "--id", "s1"]),
-        (
-            0,
-            "ward 7 sealed: 15 valid, 0 rejected, quota 4.00000\n",
-            "",
-        ),
-    ),
-    (
-        Step::Order(&["DB", "advance", "7", "--id", "n1"]),
-        (0, "ward 7 stage 1 first preferences\n", ""),
-    ),
-    (
-        Step::Order(&["DB", "advance", "7", "--id", "n2"]),
-        (0, "ward 7 stage 2 surplus of 1\n", ""),
-    ),
-    (
-        Step::Order(&["DB", "advance", "7", "--id", "n3"]),
-        (0, "ward 7 stage 3 surplus of 2\n", ""),
-    ),
-    (
-        Step::Order(&["DB", "advance", "7", "--id", "n4"]),
-        (0, "ward 7 stage 4 exclusion of 5\n", ""),
-    ),
-    (
-        Step::Order(&["DB", "advance", "7", "--id", "n5"]),
-        (0, "ward 7 stage 5 exclusion of 4, last vacancies\n", ""),
-    ),
-    (
-        Step::Order(&["DB", "sheet", "7"]),
-        (
-            0,
-            "Ward 7 Harbour
+    count: "$ seal 7 --id s1
+ward 7 sealed: 15 valid, 0 rejected, quota 4.00000
+$ advance 7 --id n1
+ward 7 stage 1 first preferences
+$ advance 7 --id n2
+ward 7 stage 2 surplus of 1
+$ advance 7 --id n3
+ward 7 stage 3 surplus of 2
+$ advance 7 --id n4
+ward 7 stage 4 exclusion of 5
+$ advance 7 --id n5
+ward 7 stage 5 exclusion of 4, last vacancies
+$ sheet 7
+Ward 7 Harbour
 Seats 3, valid 15, quota 4.00000
 Rejected 1: 0, 2: 0, 3: 0, 4: 0, 5: 0
 Stage 1: first preferences
@@ -746,39 +497,21 @@ Stage 5: exclusion of 4, last vacancies
  5       0.00000 x Eve
          2.00000 non-transferable
          0.00002 lost by fractions
-",
-            "",
-        ),
-    ),
-    (
-        Step::Order(&["DB", "advance", "7", "--id", "n6"]),
-        (1, "", "refused 25: count finished\n"),
-    ),
-    (
-        Step::Order(&["DB", "declare", "7", "--id", "d1"]),
-        (0, "ward 7 declared: 1, 2, 3\n", ""),
-    ),
-    (
-        Step::Order(&["DB", "result", "7"]),
-        (
-            0,
-            "Ward 7 Harbour
+$ advance 7 --id n6
+1| refused 25: count finished
+$ declare 7 --id d1
+ward 7 declared: 1, 2, 3
+$ result 7
+Ward 7 Harbour
 Elected
  1 Ann
  2 Bob
  3 Cy
 ",
-            "",
-        ),
-    ),
-];
+};
 
 /// Plays an election from its nominations to its declaration. Each order opens the office anew.
-fn play_whole(
-    rt: &(impl Abort + AllocGlobal),
-    worked: &Worked,
-    counted: &[Case<'_>],
-) -> Result<(), Fail> {
+fn play_whole(rt: &(impl Abort + AllocGlobal), worked: &Worked) -> Result<(), Fail> {
     let ward = ["DB", "ward", "7", worked.seats, "Harbour", "--id", "w1"];
     let batch = [
         "DB",
@@ -823,37 +556,21 @@ fn play_whole(
     ];
     Disks::lasting(rt.alloc())
         .hear(rt, &before)?
-        .hear(rt, counted)?;
+        .follow(rt, worked.count)?;
     Ok(())
 }
 
 #[test]
 fn surpluses_and_exclusions_are_counted(rt: HostRuntime) -> Result<(), Fail> {
-    play_whole(
-        &rt,
-        &SURPLUS_CUT_BY_FRACTIONS,
-        &SURPLUS_CUT_BY_FRACTIONS_COUNT,
-    )?;
-    play_whole(
-        &rt,
-        &SECOND_SURPLUS_AT_CUT_VALUES,
-        &SECOND_SURPLUS_AT_CUT_VALUES_COUNT,
-    )?;
-    play_whole(
-        &rt,
-        &QUOTA_AT_THE_FIRST_STAGE,
-        &QUOTA_AT_THE_FIRST_STAGE_COUNT,
-    )?;
-    play_whole(
-        &rt,
-        &PASSED_OVER_THE_ELECTED,
-        &PASSED_OVER_THE_ELECTED_COUNT,
-    )
+    play_whole(&rt, &SURPLUS_CUT_BY_FRACTIONS)?;
+    play_whole(&rt, &SECOND_SURPLUS_AT_CUT_VALUES)?;
+    play_whole(&rt, &QUOTA_AT_THE_FIRST_STAGE)?;
+    play_whole(&rt, &PASSED_OVER_THE_ELECTED)
 }
 
 #[test]
 fn ties_are_settled(rt: HostRuntime) -> Result<(), Fail> {
-    play_whole(&rt, &TIE_BY_EARLIER_STAGE, &TIE_BY_EARLIER_STAGE_COUNT)?;
-    play_whole(&rt, &TIE_OF_THREE, &TIE_OF_THREE_COUNT)?;
-    play_whole(&rt, &LOT_BETWEEN_SURPLUSES, &LOT_BETWEEN_SURPLUSES_COUNT)
+    play_whole(&rt, &TIE_BY_EARLIER_STAGE)?;
+    play_whole(&rt, &TIE_OF_THREE)?;
+    play_whole(&rt, &LOT_BETWEEN_SURPLUSES)
 }

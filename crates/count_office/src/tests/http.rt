@@ -2,20 +2,10 @@
 
 use super::clients::Client;
 use super::disks::Disks;
-use super::keyings::{CANDIDATES, CANDIDATES_ADDED, CLOSE, POLLED, TWELVE};
-use super::orders::{ADDED, HARBOUR, INIT, READY};
+use super::keyings::begun;
 use super::steps::{Case, Step, Told};
 use std::process::Abort;
 use std::test::Fail;
-
-/// Ward 7 in keying, and batch 12 of two papers for the clerks 4 and 9.
-pub const GIVEN_OUT: [Case<'static>; 5] = [
-    (INIT, READY),
-    (HARBOUR, ADDED),
-    (CANDIDATES, CANDIDATES_ADDED),
-    (CLOSE, POLLED),
-    (TWELVE, (0, "batch 12 added\n", "")),
-];
 
 /// Clerk 4 keys the batch.
 pub const KEYING: &[u8] =
@@ -150,7 +140,7 @@ const ASKED: [Case<'static>; 11] = [
 
 #[test]
 fn clerks_key_over_http(rt: HostRuntime) -> Result<(), Fail> {
-    let disks = Disks::lasting(rt.alloc()).hear(&rt, &GIVEN_OUT)?;
+    let disks = begun(&rt)?;
     disks.hear(&rt, &SENT_AGAIN)?.hear(&rt, &ASKED)?;
     Ok(())
 }
@@ -195,7 +185,7 @@ fn refuse(
 
 #[test]
 fn what_is_no_request_is_refused(rt: HostRuntime) -> Result<(), Fail> {
-    let mut disks = Disks::lasting(rt.alloc()).hear(&rt, &GIVEN_OUT)?;
+    let mut disks = begun(&rt)?;
     for sends in &BAD {
         disks = refuse(&rt, disks, sends, REFUSED)?;
     }
@@ -224,7 +214,7 @@ const GET: &str = "GET /wards/7/sheet HTTP/1.1\r\n";
 
 #[test]
 fn what_is_too_long_is_refused(rt: HostRuntime) -> Result<(), Fail> {
-    let disks = Disks::lasting(rt.alloc()).hear(&rt, &GIVEN_OUT)?;
+    let disks = begun(&rt)?;
     let endless = repeated(&rt, GET, "A: bbbb\r\n", 2000, "")?;
     let disks = refuse(&rt, disks, endless.as_bytes(), REFUSED)?;
     let headers = repeated(&rt, GET, "A: b\r\n", 33, "\r\n")?;
@@ -248,7 +238,7 @@ fn what_is_too_long_is_refused(rt: HostRuntime) -> Result<(), Fail> {
 
 #[test]
 fn a_broken_connection_asks_nothing(rt: HostRuntime) -> Result<(), Fail> {
-    let mut disks = Disks::lasting(rt.alloc()).hear(&rt, &GIVEN_OUT)?;
+    let mut disks = begun(&rt)?;
     for heard in 0..KEYING.len() {
         let client = Client {
             sends: KEYING,
@@ -273,7 +263,7 @@ fn key_twice(rt: &(impl Abort + AllocGlobal), takes: usize, rows: &str) -> Resul
         (Step::Serve(client), (0, taken, "WriteFailed")),
         (Step::Ask(KEYING), (0, KEYED, "Answered(200)")),
     ];
-    let disks = Disks::lasting(rt.alloc()).hear(rt, &GIVEN_OUT)?;
+    let disks = begun(rt)?;
     let (found, _) = disks.hear(rt, &cases)?.rows(rt.alloc())?;
     assert_eq!(rt; found.as_str(), rows, "{takes}");
     Ok(())
@@ -281,7 +271,7 @@ fn key_twice(rt: &(impl Abort + AllocGlobal), takes: usize, rows: &str) -> Resul
 
 #[test]
 fn an_answer_that_breaks_leaves_one_keying(rt: HostRuntime) -> Result<(), Fail> {
-    let disks = Disks::lasting(rt.alloc()).hear(&rt, &GIVEN_OUT)?;
+    let disks = begun(&rt)?;
     let keyed = [(Step::Ask(KEYING), (0, KEYED, "Answered(200)"))];
     let (rows, _) = disks.hear(&rt, &keyed)?.rows(rt.alloc())?;
     for takes in 0..KEYED.len() {

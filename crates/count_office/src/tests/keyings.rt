@@ -1,66 +1,64 @@
 //! Batches, two clerks' keyings of them, and verdicts, from words to rows and back.
 
 use super::disks::{Disks, File};
-use super::orders::{ADDED, DAMAGED, HARBOUR, INIT, QUAY, QUAY_ADDED, READY};
+use super::orders::{DAMAGED, QUAY, QUAY_ADDED};
 use super::steps::{Case, Step, Told};
+use std::process::Abort;
 use std::test::Fail;
 
-pub const CANDIDATES: Step<'static> = Step::FileOrder(
-    &["DB", "import-candidates", "FILE", "--id", "c"],
-    b"ward,candidate,name\n7,1,Ann\n7,2,Bob\n7,3,Cy\n",
-);
+/// Ward 7 with three candidates and two seats in keying, and batch 12 of two papers for the clerks 4 and 9.
+const GIVEN_OUT: &str = "$ init
+office ready
+$ ward 7 2 Harbour --id w1
+ward 7 added
+$ import-candidates FILE --id c
+< ward,candidate,name
+< 7,1,Ann
+< 7,2,Bob
+< 7,3,Cy
+candidate 1 of ward 7 added
+candidate 2 of ward 7 added
+candidate 3 of ward 7 added
+$ close 7 --id n1
+ward 7 polled
+$ batch 12 7 2 4 9 --id b1
+batch 12 added
+";
 
-pub const CANDIDATES_ADDED: Told<'static> = (
-    0,
-    "candidate 1 of ward 7 added\ncandidate 2 of ward 7 added\ncandidate 3 of ward 7 added\n",
-    "",
-);
-
-pub const CLOSE: Step<'static> = Step::Order(&["DB", "close", "7", "--id", "n1"]);
-
-pub const POLLED: Told<'static> = (0, "ward 7 polled\n", "");
-
-pub const STATUS: Step<'static> = Step::Order(&["DB", "status", "7"]);
-
-pub const TWELVE: Step<'static> = Step::Order(&[
-    "DB", "batch", "12", "7", "2", "4", "9", "--id", "b1",
-]);
-
-/// Ward 7 with three candidates and two seats in keying; batch 12 of two papers for the clerks 4 and 9,
-/// and batch 13 of one paper for the clerks 9 and 5.
-const GIVEN_OUT: [Case<'static>; 6] = [
-    (INIT, READY),
-    (HARBOUR, ADDED),
-    (CANDIDATES, CANDIDATES_ADDED),
-    (CLOSE, POLLED),
-    (TWELVE, (0, "batch 12 added\n", "")),
-    (
-        Step::Order(&["DB", "batch", "13", "7", "1", "9", "5", "--id", "b2"]),
-        (0, "batch 13 added\n", ""),
-    ),
-];
+/// Batch 13 of one paper, for the clerks 9 and 5.
+const BATCH_13: &str = "$ batch 13 7 1 9 5 --id b2
+batch 13 added
+";
 
 /// The first paper is marked, and the second doubtful.
 const PAPERS: &[u8] = b"paper,1,2,3\n1,1,2,\n2,D,,\n";
-
-const OTHER_PAPERS: &[u8] = b"paper,1,2,3\n1,2,1,\n2,D,,\n";
 
 const ONE_PAPER: &[u8] = b"paper,1,2,3\n1,,1,\n";
 
 const BY_FOUR: &[&str] = &["DB", "import-keying", "4", "12", "1", "FILE", "--id", "k1"];
 
-const BY_NINE: &[&str] = &["DB", "import-keying", "9", "12", "1", "FILE", "--id", "k1"];
+/// Clerk 4 keys batch 12.
+const FOUR_KEYED: &str = "$ import-keying 4 12 1 FILE --id k1
+< paper,1,2,3
+< 1,1,2,
+< 2,D,,
+batch 12 round 1 keyed
+";
 
-const KEYED: Told<'static> = (0, "batch 12 round 1 keyed\n", "");
-
-const JUDGED: Case<'static> = (
-    Step::Order(&["DB", "judge", "12", "2", "accept:1,,2", "--id", "j1"]),
-    (0, "batch 12 paper 2 accepted\n", ""),
-);
-
-const BAD_VERDICT: Told<'static> = (1, "", "refused 23: bad verdict\n");
+/// Clerk 9 keys it alike.
+const NINE_KEYED: &str = "$ import-keying 9 12 1 FILE --id k1
+< paper,1,2,3
+< 1,1,2,
+< 2,D,,
+batch 12 round 1 keyed
+";
 
 const OUT_OF_RANGE: Told<'static> = (1, "", "refused 3: number out of range\n");
+
+/// Ward 7 in keying, with batch 12.
+pub fn begun(rt: &(impl Abort + AllocGlobal)) -> Result<Disks, Fail> {
+    Disks::lasting(rt.alloc()).follow(rt, GIVEN_OUT)
+}
 
 /// Files that keep no paper of the first keying.
 const FILES: [Case<'static>; 6] = [
@@ -94,318 +92,210 @@ const FILES: [Case<'static>; 6] = [
 ];
 
 /// What comes again once clerk 4 has keyed batch 12, and what is refused of it.
-const AGAIN: [Case<'static>; 5] = [
-    (Step::FileOrder(BY_FOUR, PAPERS), KEYED),
-    (Step::FileOrder(BY_FOUR, OTHER_PAPERS), KEYED),
-    (
-        Step::FileOrder(
-            &["DB", "import-keying", "4", "13", "1", "FILE", "--id", "k1"],
-            ONE_PAPER,
-        ),
-        (1, "", "refused 2: id used for another subject\n"),
-    ),
-    (
-        Step::FileOrder(
-            &["DB", "import-keying", "4", "12", "1", "FILE", "--id", "k2"],
-            PAPERS,
-        ),
-        (1, "", "refused 16: already keyed\n"),
-    ),
-    (
-        STATUS,
-        (
-            0,
-            "ward 7 keying: 3 candidates, 2 batches, 0 taken, 0 differing, 0 doubtful open, 0 stages\n",
-            "",
-        ),
-    ),
-];
+const AGAIN: &str = "$ import-keying 4 12 1 FILE --id k1
+< paper,1,2,3
+< 1,1,2,
+< 2,D,,
+batch 12 round 1 keyed
+$ import-keying 4 12 1 FILE --id k1
+< paper,1,2,3
+< 1,2,1,
+< 2,D,,
+batch 12 round 1 keyed
+$ import-keying 4 13 1 FILE --id k1
+< paper,1,2,3
+< 1,,1,
+1| refused 2: id used for another subject
+$ import-keying 4 12 1 FILE --id k2
+< paper,1,2,3
+< 1,1,2,
+< 2,D,,
+1| refused 16: already keyed
+$ status 7
+ward 7 keying: 3 candidates, 2 batches, 0 taken, 0 differing, 0 doubtful open, 0 stages
+";
 
 /// Both clerks key batch 12 alike, and its doubtful paper is judged.
-const AGREED: [Case<'static>; 8] = [
-    (Step::FileOrder(BY_NINE, PAPERS), KEYED),
-    (
-        STATUS,
-        (
-            0,
-            "ward 7 keying: 3 candidates, 2 batches, 1 taken, 0 differing, 1 doubtful open, 0 stages\n",
-            "",
-        ),
-    ),
-    (
-        Step::Order(&["DB", "judge", "12", "2", "reject:6", "--id", "j1"]),
-        BAD_VERDICT,
-    ),
-    JUDGED,
-    JUDGED,
-    (
-        Step::Order(&["DB", "judge", "12", "1", "reject:3", "--id", "j2"]),
-        (1, "", "refused 21: paper not doubtful\n"),
-    ),
-    (
-        Step::Order(&["DB", "judge", "12", "2", "reject:5", "--id", "j2"]),
-        (1, "", "refused 22: already judged\n"),
-    ),
-    (
-        STATUS,
-        (
-            0,
-            "ward 7 keying: 3 candidates, 2 batches, 1 taken, 0 differing, 0 doubtful open, 0 stages\n",
-            "",
-        ),
-    ),
-];
+const AGREED: &str = "$ status 7
+ward 7 keying: 3 candidates, 2 batches, 1 taken, 0 differing, 1 doubtful open, 0 stages
+$ judge 12 2 reject:6 --id j1
+1| refused 23: bad verdict
+$ judge 12 2 accept:1,,2 --id j1
+batch 12 paper 2 accepted
+$ judge 12 2 accept:1,,2 --id j1
+batch 12 paper 2 accepted
+$ judge 12 1 reject:3 --id j2
+1| refused 21: paper not doubtful
+$ judge 12 2 reject:5 --id j2
+1| refused 22: already judged
+$ status 7
+ward 7 keying: 3 candidates, 2 batches, 1 taken, 0 differing, 0 doubtful open, 0 stages
+";
 
 #[test]
 fn two_clerks_agree(rt: HostRuntime) -> Result<(), Fail> {
-    let disks = Disks::lasting(rt.alloc()).hear(&rt, &GIVEN_OUT)?;
-    let disks = disks.hear_unchanged(&rt, &FILES)?;
-    let keyed = [(Step::FileOrder(BY_FOUR, PAPERS), KEYED)];
-    let disks = disks.hear(&rt, &keyed)?.hear_unchanged(&rt, &AGAIN)?;
-    disks.hear(&rt, &AGREED)?;
+    begun(&rt)?
+        .follow(&rt, BATCH_13)?
+        .hear_unchanged(&rt, &FILES)?
+        .follow(&rt, FOUR_KEYED)?
+        .follow_unchanged(&rt, AGAIN)?
+        .follow(&rt, NINE_KEYED)?
+        .follow(&rt, AGREED)?;
     Ok(())
 }
 
 /// Where batch 12 is the only one: the clerks key it unlike, and each is told the same; in the next round they agree.
-const DIFFERING: [Case<'static>; 10] = [
-    (Step::FileOrder(BY_FOUR, PAPERS), KEYED),
-    (Step::FileOrder(BY_NINE, OTHER_PAPERS), KEYED),
-    (
-        STATUS,
-        (
-            0,
-            "ward 7 keying: 3 candidates, 1 batches, 0 taken, 1 differing, 0 doubtful open, 0 stages\n",
-            "",
-        ),
-    ),
-    (
-        Step::Order(&["DB", "seal", "7", "--id", "s1"]),
-        (1, "", "refused 24: not ready to seal\n"),
-    ),
-    (
-        Step::Order(&["DB", "again", "12", "--id", "a1"]),
-        (0, "batch 12 round 2 open\n", ""),
-    ),
-    (
-        Step::Order(&["DB", "again", "12", "--id", "a1"]),
-        (0, "batch 12 round 2 open\n", ""),
-    ),
-    (
-        Step::FileOrder(
-            &["DB", "import-keying", "4", "12", "1", "FILE", "--id", "k2"],
-            PAPERS,
-        ),
-        (1, "", "refused 15: not this round\n"),
-    ),
-    (
-        Step::FileOrder(
-            &["DB", "import-keying", "4", "12", "2", "FILE", "--id", "k2"],
-            OTHER_PAPERS,
-        ),
-        (0, "batch 12 round 2 keyed\n", ""),
-    ),
-    (
-        Step::FileOrder(
-            &["DB", "import-keying", "9", "12", "2", "FILE", "--id", "k2"],
-            OTHER_PAPERS,
-        ),
-        (0, "batch 12 round 2 keyed\n", ""),
-    ),
-    (
-        STATUS,
-        (
-            0,
-            "ward 7 keying: 3 candidates, 1 batches, 1 taken, 0 differing, 1 doubtful open, 0 stages\n",
-            "",
-        ),
-    ),
-];
+const DIFFERING: &str = "$ import-keying 9 12 1 FILE --id k1
+< paper,1,2,3
+< 1,2,1,
+< 2,D,,
+batch 12 round 1 keyed
+$ status 7
+ward 7 keying: 3 candidates, 1 batches, 0 taken, 1 differing, 0 doubtful open, 0 stages
+$ seal 7 --id s1
+1| refused 24: not ready to seal
+$ again 12 --id a1
+batch 12 round 2 open
+$ again 12 --id a1
+batch 12 round 2 open
+$ import-keying 4 12 1 FILE --id k2
+< paper,1,2,3
+< 1,1,2,
+< 2,D,,
+1| refused 15: not this round
+$ import-keying 4 12 2 FILE --id k2
+< paper,1,2,3
+< 1,2,1,
+< 2,D,,
+batch 12 round 2 keyed
+$ import-keying 9 12 2 FILE --id k2
+< paper,1,2,3
+< 1,2,1,
+< 2,D,,
+batch 12 round 2 keyed
+$ status 7
+ward 7 keying: 3 candidates, 1 batches, 1 taken, 0 differing, 1 doubtful open, 0 stages
+";
 
 #[test]
 fn clerks_who_differ_key_again(rt: HostRuntime) -> Result<(), Fail> {
-    Disks::lasting(rt.alloc())
-        .hear(&rt, &GIVEN_OUT[..5])?
-        .hear(&rt, &DIFFERING)?;
+    begun(&rt)?.follow(&rt, FOUR_KEYED)?.follow(&rt, DIFFERING)?;
     Ok(())
 }
 
 /// What that office refuses before anything is keyed, each of the four commands' refusals.
-const REFUSED: [Case<'static>; 24] = [
-    (
-        Step::Order(&["DB", "batch", "10000", "7", "2", "4", "9", "--id", "x"]),
-        OUT_OF_RANGE,
-    ),
-    (
-        Step::Order(&["DB", "batch", "14", "7", "501", "4", "9", "--id", "x"]),
-        OUT_OF_RANGE,
-    ),
-    (
-        Step::Order(&["DB", "batch", "14", "7", "2", "4", "1000", "--id", "x"]),
-        OUT_OF_RANGE,
-    ),
-    (
-        Step::Order(&["DB", "batch", "14", "9", "2", "4", "9", "--id", "x"]),
-        (1, "", "refused 5: no such ward\n"),
-    ),
-    (
-        Step::Order(&["DB", "batch", "12", "7", "2", "4", "4", "--id", "x"]),
-        (1, "", "refused 8: batch exists\n"),
-    ),
-    (
-        Step::Order(&["DB", "batch", "14", "8", "2", "4", "4", "--id", "x"]),
-        (1, "", "refused 9: wrong phase\n"),
-    ),
-    (
-        Step::Order(&["DB", "batch", "14", "7", "2", "4", "4", "--id", "x"]),
-        (1, "", "refused 13: clerks not different\n"),
-    ),
-    (
-        Step::Order(&["DB", "again", "0", "--id", "x"]),
-        OUT_OF_RANGE,
-    ),
-    (
-        Step::Order(&["DB", "again", "14", "--id", "x"]),
-        (1, "", "refused 7: no such batch\n"),
-    ),
-    (
-        Step::Order(&["DB", "again", "12", "--id", "x"]),
-        (1, "", "refused 19: keyings don't differ\n"),
-    ),
-    (
-        Step::FileOrder(
-            &["DB", "import-keying", "0", "12", "1", "FILE", "--id", "x"],
-            PAPERS,
-        ),
-        OUT_OF_RANGE,
-    ),
-    (
-        Step::FileOrder(
-            &["DB", "import-keying", "4", "12", "100", "FILE", "--id", "x"],
-            PAPERS,
-        ),
-        OUT_OF_RANGE,
-    ),
-    (
-        Step::FileOrder(
-            &["DB", "import-keying", "5", "12", "1", "FILE", "--id", "x"],
-            PAPERS,
-        ),
-        (1, "", "refused 14: clerk not of this batch\n"),
-    ),
-    (
-        Step::FileOrder(
-            &["DB", "import-keying", "4", "12", "2", "FILE", "--id", "x"],
-            PAPERS,
-        ),
-        (1, "", "refused 15: not this round\n"),
-    ),
-    (
-        Step::FileOrder(BY_FOUR, b"paper,1,2,3\n1,1,2,\n2,1,100,\n"),
-        (1, "", "refused 18: bad marks on paper 2, fault 3\n"),
-    ),
-    (
-        Step::FileOrder(BY_FOUR, b"paper,1,2,3\n1,01,2,\n2,1,100,\n"),
-        (1, "", "refused 18: bad marks on paper 1, fault 2\n"),
-    ),
-    (
-        Step::Order(&["DB", "judge", "12", "501", "reject:3", "--id", "x"]),
-        OUT_OF_RANGE,
-    ),
-    (
-        Step::Order(&["DB", "judge", "14", "1", "reject:3", "--id", "x"]),
-        (1, "", "refused 7: no such batch\n"),
-    ),
-    (
-        Step::Order(&["DB", "judge", "12", "2", "accept:", "--id", "x"]),
-        (1, "", "refused 18: bad marks on paper 2, fault 1\n"),
-    ),
-    (
-        Step::Order(&["DB", "judge", "12", "2", "accept:D", "--id", "x"]),
-        (1, "", "refused 20: batch not taken\n"),
-    ),
-    (Step::Order(&["DB", "status", "0"]), OUT_OF_RANGE),
-    (
-        Step::Order(&["DB", "status", "9"]),
-        (1, "", "refused 5: no such ward\n"),
-    ),
-    (
-        Step::Order(&["DB", "status", "8"]),
-        (
-            0,
-            "ward 8 nominations: 0 candidates, 0 batches, 0 taken, 0 differing, 0 doubtful open, 0 stages\n",
-            "",
-        ),
-    ),
-    (
-        Step::Order(&["DB", "withdraw", "7", "1", "--id", "x"]),
-        (1, "", "refused 9: wrong phase\n"),
-    ),
-];
+const REFUSED: &str = "$ batch 10000 7 2 4 9 --id x
+1| refused 3: number out of range
+$ batch 14 7 501 4 9 --id x
+1| refused 3: number out of range
+$ batch 14 7 2 4 1000 --id x
+1| refused 3: number out of range
+$ batch 14 9 2 4 9 --id x
+1| refused 5: no such ward
+$ batch 12 7 2 4 4 --id x
+1| refused 8: batch exists
+$ batch 14 8 2 4 4 --id x
+1| refused 9: wrong phase
+$ batch 14 7 2 4 4 --id x
+1| refused 13: clerks not different
+$ again 0 --id x
+1| refused 3: number out of range
+$ again 14 --id x
+1| refused 7: no such batch
+$ again 12 --id x
+1| refused 19: keyings don't differ
+$ import-keying 0 12 1 FILE --id x
+< paper,1,2,3
+< 1,1,2,
+< 2,D,,
+1| refused 3: number out of range
+$ import-keying 4 12 100 FILE --id x
+< paper,1,2,3
+< 1,1,2,
+< 2,D,,
+1| refused 3: number out of range
+$ import-keying 5 12 1 FILE --id x
+< paper,1,2,3
+< 1,1,2,
+< 2,D,,
+1| refused 14: clerk not of this batch
+$ import-keying 4 12 2 FILE --id x
+< paper,1,2,3
+< 1,1,2,
+< 2,D,,
+1| refused 15: not this round
+$ import-keying 4 12 1 FILE --id k1
+< paper,1,2,3
+< 1,1,2,
+< 2,1,100,
+1| refused 18: bad marks on paper 2, fault 3
+$ import-keying 4 12 1 FILE --id k1
+< paper,1,2,3
+< 1,01,2,
+< 2,1,100,
+1| refused 18: bad marks on paper 1, fault 2
+$ judge 12 501 reject:3 --id x
+1| refused 3: number out of range
+$ judge 14 1 reject:3 --id x
+1| refused 7: no such batch
+$ judge 12 2 accept: --id x
+1| refused 18: bad marks on paper 2, fault 1
+$ judge 12 2 accept:D --id x
+1| refused 20: batch not taken
+$ status 0
+1| refused 3: number out of range
+$ status 9
+1| refused 5: no such ward
+$ status 8
+ward 8 nominations: 0 candidates, 0 batches, 0 taken, 0 differing, 0 doubtful open, 0 stages
+$ withdraw 7 1 --id x
+1| refused 9: wrong phase
+";
 
 /// What it refuses of its doubtful paper once batch 12 is taken.
-const VERDICTS: [Case<'static>; 4] = [
-    (
-        Step::Order(&["DB", "judge", "12", "2", "accept:D", "--id", "x"]),
-        BAD_VERDICT,
-    ),
-    (
-        Step::Order(&["DB", "judge", "12", "2", "accept:1,1,", "--id", "x"]),
-        BAD_VERDICT,
-    ),
-    (
-        Step::Order(&["DB", "judge", "12", "2", "reject:2", "--id", "x"]),
-        BAD_VERDICT,
-    ),
-    (
-        Step::Order(&["DB", "judge", "12", "3", "reject:3", "--id", "x"]),
-        (1, "", "refused 21: paper not doubtful\n"),
-    ),
-];
+const VERDICTS: &str = "$ judge 12 2 accept:D --id x
+1| refused 23: bad verdict
+$ judge 12 2 accept:1,1, --id x
+1| refused 23: bad verdict
+$ judge 12 2 reject:2 --id x
+1| refused 23: bad verdict
+$ judge 12 3 reject:3 --id x
+1| refused 21: paper not doubtful
+";
 
 #[test]
 fn keying_is_refused(rt: HostRuntime) -> Result<(), Fail> {
-    let disks = Disks::lasting(rt.alloc()).hear(&rt, &GIVEN_OUT)?;
-    let disks = disks.hear(&rt, &[(QUAY, QUAY_ADDED)])?;
-    let disks = disks.hear_unchanged(&rt, &REFUSED)?;
-    let both = [
-        (Step::FileOrder(BY_FOUR, PAPERS), KEYED),
-        (Step::FileOrder(BY_NINE, PAPERS), KEYED),
-    ];
-    disks.hear(&rt, &both)?.hear_unchanged(&rt, &VERDICTS)?;
+    begun(&rt)?
+        .follow(&rt, BATCH_13)?
+        .hear(&rt, &[(QUAY, QUAY_ADDED)])?
+        .follow_unchanged(&rt, REFUSED)?
+        .follow(&rt, FOUR_KEYED)?
+        .follow(&rt, NINE_KEYED)?
+        .follow_unchanged(&rt, VERDICTS)?;
     Ok(())
 }
 
 /// The highest numbers: ward 99 with candidate 30, clerk 999, batch 9999, paper 500.
-const LIMITS: [Case<'static>; 6] = [
-    (INIT, READY),
-    (
-        Step::Order(&["DB", "ward", "99", "1", "Moor", "--id", "w1"]),
-        (0, "ward 99 added\n", ""),
-    ),
-    (
-        Step::Order(&["DB", "candidate", "99", "1", "Dee", "--id", "c1"]),
-        (0, "candidate 1 of ward 99 added\n", ""),
-    ),
-    (
-        Step::Order(&["DB", "candidate", "99", "30", "Eve", "--id", "c2"]),
-        (0, "candidate 30 of ward 99 added\n", ""),
-    ),
-    (
-        Step::Order(&["DB", "close", "99", "--id", "n1"]),
-        (0, "ward 99 polled\n", ""),
-    ),
-    (
-        Step::Order(&["DB", "batch", "9999", "99", "500", "1", "999", "--id", "b1"]),
-        (0, "batch 9999 added\n", ""),
-    ),
-];
+const LIMITS: &str = "$ init
+office ready
+$ ward 99 1 Moor --id w1
+ward 99 added
+$ candidate 99 1 Dee --id c1
+candidate 1 of ward 99 added
+$ candidate 99 30 Eve --id c2
+candidate 30 of ward 99 added
+$ close 99 --id n1
+ward 99 polled
+$ batch 9999 99 500 1 999 --id b1
+batch 9999 added
+";
 
 /// Rounds 1 to 98 of a batch of one paper, in which its clerks differed.
 const ROUNDS: &str = "UPDATE batch SET round = 99 WHERE batch = 13";
 
 #[test]
 fn the_last_numbers_are_taken(rt: HostRuntime) -> Result<(), Fail> {
-    Disks::lasting(rt.alloc()).hear(&rt, &LIMITS)?;
+    Disks::lasting(rt.alloc()).follow(&rt, LIMITS)?;
     let mut rounds = String::from_str(rt.alloc(), ROUNDS)?;
     for round in 1..=98 {
         write!(
@@ -434,43 +324,28 @@ fn the_last_numbers_are_taken(rt: HostRuntime) -> Result<(), Fail> {
             OUT_OF_RANGE,
         ),
     ];
-    Disks::lasting(rt.alloc())
-        .hear(&rt, &GIVEN_OUT)?
-        .hear(&rt, &cases)?;
+    begun(&rt)?.follow(&rt, BATCH_13)?.hear(&rt, &cases)?;
     Ok(())
 }
 
 /// Batch 12 is taken and its doubtful paper judged, and batch 13 is in its second round.
-const STOOD: [Case<'static>; 7] = [
-    (Step::FileOrder(BY_FOUR, PAPERS), KEYED),
-    (Step::FileOrder(BY_NINE, PAPERS), KEYED),
-    JUDGED,
-    (
-        Step::FileOrder(
-            &["DB", "import-keying", "9", "13", "1", "FILE", "--id", "k3"],
-            ONE_PAPER,
-        ),
-        (0, "batch 13 round 1 keyed\n", ""),
-    ),
-    (
-        Step::FileOrder(
-            &["DB", "import-keying", "5", "13", "1", "FILE", "--id", "k3"],
-            b"paper,1,2,3\n1,1,,\n",
-        ),
-        (0, "batch 13 round 1 keyed\n", ""),
-    ),
-    (
-        Step::Order(&["DB", "again", "13", "--id", "a1"]),
-        (0, "batch 13 round 2 open\n", ""),
-    ),
-    (
-        Step::FileOrder(
-            &["DB", "import-keying", "9", "13", "2", "FILE", "--id", "k4"],
-            ONE_PAPER,
-        ),
-        (0, "batch 13 round 2 keyed\n", ""),
-    ),
-];
+const STOOD: &str = "$ judge 12 2 accept:1,,2 --id j1
+batch 12 paper 2 accepted
+$ import-keying 9 13 1 FILE --id k3
+< paper,1,2,3
+< 1,,1,
+batch 13 round 1 keyed
+$ import-keying 5 13 1 FILE --id k3
+< paper,1,2,3
+< 1,1,,
+batch 13 round 1 keyed
+$ again 13 --id a1
+batch 13 round 2 open
+$ import-keying 9 13 2 FILE --id k4
+< paper,1,2,3
+< 1,,1,
+batch 13 round 2 keyed
+";
 
 /// What is done to that office, and what it then says to another ward.
 const CHANGES: [(&str, Told<'static>); 30] = [
@@ -529,9 +404,11 @@ const CHANGES: [(&str, Told<'static>); 30] = [
 
 #[test]
 fn damaged_keyings_are_found(rt: HostRuntime) -> Result<(), Fail> {
-    let disks = Disks::lasting(rt.alloc())
-        .hear(&rt, &GIVEN_OUT)?
-        .hear(&rt, &STOOD)?;
+    let disks = begun(&rt)?
+        .follow(&rt, BATCH_13)?
+        .follow(&rt, FOUR_KEYED)?
+        .follow(&rt, NINE_KEYED)?
+        .follow(&rt, STOOD)?;
     for (change, wanted) in CHANGES {
         let cases = [(Step::Change(change), (0, "", "")), (QUAY, wanted)];
         disks

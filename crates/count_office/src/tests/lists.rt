@@ -1,7 +1,6 @@
 //! Lists of requests, handed to an office at once.
 
 use super::disks::Disks;
-use super::keyings::STATUS;
 use super::steps::Step;
 use register::{
     BatchCommand, CandidateCommand, Command, CountCommand, KeyingCommand, Request, Verdict,
@@ -90,7 +89,7 @@ fn a_list_of_keyings_is_answered(rt: HostRuntime) -> Result<(), Fail> {
         "ward 7 keying: 3 candidates, 1 batches, 1 taken, 0 differing, 1 doubtful open, 0 stages\n";
     let cases = [
         (Step::List(requests.as_slice()), (0, ANSWERS, "")),
-        (STATUS, (0, taken, "")),
+        (Step::Order(&["DB", "status", "7"]), (0, taken, "")),
     ];
     Disks::lasting(alloc).hear(&rt, &cases)?;
     Ok(())

@@ -2,10 +2,10 @@
 //! again, or all that the order makes, and the same order given again ends as if nothing had happened.
 
 use super::disks::{Disks, File};
-use super::http::{GIVEN_OUT, KEYED, KEYING};
-use super::keyings::{CANDIDATES, CANDIDATES_ADDED, CLOSE, POLLED};
-use super::orders::{ADDED, HARBOUR, INIT, READY};
+use super::http::{KEYED, KEYING};
+use super::keyings::begun;
 use super::steps::{Case, Step};
+use super::transcripts::read;
 use std::process::Abort;
 use std::test::Fail;
 
@@ -67,126 +67,116 @@ fn stop_each(
 }
 
 /// A ward with its candidates.
-const NOMINATED: [Case<'static>; 3] = [
-    (INIT, READY),
-    (HARBOUR, ADDED),
-    (CANDIDATES, CANDIDATES_ADDED),
-];
-
-const ONE_PAPER: &[u8] = b"paper,1,2,3\n1,D,,\n";
+const NOMINATED: &str = "$ init
+office ready
+$ ward 7 2 Harbour --id w1
+ward 7 added
+$ import-candidates FILE --id c
+< ward,candidate,name
+< 7,1,Ann
+< 7,2,Bob
+< 7,3,Cy
+candidate 1 of ward 7 added
+candidate 2 of ward 7 added
+candidate 3 of ward 7 added
+";
 
 /// The orders of one request each from nominations to verdicts. (An import of candidates is a request a
 /// record, so a stop may leave some of them.)
-const TO_VERDICTS: [Case<'static>; 7] = [
-    (
-        Step::Order(&["DB", "withdraw", "7", "3", "--id", "x1"]),
-        (0, "candidate 3 of ward 7 withdrawn\n", ""),
-    ),
-    (
-        Step::Order(&["DB", "candidate", "7", "3", "Cy", "--id", "c4"]),
-        (0, "candidate 3 of ward 7 added\n", ""),
-    ),
-    (CLOSE, POLLED),
-    (
-        Step::Order(&["DB", "batch", "12", "7", "1", "4", "9", "--id", "b1"]),
-        (0, "batch 12 added\n", ""),
-    ),
-    (
-        Step::FileOrder(
-            &["DB", "import-keying", "4", "12", "1", "FILE", "--id", "k1"],
-            ONE_PAPER,
-        ),
-        (0, "batch 12 round 1 keyed\n", ""),
-    ),
-    (
-        Step::FileOrder(
-            &["DB", "import-keying", "9", "12", "1", "FILE", "--id", "k1"],
-            ONE_PAPER,
-        ),
-        (0, "batch 12 round 1 keyed\n", ""),
-    ),
-    (
-        Step::Order(&["DB", "judge", "12", "1", "reject:3", "--id", "j1"]),
-        (0, "batch 12 paper 1 rejected 3\n", ""),
-    ),
-];
+const TO_VERDICTS: &str = "$ withdraw 7 3 --id x1
+candidate 3 of ward 7 withdrawn
+$ candidate 7 3 Cy --id c4
+candidate 3 of ward 7 added
+$ close 7 --id n1
+ward 7 polled
+$ batch 12 7 1 4 9 --id b1
+batch 12 added
+$ import-keying 4 12 1 FILE --id k1
+< paper,1,2,3
+< 1,D,,
+batch 12 round 1 keyed
+$ import-keying 9 12 1 FILE --id k1
+< paper,1,2,3
+< 1,D,,
+batch 12 round 1 keyed
+$ judge 12 1 reject:3 --id j1
+batch 12 paper 1 rejected 3
+";
 
 /// A ward of one seat whose papers are those of no batch.
-const POLLED_FOR_ONE: [Case<'static>; 4] = [
-    (INIT, READY),
-    (
-        Step::Order(&["DB", "ward", "7", "1", "Harbour", "--id", "w1"]),
-        ADDED,
-    ),
-    (CANDIDATES, CANDIDATES_ADDED),
-    (CLOSE, POLLED),
-];
+const POLLED_FOR_ONE: &str = "$ init
+office ready
+$ ward 7 1 Harbour --id w1
+ward 7 added
+$ import-candidates FILE --id c
+< ward,candidate,name
+< 7,1,Ann
+< 7,2,Bob
+< 7,3,Cy
+candidate 1 of ward 7 added
+candidate 2 of ward 7 added
+candidate 3 of ward 7 added
+$ close 7 --id n1
+ward 7 polled
+";
 
 /// The orders from its seal to its declaration.
-const TO_DECLARATION: [Case<'static>; 7] = [
-    (
-        Step::Order(&["DB", "seal", "7", "--id", "s1"]),
-        (0, "ward 7 sealed: 0 valid, 0 rejected, quota 1.00000\n", ""),
-    ),
-    (
-        Step::Order(&["DB", "advance", "7", "--id", "a1"]),
-        (0, "ward 7 stage 1 first preferences\n", ""),
-    ),
-    (
-        Step::Order(&["DB", "lot", "7", "2", "1", "--id", "l1"]),
-        (0, "lot at ward 7 stage 2: candidate 1\n", ""),
-    ),
-    (
-        Step::Order(&["DB", "advance", "7", "--id", "a2"]),
-        (0, "ward 7 stage 2 exclusion of 1\n", ""),
-    ),
-    (
-        Step::Order(&["DB", "lot", "7", "3", "2", "--id", "l2"]),
-        (0, "lot at ward 7 stage 3: candidate 2\n", ""),
-    ),
-    (
-        Step::Order(&["DB", "advance", "7", "--id", "a3"]),
-        (0, "ward 7 stage 3 exclusion of 2, last vacancies\n", ""),
-    ),
-    (
-        Step::Order(&["DB", "declare", "7", "--id", "d1"]),
-        (0, "ward 7 declared: 3\n", ""),
-    ),
-];
+const TO_DECLARATION: &str = "$ seal 7 --id s1
+ward 7 sealed: 0 valid, 0 rejected, quota 1.00000
+$ advance 7 --id a1
+ward 7 stage 1 first preferences
+$ lot 7 2 1 --id l1
+lot at ward 7 stage 2: candidate 1
+$ advance 7 --id a2
+ward 7 stage 2 exclusion of 1
+$ lot 7 3 2 --id l2
+lot at ward 7 stage 3: candidate 2
+$ advance 7 --id a3
+ward 7 stage 3 exclusion of 2, last vacancies
+$ declare 7 --id d1
+ward 7 declared: 3
+";
 
 /// Orders, each stopped at each call, one after the other.
 fn stop_orders(
     rt: &(impl Abort + AllocGlobal),
-    begun: &[Case<'_>],
-    cases: &[Case<'_>],
+    before: &str,
+    orders: &str,
     file: File,
 ) -> Result<(), Fail> {
-    let mut disks = Disks::lasting(rt.alloc()).hear(rt, begun)?;
-    for case in cases {
-        disks = stop_each(rt, disks, *case, file)?;
+    let mut disks = Disks::lasting(rt.alloc()).follow(rt, before)?;
+    for order in &read(rt.alloc(), orders)? {
+        disks = stop_each(rt, disks, order.case(), file)?;
     }
     Ok(())
 }
 
 #[test]
 fn an_order_stops_whole_at_its_log(rt: HostRuntime) -> Result<(), Fail> {
-    stop_orders(&rt, &NOMINATED, &TO_VERDICTS, File::Log)
+    stop_orders(&rt, NOMINATED, TO_VERDICTS, File::Log)
 }
 
 #[test]
 fn an_order_stops_whole_at_its_database(rt: HostRuntime) -> Result<(), Fail> {
-    stop_orders(&rt, &NOMINATED, &TO_VERDICTS, File::Database)
+    stop_orders(&rt, NOMINATED, TO_VERDICTS, File::Database)
 }
 
 #[test]
 fn a_count_stops_whole_at_its_log(rt: HostRuntime) -> Result<(), Fail> {
-    stop_orders(&rt, &POLLED_FOR_ONE, &TO_DECLARATION, File::Log)
+    stop_orders(&rt, POLLED_FOR_ONE, TO_DECLARATION, File::Log)
 }
 
 #[test]
 fn a_count_stops_whole_at_its_database(rt: HostRuntime) -> Result<(), Fail> {
-    stop_orders(&rt, &POLLED_FOR_ONE, &TO_DECLARATION, File::Database)
+    stop_orders(&rt, POLLED_FOR_ONE, TO_DECLARATION, File::Database)
 }
+
+/// A batch of as many papers as one may have.
+const GIVEN_OUT_WHOLE: &str = "$ close 7 --id n1
+ward 7 polled
+$ batch 12 7 500 4 9 --id b1
+batch 12 added
+";
 
 /// A keying of as many papers as a batch may have.
 fn stop_a_keying(rt: &(impl Abort + AllocGlobal), file: File) -> Result<(), Fail> {
@@ -194,17 +184,9 @@ fn stop_a_keying(rt: &(impl Abort + AllocGlobal), file: File) -> Result<(), Fail
     for paper in 1..=PAPERS {
         writeln!(papers, "{paper},1,2,")?;
     }
-    let begun = [
-        (INIT, READY),
-        (HARBOUR, ADDED),
-        (CANDIDATES, CANDIDATES_ADDED),
-        (CLOSE, POLLED),
-        (
-            Step::Order(&["DB", "batch", "12", "7", "500", "4", "9", "--id", "b1"]),
-            (0, "batch 12 added\n", ""),
-        ),
-    ];
-    let disks = Disks::lasting(rt.alloc()).hear(rt, &begun)?;
+    let disks = Disks::lasting(rt.alloc())
+        .follow(rt, NOMINATED)?
+        .follow(rt, GIVEN_OUT_WHOLE)?;
     let keying = (
         Step::FileOrder(
             &["DB", "import-keying", "4", "12", "1", "FILE", "--id", "k1"],
@@ -228,7 +210,7 @@ fn a_keying_stops_whole_at_its_database(rt: HostRuntime) -> Result<(), Fail> {
 
 /// A keying over HTTP.
 fn stop_a_client(rt: &(impl Abort + AllocGlobal), file: File) -> Result<(), Fail> {
-    let disks = Disks::lasting(rt.alloc()).hear(rt, &GIVEN_OUT)?;
+    let disks = begun(rt)?;
     let keying = (Step::Ask(KEYING), (0, KEYED, "Answered(200)"));
     stop_each(rt, disks, keying, file)?;
     Ok(())

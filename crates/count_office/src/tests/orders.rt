@@ -2,7 +2,6 @@
 //! later program, or hold what no office holds.
 
 use super::disks::Disks;
-use super::nominations::ANN_ADDED;
 use super::steps::{Case, Step, Told};
 use register::{Command, Request, WardCommand};
 use std::alloc::{AllocError, Global};
@@ -24,140 +23,83 @@ const CHANGED: Told<'static> = (0, "", "");
 
 pub const FOREIGN: Told<'static> = (3, "", "fault 105: wrong database\n");
 
-/// A socket or an output is wanting.
-const BROKEN: Told<'static> = (3, "", "fault 107: socket or output\n");
-
 pub const DAMAGED: Told<'static> = (3, "", "fault 103: damaged\n");
 
 const NEWER: Told<'static> = (3, "", "fault 106: newer schema\n");
 
-const NO_WARD: Told<'static> = (1, "", "refused 5: no such ward\n");
-
-const WRONG_PHASE: Told<'static> = (1, "", "refused 9: wrong phase\n");
-
 /// An office with three wards: Harbour, where Ann stands; Quay, which is closed; and Moor, where nobody
 /// stands.
-const BEGUN: [Case<'static>; 8] = [
-    (INIT, READY),
-    (HARBOUR, ADDED),
-    (
-        Step::Order(&["DB", "ward", "8", "1", "Quay", "--id", "w2"]),
-        QUAY_ADDED,
-    ),
-    (
-        Step::Order(&["DB", "ward", "9", "1", "Moor", "--id", "w3"]),
-        (0, "ward 9 added\n", ""),
-    ),
-    (
-        Step::Order(&["DB", "candidate", "7", "1", "Ann", "--id", "c1"]),
-        ANN_ADDED,
-    ),
-    (
-        Step::Order(&["DB", "candidate", "8", "1", "Dee", "--id", "c2"]),
-        (0, "candidate 1 of ward 8 added\n", ""),
-    ),
-    (
-        Step::Order(&["DB", "candidate", "8", "2", "Eve", "--id", "c3"]),
-        (0, "candidate 2 of ward 8 added\n", ""),
-    ),
-    (
-        Step::Order(&["DB", "close", "8", "--id", "n1"]),
-        (0, "ward 8 polled\n", ""),
-    ),
-];
+const BEGUN: &str = "$ init
+office ready
+$ ward 7 2 Harbour --id w1
+ward 7 added
+$ ward 8 1 Quay --id w2
+ward 8 added
+$ ward 9 1 Moor --id w3
+ward 9 added
+$ candidate 7 1 Ann --id c1
+candidate 1 of ward 7 added
+$ candidate 8 1 Dee --id c2
+candidate 1 of ward 8 added
+$ candidate 8 2 Eve --id c3
+candidate 2 of ward 8 added
+$ close 8 --id n1
+ward 8 polled
+";
 
-/// What that office says to more orders, which change nothing.
-const ANSWERS: [Case<'static>; 25] = [
-    (
-        Step::Order(&["DB", "ward", "7", "2", "Harbour", "--id", "w1"]),
-        ADDED,
-    ),
-    (
-        Step::Order(&["DB", "ward", "8", "2", "Quay", "--id", "w1"]),
-        (1, "", "refused 2: id used for another subject\n"),
-    ),
-    (
-        Step::Order(&["DB", "ward", "8", "2", "Quay", "--id", "W1"]),
-        (1, "", "refused 1: bad id\n"),
-    ),
-    (
-        Step::Order(&["DB", "ward", "7", "3", "Pier", "--id", "w4"]),
-        (1, "", "refused 6: ward exists\n"),
-    ),
-    (
-        Step::Order(&["DB", "ward", "0", "2", "Pier", "--id", "w4"]),
-        (1, "", "refused 3: number out of range\n"),
-    ),
-    (
-        Step::Order(&["DB", "ward", "9", "16", "Pier", "--id", "w4"]),
-        (1, "", "refused 3: number out of range\n"),
-    ),
-    (
-        Step::Order(&["DB", "ward", "9", "2", "", "--id", "w4"]),
-        (1, "", "refused 4: bad name\n"),
-    ),
-    (Step::Order(&["DB", "init"]), FOREIGN),
-    (
-        Step::Order(&["DB", "candidate", "7", "1", "Bob", "--id", "c1"]),
-        ANN_ADDED,
-    ),
-    (
-        Step::Order(&["DB", "candidate", "7", "31", "Zed", "--id", "c4"]),
-        (1, "", "refused 3: number out of range\n"),
-    ),
-    (
-        Step::Order(&["DB", "candidate", "7", "2", "", "--id", "c4"]),
-        (1, "", "refused 4: bad name\n"),
-    ),
-    (
-        Step::Order(&["DB", "candidate", "6", "1", "Zed", "--id", "c4"]),
-        NO_WARD,
-    ),
-    (
-        Step::Order(&["DB", "candidate", "8", "3", "Zed", "--id", "c4"]),
-        WRONG_PHASE,
-    ),
-    (
-        Step::Order(&["DB", "candidate", "7", "1", "Zed", "--id", "c4"]),
-        (1, "", "refused 10: candidate exists\n"),
-    ),
-    (
-        Step::Order(&["DB", "withdraw", "6", "1", "--id", "x1"]),
-        NO_WARD,
-    ),
-    (
-        Step::Order(&["DB", "withdraw", "8", "1", "--id", "x1"]),
-        WRONG_PHASE,
-    ),
-    (
-        Step::Order(&["DB", "withdraw", "7", "2", "--id", "x1"]),
-        (1, "", "refused 11: no such candidate\n"),
-    ),
-    (
-        Step::Order(&["DB", "close", "8", "--id", "n1"]),
-        (0, "ward 8 polled\n", ""),
-    ),
-    (Step::Order(&["DB", "close", "6", "--id", "n2"]), NO_WARD),
-    (
-        Step::Order(&["DB", "close", "8", "--id", "n2"]),
-        WRONG_PHASE,
-    ),
-    (
-        Step::Order(&["DB", "close", "9", "--id", "n2"]),
-        (1, "", "refused 12: no candidates\n"),
-    ),
-    (Step::Order(&["DB", "sheet", "7"]), WRONG_PHASE),
-    // words that are no order, and an order that needs a socket
-    (
-        Step::Order(&["DB", "judge", "12", "2", "maybe", "--id", "j1"]),
-        (2, "", "bad verdict word\n"),
-    ),
-    (
-        Step::Order(&["DB", "judge", "12", "2", "reject:", "--id", "j1"]),
-        (2, "", "bad verdict word\n"),
-    ),
-    (Step::Order(&["DB", "serve", "8080", "2"]), BROKEN),
-];
+/// What that office says to more orders, which change nothing: of the commands of wards and candidates; at the
+/// end to words that are no order, and to an order that needs a socket.
+const ANSWERS: &str = "$ ward 7 2 Harbour --id w1
+ward 7 added
+$ ward 8 2 Quay --id w1
+1| refused 2: id used for another subject
+$ ward 8 2 Quay --id W1
+1| refused 1: bad id
+$ ward 7 3 Pier --id w4
+1| refused 6: ward exists
+$ ward 0 2 Pier --id w4
+1| refused 3: number out of range
+$ ward 9 16 Pier --id w4
+1| refused 3: number out of range
+$ ward 9 2  --id w4
+1| refused 4: bad name
+$ init
+3| fault 105: wrong database
+$ candidate 7 1 Bob --id c1
+candidate 1 of ward 7 added
+$ candidate 7 31 Zed --id c4
+1| refused 3: number out of range
+$ candidate 7 2  --id c4
+1| refused 4: bad name
+$ candidate 6 1 Zed --id c4
+1| refused 5: no such ward
+$ candidate 8 3 Zed --id c4
+1| refused 9: wrong phase
+$ candidate 7 1 Zed --id c4
+1| refused 10: candidate exists
+$ withdraw 6 1 --id x1
+1| refused 5: no such ward
+$ withdraw 8 1 --id x1
+1| refused 9: wrong phase
+$ withdraw 7 2 --id x1
+1| refused 11: no such candidate
+$ close 8 --id n1
+ward 8 polled
+$ close 6 --id n2
+1| refused 5: no such ward
+$ close 8 --id n2
+1| refused 9: wrong phase
+$ close 9 --id n2
+1| refused 12: no candidates
+$ sheet 7
+1| refused 9: wrong phase
+$ judge 12 2 maybe --id j1
+2| bad verdict word
+$ judge 12 2 reject: --id j1
+2| bad verdict word
+$ serve 8080 2
+3| fault 107: socket or output
+";
 
 /// Ann and Bob stand in Harbour, which has two seats.
 const CANDIDATES: &str =
@@ -237,8 +179,8 @@ fn orders_are_told(rt: HostRuntime) -> Result<(), Fail> {
 
 #[test]
 fn what_is_refused_changes_nothing(rt: HostRuntime) -> Result<(), Fail> {
-    let disks = Disks::lasting(rt.alloc()).hear(&rt, &BEGUN)?;
-    disks.hear_unchanged(&rt, &ANSWERS)?;
+    let disks = Disks::lasting(rt.alloc()).follow(&rt, BEGUN)?;
+    disks.follow_unchanged(&rt, ANSWERS)?;
     Ok(())
 }
 

@@ -1,7 +1,7 @@
 //! Connections over loopback, in one process with their clients.
 
-use super::disks::Disks;
-use super::http::{BAD_REQUEST, GIVEN_OUT, KEYED, KEYING};
+use super::http::{BAD_REQUEST, KEYED, KEYING};
+use super::keyings::begun;
 use super::steps::Step;
 use std::io::{Read, Write};
 use std::net::{OpenListener, OpenStream, Shutdown, TcpListener, TcpStream};
@@ -25,7 +25,7 @@ fn received(rt: &HostRuntime, mut stream: TcpStream) -> Result<String, Fail> {
 
 #[test]
 fn connections_are_answered_in_turn(rt: HostRuntime) -> Result<(), Fail> {
-    let disks = Disks::lasting(rt.alloc()).hear(&rt, &GIVEN_OUT)?;
+    let disks = begun(&rt)?;
     let listener = TcpListener::bind(&rt, "127.0.0.1:0")?;
     let first = connected(&rt, &listener, b"X\r\n\r\n")?;
     let second = connected(&rt, &listener, KEYING)?;

@@ -1,8 +1,6 @@
 //! The work of a clerk, as an opened office tells it.
 
 use super::disks::Disks;
-use super::keyings::{CLOSE, POLLED};
-use super::orders::{ADDED, HARBOUR, INIT, QUAY, QUAY_ADDED, READY};
 use super::steps::{Case, Step, Told};
 use std::test::Fail;
 
@@ -14,35 +12,35 @@ const NO_CLERK: Told<'static> = (0, "refused 3: number out of range\n", "");
 
 /// The wards 7 and 8 in keying, each with three candidates; batch 12 of ward 7 for the clerks 4 and 9, and
 /// batch 11 of ward 8 for the clerks 9 and 5.
-const GIVEN_OUT: [Case<'static>; 8] = [
-    (INIT, READY),
-    (HARBOUR, ADDED),
-    (QUAY, QUAY_ADDED),
-    (
-        Step::FileOrder(
-            &["DB", "import-candidates", "FILE", "--id", "c"],
-            b"ward,candidate,name\n7,1,Ann\n7,2,Bob\n7,3,Cy\n8,1,Dan\n8,2,Eve\n8,5,Fay\n",
-        ),
-        (
-            0,
-            "candidate 1 of ward 7 added\ncandidate 2 of ward 7 added\ncandidate 3 of ward 7 added\ncandidate 1 of ward 8 added\ncandidate 2 of ward 8 added\ncandidate 5 of ward 8 added\n",
-            "",
-        ),
-    ),
-    (CLOSE, POLLED),
-    (
-        Step::Order(&["DB", "close", "8", "--id", "n2"]),
-        (0, "ward 8 polled\n", ""),
-    ),
-    (
-        Step::Order(&["DB", "batch", "12", "7", "2", "4", "9", "--id", "b1"]),
-        (0, "batch 12 added\n", ""),
-    ),
-    (
-        Step::Order(&["DB", "batch", "11", "8", "1", "9", "5", "--id", "b2"]),
-        (0, "batch 11 added\n", ""),
-    ),
-];
+const GIVEN_OUT: &str = "$ init
+office ready
+$ ward 7 2 Harbour --id w1
+ward 7 added
+$ ward 8 2 Quay --id w2
+ward 8 added
+$ import-candidates FILE --id c
+< ward,candidate,name
+< 7,1,Ann
+< 7,2,Bob
+< 7,3,Cy
+< 8,1,Dan
+< 8,2,Eve
+< 8,5,Fay
+candidate 1 of ward 7 added
+candidate 2 of ward 7 added
+candidate 3 of ward 7 added
+candidate 1 of ward 8 added
+candidate 2 of ward 8 added
+candidate 5 of ward 8 added
+$ close 7 --id n1
+ward 7 polled
+$ close 8 --id n2
+ward 8 polled
+$ batch 12 7 2 4 9 --id b1
+batch 12 added
+$ batch 11 8 1 9 5 --id b2
+batch 11 added
+";
 
 /// Before anything is keyed: each clerk's own batches, in the order of their numbers.
 const BEFORE: [Case<'static>; 7] = [
@@ -162,7 +160,7 @@ const SEALED: [Case<'static>; 6] = [
 #[test]
 fn the_work_of_a_clerk_is_told(rt: HostRuntime) -> Result<(), Fail> {
     Disks::lasting(rt.alloc())
-        .hear(&rt, &GIVEN_OUT)?
+        .follow(&rt, GIVEN_OUT)?
         .hear_unchanged(&rt, &BEFORE)?
         .hear(&rt, &KEYED)?
         .hear(&rt, &SEALED)?;
