@@ -23,5 +23,6 @@ mod outputs;
 mod sockets;
 mod statements;
 mod stops;
+mod ties;
 mod words;
 mod work;

@@ -31,11 +31,11 @@ const TOO_LARGE: &str =
 /// A connection breaks behind the head of the answer: the keying stands, and the same again tells so.
 const SENT_AGAIN: [Case<'static>; 2] = [
     (
-        Step::Serve(Client {
+        Step::Serve(&[Client {
             sends: KEYING,
             heard: usize::MAX,
             takes: 90,
-        }),
+        }]),
         (0, KEYED_HEAD, "WriteFailed"),
     ),
     (Step::Ask(KEYING), (0, KEYED, "Answered(200)")),
@@ -240,12 +240,12 @@ fn what_is_too_long_is_refused(rt: HostRuntime) -> Result<(), Fail> {
 fn a_broken_connection_asks_nothing(rt: HostRuntime) -> Result<(), Fail> {
     let mut disks = begun(&rt)?;
     for heard in 0..KEYING.len() {
-        let client = Client {
+        let clients = [Client {
             sends: KEYING,
             heard,
             takes: usize::MAX,
-        };
-        let case = (Step::Serve(client), (0, "", "ReadFailed"));
+        }];
+        let case = (Step::Serve(&clients), (0, "", "ReadFailed"));
         disks = disks.hear_unchanged(&rt, &[case])?;
     }
     Ok(())
@@ -254,13 +254,13 @@ fn a_broken_connection_asks_nothing(rt: HostRuntime) -> Result<(), Fail> {
 /// The keying whose answer is taken up to so many bytes, and the same again: one keying.
 fn key_twice(rt: &(impl Abort + AllocGlobal), takes: usize, rows: &str) -> Result<(), Fail> {
     let taken = KEYED.get(..takes).unwrap_or("");
-    let client = Client {
+    let clients = [Client {
         sends: KEYING,
         heard: usize::MAX,
         takes,
-    };
+    }];
     let cases = [
-        (Step::Serve(client), (0, taken, "WriteFailed")),
+        (Step::Serve(&clients), (0, taken, "WriteFailed")),
         (Step::Ask(KEYING), (0, KEYED, "Answered(200)")),
     ];
     let disks = begun(rt)?;

@@ -6,8 +6,8 @@ use super::steps::{Case, Step, Told};
 use std::process::Abort;
 use std::test::Fail;
 
-/// Ward 7 with three candidates and two seats in keying, and batch 12 of two papers for the clerks 4 and 9.
-const GIVEN_OUT: &str = "$ init
+/// Ward 7 with three candidates and two seats.
+pub const NOMINATED: &str = "$ init
 office ready
 $ ward 7 2 Harbour --id w1
 ward 7 added
@@ -19,7 +19,10 @@ $ import-candidates FILE --id c
 candidate 1 of ward 7 added
 candidate 2 of ward 7 added
 candidate 3 of ward 7 added
-$ close 7 --id n1
+";
+
+/// Its poll, and batch 12 of two papers for the clerks 4 and 9.
+const GIVEN_OUT: &str = "$ close 7 --id n1
 ward 7 polled
 $ batch 12 7 2 4 9 --id b1
 batch 12 added
@@ -57,7 +60,9 @@ const OUT_OF_RANGE: Told<'static> = (1, "", "refused 3: number out of range\n");
 
 /// Ward 7 in keying, with batch 12.
 pub fn begun(rt: &(impl Abort + AllocGlobal)) -> Result<Disks, Fail> {
-    Disks::lasting(rt.alloc()).follow(rt, GIVEN_OUT)
+    Disks::lasting(rt.alloc())
+        .follow(rt, NOMINATED)?
+        .follow(rt, GIVEN_OUT)
 }
 
 /// Files that keep no paper of the first keying.
@@ -115,7 +120,7 @@ $ status 7
 ward 7 keying: 3 candidates, 2 batches, 0 taken, 0 differing, 0 doubtful open, 0 stages
 ";
 
-/// Both clerks key batch 12 alike, and its doubtful paper is judged.
+/// Once both clerks have keyed batch 12 alike: its doubtful paper is judged.
 const AGREED: &str = "$ status 7
 ward 7 keying: 3 candidates, 2 batches, 1 taken, 0 differing, 1 doubtful open, 0 stages
 $ judge 12 2 reject:6 --id j1
@@ -144,7 +149,8 @@ fn two_clerks_agree(rt: HostRuntime) -> Result<(), Fail> {
     Ok(())
 }
 
-/// Where batch 12 is the only one: the clerks key it unlike, and each is told the same; in the next round they agree.
+/// Where batch 12 is the only one, and clerk 4 has keyed it: clerk 9 keys it unlike, and is told the same; in the
+/// next round they agree.
 const DIFFERING: &str = "$ import-keying 9 12 1 FILE --id k1
 < paper,1,2,3
 < 1,2,1,
@@ -328,7 +334,7 @@ fn the_last_numbers_are_taken(rt: HostRuntime) -> Result<(), Fail> {
     Ok(())
 }
 
-/// Batch 12 is taken and its doubtful paper judged, and batch 13 is in its second round.
+/// Once batch 12 is taken: its doubtful paper is judged, and batch 13 comes to its second round.
 const STOOD: &str = "$ judge 12 2 accept:1,,2 --id j1
 batch 12 paper 2 accepted
 $ import-keying 9 13 1 FILE --id k3

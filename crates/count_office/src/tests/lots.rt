@@ -8,7 +8,7 @@ use std::process::Abort;
 use std::test::Fail;
 
 /// Ward 7, of one seat, in keying.
-const POLLING: &str = "$ init
+pub const POLLING: &str = "$ init
 office ready
 $ ward 7 1 Harbour --id w1
 ward 7 added

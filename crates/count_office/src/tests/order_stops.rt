@@ -1,10 +1,13 @@
 //! A store that stops at each of its calls in turn, while one order is done: what was there before is found
-//! again, or all that the order makes, and the same order given again ends as if nothing had happened.
+//! again, or all that the order makes, and the same order given again ends as if nothing had happened. A client
+//! behind one who met the stop is told that the office is closed.
 
+use super::clients::Client;
 use super::disks::{Disks, File};
 use super::http::{KEYED, KEYING};
-use super::keyings::begun;
-use super::steps::{Case, Step};
+use super::keyings::{NOMINATED, begun};
+use super::lots::POLLING;
+use super::steps::{Case, STOPPED, STOPPED_ANSWER, Step};
 use super::transcripts::read;
 use std::process::Abort;
 use std::test::Fail;
@@ -66,21 +69,6 @@ fn stop_each(
     Err(Fail::from("no run was long enough"))
 }
 
-/// A ward with its candidates.
-const NOMINATED: &str = "$ init
-office ready
-$ ward 7 2 Harbour --id w1
-ward 7 added
-$ import-candidates FILE --id c
-< ward,candidate,name
-< 7,1,Ann
-< 7,2,Bob
-< 7,3,Cy
-candidate 1 of ward 7 added
-candidate 2 of ward 7 added
-candidate 3 of ward 7 added
-";
-
 /// The orders of one request each from nominations to verdicts. (An import of candidates is a request a
 /// record, so a stop may leave some of them.)
 const TO_VERDICTS: &str = "$ withdraw 7 3 --id x1
@@ -103,24 +91,7 @@ $ judge 12 1 reject:3 --id j1
 batch 12 paper 1 rejected 3
 ";
 
-/// A ward of one seat whose papers are those of no batch.
-const POLLED_FOR_ONE: &str = "$ init
-office ready
-$ ward 7 1 Harbour --id w1
-ward 7 added
-$ import-candidates FILE --id c
-< ward,candidate,name
-< 7,1,Ann
-< 7,2,Bob
-< 7,3,Cy
-candidate 1 of ward 7 added
-candidate 2 of ward 7 added
-candidate 3 of ward 7 added
-$ close 7 --id n1
-ward 7 polled
-";
-
-/// The orders from its seal to its declaration.
+/// The orders of a ward without a batch, from its seal to its declaration.
 const TO_DECLARATION: &str = "$ seal 7 --id s1
 ward 7 sealed: 0 valid, 0 rejected, quota 1.00000
 $ advance 7 --id a1
@@ -163,12 +134,12 @@ fn an_order_stops_whole_at_its_database(rt: HostRuntime) -> Result<(), Fail> {
 
 #[test]
 fn a_count_stops_whole_at_its_log(rt: HostRuntime) -> Result<(), Fail> {
-    stop_orders(&rt, POLLED_FOR_ONE, TO_DECLARATION, File::Log)
+    stop_orders(&rt, POLLING, TO_DECLARATION, File::Log)
 }
 
 #[test]
 fn a_count_stops_whole_at_its_database(rt: HostRuntime) -> Result<(), Fail> {
-    stop_orders(&rt, POLLED_FOR_ONE, TO_DECLARATION, File::Database)
+    stop_orders(&rt, POLLING, TO_DECLARATION, File::Database)
 }
 
 /// A batch of as many papers as one may have.
@@ -224,4 +195,53 @@ fn a_keying_over_http_stops_whole_at_its_log(rt: HostRuntime) -> Result<(), Fail
 #[test]
 fn a_keying_over_http_stops_whole_at_its_database(rt: HostRuntime) -> Result<(), Fail> {
     stop_a_client(&rt, File::Database)
+}
+
+/// What a client of a closed office is told.
+const CLOSED_ANSWER: &str =
+    "HTTP/1.1 503 Service Unavailable\r\nContent-Type: application/json\r\nContent-Length: 13\r\nConnection: close\r\n\r\n{\"fault\":104}";
+
+/// Where a store stopped under two clients who key in turn.
+enum Stop {
+    AtTheOpening,
+    AtTheFirst,
+    BehindTheFirst,
+}
+
+/// Two clients key over disks whose log stops after so many calls. Where the first is told of the stop, the
+/// second is told that the office is closed.
+fn stop_twice(rt: &(impl Abort + AllocGlobal), disks: &Disks, calls: u64) -> Result<Stop, Fail> {
+    let clients = [Client::whole(KEYING), Client::whole(KEYING)];
+    let stopping = disks.copied(rt.alloc(), File::Log, calls)?;
+    let (said, _) = stopping.play(rt.alloc(), &[Step::Serve(&clients)])?;
+    let Some(said) = said.first() else {
+        return Ok(Stop::AtTheOpening);
+    };
+    let (_, out, _) = said.told();
+    if out.starts_with(KEYED) {
+        return Ok(Stop::BehindTheFirst);
+    }
+    let Some(second) = out.strip_prefix(STOPPED_ANSWER) else {
+        assert_eq!(rt; said.told(), STOPPED);
+        return Ok(Stop::AtTheOpening);
+    };
+    assert_eq!(rt; second, CLOSED_ANSWER);
+    Ok(Stop::AtTheFirst)
+}
+
+#[test]
+fn a_closed_office_says_so(rt: HostRuntime) -> Result<(), Fail> {
+    let disks = begun(&rt)?;
+    let mut met = false;
+    for calls in 0..CALLS {
+        match stop_twice(&rt, &disks, calls)? {
+            Stop::AtTheOpening => {}
+            Stop::AtTheFirst => met = true,
+            Stop::BehindTheFirst => {
+                assert!(rt; met, "the store never stopped under a client");
+                return Ok(());
+            }
+        }
+    }
+    Err(Fail::from("no run was long enough"))
 }

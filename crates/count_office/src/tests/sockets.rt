@@ -34,3 +34,15 @@ fn connections_are_answered_in_turn(rt: HostRuntime) -> Result<(), Fail> {
     assert_eq!(rt; received(&rt, second)?.as_str(), KEYED);
     Ok(())
 }
+
+#[test]
+fn a_silent_connection_is_let_go(rt: HostRuntime) -> Result<(), Fail> {
+    let disks = begun(&rt)?;
+    let listener = TcpListener::bind(&rt, "127.0.0.1:0")?;
+    let silent = TcpStream::connect(&rt, listener.local_addr()?)?;
+    let second = connected(&rt, &listener, KEYING)?;
+    disks.hear(&rt, &[(Step::Listen(&listener, 2), (0, "Ok(())", ""))])?;
+    assert_eq!(rt; received(&rt, silent)?.as_str(), "");
+    assert_eq!(rt; received(&rt, second)?.as_str(), KEYED);
+    Ok(())
+}

@@ -12,7 +12,7 @@ use std::alloc::{AllocError, Global};
 use std::net::TcpListener;
 use std::test::Fail;
 use votes::{Counted, Sink};
-use wire::serve_one;
+use wire::{Served, serve_one};
 
 /// One step of a script.
 #[derive(Clone, Copy, Debug)]
@@ -30,8 +30,8 @@ pub enum Step<'a> {
     /// The office opened, and a client answered that sends these bytes; what it took stands as the output,
     /// and how the connection ended as the error output.
     Ask(&'a [u8]),
-    /// The same of a client whose connection may break.
-    Serve(Client<'a>),
+    /// The same of clients in turn, whose connections may break.
+    Serve(&'a [Client<'a>]),
     /// The office opened, and so many connections answered; how that ended stands as the output.
     Listen(&'a TcpListener, u32),
     /// Statements, whatever is in the database.
@@ -63,7 +63,7 @@ pub type Case<'a> = (Step<'a>, Told<'a>);
 pub const STOPPED: Told<'static> = (3, "", "fault 102: store\n");
 
 /// What a client is told then.
-const STOPPED_ANSWER: &str =
+pub const STOPPED_ANSWER: &str =
     "HTTP/1.1 503 Service Unavailable\r\nContent-Type: application/json\r\nContent-Length: 13\r\nConnection: close\r\n\r\n{\"fault\":102}";
 
 /// What a step printed.
@@ -178,29 +178,60 @@ fn work<S: Alter + Drop>(
     Ok((Said::quietly(alloc, text), conn))
 }
 
-fn serve<S: Alter + Drop>(
+/// Answers a client: what it took, and how its connection ended.
+fn answer<S: Alter + Drop>(
     alloc: Global,
-    conn: Connection<S>,
-    client: Client<'_>,
-) -> Result<(Said, Connection<S>), Fail> {
-    let mut office = match Office::open_from(alloc, conn) {
-        Ok(office) => office,
-        Err((_, conn)) => {
-            let (status, out, err) = STOPPED;
-            let out = String::from_str(alloc, out)?;
-            let err = String::from_str(alloc, err)?;
-            return Ok((Said { status, out, err }, conn));
-        }
-    };
+    office: &mut Office<S>,
+    client: &Client<'_>,
+) -> Result<(String, Served), Fail> {
     let mut reader = Counted::new(client.sending());
     let mut taking = client.taking(alloc);
     let served = {
         let mut writer = Counted::new(&mut taking);
-        serve_one(alloc, &mut reader, &mut writer, &mut office)
+        serve_one(alloc, &mut reader, &mut writer, office)
     };
+    Ok((taking.text()?, served))
+}
+
+/// Answers clients in turn: all that they took, and how each connection ended.
+fn answer_all<S: Alter + Drop>(
+    alloc: Global,
+    office: &mut Office<S>,
+    clients: &[Client<'_>],
+) -> Result<(String, String), Fail> {
+    let mut out = String::new(alloc);
+    let mut err = String::new(alloc);
+    for client in clients {
+        let (taken, served) = answer(alloc, office, client)?;
+        out.push_str(taken.as_str())?;
+        write!(err, "{served:?}")?;
+    }
+    Ok((out, err))
+}
+
+fn serve<S: Alter + Drop>(
+    alloc: Global,
+    conn: Connection<S>,
+    clients: &[Client<'_>],
+) -> Result<(Said, Connection<S>), Fail> {
+    let mut office = match Office::open_from(alloc, conn) {
+        Ok(office) => office,
+        Err((fault, conn)) => {
+            let out = String::new(alloc);
+            let err = format!(in alloc; "fault {}: {}\n", fault.number(), fault.text())?;
+            return Ok((
+                Said {
+                    status: 3,
+                    out,
+                    err,
+                },
+                conn,
+            ));
+        }
+    };
+    let told = answer_all(alloc, &mut office, clients);
     let conn = office.into_connection();
-    let out = taking.text()?;
-    let err = format!(in alloc; "{served:?}")?;
+    let (out, err) = told?;
     Ok((
         Said {
             status: 0,
@@ -273,8 +304,8 @@ fn done<S: Alter + Drop>(
         }
         Step::List(requests) => list(alloc, conn, requests),
         Step::Work(clerk) => work(alloc, conn, clerk),
-        Step::Ask(sends) => serve(alloc, conn, Client::whole(sends)),
-        Step::Serve(client) => serve(alloc, conn, client),
+        Step::Ask(sends) => serve(alloc, conn, &[Client::whole(sends)]),
+        Step::Serve(clients) => serve(alloc, conn, clients),
         Step::Listen(listener, connections) => listen(alloc, conn, listener, connections),
         Step::Change(statements) => {
             conn.execute_batch(statements)?;

@@ -254,6 +254,10 @@ const NO_ORDERS: [(&str, &str, &str); 18] = [
 fn words_that_are_no_order_get_help(rt: HostRuntime) -> Result<(), Fail> {
     let text = read(rt.alloc(), &[])?;
     assert!(rt; text.as_str().starts_with("2 Runs the office"), "{text}");
+    assert!(rt;
+        text.as_str().contains("Usage: count-office DB <COMMAND>"),
+        "{text}"
+    );
     for (line, beginning, within) in NO_ORDERS {
         let words: Vec<&str> = line.split(' ').collect(rt.alloc())?;
         let text = read(rt.alloc(), words.as_slice())?;
