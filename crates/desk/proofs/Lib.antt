@@ -5,3 +5,5 @@ pub mod PageLemmas
 pub mod SentLemmas
 pub mod KeptLemmas
 pub mod ServedLemmas
+pub mod WordsRefused
+pub mod FaultsRead

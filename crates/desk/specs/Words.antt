@@ -1,12 +1,16 @@
 -- What `clap` takes for the words of an order, and the order that its matches mean, by the table of orders.
-use Rattle.std.specs.Prelude.{ℕ, Bool, true, false, List, [], ◌∷◌, Option, Some, None, pos, codes, map, find, is_none, option_map, unwrap_or}
+use Rattle.std.specs.Prelude.{◌≡◌, ◌==◌, ⊤, ℕ, Bool, true, false, List, [], ◌∷◌, Option, Some, None, pos, codes, map, find, is_none, option_map, unwrap_or}
 use Rattle.std.specs.Option.{option_map_or}
 use Rattle.std.specs.List.{list_any}
 use Rattle.std.specs.Str.{bytes_eq}
-use Rattle.clap.specs.Words.{App, Row, Rule, Text, first_of, new_app, new_rule, one_of, with_rule, with_subcommand}
+use Rattle.clap.specs.Words.{App, Kinds, Row, Rule, Text, fault_of, first_of, new_app, new_rule, one_of, with_rule, with_subcommand}
 use Rattle.clap.specs.Simple.{on_top}
 use Rattle.clap.specs.declared.builder.value_parser.ValueParser.{ValueParser}
 use Rattle.clap.specs.declared.builder.value_parser.ValueParser.TheVariants as parser
+use Rattle.clap.specs.declared.error.kind.ErrorKind.{ErrorKind}
+use Rattle.clap.specs.declared.error.kind.ErrorKind.TheVariants.{DisplayHelp}
+use Rattle.desk.specs.declared.words.WordsFault.{WordsFault}
+use Rattle.desk.specs.declared.words.WordsFault.TheVariants as words_fault
 use Rattle.desk.specs.declared.table.Kind.{Kind}
 use Rattle.desk.specs.declared.table.Kind.TheVariants as kind
 use Rattle.desk.specs.Numbers.{number_of}
@@ -116,3 +120,20 @@ is_bad_verdict (judged o) = is_none o
 abbrev pub has_bad_verdict : Option (Text × List Value) → Bool
 has_bad_verdict None = false
 has_bad_verdict (Some said) = list_any is_bad_verdict said.1
+
+-- ---- words that are no order
+
+-- what `clap` first finds wrong with the words; nothing where it takes them
+abbrev pub wrong_with : List Text → Kinds
+wrong_with words = fault_of office_words words
+
+-- the status that words end with which ask for help or are not understood
+abbrev pub status_of_kind : ErrorKind → ℕ
+status_of_kind DisplayHelp = 0
+status_of_kind _ = 2
+
+-- what is told of words, by what is wrong with them: a text with that status; or, where nothing is, that a verdict says none
+abbrev pub IsToldOf : Kinds → WordsFault → Type 0
+IsToldOf kinds words_fault.Memory = ⊤
+IsToldOf kinds words_fault.Verdict = kinds ≡ []
+IsToldOf kinds (words_fault.Words text status) = list_any (λ kind. status_of_kind kind == status) kinds ≡ true

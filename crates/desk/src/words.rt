@@ -1,10 +1,10 @@
 //! The words of the command line, read to one order.
 
-ghost use Rattle.std.specs.Prelude.{◌≡◌, ◌⊎◌, true, false, Some, map, IfOk, IfErr};
-ghost use Rattle.clap.specs.Words.{app_of, subcommand_of, kind_of, takes, with_rule, with_subcommand};
+ghost use Rattle.std.specs.Prelude.{◌≡◌, ◌⊎◌, true, false, [], Some, map, IfOk, IfErr};
+ghost use Rattle.clap.specs.Words.{HasKind, Kinds, app_of, subcommand_of, kind_of, takes, with_rule, with_subcommand};
 ghost use Rattle.clap.specs.declared.builder.command.Command.TheViews.{out-Command as fields_of};
 ghost use Rattle.desk.specs.Orders.{entry_of, told};
-ghost use Rattle.desk.specs.Words.{has_bad_verdict, id_rule, meaning, number_rule, office_words, order_words, rule_of_kind, start_words, text_rule, with_orders};
+ghost use Rattle.desk.specs.Words.{IsToldOf, has_bad_verdict, id_rule, meaning, number_rule, office_words, order_words, rule_of_kind, start_words, status_of_kind, text_rule, with_orders, wrong_with};
 
 use crate::matched::{NoOrder, order_in};
 use crate::orders::Order;
@@ -181,19 +181,30 @@ fn office_command<'a>(alloc: Global) -> Result<Command<'a>, AllocError>
     with_orders(alloc, named(start_command(alloc))?, entries())
 }
 
-fn refused(alloc: Global, error: &Error) -> WordsFault
-    ensures { kind_of error.now ≡ ErrorKind.OutOfMemory → result ≡ WordsFault.Memory }
+/// The status that words end with which ask for help or are not understood.
+fn status_of(kind: ErrorKind) -> u8
+    ensures { result ≡ status_of_kind kind }
 {
-    if error.kind() == ErrorKind::OutOfMemory {
+    match kind {
+        ErrorKind::DisplayHelp => 0,
+        _ => 2,
+    }
+}
+
+/// What is told of words that `clap` doesn't take.
+fn refused(alloc: Global, error: &Error) -> WordsFault
+    ensures memory { kind_of error.now ≡ ErrorKind.OutOfMemory → result ≡ WordsFault.Memory }
+    ensures denies { (kinds : Kinds) → HasKind kinds error.now → IsToldOf kinds result }
+{
+    let kind = error.kind();
+    if kind == ErrorKind::OutOfMemory {
         return WordsFault::Memory;
     }
-    let status = if error.kind() == ErrorKind::DisplayHelp {
-        0
-    } else {
-        2
-    };
     match format!(in alloc; "{error}") {
-        Ok(text) => WordsFault::Words { text, status },
+        Ok(text) => WordsFault::Words {
+            text,
+            status: status_of(kind),
+        },
         Err(_) => WordsFault::Memory,
     }
 }
@@ -202,7 +213,11 @@ fn refused(alloc: Global, error: &Error) -> WordsFault
 ///
 /// The order and its values are those that `clap` matches in the words, read by the table of orders.
 /// Words that `clap` takes are refused for want of memory, and for a verdict whose word says none, alone.
+/// Words that it doesn't take are no order: they are told with status 0 where what is wrong with them first
+/// is that they ask for help, and else with 2, or want of memory is told.
 pub fn order<'a>(alloc: Global, words: &'a [&'a str]) -> Result<Order<'a>, WordsFault>
+    ensures accepts { IfOk result (λ _. wrong_with (map (λ s. s.now) words.entry.now) ≡ []) }
+    ensures denies { IfErr result (IsToldOf (wrong_with (map (λ s. s.now) words.entry.now))) }
     ensures ok { IfOk result (λ o. meaning (subcommand_of office_words (map (λ s. s.now) words.entry.now)) ≡ Some (told o)) }
     ensures err { takes office_words (map (λ s. s.now) words.entry.now) ≡ true → IfErr result (λ e. (e ≡ WordsFault.Memory)
         ⊎ ((e ≡ WordsFault.Verdict) × (has_bad_verdict (meaning (subcommand_of office_words (map (λ s. s.now) words.entry.now))) ≡ true))) }

@@ -2,7 +2,26 @@ use Rattle.std.proofs.Common.{◌∙◌, refl, sym, ap, map, inr, Err}
 use Rattle.std.proofs.lemmas.Bool.{false≢true}
 use Rattle.desk.specs.Words.{has_bad_verdict, meaning}
 use Rattle.desk.proofs.OrdersNamed.{matches_are_the_words, matches_name_an_order}
+use Rattle.desk.proofs.WordsRefused.{refused_is_wrong, taken_is_right}
 use Rattle.desk.proofs.words.order.Goals as goal
+
+pub returns-in-Err-try_get_matches_from-clause-denies : goal.returns-in-Err-try_get_matches_from-clause-denies
+returns-in-Err-try_get_matches_from-clause-denies c =
+    let parse = c.in-Err-try_get_matches_from in
+    c.refused.ensures.denies _ (refused_is_wrong c.in-Ok.command (map (λ s. s.now) c.args.words.now) parse.error c.in-Ok.ensures.app parse.ensures.kinds)
+
+pub returns-in-Ok-order_in-clause-accepts : goal.returns-in-Ok-order_in-clause-accepts
+returns-in-Ok-order_in-clause-accepts c = taken_is_right c.in-Ok.command (map (λ s. s.now) c.args.words.now) c.in-Ok.ensures.app c.in-Ok-try_get_matches_from.ensures.kinds
+
+pub returns-in-Err-BadVerdict-clause-denies : goal.returns-in-Err-BadVerdict-clause-denies
+returns-in-Err-BadVerdict-clause-denies c = taken_is_right c.in-Ok.command (map (λ s. s.now) c.args.words.now) c.in-Ok.ensures.app c.in-Ok-try_get_matches_from.ensures.kinds
+
+pub returns-clause-denies : goal.returns-clause-denies
+returns-clause-denies c =
+    let parse = c.in-Ok-try_get_matches_from in
+    let known = matches_name_an_order c.in-Ok.command parse.matches (map (λ s. s.now) c.args.words.now) c.in-Ok.ensures.app c.in-Ok.ensures.local
+    parse.ensures.matches parse.ensures.parsed in
+    absurd (false≢true (sym (c.in-Err-Unknown.ensures.unknown (ap Err c.in-Err-Unknown.field-0-is)) ∙ known))
 
 pub returns-in-Ok-order_in-clause-ok : goal.returns-in-Ok-order_in-clause-ok
 returns-in-Ok-order_in-clause-ok c =

@@ -1,0 +1,45 @@
+-- The status of words that `clap` doesn't take.
+use Rattle.std.proofs.Common.{◌≡◌, ◌∙◌, ◌⊎◌, ℕ, List, [], ◌∷◌, true, refl, sym, ap, inl, inr}
+use Rattle.std.specs.Prelude.{◌==◌}
+use Rattle.std.specs.List.{list_any}
+use Rattle.std.proofs.Math.Bool.{or-true}
+use Rattle.std.proofs.lemmas.Bool.{eq-eqb}
+use Rattle.clap.specs.Words.{HasKind, IsAmong, Kinds, Text, app_of, fault_of, is_simple_and_free}
+use Rattle.clap.specs.declared.builder.command.Command.{Command}
+use Rattle.clap.specs.declared.error.Error.{Error}
+use Rattle.clap.specs.declared.error.kind.ErrorKind.{ErrorKind}
+use Rattle.clap.specs.declared.error.kind.ErrorKind.TheVariants as kind
+use Rattle.clap.proofs.OnLiterals.{clap_on_literals}
+use Rattle.desk.specs.Orders.{orders}
+use Rattle.desk.specs.Words.{office_words, status_of_kind, wrong_with}
+
+-- a kind is one of some kinds, and so its status is that of one of them
+pub among_gives_status : (k : ErrorKind) (kinds : Kinds) (status : ℕ) → status ≡ status_of_kind k → IsAmong k kinds
+    → list_any (λ x. status_of_kind x == status) kinds ≡ true
+among_gives_status k [] status is none = absurd none
+among_gives_status k (x ∷ xs) status is (inl same) = rw (eq-eqb (status_of_kind x) status (ap status_of_kind (sym same) ∙ sym is)) refl
+among_gives_status k (x ∷ xs) status is (inr later) = rw (among_gives_status k xs status is later) (or-true _)
+
+-- and so is that of a kind that isn't want of memory
+pub refusal_gives_status : (k : ErrorKind) (kinds : Kinds) (status : ℕ) → status ≡ status_of_kind k → (k ≡ kind.OutOfMemory → ⊥) → (k ≡ kind.OutOfMemory) ⊎ IsAmong k kinds
+    → list_any (λ x. status_of_kind x == status) kinds ≡ true
+refusal_gives_status k kinds status is other (inl memory) = absurd (other memory)
+refusal_gives_status k kinds status is other (inr among) = among_gives_status k kinds status is among
+
+office_is_free : is_simple_and_free office_words ≡ true
+unfolding office_words orders clap_on_literals
+office_is_free = refl
+
+-- nothing is wrong with words that the office's command takes,
+pub taken_is_right : (c : Command) (words : List Text) → app_of c ≡ office_words → (is_simple_and_free (app_of c) ≡ true → fault_of (app_of c) words ≡ [])
+    → wrong_with words ≡ []
+taken_is_right c words app free = ap (λ a. fault_of a words) (sym app) ∙ free (ap is_simple_and_free app ∙ office_is_free)
+
+same_kinds : (one two : Kinds) (e : Error) → one ≡ two → HasKind one e → HasKind two e
+same_kinds one two e same has = rw same at has
+
+-- and with words that it refuses that is wrong of which it tells
+pub refused_is_wrong : (c : Command) (words : List Text) (e : Error) → app_of c ≡ office_words
+    → (is_simple_and_free (app_of c) ≡ true → HasKind (fault_of (app_of c) words) e) → HasKind (wrong_with words) e
+refused_is_wrong c words e app free =
+    same_kinds (fault_of (app_of c) words) (wrong_with words) e (ap (λ a. fault_of a words) app) (free (ap is_simple_and_free app ∙ office_is_free))
