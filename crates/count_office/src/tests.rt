@@ -20,6 +20,7 @@ mod nominations;
 mod order_stops;
 mod orders;
 mod outputs;
+mod progress;
 mod sockets;
 mod statements;
 mod stops;

@@ -20,7 +20,7 @@ use Rattle.store.specs.Openings.{IsBlank, IsLeftAt}
 use Rattle.store.proofs.ReopenLemmas.{left_holds}
 use Rattle.office.specs.Answers.{Told, again, done, no, told_of}
 use Rattle.office.proofs.RunLemmas.{beginning}
-use Rattle.desk.specs.Errands.{File, IsAnswered, IsAnswerAbove, IsEndOf, IsKept, IsPlain, IsReplyAbove, IsRun, IsSent, IsStopped, Performs, Sends, SendsSome, TellsAnswers}
+use Rattle.desk.specs.Errands.{File, IsAnswered, IsAnswerAbove, IsEndOf, IsKept, IsPlain, IsReplyAbove, IsRun, IsSent, IsStopped, Performs, Sends, SendsSome, TellsAnswers, TellsFault, TellsOther}
 use Rattle.desk.specs.Pages.{IsShown, Outputs, Page, empty_page, page_told, printed, replied}
 use Rattle.desk.specs.Requests.{Errand, Work, making, running, serving}
 
@@ -141,16 +141,33 @@ sends_some : (s : OfficeState) (errand : Errand) (file : File) (requests : List 
 sends_some s errand file [] sends = tt
 sends_some s errand file (r ∷ rs) sends = sends
 
+-- a fault is told where nothing was sent
+fault_other : (s : OfficeState) (work : Work) (file : File) (page : Page) → TellsFault page → TellsOther s work file page
+fault_other s making file page fault = fault
+fault_other s (serving port connections) file page fault = inr fault
+fault_other s (running errand) file page fault = inr fault
+
+-- where there was nothing to send, nothing is told
+sent_other : (broke : Bool) (s : OfficeState) (errand : Errand) (file : File) (requests : List Request) (page : Page) (closed : Bool) (st : State) → Sends s errand file requests → IsSent broke s requests page closed st
+    → requests ≡ [] → TellsOther s (running errand) file page
+sent_other broke s errand file [] page closed st sends sent none = inl (inl (sends, sent.0))
+sent_other broke s errand file (r ∷ rs) page closed st sends sent none = absurd (cc none)
+
 -- nothing was sent, and a stop leaves the state as it was
-nothing_kept : (earlier : List Request) (work : Work) (file : File) (page : Page) (status : ℕ) (st : State) → LeavesState st (λ x. x ≡ after empty_office earlier) → IsKept earlier work file page status st
-nothing_kept earlier work file page status st leaves = record {
+nothing_kept : (earlier : List Request) (work : Work) (file : File) (page : Page) (status : ℕ) (st : State) → TellsOther (after empty_office earlier) work file page → LeavesState st (λ x. x ≡ after empty_office earlier)
+    → IsKept earlier work file page status st
+nothing_kept earlier work file page status st tells leaves = record {
   requests = [];
   sends = tt;
   answered = 0;
   told = λ some. absurd (some refl);
+  other = λ none. tells;
   leaves = λ trees may. let it = leaves trees may in (it.0, beginning earlier [] 0 0 (omega arith) (omega arith) (omega arith) it.0 it.1, it.2);
   all = λ zero. refl;
 }
+
+stopped_tells : (s : OfficeState) (page : Page) (closed : Bool) (st : State) → IsStopped s page closed st → TellsFault page
+stopped_tells s page closed st stopped = (stopped.0, stopped.1)
 
 stopped_leaves : (s : OfficeState) (page : Page) (closed : Bool) (st : State) → IsStopped s page closed st → LeavesState st (λ x. x ≡ s)
 stopped_leaves s page closed st (fault, is, inl kept) = kept.open_at.at.leaves
@@ -165,17 +182,21 @@ run_kept earlier errand file broke old new page status closed st shown (inl sent
       sends = sends_some (after empty_office earlier) errand file sent.0 sent.1;
       answered = it.0;
       told = λ some. it.4;
+      other = sent_other broke (after empty_office earlier) errand file sent.0 page closed st sent.1 sent.2;
       leaves = λ trees may. let x = it.2 trees may in (x.0, beginning earlier sent.0 it.0 x.1.0 x.1.1 x.1.2 x.1.3 x.0 x.1.4, x.2);
       all = λ zero. let whole = shown_zero broke old new page status shown zero in it.3 whole.1 whole.0;
     }
-run_kept earlier errand file broke old new page status closed st shown (inr (inl told)) = nothing_kept earlier (running errand) file page status st told.1.at.leaves
+run_kept earlier errand file broke old new page status closed st shown (inr (inl told)) =
+    nothing_kept earlier (running errand) file page status st (inl (inr told.0)) told.1.at.leaves
 run_kept earlier errand file broke old new page status closed st shown (inr (inr stopped)) =
-    nothing_kept earlier (running errand) file page status st (stopped_leaves (after empty_office earlier) page closed st stopped)
+    let tells = stopped_tells (after empty_office earlier) page closed st stopped in
+    nothing_kept earlier (running errand) file page status st (inr tells) (stopped_leaves (after empty_office earlier) page closed st stopped)
 
 -- what is kept of an order
 pub kept : (earlier : List Request) (work : Work) (file : File) (broke : Bool) (old new : Outputs) (page : Page) (status : ℕ) (st : State) → IsShown broke old new page status
     → Performs broke (after empty_office earlier) work file page st → IsKept earlier work file page status st
-kept earlier work file broke old new page status st shown (inr unopened) = nothing_kept earlier work file page status st unopened.3
+kept earlier work file broke old new page status st shown (inr unopened) =
+    nothing_kept earlier work file page status st (fault_other (after empty_office earlier) work file page (unopened.0, unopened.1)) unopened.3
 kept earlier making file broke old new page status st shown (inl it) = absurd it
-kept earlier (serving port connections) file broke old new page status st shown (inl it) = nothing_kept earlier (serving port connections) file page status st it.1
+kept earlier (serving port connections) file broke old new page status st shown (inl it) = nothing_kept earlier (serving port connections) file page status st (inl it.0) it.1
 kept earlier (running errand) file broke old new page status st shown (inl it) = run_kept earlier errand file broke old new page status it.0 st shown it.1

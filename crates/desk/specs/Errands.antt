@@ -187,11 +187,21 @@ IsAnswerAbove (done reply) others P page = (rest : Page) × (page ≡ below (rep
 IsAnswerAbove (again reply) others P page = (rest : Page) × (page ≡ below (replied reply).out rest) × P rest
 IsAnswerAbove (no why) others P page = (others ≡ 0) × (page ≡ refused why)
 
+-- the page tells a fault of the office
+abbrev pub TellsFault : Page → Type 0
+TellsFault page = (fault : Fault) × (page ≡ failed (Office fault))
+
 -- the page tells the answers to the first so many requests, each that of the machine where its turn comes, and behind them nothing or a fault
 abbrev pub TellsAnswers : OfficeState → List Request → ℕ → Page → Type 0
-TellsAnswers s requests zero page = (page ≡ empty_page) ⊎ ((fault : Fault) × (page ≡ failed (Office fault)))
+TellsAnswers s requests zero page = (page ≡ empty_page) ⊎ TellsFault page
 TellsAnswers s [] (suc others) page = ⊥
 TellsAnswers s (r ∷ rs) (suc others) page = IsAnswerAbove (told_of (step_of s r)) others (TellsAnswers (after_one s r) rs others) page
+
+-- where nothing was sent, the page tells that there was nothing to send, what was asked or why nothing was sent, or a fault
+abbrev pub TellsOther : OfficeState → Work → File → Page → Type 0
+TellsOther s making file page = TellsFault page
+TellsOther s (serving port connections) file page = (page ≡ failed Output) ⊎ TellsFault page
+TellsOther s (running errand) file page = ((Sends s errand file [] × (page ≡ empty_page)) ⊎ IsTold s errand file page) ⊎ TellsFault page
 
 -- Of the requests of an order so many were answered, as the page tells; where none was sent, it tells something else. Whatever a stop leaves
 -- is the state after the accepted requests of a beginning, which contains every earlier one, every answered one, and at most one more; with
@@ -201,5 +211,6 @@ pub record IsKept (earlier : List Request) (work : Work) (file : File) (page : P
   pub sends : SendsSome (after empty_office earlier) work file requests
   pub answered : ℕ
   pub told : requests ≢ [] → TellsAnswers (after empty_office earlier) requests answered page
+  pub other : requests ≡ [] → TellsOther (after empty_office earlier) work file page
   pub leaves : LeavesState st (IsAfterBeginning earlier requests answered)
   pub all : ends ≡ 0 → answered ≡ length requests

@@ -213,7 +213,7 @@ const ORDERS: [Entry; 18] = [
     Entry {
         name: "lot",
         words: &[WARD, STAGE, CANDIDATE, ID],
-        help: "Records whom a lot named that was drawn for a stage:\ncount-office town.db lot 7 3 4 --id l1",
+        help: "Records the candidate whom the lot for a stage named:\ncount-office town.db lot 7 3 4 --id l1",
     },
     Entry {
         name: "declare",

@@ -1,5 +1,5 @@
 -- What an answer says, from what was decided.
-use Rattle.std.proofs.Common.{◌≡◌, ◌⊎◌, inl, inr, ℕ, List, Bool, true, false, Result, Ok, Err, IfOk, OnOk, sym, ap, subst, ◌∙◌, true≢false}
+use Rattle.std.proofs.Common.{◌≡◌, ◌⊎◌, inl, inr, ℕ, List, [], Bool, true, false, Result, Ok, Err, IfOk, OnOk, sym, ap, subst, ◌∙◌, true≢false}
 use Rattle.sqlite.specs.State.{State}
 use Rattle.register.specs.Offices.{OfficeState}
 use Rattle.register.specs.declared.command.Command.{Command}
@@ -32,7 +32,7 @@ handled_err s o x f closed st same is_closed cause inside leaves = inr (record {
 
 -- what was accepted is kept at the state that it led to
 kept_there : (s : OfficeState) (actor : ℕ) (id : List ℕ) (command : Command) (o : Outcome) → is_accepted o ≡ true → IsKeptAgain actor id command o → step (state_after s o) actor id command ≡ kept (reply_of o)
-kept_there s actor id command (accepted next reply) h again = again
+kept_there s actor id command (accepted next reply) h again = again []
 kept_there s actor id command (kept reply) h again = absurd (true≢false (sym h))
 kept_there s actor id command (refused why) h again = absurd (true≢false (sym h))
 

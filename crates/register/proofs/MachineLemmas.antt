@@ -1,5 +1,5 @@
 -- Each step leads from a state to a state, and an accepted request that comes again is kept.
-use Rattle.std.proofs.Common.{◌≡◌, ℕ, Bool, true, false, cond, List, Option, Some, None, refl, ap, ◌∙◌}
+use Rattle.std.proofs.Common.{◌≡◌, ℕ, Bool, true, false, cond, List, [], ◌∷◌, Option, Some, None, string_bytes, refl, ap, ◌∙◌}
 use Rattle.std.specs.Ordering.{nat_cmp, ordering_then}
 use Rattle.std.specs.Cmp.Lexicographic.{slice_cmp}
 use Rattle.std.specs.Str.{bytes_eq}
@@ -8,17 +8,18 @@ use Rattle.std.proofs.lemmas.Slice.Eq.{bytes_eq-Decides}
 use Rattle.register.specs.declared.refusal.Reason.{Reason}
 use Rattle.register.specs.declared.refusal.Reason.TheVariants.{BadId, IdUsed}
 use Rattle.register.specs.declared.command.Command.{Command}
+use Rattle.register.specs.declared.command.Request.{Request}
 use Rattle.register.specs.declared.command.Command.TheVariants.{Ward, Candidate, Batch, Keying, Verdict, Count}
 use Rattle.register.specs.declared.counts.CountCommand.TheVariants.{Seal, Advance, Lot, Declare}
 use Rattle.register.specs.Reasons.{first_reason}
 use Rattle.register.specs.Ranges.{is_id}
 use Rattle.register.specs.Offices.{OfficeState, ReceiptEntry, receipt_at, entry_at}
 use Rattle.register.specs.Items.{is_receipt, IsState}
-use Rattle.register.specs.Effects.{with_effect, with_receipt}
+use Rattle.register.specs.Effects.{EffectEntry, with_effect, with_receipt}
 use Rattle.register.specs.Parts.{PartEntries}
-use Rattle.register.specs.Machine.{keeps, refuses, part_of, objections, subject_of, reply_to, effect_of, receipt_for, judged, answered, decided, ruling_at, outcome_at, step, state_after, IsKeptAgain}
+use Rattle.register.specs.Machine.{keeps, refuses, part_of, objections, subject_of, reply_to, effect_of, receipt_for, judged, answered, decided, ruling_at, outcome_at, step, state_after, after, after_one, IsKeptAgain}
 use Rattle.register.specs.Views.{IsToldAlike, IsAdvanced}
-use Rattle.register.proofs.MapLemmas.{found_put}
+use Rattle.register.proofs.MapLemmas.{found_put, found_put_new}
 use Rattle.register.proofs.ItemLemmas.{IsFit, receipt_total, receipt_stays, same_receipts}
 use Rattle.register.proofs.WardLemmas.{ward_fits}
 use Rattle.register.proofs.CandidateLemmas.{candidate_fits}
@@ -51,10 +52,37 @@ pub step_on : (s : OfficeState) (actor : ℕ) (id : List ℕ) (command : Command
 unfolding step
 step_on s actor id command receipt part same_receipt same_part = ap (outcome_at s) (ruling_on s actor id command receipt part same_receipt same_part)
 
+-- no effect changes which receipt is found
+same_found : (effect : EffectEntry) (s : OfficeState) (actor : ℕ) (id : List ℕ) → receipt_at (with_effect effect s) actor id ≡ receipt_at s actor id
+same_found effect s actor id = ap (entry_at (λ (r : ReceiptEntry). ordering_then (nat_cmp actor r.actor) (slice_cmp nat_cmp id r.id))) (same_receipts effect s)
+
+-- a receipt lasts
+module _ (s : OfficeState) (actor : ℕ) (id : List ℕ) (receipt : ReceiptEntry) (found : receipt_at s actor id ≡ Some receipt) where
+  judged_lasts : (other : ℕ) (key : List ℕ) (command : Command) → receipt_at s other key ≡ None → (o : Option Reason)
+      → receipt_at (state_after s (outcome_at s (judged other key command (part_of s other command) o))) actor id ≡ Some receipt
+  judged_lasts other key command new (Some why) = found
+  judged_lasts other key command new None =
+      let effect = effect_of other command (part_of s other command) in
+      found_put_new receipt_total (record { actor = actor; id = id; subject = []; reply = [] }) (receipt_for other key command (part_of s other command)) receipt (with_effect effect s).receipts
+      (same_found effect s other key ∙ new) (same_found effect s actor id ∙ found)
+
+  step_lasts : (other : ℕ) (key : List ℕ) (command : Command) → receipt_at (state_after s (step s other key command)) actor id ≡ Some receipt
+  unfolding step decided
+  step_lasts other key command = go (is_id key) (receipt_at s other key) refl
+    where
+      go : (b : Bool) (o : Option ReceiptEntry) → receipt_at s other key ≡ o → receipt_at (state_after s (outcome_at s (cond b (answered other key command o (part_of s other command)) (refuses BadId)))) actor id ≡ Some receipt
+      go false o is = found
+      go true (Some r) is = elim (bytes_eq r.subject (subject_of command)) as (λ b. receipt_at (state_after s (outcome_at s (cond b (keeps r.reply) (refuses IdUsed)))) actor id ≡ Some receipt) [ true ↦ found | false ↦ found ]
+      go true None is = judged_lasts other key command is (first_reason (objections other command (part_of s other command)))
+
+lasts : (s : OfficeState) (actor : ℕ) (id : List ℕ) (receipt : ReceiptEntry) (others : List Request) → receipt_at s actor id ≡ Some receipt → receipt_at (after s others) actor id ≡ Some receipt
+lasts s actor id receipt [] found = found
+lasts s actor id receipt (r ∷ rs) found = lasts (after_one s r) actor id receipt rs (step_lasts s actor id receipt found r.actor (string_bytes r.id) r.command)
+
 module _ (s : OfficeState) (actor : ℕ) (id : List ℕ) (command : Command) where
   -- an actor and an id without a receipt have none after the effect either
   still_new : receipt_at s actor id ≡ None → receipt_at (with_effect (effect_of actor command (part_of s actor command)) s) actor id ≡ None
-  still_new new = ap (entry_at (λ (r : ReceiptEntry). ordering_then (nat_cmp actor r.actor) (slice_cmp nat_cmp id r.id))) (same_receipts (effect_of actor command (part_of s actor command)) s) ∙ new
+  still_new new = same_found (effect_of actor command (part_of s actor command)) s actor id ∙ new
 
   judged_stays : IsState s → is_id id ≡ true → receipt_at s actor id ≡ None → (o : Option Reason) → first_reason (objections actor command (part_of s actor command)) ≡ o
       → IsState (state_after s (outcome_at s (judged actor id command (part_of s actor command) o)))
@@ -77,10 +105,10 @@ module _ (s : OfficeState) (actor : ℕ) (id : List ℕ) (command : Command) whe
   judged_again : is_id id ≡ true → receipt_at s actor id ≡ None → (o : Option Reason) → IsKeptAgain actor id command (outcome_at s (judged actor id command (part_of s actor command) o))
   unfolding step decided
   judged_again good new (Some why) = tt
-  judged_again good new None =
+  judged_again good new None = λ others.
       let receipt = receipt_for actor id command (part_of s actor command) in
       let later = with_effect (effect_of actor command (part_of s actor command)) s in
-      let found : receipt_at (with_receipt receipt later) actor id ≡ Some receipt = found_put receipt_total receipt later.receipts (still_new new) in
+      let found : receipt_at (after (with_receipt receipt later) others) actor id ≡ Some receipt = lasts (with_receipt receipt later) actor id receipt others (found_put receipt_total receipt later.receipts (still_new new)) in
       let same : bytes_eq (subject_of command) (subject_of command) ≡ true = (bytes_eq-Decides (subject_of command) (subject_of command)).1 refl in
       rw good (rw found (rw same refl))
 

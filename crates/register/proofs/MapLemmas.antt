@@ -115,6 +115,19 @@ filter_put {X} cmp p x (y ∷ ys) fails = elim (is_lt (cmp x y)) as (λ b. filte
   | false ↦ ap (λ (zs : List X). cond (p y) (y ∷ zs) zs) (filter_put cmp p x ys fails)
 ]
 
+-- what was found is found still, where the entry that is put in is of a new key
+pub found_put_new : {X : Type 0} {cmp : X → X → Ordering} → IsTotalOrder cmp → (k x y : X) (ys : List X) → entry_at (cmp x) ys ≡ None → entry_at (cmp k) ys ≡ Some y → entry_at (cmp k) (put cmp x ys) ≡ Some y
+found_put_new {X} {cmp} total k x y ys new found = go (cmp k x) refl
+  where
+    alike : ((z : X) → cmp k z ≡ cmp x z) → (zs : List X) → entry_at (cmp k) zs ≡ entry_at (cmp x) zs
+    alike same [] = refl
+    alike same (z ∷ zs) = rw (same z) (ap (λ (o : Option X). cond (is_eq (cmp x z)) (Some z) o) (alike same zs))
+
+    go : (o : Ordering) → cmp k x ≡ o → entry_at (cmp k) (put cmp x ys) ≡ Some y
+    go Less is = found_put_other cmp (cmp k) x ys (ap is_eq is) ∙ found
+    go Equal is = absurd (let bad : Some y ≡ None = sym found ∙ alike (λ z. total.congr k x z is) ys ∙ new in cc bad)
+    go Greater is = found_put_other cmp (cmp k) x ys (ap is_eq is) ∙ found
+
 -- what was there is there still
 pub found_put_too : {X : Type 0} (cmp : X → X → Ordering) (compared : X → Ordering) (x : X) (ys : List X) → is_some (entry_at compared ys) ≡ true → is_some (entry_at compared (put cmp x ys)) ≡ true
 found_put_too cmp compared x [] found = absurd (cc)

@@ -61,7 +61,7 @@ objections actor (Add batch ward size first_clerk second_clerk) part =
 objections actor (Again batch) part =
     objection (not (is_in_range actor (Again batch) part)) NumberOutOfRange ∷ batch_objections part ++ (objection (not (differ part.first part.second)) NoDifference ∷ [])
 
--- the round after the current one; after the last there is none
+-- the round after the current one, at most the last
 abbrev pub next_round : Option BatchEntry → ℕ
 next_round None = 1
 next_round (Some b) = if is_in_last_round b then b.round else b.round + 1

@@ -107,7 +107,7 @@ subject_of (Advance ward) = codes "advance " ++ decimal ward
 subject_of (Lot ward stage candidate) = codes "lot " ++ (decimal ward ++ (codes " " ++ decimal stage))
 subject_of (Declare ward) = codes "declare " ++ decimal ward
 
--- the stage after those done; after the last there is none
+-- the stage after those done, at most the last that a count may have
 abbrev pub next_stage : Option WardEntry → ℕ
 next_stage None = 1
 next_stage (Some w) = if nat_le last_lot_stage w.done then w.done else w.done + 1

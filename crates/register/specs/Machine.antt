@@ -119,12 +119,6 @@ state_after s (accepted next reply) = next
 state_after s (kept reply) = s
 state_after s (refused why) = s
 
--- an accepted request that comes again gets the same reply, and changes nothing more
-abbrev pub IsKeptAgain : ℕ → List ℕ → Command → Outcome → Type 0
-IsKeptAgain actor id command (accepted next reply) = step next actor id command ≡ kept reply
-IsKeptAgain actor id command (kept reply) = ⊤
-IsKeptAgain actor id command (refused why) = ⊤
-
 -- ---- lists of requests
 
 -- whether the request was accepted
@@ -144,6 +138,12 @@ after_one s r = state_after s (step_of s r)
 -- the state after some requests, from the first on
 abbrev pub after : OfficeState → List Request → OfficeState
 after = fold after_one
+
+-- an accepted request that comes again, whatever others came between, gets the same reply, and changes nothing more
+abbrev pub IsKeptAgain : ℕ → List ℕ → Command → Outcome → Type 0
+IsKeptAgain actor id command (accepted next reply) = (others : List Request) → step (after next others) actor id command ≡ kept reply
+IsKeptAgain actor id command (kept reply) = ⊤
+IsKeptAgain actor id command (refused why) = ⊤
 
 -- those of the requests that are accepted, each where its turn comes
 abbrev pub accepted_of : OfficeState → List Request → List Request

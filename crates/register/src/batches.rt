@@ -130,7 +130,7 @@ pub(crate) fn objection_to(actor: u32, command: &BatchCommand, part: &Part) -> O
     }
 }
 
-/// The round after the current one; after the last there is none.
+/// The round after the current one, at most the last.
 fn next_round(batch: &Option<Batch>) -> u32
     ensures { result ≡ next_round (option_map batch_entry batch.now) }
 {

@@ -218,7 +218,7 @@ pub(crate) fn subject_of(alloc: Global, command: &CountCommand) -> Result<String
     }
 }
 
-/// The stage after those done; after the last there is none.
+/// The stage after those done, at most the last that a count may have.
 fn next_stage(ward: &Option<Ward>) -> u32
     ensures { result ≡ next_stage (option_map ward_entry ward.now) }
 {

@@ -85,8 +85,18 @@ $ import-keying 4 12 1 FILE --id k1
 batch 12 round 1 keyed
 $ import-keying 9 12 1 FILE --id k1
 < paper,1,2,3
-< 1,D,,
+< 1,1,,
 batch 12 round 1 keyed
+$ again 12 --id g1
+batch 12 round 2 open
+$ import-keying 4 12 2 FILE --id k2
+< paper,1,2,3
+< 1,D,,
+batch 12 round 2 keyed
+$ import-keying 9 12 2 FILE --id k2
+< paper,1,2,3
+< 1,D,,
+batch 12 round 2 keyed
 $ judge 12 1 reject:3 --id j1
 batch 12 paper 1 rejected 3
 ";
