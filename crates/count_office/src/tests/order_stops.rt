@@ -85,18 +85,8 @@ $ import-keying 4 12 1 FILE --id k1
 batch 12 round 1 keyed
 $ import-keying 9 12 1 FILE --id k1
 < paper,1,2,3
-< 1,1,,
+< 1,D,,
 batch 12 round 1 keyed
-$ again 12 --id g1
-batch 12 round 2 open
-$ import-keying 4 12 2 FILE --id k2
-< paper,1,2,3
-< 1,D,,
-batch 12 round 2 keyed
-$ import-keying 9 12 2 FILE --id k2
-< paper,1,2,3
-< 1,D,,
-batch 12 round 2 keyed
 $ judge 12 1 reject:3 --id j1
 batch 12 paper 1 rejected 3
 ";
@@ -150,6 +140,44 @@ fn a_count_stops_whole_at_its_log(rt: HostRuntime) -> Result<(), Fail> {
 #[test]
 fn a_count_stops_whole_at_its_database(rt: HostRuntime) -> Result<(), Fail> {
     stop_orders(&rt, POLLING, TO_DECLARATION, File::Database)
+}
+
+/// A batch whose two keyings differ.
+const DIFFERING: &str = "$ close 7 --id n1
+ward 7 polled
+$ batch 12 7 1 4 9 --id b1
+batch 12 added
+$ import-keying 4 12 1 FILE --id k1
+< paper,1,2,3
+< 1,1,2,
+batch 12 round 1 keyed
+$ import-keying 9 12 1 FILE --id k1
+< paper,1,2,3
+< 1,2,1,
+batch 12 round 1 keyed
+";
+
+/// A batch that is keyed again.
+fn stop_a_new_round(rt: &(impl Abort + AllocGlobal), file: File) -> Result<(), Fail> {
+    let disks = Disks::lasting(rt.alloc())
+        .follow(rt, NOMINATED)?
+        .follow(rt, DIFFERING)?;
+    let again = (
+        Step::Order(&["DB", "again", "12", "--id", "g1"]),
+        (0, "batch 12 round 2 open\n", ""),
+    );
+    stop_each(rt, disks, again, file)?;
+    Ok(())
+}
+
+#[test]
+fn a_new_round_stops_whole_at_its_log(rt: HostRuntime) -> Result<(), Fail> {
+    stop_a_new_round(&rt, File::Log)
+}
+
+#[test]
+fn a_new_round_stops_whole_at_its_database(rt: HostRuntime) -> Result<(), Fail> {
+    stop_a_new_round(&rt, File::Database)
 }
 
 /// A batch of as many papers as one may have.

@@ -25,6 +25,9 @@ fn the_progress_of_a_long_output_is_told(rt: HostRuntime) -> Result<(), Fail> {
         assert_eq!(rt; watched.failures(), 0);
     }
     assert_eq!(rt; out.text()?.as_str(), lines.as_str());
-    assert_eq!(rt; told.text()?.as_str(), "100 records done\n200 records done\n");
+    assert_eq!(rt;
+        told.text()?.as_str(),
+        "100 records done\n200 records done\n"
+    );
     Ok(())
 }
