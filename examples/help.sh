@@ -20,6 +20,7 @@ source "$(dirname "$(readlink -f "${BASH_SOURCE[0]}")")/play.bash"
     play town.db close 7 --id
     play town.db close 7 8 --id n1
     play town.db close seven --id n1
+    play town.db close $'\xff' --id n1 | LC_ALL=C sed 's/\xff/\\xff/'
     play town.db close 7 --id n1 --id n2
     play town.db ward 7 2 Old Harbour --id w1
     play town.db ward 7 2 -Harbour --id w1

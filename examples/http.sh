@@ -7,7 +7,7 @@ ask() {
     local target=$1 port=$2
     shift 2
     echo "\$ curl ${*:+-d '$2' }$target"
-    curl --silent --show-error --max-time 60 --write-out '\nstatus %{http_code}\n' "$@" "http://127.0.0.1:$port$target"
+    curl --silent --show-error --max-time 60 --write-out '\nstatus %{http_code}, %{content_type}\n' "$@" "http://127.0.0.1:$port$target"
 }
 
 # Serves so many connections on a port that is free, until the commands of a function have been played.
@@ -27,8 +27,17 @@ serve() {
     wait "$server" && echo "the office ends with status 0"
 }
 
+# Tries to serve another office on a port that is taken.
+serve_too() {
+    play other.db serve "$1" 1 | sed "s/ $1 / PORT /"
+}
+
 key() {
     local port=$1 keyed='{"id":"k1","round":1,"papers":["1,2,","D"]}'
+    # a database of no office is told before the port is
+    serve_too "$port"
+    play other.db init
+    serve_too "$port"
     ask /clerks/4/work "$port"
     ask /clerks/4/batches/12/keying "$port" -d "$keyed"
     ask /clerks/4/batches/12/keying "$port" -d "$keyed"
@@ -46,6 +55,10 @@ read_count() {
     ask /wards/7/result "$port"
 }
 
+read_declaration() {
+    ask /wards/7/result "$1"
+}
+
 {
     play town.db init
     play town.db ward 7 1 Harbour --id w1
@@ -60,6 +73,8 @@ read_count() {
     play town.db seal 7 --id s1
     play town.db advance 7 --id n1
     serve 3 read_count
+    play town.db declare 7 --id d1
+    serve 2 read_declaration
 } >"$folder/played"
 
 compare http

@@ -33,6 +33,7 @@ printf 'paper,1,2,3\n1,1,2,\n2,D' >"$folder/cut.csv"
 
     # batch 12: keyed alike by both clerks, and its doubtful paper judged
     play town.db import-keying 4 12 1 missing.csv --id k1
+    play town.db import-keying 4 12 1 . --id k1
     play town.db import-keying 4 12 1 cut.csv --id k1
     play town.db import-keying 4 12 1 short.csv --id k1
     play town.db import-keying 5 12 1 twelve.csv --id k1

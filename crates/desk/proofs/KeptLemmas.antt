@@ -1,6 +1,6 @@
 -- What is kept of an order, and what a connection that stays at rest leaves.
-use Rattle.std.proofs.Common.{◌≡◌, ◌⊎◌, ◌≤◌, ◌+◌, ◌∙◌, inl, inr, ℕ, Bool, true, false, List, [], ◌∷◌, length, take, IsTrue, refl, sym, ap, subst, arith, suc}
-use Rattle.std.proofs.lemmas.List.{append-nil}
+use Rattle.std.proofs.Common.{◌≡◌, ◌≢◌, ◌⊎◌, ◌≤◌, ◌+◌, ◌∙◌, inl, inr, ℕ, Bool, true, false, List, [], ◌∷◌, ◌++◌, length, take, IsTrue, refl, sym, ap, subst, arith, suc}
+use Rattle.clap.specs.Words.{Text}
 use Rattle.sqlite.specs.Tree.{Trees}
 use Rattle.sqlite.specs.Schema.{Schema}
 use Rattle.sqlite.specs.Effect.{Database}
@@ -21,7 +21,7 @@ use Rattle.store.proofs.ReopenLemmas.{left_holds}
 use Rattle.office.specs.Answers.{Told, again, done, no, told_of}
 use Rattle.office.proofs.RunLemmas.{beginning}
 use Rattle.desk.specs.Errands.{File, IsAnswered, IsAnswerAbove, IsEndOf, IsKept, IsPlain, IsReplyAbove, IsRun, IsSent, IsStopped, Performs, Sends, SendsSome, TellsAnswers, TellsFault, TellsOther}
-use Rattle.desk.specs.Pages.{IsShown, Outputs, Page, empty_page, page_told, printed, replied}
+use Rattle.desk.specs.Pages.{Cut, uncut, cut_behind, cut_error, IsShown, Outputs, Page, cut_below, page_told}
 use Rattle.desk.specs.Requests.{Errand, Work, making, running, serving}
 
 -- ---- a connection at rest
@@ -45,11 +45,14 @@ some_there : (s : Schema) → IsOfficeSchema s → has_some_table s ≡ true
 unfolding same_name
 some_there s h = subst (λ (x : Schema). has_some_table x ≡ true) (sym h.is) refl
 
+-- a table that is there as a connection rests is there now
+pub table_rests : (db : Database) (st : State) → RestsAt db st → has_some_table db.schema ≡ true → has_some_table st.now.schema ≡ true
+table_rests db st rests there = subst (λ (d : Database). has_some_table d.schema ≡ true) (sym rests.now) there
+
 -- at an office there is a table of an office
 pub has_tables : (s : OfficeState) (db : Database) (st : State) → RestsAt db st → IsLeftAt s db → has_some_table st.now.schema ≡ true
 has_tables s db st rests left =
-    let there = some_there db.schema (office_begins (tables_of s) db (left_holds s db left).office) in
-    subst (λ (d : Database). has_some_table d.schema ≡ true) (sym rests.now) there
+    table_rests db st rests (some_there db.schema (office_begins (tables_of s) db (left_holds s db left).office))
 
 -- no table of an office is in a database with nothing in it, so the faults of making one there are want of memory and a failing store
 pub blank_told : {P : Type 0} (st : State) (fault : Fault) → IsBlank st → (fault ≡ Memory) ⊎ ((fault ≡ Store) ⊎ ((fault ≡ WrongDatabase) × (has_some_table st.now.schema ≡ true) × P)) → IsPlain fault
@@ -72,42 +75,48 @@ abbrev pub IsAfterSome : OfficeState → List Request → ℕ → OfficeState �
 IsAfterSome s rs n x = (k : ℕ) × (n ≤ k) × (k ≤ n + 1) × (k ≤ length rs) × (x ≡ after s (take k rs))
 
 -- what requests that were sent leave
-abbrev pub LeavesSome : Bool → OfficeState → List Request → Page → State → Type 0
-LeavesSome broke s rs page st = (n : ℕ) × (n ≤ length rs) × LeavesState st (IsAfterSome s rs n) × (page.status ≡ 0 → broke ≡ false → n ≡ length rs) × TellsAnswers s rs n page
+abbrev pub LeavesSome : Cut → OfficeState → List Request → Page → State → Type 0
+LeavesSome cut s rs page st = (n : ℕ) × (n ≤ length rs) × LeavesState st (IsAfterSome s rs n) × (page.status ≡ 0 → cut ≡ uncut → n ≡ length rs) × TellsAnswers s rs n cut page
 
 reply_status : (t : Told) (rest page : Page) → IsReplyAbove t rest page → page.status ≡ rest.status
 reply_status (done reply) rest page is = ap (λ (p : Page). p.status) is
 reply_status (again reply) rest page is = ap (λ (p : Page). p.status) is
 reply_status (no why) rest page is = absurd is
 
--- the last answer is told, and nothing behind it
-last_told : (t : Told) (P : Page → Type 0) (page : Page) → page ≡ page_told t → P empty_page → IsAnswerAbove t 0 P page
-last_told (done reply) P page is none = (empty_page, is ∙ sym (ap printed (append-nil (replied reply).out)), none)
-last_told (again reply) P page is none = (empty_page, is ∙ sym (ap printed (append-nil (replied reply).out)), none)
-last_told (no why) P page is none = (refl, is)
+-- the last answer is told: a reply, where an output failed
+last_told : (t : Told) (P : Cut → Page → Type 0) (cut : Cut) (page : Page) → page ≡ page_told t → (page.status ≡ 0 → cut ≢ uncut) → IsAnswerAbove t 0 P cut page
+last_told (done reply) P cut page is ends = inr (refl, is, ends (ap (λ (p : Page). p.status) is))
+last_told (again reply) P cut page is ends = inr (refl, is, ends (ap (λ (p : Page). p.status) is))
+last_told (no why) P cut page is ends = (refl, is)
 
 -- a reply is told above what comes of the requests behind it
-told_above : (t : Told) (others : ℕ) (P : Page → Type 0) (rest page : Page) → IsReplyAbove t rest page → P rest → IsAnswerAbove t others P page
-told_above (done reply) others P rest page is told = (rest, is, told)
-told_above (again reply) others P rest page is told = (rest, is, told)
-told_above (no why) others P rest page is told = absurd is
+told_above : (t : Told) (others : ℕ) (P : Cut → Page → Type 0) (later cut : Cut) (rest page : Page) → IsReplyAbove t rest page → cut ≡ cut_below (page_told t).out later → P later rest → IsAnswerAbove t others P cut page
+told_above (done reply) others P later cut rest page is stands told = inl (rest, later, is, stands, told)
+told_above (again reply) others P later cut rest page is stands told = inl (rest, later, is, stands, told)
+told_above (no why) others P later cut rest page is stands told = absurd is
 
-last_leaves : (broke : Bool) (s : OfficeState) (r : Request) (rs : List Request) (page : Page) (closed : Bool) (st : State) → (page.status ≡ 0 → broke ≡ true) → IsAnswered s (step_of s r) page closed st → LeavesSome broke s (r ∷ rs) page st
-last_leaves broke s r rs page closed st ends (inl told) = (
+-- no output failed, so none did behind the text
+whole_below : (text : Text) (cut later : Cut) → cut ≡ cut_below text later → cut ≡ uncut → later ≡ uncut
+whole_below text cut uncut is whole = refl
+whole_below text cut (cut_behind took) is whole = let bad : cut_behind (text ++ took) ≡ uncut = sym is ∙ whole in absurd (cc bad)
+whole_below text cut cut_error is whole = let bad : cut_error ≡ uncut = sym is ∙ whole in absurd (cc bad)
+
+last_leaves : (cut : Cut) (s : OfficeState) (r : Request) (rs : List Request) (page : Page) (closed : Bool) (st : State) → (page.status ≡ 0 → cut ≢ uncut) → IsAnswered s (step_of s r) page closed st → LeavesSome cut s (r ∷ rs) page st
+last_leaves cut s r rs page closed st ends (inl told) = (
   1,
   omega arith,
   (λ trees may. let it = told.1.at.leaves trees may in (it.0, (1, omega arith, omega arith, omega arith, it.1), it.2)),
-  (λ zero whole. let bad : true ≡ false = sym (ends zero) ∙ whole in absurd (cc bad)),
-  last_told (told_of (step_of s r)) (TellsAnswers (after_one s r) rs 0) page told.0 (inl refl),
+  (λ zero whole. absurd (ends zero whole)),
+  last_told (told_of (step_of s r)) (TellsAnswers (after_one s r) rs 0) cut page told.0 ends,
 )
-last_leaves broke s r rs page closed st ends (inr (fault, is, inl kept)) = (
+last_leaves cut s r rs page closed st ends (inr (fault, is, inl kept)) = (
   0,
   omega arith,
   (λ trees may. let it = kept.open_at.at.leaves trees may in (it.0, (0, omega arith, omega arith, omega arith, it.1), it.2)),
   (λ zero whole. let three : page.status ≡ 3 = ap (λ (p : Page). p.status) is in absurd (omega arith)),
   inr (fault, is),
 )
-last_leaves broke s r rs page closed st ends (inr (fault, is, inr shut)) = (
+last_leaves cut s r rs page closed st ends (inr (fault, is, inr shut)) = (
   0,
   omega arith,
   (λ trees may. let it = shut.leaves trees may in elim it.1 [
@@ -118,24 +127,25 @@ last_leaves broke s r rs page closed st ends (inr (fault, is, inr shut)) = (
   inr (fault, is),
 )
 
-sent_leaves : (broke : Bool) (s : OfficeState) (rs : List Request) (page : Page) (closed : Bool) (st : State) → IsSent broke s rs page closed st → LeavesSome broke s rs page st
-sent_leaves broke s [] page closed st sent =
-    (0, omega arith, (λ trees may. let it = sent.1.at.leaves trees may in (it.0, (0, omega arith, omega arith, omega arith, it.1), it.2)), (λ zero whole. refl), inl sent.0)
-sent_leaves broke s (r ∷ rs) page closed st (inl goes) =
-    let rest = sent_leaves broke (after_one s r) rs goes.0 closed st goes.2 in (
+sent_leaves : (cut : Cut) (s : OfficeState) (rs : List Request) (page : Page) (closed : Bool) (st : State) → IsSent cut s rs page closed st → LeavesSome cut s rs page st
+sent_leaves cut s [] page closed st sent =
+    (0, omega arith, (λ trees may. let it = sent.2.at.leaves trees may in (it.0, (0, omega arith, omega arith, omega arith, it.1), it.2)), (λ zero whole. refl), inl (sent.0, sent.1))
+sent_leaves cut s (r ∷ rs) page closed st (inl goes) =
+    let t = told_of (step_of s r) in
+    let rest = sent_leaves goes.1 (after_one s r) rs goes.0 closed st goes.4 in (
       suc rest.0,
       omega arith,
       (λ trees may. let it = rest.2 trees may in (it.0, (suc it.1.0, omega arith, omega arith, omega arith, it.1.4), it.2)),
-      (λ zero whole. ap suc (rest.3 (sym (reply_status (told_of (step_of s r)) goes.0 page goes.1) ∙ zero) whole)),
-      told_above (told_of (step_of s r)) rest.0 (TellsAnswers (after_one s r) rs rest.0) goes.0 page goes.1 rest.4,
+      (λ zero whole. ap suc (rest.3 (sym (reply_status t goes.0 page goes.2) ∙ zero) (whole_below (page_told t).out cut goes.1 goes.3 whole))),
+      told_above t rest.0 (TellsAnswers (after_one s r) rs rest.0) goes.1 cut goes.0 page goes.2 goes.3 rest.4,
     )
-sent_leaves broke s (r ∷ rs) page closed st (inr last) = last_leaves broke s r rs page closed st last.0 last.1
+sent_leaves cut s (r ∷ rs) page closed st (inr last) = last_leaves cut s r rs page closed st last.0 last.1
 
 -- a status 0 comes of a page that was told whole
-shown_zero : (broke : Bool) (old new : Outputs) (page : Page) (status : ℕ) → IsShown broke old new page status → status ≡ 0 → (broke ≡ false) × (page.status ≡ 0)
-shown_zero false old new page status all zero = (refl, sym all.ends ∙ zero)
-shown_zero true old new page status (inl cut) zero = let three : status ≡ 3 = cut.ends in absurd (omega arith)
-shown_zero true old new page status (inr cut) zero = let three : status ≡ 3 = cut.ends in absurd (omega arith)
+shown_zero : (cut : Cut) (old new : Outputs) (page : Page) (status : ℕ) → IsShown cut old new page status → status ≡ 0 → (cut ≡ uncut) × (page.status ≡ 0)
+shown_zero uncut old new page status all zero = (refl, sym all.ends ∙ zero)
+shown_zero (cut_behind took) old new page status broken zero = let three : status ≡ 3 = broken.ends in absurd (omega arith)
+shown_zero cut_error old new page status broken zero = let three : status ≡ 3 = broken.ends in absurd (omega arith)
 
 sends_some : (s : OfficeState) (errand : Errand) (file : File) (requests : List Request) → Sends s errand file requests → SendsSome s (running errand) file requests
 sends_some s errand file [] sends = tt
@@ -148,15 +158,15 @@ fault_other s (serving port connections) file page fault = inr fault
 fault_other s (running errand) file page fault = inr fault
 
 -- where there was nothing to send, nothing is told
-sent_other : (broke : Bool) (s : OfficeState) (errand : Errand) (file : File) (requests : List Request) (page : Page) (closed : Bool) (st : State) → Sends s errand file requests → IsSent broke s requests page closed st
+sent_other : (cut : Cut) (s : OfficeState) (errand : Errand) (file : File) (requests : List Request) (page : Page) (closed : Bool) (st : State) → Sends s errand file requests → IsSent cut s requests page closed st
     → requests ≡ [] → TellsOther s (running errand) file page
-sent_other broke s errand file [] page closed st sends sent none = inl (inl (sends, sent.0))
-sent_other broke s errand file (r ∷ rs) page closed st sends sent none = absurd (cc none)
+sent_other cut s errand file [] page closed st sends sent none = inl (inl (sends, sent.1))
+sent_other cut s errand file (r ∷ rs) page closed st sends sent none = absurd (cc none)
 
 -- nothing was sent, and a stop leaves the state as it was
-nothing_kept : (earlier : List Request) (work : Work) (file : File) (page : Page) (status : ℕ) (st : State) → TellsOther (after empty_office earlier) work file page → LeavesState st (λ x. x ≡ after empty_office earlier)
-    → IsKept earlier work file page status st
-nothing_kept earlier work file page status st tells leaves = record {
+nothing_kept : (earlier : List Request) (work : Work) (file : File) (cut : Cut) (page : Page) (status : ℕ) (st : State) → TellsOther (after empty_office earlier) work file page → LeavesState st (λ x. x ≡ after empty_office earlier)
+    → IsKept earlier work file cut page status st
+nothing_kept earlier work file cut page status st tells leaves = record {
   requests = [];
   sends = tt;
   answered = 0;
@@ -173,30 +183,30 @@ stopped_leaves : (s : OfficeState) (page : Page) (closed : Bool) (st : State) �
 stopped_leaves s page closed st (fault, is, inl kept) = kept.open_at.at.leaves
 stopped_leaves s page closed st (fault, is, inr shut) = shut.leaves
 
-run_kept : (earlier : List Request) (errand : Errand) (file : File) (broke : Bool) (old new : Outputs) (page : Page) (status : ℕ) (closed : Bool) (st : State) → IsShown broke old new page status
-    → IsRun broke (after empty_office earlier) errand file page closed st → IsKept earlier (running errand) file page status st
-run_kept earlier errand file broke old new page status closed st shown (inl sent) =
-    let it = sent_leaves broke (after empty_office earlier) sent.0 page closed st sent.2 in
+run_kept : (earlier : List Request) (errand : Errand) (file : File) (cut : Cut) (old new : Outputs) (page : Page) (status : ℕ) (closed : Bool) (st : State) → IsShown cut old new page status
+    → IsRun cut (after empty_office earlier) errand file page closed st → IsKept earlier (running errand) file cut page status st
+run_kept earlier errand file cut old new page status closed st shown (inl sent) =
+    let it = sent_leaves cut (after empty_office earlier) sent.0 page closed st sent.2 in
     record {
       requests = sent.0;
       sends = sends_some (after empty_office earlier) errand file sent.0 sent.1;
       answered = it.0;
       told = λ some. it.4;
-      other = sent_other broke (after empty_office earlier) errand file sent.0 page closed st sent.1 sent.2;
+      other = sent_other cut (after empty_office earlier) errand file sent.0 page closed st sent.1 sent.2;
       leaves = λ trees may. let x = it.2 trees may in (x.0, beginning earlier sent.0 it.0 x.1.0 x.1.1 x.1.2 x.1.3 x.0 x.1.4, x.2);
-      all = λ zero. let whole = shown_zero broke old new page status shown zero in it.3 whole.1 whole.0;
+      all = λ zero. let whole = shown_zero cut old new page status shown zero in it.3 whole.1 whole.0;
     }
-run_kept earlier errand file broke old new page status closed st shown (inr (inl told)) =
-    nothing_kept earlier (running errand) file page status st (inl (inr told.0)) told.1.at.leaves
-run_kept earlier errand file broke old new page status closed st shown (inr (inr stopped)) =
+run_kept earlier errand file cut old new page status closed st shown (inr (inl told)) =
+    nothing_kept earlier (running errand) file cut page status st (inl (inr told.0)) told.1.at.leaves
+run_kept earlier errand file cut old new page status closed st shown (inr (inr stopped)) =
     let tells = stopped_tells (after empty_office earlier) page closed st stopped in
-    nothing_kept earlier (running errand) file page status st (inr tells) (stopped_leaves (after empty_office earlier) page closed st stopped)
+    nothing_kept earlier (running errand) file cut page status st (inr tells) (stopped_leaves (after empty_office earlier) page closed st stopped)
 
 -- what is kept of an order
-pub kept : (earlier : List Request) (work : Work) (file : File) (broke : Bool) (old new : Outputs) (page : Page) (status : ℕ) (st : State) → IsShown broke old new page status
-    → Performs broke (after empty_office earlier) work file page st → IsKept earlier work file page status st
-kept earlier work file broke old new page status st shown (inr unopened) =
-    nothing_kept earlier work file page status st (fault_other (after empty_office earlier) work file page (unopened.0, unopened.1)) unopened.3
-kept earlier making file broke old new page status st shown (inl it) = absurd it
-kept earlier (serving port connections) file broke old new page status st shown (inl it) = nothing_kept earlier (serving port connections) file page status st (inl it.0) it.1
-kept earlier (running errand) file broke old new page status st shown (inl it) = run_kept earlier errand file broke old new page status it.0 st shown it.1
+pub kept : (earlier : List Request) (work : Work) (file : File) (cut : Cut) (old new : Outputs) (page : Page) (status : ℕ) (st : State) → IsShown cut old new page status
+    → Performs cut (after empty_office earlier) work file page st → IsKept earlier work file cut page status st
+kept earlier work file cut old new page status st shown (inr unopened) =
+    nothing_kept earlier work file cut page status st (fault_other (after empty_office earlier) work file page (unopened.0, unopened.1)) unopened.3
+kept earlier making file cut old new page status st shown (inl it) = absurd it
+kept earlier (serving port connections) file cut old new page status st shown (inl it) = nothing_kept earlier (serving port connections) file cut page status st (inl it.0) it.1
+kept earlier (running errand) file cut old new page status st shown (inl it) = run_kept earlier errand file cut old new page status it.0 st shown it.1

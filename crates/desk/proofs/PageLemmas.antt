@@ -1,16 +1,15 @@
 -- Texts that are put one behind the other, and what was told of a page.
 use Rattle.std.specs.Prelude.{IsErr}
-use Rattle.std.proofs.Common.{◌≡◌, ◌∙◌, ◌+◌, ◌<◌, inl, inr, ℕ, Bool, true, false, List, [], ◌∷◌, ◌++◌, length, take, drop, get_or, Option, Result, Ok, Err, refl, sym, ap, subst}
+use Rattle.std.proofs.Common.{◌≡◌, ◌∙◌, ◌+◌, ◌<◌, inl, inr, ℕ, List, [], ◌∷◌, ◌++◌, length, take, drop, get_or, Option, Result, Ok, Err, refl, sym, ap, subst}
 use Rattle.std.specs.List.{flat_map}
 use Rattle.std.specs.Io.KnownBytes.{Appends}
 use Rattle.std.proofs.KnownBytes.{Appends-nil, Appends-trans}
 use Rattle.std.proofs.lemmas.Grind.{flat_map-append}
-use Rattle.std.proofs.lemmas.List.{append-nil, take_more, take-append-drop}
+use Rattle.std.proofs.lemmas.List.{append-nil, append_assoc, take_more, take-append-drop}
 use Rattle.clap.specs.Words.{Text}
-use Rattle.votes.specs.Streams.{AppendsBeginning}
 use Rattle.votes.proofs.Beginnings.{AppendsBeginning-front, AppendsBeginning-behind}
 use Rattle.desk.specs.declared.lines.Failure.TheVariants.{Output}
-use Rattle.desk.specs.Pages.{IsErrorTold, IsPut, IsShown, IsWhole, Outputs, Page, Shows, below, failed, outputs_of, printed}
+use Rattle.desk.specs.Pages.{Cut, uncut, cut_behind, cut_error, IsErrorTold, IsPut, IsShown, IsWhole, Outputs, Page, Shows, below, cut_below, failed, outputs_of, printed}
 
 -- the pieces of one more
 pieces_more : {X : Type 0} (f : X → Text) (xs : List X) (i : ℕ) (d : X) → i < length xs → flat_map f (take (i + 1) xs) ≡ flat_map f (take i xs) ++ f (get_or xs i d)
@@ -44,56 +43,56 @@ module _ {W : Type 0} {taken : W → Option (List ℕ)} {failed : W → ℕ} {X 
 
 -- ---- pages
 
--- whatever was told of a line on the error output, a beginning of it was
-begun : (old new : Option (List ℕ)) (text : Text) → Appends old new text → AppendsBeginning old new text
-begun old new text all = record { count = length text; appends = rw (take_whole text) all }
-  where
-    take_whole : (xs : List ℕ) → take (length xs) xs ≡ xs
-    take_whole [] = refl
-    take_whole (x ∷ xs) = ap (λ ys. x ∷ ys) (take_whole xs)
-
 module _ {O E : Type 0} (taken : O → Option (List ℕ)) (failed_out : O → ℕ) (taken_err : E → Option (List ℕ)) (failed_err : E → ℕ) where
   -- a text on the output
   pub text_shown : {X F : Type 0} {x : X} (old new : O) (err : E) (text : Text) → IsPut {E = F} taken failed_out old new text (Ok x)
       → Shows (outputs_of taken failed_out taken_err failed_err old err) (outputs_of taken failed_out taken_err failed_err new err) (printed text) 0
-  text_shown old new err text put = (false, record { out = put.all; out_failed = put.ok; err = Appends-nil (taken_err err); err_failed = refl; ends = refl })
+  text_shown old new err text put = (uncut, record { out = put.all; out_failed = put.ok; err = Appends-nil (taken_err err); err_failed = refl; ends = refl })
 
   -- a beginning of one, which is told on the error output
   pub output_broken : {X F : Type 0} {f : F} (old new : O) (err told : E) (text : Text) (status : ℕ) → IsPut {X = X} taken failed_out old new text (Err f)
       → IsErrorTold taken_err failed_err err told (failed Output).err 3 status
       → Shows (outputs_of taken failed_out taken_err failed_err old err) (outputs_of taken failed_out taken_err failed_err new told) (printed text) status
-  output_broken old new err told text status put line = (true, inl (record { out = put.cut_off; out_failed = put.err; err = said.0; ends = said.1 }))
+  output_broken old new err told text status put line = elim line [
+    | inl whole ↦ (cut_behind (take n text), record { out = put.cut_off.appends; begins = (drop n text, take-append-drop n text); out_failed = put.err; err = inl (whole.0, whole.1); ends = whole.2 })
+    | inr cut ↦ (cut_behind (take n text), record { out = put.cut_off.appends; begins = (drop n text, take-append-drop n text); out_failed = put.err; err = inr (cut.0, cut.1); ends = cut.2 })
+  ]
     where
-      said : AppendsBeginning (taken_err err) (taken_err told) (failed Output).err × (status ≡ 3)
-      said = elim line [ inl whole ↦ (begun _ _ _ whole.0, whole.2) | inr cut ↦ (cut.0, cut.2) ]
+      n : ℕ
+      n = put.cut_off.count
 
   -- a line on the error output
   pub error_shown : (out : O) (old new : E) (page : Page) (status : ℕ) → page.out ≡ [] → IsErrorTold taken_err failed_err old new page.err page.status status
       → Shows (outputs_of taken failed_out taken_err failed_err out old) (outputs_of taken failed_out taken_err failed_err out new) page status
   error_shown out old new page status none told = elim told [
-    | inl whole ↦ (false, record { out = rw none (Appends-nil (taken out)); out_failed = refl; err = whole.0; err_failed = whole.1; ends = whole.2 })
-    | inr cut ↦ (true, inr (record { out = rw none (Appends-nil (taken out)); out_failed = refl; err = cut.0; err_failed = cut.1; ends = cut.2 }))
+    | inl whole ↦ (uncut, record { out = rw none (Appends-nil (taken out)); out_failed = refl; err = whole.0; err_failed = whole.1; ends = whole.2 })
+    | inr cut ↦ (cut_error, record { out = rw none (Appends-nil (taken out)); out_failed = refl; err = cut.0; err_failed = cut.1; ends = cut.2 })
   ]
 
 -- a page that is told below a text
-pub shown_below : (broke : Bool) (old mid new : Outputs) (text : Text) (page : Page) (status : ℕ) → IsWhole old mid (printed text) 0 → IsShown broke mid new page status → IsShown broke old new (below text page) status
-shown_below false old mid new text page status first next = record {
+pub shown_below : (cut : Cut) (old mid new : Outputs) (text : Text) (page : Page) (status : ℕ) → IsWhole old mid (printed text) 0 → IsShown cut mid new page status
+    → IsShown (cut_below text cut) old new (below text page) status
+shown_below uncut old mid new text page status first next = record {
   out = Appends-trans _ _ _ _ _ first.out next.out;
   out_failed = next.out_failed ∙ first.out_failed;
   err = Appends-trans _ _ _ _ _ first.err next.err;
   err_failed = next.err_failed ∙ first.err_failed;
   ends = next.ends;
 }
-shown_below true old mid new text page status first (inl next) = inl (record {
-  out = AppendsBeginning-behind _ _ _ _ _ first.out next.out;
+shown_below (cut_behind took) old mid new text page status first next = record {
+  out = Appends-trans _ _ _ _ _ first.out next.out;
+  begins = (next.begins.0, append_assoc text took next.begins.0 ∙ ap (λ all. text ++ all) next.begins.1);
   out_failed = next.out_failed ∙ ap (λ n. n + 1) first.out_failed;
-  err = AppendsBeginning-behind _ _ _ _ _ first.err next.err;
+  err = elim next.err [
+    | inl whole ↦ inl (Appends-trans _ _ _ _ _ first.err whole.0, whole.1 ∙ first.err_failed)
+    | inr part ↦ inr (AppendsBeginning-behind _ _ _ _ _ first.err part.0, part.1 ∙ ap (λ n. n + 1) first.err_failed)
+  ];
   ends = next.ends;
-})
-shown_below true old mid new text page status first (inr next) = inr (record {
+}
+shown_below cut_error old mid new text page status first next = record {
   out = Appends-trans _ _ _ _ _ first.out next.out;
   out_failed = next.out_failed ∙ first.out_failed;
   err = AppendsBeginning-behind _ _ _ _ _ first.err next.err;
   err_failed = next.err_failed ∙ ap (λ n. n + 1) first.err_failed;
   ends = next.ends;
-})
+}

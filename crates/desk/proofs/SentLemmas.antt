@@ -12,7 +12,7 @@ use Rattle.keyfile.specs.Faults.{is_stop}
 use Rattle.office.specs.Answers.{IsOpenAt, Told, again, done, no, told_of}
 use Rattle.clap.specs.Words.{Text}
 use Rattle.desk.specs.Errands.{IsAnswered, IsReplyAbove, IsSent}
-use Rattle.desk.specs.Pages.{IsShown, IsWhole, Outputs, Page, Shows, below, empty_page, page_of, page_told, printed, replied}
+use Rattle.desk.specs.Pages.{Cut, uncut, cut_behind, cut_error, IsShown, IsWhole, Outputs, Page, Shows, below, cut_below, empty_page, page_of, page_told, printed, replied}
 use Rattle.desk.specs.declared.lines.Outcome.{Outcome}
 use Rattle.desk.specs.declared.lines.Outcome.TheVariants as outcome
 use Rattle.desk.proofs.PageLemmas.{shown_below}
@@ -51,9 +51,9 @@ silent (outcome.Failed fault) zero = absurd (omega arith)
 
 -- an outcome that was told with status 0 was told whole
 whole : (old new : Outputs) (page : Page) (status : ℕ) → status ≡ 0 → Shows old new page status → IsWhole old new page status
-whole old new page status zero (false, shown) = shown
-whole old new page status zero (true, inl cut) = let three : status ≡ 3 = cut.ends in absurd (omega arith)
-whole old new page status zero (true, inr cut) = let three : status ≡ 3 = cut.ends in absurd (omega arith)
+whole old new page status zero (uncut, shown) = shown
+whole old new page status zero (cut_behind took, cut) = let three : status ≡ 3 = cut.ends in absurd (omega arith)
+whole old new page status zero (cut_error, cut) = let three : status ≡ 3 = cut.ends in absurd (omega arith)
 
 pub status_zero : (old new : Outputs) (page : Page) (status : ℕ) → status ≡ 0 → Shows old new page status → page.status ≡ 0
 status_zero old new page status zero shown = sym (whole old new page status zero shown).ends ∙ zero
@@ -62,7 +62,7 @@ status_zero old new page status zero shown = sym (whole old new page status zero
 pub told_more : (old mid new : Outputs) (said : Text) (o : Outcome) (status : ℕ) → status ≡ 0 → IsWhole old mid (printed said) 0 → Shows mid new (page_of o) status → IsWhole old new (printed (said ++ (page_of o).out)) 0
 told_more old mid new said o status zero first next =
     let it = whole mid new (page_of o) status zero next in
-    let both = shown_below false old mid new said (page_of o) status first it in
+    let both = shown_below uncut old mid new said (page_of o) status first it in
     record { out = both.out; out_failed = both.out_failed; err = rw (silent o (sym it.ends ∙ zero)) at both.err; err_failed = both.err_failed; ends = refl }
 
 reply_above : (t : Told) (page rest : Page) → page ≡ page_told t → page.status ≡ 0 → IsReplyAbove t rest (below page.out rest)
@@ -86,12 +86,30 @@ replies_more s (x ∷ rs) said r page so is zero =
     let rest = replies_more (after_one s x) rs so.0 r page so.2 is zero in
     (so.0 ++ page.out, reply_joined (told_of (step_of s x)) so.0 said (printed page.out) so.1, rest)
 
+-- what a reply that stands above others says
+reply_text : (t : Told) (rest said : Text) → IsReplyAbove t (printed rest) (printed said) → said ≡ (page_told t).out ++ rest
+reply_text (done reply) rest said is = ap (λ (p : Page). p.out) is
+reply_text (again reply) rest said is = ap (λ (p : Page). p.out) is
+reply_text (no why) rest said is = absurd is
+
+-- a cut below nothing, and one below two texts
+cut_none : (cut : Cut) → cut ≡ cut_below [] cut
+cut_none uncut = refl
+cut_none (cut_behind took) = refl
+cut_none cut_error = refl
+
+cut_joined : (above text : Text) (cut : Cut) → cut_below (above ++ text) cut ≡ cut_below above (cut_below text cut)
+cut_joined above text uncut = refl
+cut_joined above text (cut_behind took) = ap cut_behind (append_assoc above text took)
+cut_joined above text cut_error = refl
+
 -- what comes of the requests that are left stands below the replies
-replies_then : (broke : Bool) (s : OfficeState) (front left : List Request) (said : Text) (page : Page) (closed : Bool) (st : State) → Replies s front said → IsSent broke (after s front) left page closed st
-    → IsSent broke s (front ++ left) (below said page) closed st
-replies_then broke s [] left said page closed st none sent = rw none sent
-replies_then broke s (x ∷ rs) left said page closed st so sent =
-    inl (below so.0 page, reply_joined (told_of (step_of s x)) so.0 said page so.1, replies_then broke (after_one s x) rs left so.0 page closed st so.2 sent)
+replies_then : (cut : Cut) (s : OfficeState) (front left : List Request) (said : Text) (page : Page) (closed : Bool) (st : State) → Replies s front said → IsSent cut (after s front) left page closed st
+    → IsSent (cut_below said cut) s (front ++ left) (below said page) closed st
+replies_then cut s [] left said page closed st none sent = rw none (subst (λ c. IsSent c s left page closed st) (cut_none cut) sent)
+replies_then cut s (x ∷ rs) left said page closed st so sent =
+    let above = ap (λ text. cut_below text cut) (reply_text (told_of (step_of s x)) so.0 said so.1) ∙ cut_joined (page_told (told_of (step_of s x))).out so.0 cut in
+    inl (below so.0 page, cut_below so.0 cut, reply_joined (told_of (step_of s x)) so.0 said page so.1, above, replies_then cut (after_one s x) rs left so.0 page closed st so.2 sent)
 
 next_left : (rs : List Request) (i : ℕ) (r : Request) → i < length rs → r ≡ get_or rs i r → drop i rs ≡ r ∷ drop (i + 1) rs
 next_left rs i r within is = drop-cons rs i r within ∙ (ap (λ x. x ∷ drop (suc i) rs) (sym is) ∙ ap (λ n. r ∷ drop n rs) (sym (add-one i)))
@@ -111,22 +129,23 @@ sent_more s rs i r said was before page closed st within is so answered zero = e
 ]
 
 -- or it ended the sending
-pub sent_last : (s : OfficeState) (rs : List Request) (i : ℕ) (r : Request) (said : Text) (was : Bool) (before : State) (broke : Bool) (mid new : Outputs) (status : ℕ) (page : Page) (closed : Bool) (st : State)
-    → i < length rs → r ≡ get_or rs i r → SentSo s (take i rs) said was before → IsAnswered (after s (take i rs)) (step_of (after s (take i rs)) r) page closed st → status ≢ 0 → IsShown broke mid new page status
-    → IsSent broke s rs (below said page) closed st
-sent_last s rs i r said was before broke mid new status page closed st within is so answered ends shown =
-    let here : IsSent broke (after s (take i rs)) (r ∷ drop (i + 1) rs) page closed st = inr (by broke shown, answered) in
-    let there = subst (λ left. IsSent broke (after s (take i rs)) left page closed st) (sym (next_left rs i r within is)) here in
-    subst (λ all. IsSent broke s all (below said page) closed st) (take-append-drop i rs) (replies_then broke s (take i rs) (drop i rs) said page closed st so.replies there)
+pub sent_last : (s : OfficeState) (rs : List Request) (i : ℕ) (r : Request) (said : Text) (was : Bool) (before : State) (cut : Cut) (mid new : Outputs) (status : ℕ) (page : Page) (closed : Bool) (st : State)
+    → i < length rs → r ≡ get_or rs i r → SentSo s (take i rs) said was before → IsAnswered (after s (take i rs)) (step_of (after s (take i rs)) r) page closed st → status ≢ 0 → IsShown cut mid new page status
+    → IsSent (cut_below said cut) s rs (below said page) closed st
+sent_last s rs i r said was before cut mid new status page closed st within is so answered ends shown =
+    let here : IsSent cut (after s (take i rs)) (r ∷ drop (i + 1) rs) page closed st = inr (by cut shown, answered) in
+    let there = subst (λ left. IsSent cut (after s (take i rs)) left page closed st) (sym (next_left rs i r within is)) here in
+    subst (λ all. IsSent (cut_below said cut) s all (below said page) closed st) (take-append-drop i rs) (replies_then cut s (take i rs) (drop i rs) said page closed st so.replies there)
   where
-    by : (b : Bool) → IsShown b mid new page status → page.status ≡ 0 → b ≡ true
-    by true cut zero = refl
-    by false all zero = absurd (ends (all.ends ∙ zero))
+    by : (c : Cut) → IsShown c mid new page status → page.status ≡ 0 → c ≢ uncut
+    by (cut_behind took) shown zero is = absurd (cc is)
+    by cut_error shown zero is = absurd (cc is)
+    by uncut all zero is = ends (all.ends ∙ zero)
 
 -- all got replies
-pub sent_all : (s : OfficeState) (rs front : List Request) (said : Text) (closed : Bool) (st : State) → front ≡ rs → SentSo s front said closed st → IsSent false s rs (below said empty_page) closed st
+pub sent_all : (s : OfficeState) (rs front : List Request) (said : Text) (closed : Bool) (st : State) → front ≡ rs → SentSo s front said closed st → IsSent uncut s rs (below said empty_page) closed st
 sent_all s rs front said closed st all so =
-    subst (λ xs. IsSent false s xs (below said empty_page) closed st) (append-nil front ∙ all) (replies_then false s front [] said empty_page closed st so.replies (refl, so.open_at))
+    subst (λ xs. IsSent uncut s xs (below said empty_page) closed st) (append-nil front ∙ all) (replies_then uncut s front [] said empty_page closed st so.replies (refl, refl, so.open_at))
 
 pub told_all : (old new : Outputs) (said : Text) → IsWhole old new (printed said) 0 → IsWhole old new (below said empty_page) 0
 told_all old new said all = record { out = rw (append-nil said) all.out; out_failed = all.out_failed; err = all.err; err_failed = all.err_failed; ends = refl }

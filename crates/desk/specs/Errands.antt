@@ -1,5 +1,6 @@
 -- What comes of an order at a state of the office.
 use Rattle.std.specs.Prelude.{◌≡◌, ◌≢◌, zero, suc, ◌⊎◌, ⊤, ℕ, Bool, true, false, List, [], ◌∷◌, codes, length, map, Option, Some, None, Result, Ok, Err}
+use Rattle.clap.specs.Words.{Text}
 use Rattle.sqlite.specs.Tree.{Trees}
 use Rattle.sqlite.specs.State.{State, HasCleanDisk}
 use Rattle.register.specs.Machine.{Outcome as Ruled, after, after_one, state_after, step_of}
@@ -10,7 +11,7 @@ use Rattle.tables.specs.declared.fault.Fault.{Fault}
 use Rattle.tables.specs.declared.fault.Fault.TheVariants.{Memory, Store, WrongDatabase}
 use Rattle.sqlite.specs.Effect.{Database}
 use Rattle.tables.specs.Contents.{RestsAt, Stores}
-use Rattle.tables.specs.Presence.{IsOurs}
+use Rattle.tables.specs.Presence.{IsOurs, has_some_table}
 use Rattle.tables.specs.Reading.{OnlyReads}
 use Rattle.store.specs.Openings.{HoldsNoState, IsBlank, IsLeftAt, IsToldBy}
 use Rattle.store.specs.Offices.{IsAt, LeavesState, tables_of}
@@ -24,10 +25,10 @@ use Rattle.keyfile.specs.Keying.{keying}
 use Rattle.keyfile.specs.Reading.{Known}
 use Rattle.keyfile.specs.Records.{file_records}
 use Rattle.keyfile.specs.declared.fault.FileFault.{FileFault}
-use Rattle.desk.specs.Pages.{Page, below, empty_page, failed, page_found, page_told, printed, refused, replied, unread}
+use Rattle.keyfile.specs.declared.fault.Flaw.TheVariants.{ReadFailed}
+use Rattle.desk.specs.Pages.{Cut, Page, uncut, below, cut_below, empty_page, failed, page_found, page_told, printed, refused, replied, unread}
 use Rattle.desk.specs.Requests.{Errand, Sent, Work, importing_candidates, importing_keying, keyings_for, making, printing, requests_for, running, sending, sent_as, serving, telling_status}
 use Rattle.desk.specs.Standings.{status_text}
-use Rattle.desk.specs.declared.import.TheConstants.{UNOPENED}
 use Rattle.desk.specs.declared.orders.KeyingFile.{KeyingFile}
 use Rattle.desk.specs.declared.lines.Failure.TheVariants.{Office, Output}
 
@@ -74,19 +75,19 @@ IsReplyAbove (done reply) rest page = page ≡ below (replied reply).out rest
 IsReplyAbove (again reply) rest page = page ≡ below (replied reply).out rest
 IsReplyAbove (no why) rest page = ⊥
 
--- Requests sent in turn: each reply is told, and the next request is sent. The first refusal or fault ends it, and so does an output
--- that breaks.
-abbrev pub IsSent : Bool → OfficeState → List Request → Page → Bool → State → Type 0
-IsSent broke s [] page closed st = (page ≡ empty_page) × IsOpenAt s closed st
-IsSent broke s (r ∷ rs) page closed st =
-    ((rest : Page) × IsReplyAbove (told_of (step_of s r)) rest page × IsSent broke (after_one s r) rs rest closed st)
-    ⊎ ((page.status ≡ 0 → broke ≡ true) × IsAnswered s (step_of s r) page closed st)
+-- Requests sent in turn: once a reply was told whole, the next request is sent. The first refusal or fault ends it, and so does an
+-- output that fails.
+abbrev pub IsSent : Cut → OfficeState → List Request → Page → Bool → State → Type 0
+IsSent cut s [] page closed st = (cut ≡ uncut) × (page ≡ empty_page) × IsOpenAt s closed st
+IsSent cut s (r ∷ rs) page closed st =
+    ((rest : Page) × (later : Cut) × IsReplyAbove (told_of (step_of s r)) rest page × (cut ≡ cut_below (page_told (told_of (step_of s r))).out later) × IsSent later (after_one s r) rs rest closed st)
+    ⊎ ((page.status ≡ 0 → cut ≢ uncut) × IsAnswered s (step_of s r) page closed st)
 
 -- ---- what comes of an errand that sends nothing
 
 -- why the file isn't taken
 abbrev pub IsRefusedFile : {Row : Type 0} → Format Row → File → Page → Type 0
-IsRefusedFile format None page = page ≡ unread UNOPENED
+IsRefusedFile format None page = page ≡ unread (record { flaw = ReadFailed; record_number = 0 })
 IsRefusedFile format (Some told) page = (fault : FileFault) × (page ≡ unread fault) × Known told (λ bytes. IsFaultOf format (file_records bytes) fault)
 
 -- the same of the keying of a batch, which may not be there
@@ -120,9 +121,9 @@ IsKeyingRead s k file page_of (Ok request) closed st = HoldsKeying (columns_told
 IsKeyingRead s k file page_of (Err outcome) closed st = (IsRefusedKeying (columns_told s k.batch) file (page_of outcome) × IsOpenAt s closed st) ⊎ IsStopped s (page_of outcome) closed st
 
 -- What comes of an errand in an open office: its requests are sent; or what is told of the state, or why nothing is sent; or a fault.
-abbrev pub IsRun : Bool → OfficeState → Errand → File → Page → Bool → State → Type 0
-IsRun broke s errand file page closed st =
-    ((requests : List Request) × Sends s errand file requests × IsSent broke s requests page closed st)
+abbrev pub IsRun : Cut → OfficeState → Errand → File → Page → Bool → State → Type 0
+IsRun cut s errand file page closed st =
+    ((requests : List Request) × Sends s errand file requests × IsSent cut s requests page closed st)
     ⊎ ((IsTold s errand file page × IsOpenAt s closed st) ⊎ IsStopped s page closed st)
 
 -- ---- what comes of an order over a connection to an office at a state
@@ -142,14 +143,14 @@ abbrev pub IsUnopened : OfficeState → Work → Page → State → Type 0
 IsUnopened s work page st = (fault : Fault) × (page ≡ failed (Office fault)) × IsEndOf work fault × LeavesState st (λ x. x ≡ s)
 
 -- what comes of what is to be done: an errand is run; what needs a socket is told as a failed one
-abbrev pub IsDone : Bool → OfficeState → Work → File → Page → State → Type 0
-IsDone broke s making file page st = ⊥
-IsDone broke s (serving port connections) file page st = (page ≡ failed Output) × LeavesState st (λ x. x ≡ s)
-IsDone broke s (running errand) file page st = (closed : Bool) × IsRun broke s errand file page closed st
+abbrev pub IsDone : Cut → OfficeState → Work → File → Page → State → Type 0
+IsDone cut s making file page st = ⊥
+IsDone cut s (serving port connections) file page st = (page ≡ failed Output) × LeavesState st (λ x. x ≡ s)
+IsDone cut s (running errand) file page st = (closed : Bool) × IsRun cut s errand file page closed st
 
 -- that, or a fault before
-abbrev pub Performs : Bool → OfficeState → Work → File → Page → State → Type 0
-Performs broke s work file page st = IsDone broke s work file page st ⊎ IsUnopened s work page st
+abbrev pub Performs : Cut → OfficeState → Work → File → Page → State → Type 0
+Performs cut s work file page st = IsDone cut s work file page st ⊎ IsUnopened s work page st
 
 -- An office that was to be made in an empty database is made; or want of memory or a failing store is told, and a stop leaves what it could
 -- leave before, or the empty office.
@@ -157,6 +158,10 @@ abbrev pub IsMade : Page → State → State → Type 0
 IsMade page old new =
     ((page ≡ replied (codes "office ready")) × IsAt empty_office new)
     ⊎ ((fault : Fault) × (page ≡ failed (Office fault)) × IsPlain fault × ((trees : Trees) → new.may_leave trees → old.may_leave trees ⊎ Stores (tables_of empty_office) trees))
+
+-- None is made where a table has one of our names, whatever it holds: that is told, or want of memory, and nothing is changed.
+abbrev pub IsTaken : Page → State → State → Type 0
+IsTaken page old new = ((page ≡ failed (Office WrongDatabase)) ⊎ (page ≡ failed (Office Memory))) × OnlyReads old new
 
 -- At a database that holds the tables of no state the fault is told that it gives, or want of memory or a failing store, and nothing is
 -- changed.
@@ -166,10 +171,12 @@ pub record IsForeign (db : Database) (page : Page) (old new : State) : Type 0 wh
   pub given : IsToldBy db fault
   pub same : OnlyReads old new
 
--- what comes of what is to be done, by what the connection rests at: an office at a state, a database with nothing in it, or one of no office
-pub record IsPerformed (broke : Bool) (work : Work) (file : File) (page : Page) (old new : State) : Type 0 where
-  pub in_office : (db : Database) → RestsAt db old → (s : OfficeState) → IsLeftAt s db → Performs broke s work file page new
+-- what comes of what is to be done, by what the connection rests at: an office at a state, a database with nothing in it, one with a
+-- table of our names, or one of no office
+pub record IsPerformed (cut : Cut) (work : Work) (file : File) (page : Page) (old new : State) : Type 0 where
+  pub in_office : (db : Database) → RestsAt db old → (s : OfficeState) → IsLeftAt s db → Performs cut s work file page new
   pub in_nothing : work ≡ making → IsBlank old → IsMade page old new
+  pub taken : work ≡ making → (db : Database) → RestsAt db old → has_some_table db.schema ≡ true → IsTaken page old new
   pub elsewhere : (errand : Errand) → work ≡ running errand → (db : Database) → IsOurs db.schema → RestsAt db old → HoldsNoState db → IsForeign db page old new
 
 -- ---- what is kept of an order
@@ -181,21 +188,27 @@ SendsSome s making file (r ∷ rs) = ⊥
 SendsSome s (serving port connections) file (r ∷ rs) = ⊥
 SendsSome s (running errand) file (r ∷ rs) = Sends s errand file (r ∷ rs)
 
+-- a reply was told whole, and something was told of the requests behind it; or an output failed, and nothing more was sent
+abbrev pub IsReplyTold : Text → ℕ → (Cut → Page → Type 0) → Cut → Page → Type 0
+IsReplyTold reply others P cut page =
+    ((rest : Page) × (later : Cut) × (page ≡ below (replied reply).out rest) × (cut ≡ cut_below (replied reply).out later) × P later rest)
+    ⊎ ((others ≡ 0) × (page ≡ replied reply) × (cut ≢ uncut))
+
 -- what an answer tells, above what was told of the requests behind it; after a refusal nothing is sent
-abbrev pub IsAnswerAbove : Told → ℕ → (Page → Type 0) → Page → Type 0
-IsAnswerAbove (done reply) others P page = (rest : Page) × (page ≡ below (replied reply).out rest) × P rest
-IsAnswerAbove (again reply) others P page = (rest : Page) × (page ≡ below (replied reply).out rest) × P rest
-IsAnswerAbove (no why) others P page = (others ≡ 0) × (page ≡ refused why)
+abbrev pub IsAnswerAbove : Told → ℕ → (Cut → Page → Type 0) → Cut → Page → Type 0
+IsAnswerAbove (done reply) others P cut page = IsReplyTold reply others P cut page
+IsAnswerAbove (again reply) others P cut page = IsReplyTold reply others P cut page
+IsAnswerAbove (no why) others P cut page = (others ≡ 0) × (page ≡ refused why)
 
 -- the page tells a fault of the office
 abbrev pub TellsFault : Page → Type 0
 TellsFault page = (fault : Fault) × (page ≡ failed (Office fault))
 
 -- the page tells the answers to the first so many requests, each that of the machine where its turn comes, and behind them nothing or a fault
-abbrev pub TellsAnswers : OfficeState → List Request → ℕ → Page → Type 0
-TellsAnswers s requests zero page = (page ≡ empty_page) ⊎ TellsFault page
-TellsAnswers s [] (suc others) page = ⊥
-TellsAnswers s (r ∷ rs) (suc others) page = IsAnswerAbove (told_of (step_of s r)) others (TellsAnswers (after_one s r) rs others) page
+abbrev pub TellsAnswers : OfficeState → List Request → ℕ → Cut → Page → Type 0
+TellsAnswers s requests zero cut page = ((cut ≡ uncut) × (page ≡ empty_page)) ⊎ TellsFault page
+TellsAnswers s [] (suc others) cut page = ⊥
+TellsAnswers s (r ∷ rs) (suc others) cut page = IsAnswerAbove (told_of (step_of s r)) others (TellsAnswers (after_one s r) rs others) cut page
 
 -- where nothing was sent, the page tells that there was nothing to send, what was asked or why nothing was sent, or a fault
 abbrev pub TellsOther : OfficeState → Work → File → Page → Type 0
@@ -206,11 +219,11 @@ TellsOther s (running errand) file page = ((Sends s errand file [] × (page ≡ 
 -- Of the requests of an order so many were answered, as the page tells; where none was sent, it tells something else. Whatever a stop leaves
 -- is the state after the accepted requests of a beginning, which contains every earlier one, every answered one, and at most one more; with
 -- status 0 all were answered.
-pub record IsKept (earlier : List Request) (work : Work) (file : File) (page : Page) (ends : ℕ) (st : State) : Type 0 where
+pub record IsKept (earlier : List Request) (work : Work) (file : File) (cut : Cut) (page : Page) (ends : ℕ) (st : State) : Type 0 where
   pub requests : List Request
   pub sends : SendsSome (after empty_office earlier) work file requests
   pub answered : ℕ
-  pub told : requests ≢ [] → TellsAnswers (after empty_office earlier) requests answered page
+  pub told : requests ≢ [] → TellsAnswers (after empty_office earlier) requests answered cut page
   pub other : requests ≡ [] → TellsOther (after empty_office earlier) work file page
   pub leaves : LeavesState st (IsAfterBeginning earlier requests answered)
   pub all : ends ≡ 0 → answered ≡ length requests

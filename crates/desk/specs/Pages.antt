@@ -1,5 +1,5 @@
 -- What the program prints, and how it ends.
-use Rattle.std.specs.Prelude.{◌≡◌, ◌⊎◌, ◌+◌, ◌++◌, ◌==◌, ℕ, Bool, true, false, List, [], ◌∷◌, Option, Result, Ok, Err, codes, string_bytes, if◌then◌else◌, OnOk, OnErr}
+use Rattle.std.specs.Prelude.{◌≡◌, ◌⊎◌, ◌+◌, ◌++◌, ◌==◌, ℕ, List, [], ◌∷◌, Option, Result, Ok, Err, codes, string_bytes, if◌then◌else◌, OnOk, OnErr}
 use Rattle.std.specs.Fmt.{decimal}
 use Rattle.std.specs.Io.KnownBytes.{Appends}
 use Rattle.std.specs.List.{flat_map}
@@ -134,11 +134,18 @@ pub record IsWhole (old new : Outputs) (page : Page) (status : ℕ) : Type 0 whe
   pub err_failed : new.err_failed ≡ old.err_failed
   pub ends : status ≡ page.status
 
--- the output failed: it took a beginning, and that is told on the error output, or a beginning of it
-pub record IsOutputBroken (old new : Outputs) (page : Page) (status : ℕ) : Type 0 where
-  pub out : AppendsBeginning old.out new.out page.out
+-- how much was told of a page: all; or what the output took, which failed; or all of that, and the error output failed
+pub data Cut : Type 0 where
+  uncut : Cut
+  cut_behind : Text → Cut
+  cut_error : Cut
+
+-- the output failed: it took this beginning, and that is told on the error output, or a beginning of it where that failed too
+pub record IsOutputBroken (took : Text) (old new : Outputs) (page : Page) (status : ℕ) : Type 0 where
+  pub out : Appends old.out new.out took
+  pub begins : (left : Text) × (took ++ left ≡ page.out)
   pub out_failed : new.out_failed ≡ old.out_failed + 1
-  pub err : AppendsBeginning old.err new.err (failed Output).err
+  pub err : (Appends old.err new.err (failed Output).err × (new.err_failed ≡ old.err_failed)) ⊎ (AppendsBeginning old.err new.err (failed Output).err × (new.err_failed ≡ old.err_failed + 1))
   pub ends : status ≡ 3
 
 -- the error output failed: it took a beginning
@@ -149,21 +156,28 @@ pub record IsErrorOutputBroken (old new : Outputs) (page : Page) (status : ℕ) 
   pub err_failed : new.err_failed ≡ old.err_failed + 1
   pub ends : status ≡ 3
 
--- a page was told; or, where an output broke, a beginning of it
-abbrev pub IsShown : Bool → Outputs → Outputs → Page → ℕ → Type 0
-IsShown false old new page status = IsWhole old new page status
-IsShown true old new page status = IsOutputBroken old new page status ⊎ IsErrorOutputBroken old new page status
+-- a page was told, so far
+abbrev pub IsShown : Cut → Outputs → Outputs → Page → ℕ → Type 0
+IsShown uncut old new page status = IsWhole old new page status
+IsShown (cut_behind took) old new page status = IsOutputBroken took old new page status
+IsShown cut_error old new page status = IsErrorOutputBroken old new page status
 
--- the same, whichever of both
+-- the same, however far
 abbrev pub Shows : Outputs → Outputs → Page → ℕ → Type 0
-Shows old new page status = (broke : Bool) × IsShown broke old new page status
+Shows old new page status = (cut : Cut) × IsShown cut old new page status
+
+-- how much was told of a page, where a text above it was told whole
+abbrev pub cut_below : Text → Cut → Cut
+cut_below text uncut = uncut
+cut_below text (cut_behind took) = cut_behind (text ++ took)
+cut_below text cut_error = cut_error
 
 -- what was told is some page of a kind
-pub record Tells (old new : Outputs) (status : ℕ) (P : Bool → Page → Type 0) : Type 0 where
+pub record Tells (old new : Outputs) (status : ℕ) (P : Cut → Page → Type 0) : Type 0 where
   pub page : Page
-  pub broke : Bool
-  pub shown : IsShown broke old new page status
-  pub is : P broke page
+  pub cut : Cut
+  pub shown : IsShown cut old new page status
+  pub is : P cut page
 
 -- ---- the parts of it: a text that is put to one output
 

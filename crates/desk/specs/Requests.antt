@@ -23,7 +23,6 @@ use Rattle.desk.specs.declared.tasks.OfficeTask.{OfficeTask}
 use Rattle.desk.specs.declared.tasks.OfficeTask.TheVariants as office_task
 use Rattle.desk.specs.declared.tasks.Task.{Task}
 use Rattle.desk.specs.declared.tasks.Task.TheVariants as task
-use Rattle.desk.specs.declared.requests.TheConstants.{OFFICE}
 
 -- what a command asks, its names as text
 pub data Asked : Type 0 where
@@ -72,7 +71,7 @@ sent_as r = record { actor = r.actor; id = string_bytes r.id; asked = asked_by r
 
 -- a request of the office itself
 abbrev pub by_office : Text → Asked → Sent
-by_office id asked = record { actor = OFFICE; id = id; asked = asked }
+by_office id asked = record { actor = 0; id = id; asked = asked }
 
 -- what is done in an opened office
 pub data Errand : Type 0 where

@@ -40,8 +40,8 @@ fn run<S: Alter, R: Read + Drop, O: Sink, E: Sink>(
     requires out { O.failed out.old < 2 ^ 64 - 1 }
     requires err { E.failed err.old < 2 ^ 64 - 1 }
     ensures ran { Tells (outputs_of O.taken O.failed E.taken E.failed out.old err.old) (outputs_of O.taken O.failed E.taken E.failed out.new err.new) result
-        (λ broke page. WhereOpen office.old.closed (state S.Store office.old.held) (state S.Store office.new.held)
-        (λ s. IsRun broke s (errand_of task.entry) (option_map R.remaining file) page office.new.closed (state S.Store office.new.held))) }
+        (λ cut page. WhereOpen office.old.closed (state S.Store office.old.held) (state S.Store office.new.held)
+        (λ s. IsRun cut s (errand_of task.entry) (option_map R.remaining file) page office.new.closed (state S.Store office.new.held))) }
     ensures clean { HasCleanDisk (state S.Store office.new.held) → HasCleanDisk (state S.Store office.old.held) }
 {
     match task {
@@ -71,7 +71,7 @@ fn run_opened<S: Alter, R: Read + Drop, O: Sink, E: Sink>(
     requires out { O.failed out.old < 2 ^ 64 - 1 }
     requires err { E.failed err.old < 2 ^ 64 - 1 }
     ensures { Tells (outputs_of O.taken O.failed E.taken E.failed out.old err.old) (outputs_of O.taken O.failed E.taken E.failed out.new err.new) result.0
-        (λ broke page. HasCleanDisk (state S.Store result.1) → IsPerformed broke (running (errand_of task.entry)) (option_map R.remaining file) page (state S.Store conn) (state S.Store result.1)) }
+        (λ cut page. HasCleanDisk (state S.Store result.1) → IsPerformed cut (running (errand_of task.entry)) (option_map R.remaining file) page (state S.Store conn) (state S.Store result.1)) }
 {
     match Office::open_from(alloc, conn) {
         Ok(mut office) => {
@@ -92,7 +92,7 @@ fn make_office<S: Alter, O: Sink, E: Sink>(
     requires out { O.failed out.old < 2 ^ 64 - 1 }
     requires err { E.failed err.old < 2 ^ 64 - 1 }
     ensures { Tells (outputs_of O.taken O.failed E.taken E.failed out.old err.old) (outputs_of O.taken O.failed E.taken E.failed out.new err.new) result.0
-        (λ broke page. HasCleanDisk (state S.Store result.1) → (told : File) → IsPerformed broke making told page (state S.Store conn) (state S.Store result.1)) }
+        (λ cut page. HasCleanDisk (state S.Store result.1) → (told : File) → IsPerformed cut making told page (state S.Store conn) (state S.Store result.1)) }
 {
     match Office::create(alloc, conn) {
         Ok(office) => (tell(&Outcome::Ready, out, err), office.into_connection()),
@@ -127,10 +127,10 @@ pub fn perform<S: Alter, R: Read + Drop, O: Sink, E: Sink>(
     requires out { O.failed out.old < 2 ^ 64 - 1 }
     requires err { E.failed err.old < 2 ^ 64 - 1 }
     ensures performed { Tells (outputs_of O.taken O.failed E.taken E.failed out.old err.old) (outputs_of O.taken O.failed E.taken E.failed out.new err.new) result.0
-        (λ broke page. HasCleanDisk (state S.Store result.1) → IsPerformed broke (work_for order.now) (option_map R.remaining file) page (state S.Store conn) (state S.Store result.1)) }
+        (λ cut page. HasCleanDisk (state S.Store result.1) → IsPerformed cut (work_for order.now) (option_map R.remaining file) page (state S.Store conn) (state S.Store result.1)) }
     ensures headline { Tells (outputs_of O.taken O.failed E.taken E.failed out.old err.old) (outputs_of O.taken O.failed E.taken E.failed out.new err.new) result.0
-        (λ broke page. HasCleanDisk (state S.Store result.1) → (db : Database) → RestsAt db (state S.Store conn) → (earlier : List Request) → IsLeftAt (after empty_office earlier) db
-        → IsKept earlier (work_for order.now) (option_map R.remaining file) page result.0 (state S.Store result.1)) }
+        (λ cut page. HasCleanDisk (state S.Store result.1) → (db : Database) → RestsAt db (state S.Store conn) → (earlier : List Request) → IsLeftAt (after empty_office earlier) db
+        → IsKept earlier (work_for order.now) (option_map R.remaining file) cut page result.0 (state S.Store result.1)) }
 {
     match task_for(alloc, order) {
         Ok(Task::Make) => make_office(alloc, conn, out, err),

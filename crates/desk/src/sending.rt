@@ -37,8 +37,8 @@ pub(crate) fn send_all<S: Alter, O: Sink, E: Sink>(
     requires out { O.failed out.old < 2 ^ 64 - 1 }
     requires err { E.failed err.old < 2 ^ 64 - 1 }
     ensures sent { Tells (outputs_of O.taken O.failed E.taken E.failed out.old err.old) (outputs_of O.taken O.failed E.taken E.failed out.new err.new) result
-        (λ broke page. WhereOpen office.old.closed (state S.Store office.old.held) (state S.Store office.new.held)
-        (λ s. IsSent broke s requests.now page office.new.closed (state S.Store office.new.held))) }
+        (λ cut page. WhereOpen office.old.closed (state S.Store office.old.held) (state S.Store office.new.held)
+        (λ s. IsSent cut s requests.now page office.new.closed (state S.Store office.new.held))) }
     ensures clean { HasCleanDisk (state S.Store office.new.held) → HasCleanDisk (state S.Store office.old.held) }
 {
     for request in requests {

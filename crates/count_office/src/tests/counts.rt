@@ -17,7 +17,7 @@ pub struct Worked {
 }
 
 /// A surplus whose values are cut to 0.33333, and an exclusion that fills the last vacancy.
-const SURPLUS_CUT_BY_FRACTIONS: Worked = Worked {
+pub const SURPLUS_CUT_BY_FRACTIONS: Worked = Worked {
     seats: "2",
     candidates: b"ward,candidate,name\n7,1,Ann\n7,2,Bob\n7,3,Cy\n",
     added: "candidate 1 of ward 7 added\ncandidate 2 of ward 7 added\ncandidate 3 of ward 7 added\n",
@@ -280,8 +280,9 @@ Elected
 ",
 };
 
-/// Plays an election from its nominations to its declaration. Each order opens the office anew.
-pub fn play_whole(rt: &(impl Abort + AllocGlobal), worked: &Worked) -> Result<(), Fail> {
+/// Plays an election from its nominations to its declaration, and gives what is kept of it. Each order opens
+/// the office anew.
+pub fn play_whole(rt: &(impl Abort + AllocGlobal), worked: &Worked) -> Result<Disks, Fail> {
     let ward = ["DB", "ward", "7", worked.seats, "Harbour", "--id", "w1"];
     let batch = [
         "DB",
@@ -326,8 +327,7 @@ pub fn play_whole(rt: &(impl Abort + AllocGlobal), worked: &Worked) -> Result<()
     ];
     Disks::lasting(rt.alloc())
         .hear(rt, &before)?
-        .follow(rt, worked.count)?;
-    Ok(())
+        .follow(rt, worked.count)
 }
 
 #[test]
@@ -335,5 +335,6 @@ fn surpluses_and_exclusions_are_counted(rt: HostRuntime) -> Result<(), Fail> {
     play_whole(&rt, &SURPLUS_CUT_BY_FRACTIONS)?;
     play_whole(&rt, &SECOND_SURPLUS_AT_CUT_VALUES)?;
     play_whole(&rt, &QUOTA_AT_THE_FIRST_STAGE)?;
-    play_whole(&rt, &PASSED_OVER_THE_ELECTED)
+    play_whole(&rt, &PASSED_OVER_THE_ELECTED)?;
+    Ok(())
 }

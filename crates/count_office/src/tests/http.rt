@@ -1,6 +1,7 @@
 //! Keying and reading over HTTP, byte for byte.
 
 use super::clients::Client;
+use super::counts::{SURPLUS_CUT_BY_FRACTIONS, play_whole};
 use super::disks::Disks;
 use super::keyings::begun;
 use super::steps::{Case, Step, Told};
@@ -145,6 +146,57 @@ fn clerks_key_over_http(rt: HostRuntime) -> Result<(), Fail> {
     Ok(())
 }
 
+/// What is told of a ward that is declared.
+const COUNTED: [Case<'static>; 2] = [
+    (
+        Step::Ask(b"GET /wards/7/sheet HTTP/1.1\r\n\r\n"),
+        (
+            0,
+            "HTTP/1.1 200 OK\r\nContent-Type: text/plain; charset=utf-8\r\nContent-Length: 585\r\nConnection: close\r\n\r\nWard 7 Harbour
+Seats 2, valid 9, quota 4.00000
+Rejected 1: 0, 2: 0, 3: 0, 4: 0, 5: 0
+Stage 1: first preferences
+ 1       6.00000 E Ann
+ 2       1.00000 - Bob
+ 3       2.00000 - Cy
+         0.00000 non-transferable
+         0.00000 lost by fractions
+Stage 2: surplus of 1
+ 1       4.00000 e Ann
+ 2       2.33332 - Bob
+ 3       2.66666 - Cy
+         0.00000 non-transferable
+         0.00002 lost by fractions
+Stage 3: exclusion of 2, last vacancies
+ 1       4.00000 e Ann
+ 2       2.33332 x Bob
+ 3       2.66666 E Cy
+         0.00000 non-transferable
+         0.00002 lost by fractions
+",
+            "Answered(200)",
+        ),
+    ),
+    (
+        Step::Ask(b"GET /wards/7/result HTTP/1.1\r\n\r\n"),
+        (
+            0,
+            "HTTP/1.1 200 OK\r\nContent-Type: text/plain; charset=utf-8\r\nContent-Length: 36\r\nConnection: close\r\n\r\nWard 7 Harbour
+Elected
+ 1 Ann
+ 3 Cy
+",
+            "Answered(200)",
+        ),
+    ),
+];
+
+#[test]
+fn a_sheet_and_a_declaration_are_read_over_http(rt: HostRuntime) -> Result<(), Fail> {
+    play_whole(&rt, &SURPLUS_CUT_BY_FRACTIONS)?.hear_unchanged(&rt, &COUNTED)?;
+    Ok(())
+}
+
 /// Requests that are no requests.
 const BAD: [&[u8]; 11] = [
     // no head
@@ -212,10 +264,12 @@ const POST: &str = "POST /clerks/4/batches/12/keying HTTP/1.1\r\nContent-Length:
 
 const GET: &str = "GET /wards/7/sheet HTTP/1.1\r\n";
 
+const MAX_HEAD_BYTES: usize = 8192;
+
 #[test]
 fn what_is_too_long_is_refused(rt: HostRuntime) -> Result<(), Fail> {
     let disks = begun(&rt)?;
-    let endless = repeated(&rt, GET, "A: bbbb\r\n", 2000, "")?;
+    let endless = repeated(&rt, GET, "b", MAX_HEAD_BYTES + 1 - GET.len(), "")?;
     let disks = refuse(&rt, disks, endless.as_bytes(), REFUSED)?;
     let headers = repeated(&rt, GET, "A: b\r\n", 33, "\r\n")?;
     let disks = refuse(&rt, disks, headers.as_bytes(), REFUSED)?;

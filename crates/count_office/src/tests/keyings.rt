@@ -137,8 +137,17 @@ $ status 7
 ward 7 keying: 3 candidates, 2 batches, 1 taken, 0 differing, 0 doubtful open, 0 stages
 ";
 
+/// Where batch 12 is the only one, once both clerks have keyed it alike.
+const TAKEN: &str = "$ status 7
+ward 7 keying: 3 candidates, 1 batches, 1 taken, 0 differing, 1 doubtful open, 0 stages
+";
+
 #[test]
 fn two_clerks_agree(rt: HostRuntime) -> Result<(), Fail> {
+    begun(&rt)?
+        .follow(&rt, FOUR_KEYED)?
+        .follow(&rt, NINE_KEYED)?
+        .follow_unchanged(&rt, TAKEN)?;
     begun(&rt)?
         .follow(&rt, BATCH_13)?
         .hear_unchanged(&rt, &FILES)?

@@ -236,7 +236,7 @@ fn a_keying_over_http_stops_whole_at_its_database(rt: HostRuntime) -> Result<(),
 }
 
 /// What a client of a closed office is told.
-const CLOSED_ANSWER: &str =
+pub const CLOSED_ANSWER: &str =
     "HTTP/1.1 503 Service Unavailable\r\nContent-Type: application/json\r\nContent-Length: 13\r\nConnection: close\r\n\r\n{\"fault\":104}";
 
 /// Where a store stopped under two clients who key in turn.
@@ -270,16 +270,24 @@ fn stop_twice(rt: &(impl Abort + AllocGlobal), disks: &Disks, calls: u64) -> Res
 #[test]
 fn a_closed_office_says_so(rt: HostRuntime) -> Result<(), Fail> {
     let disks = begun(&rt)?;
-    let mut met = false;
-    for calls in 0..CALLS {
+    for calls in calls_to_a_client(&rt, &disks)?..CALLS {
         match stop_twice(&rt, &disks, calls)? {
-            Stop::AtTheOpening => {}
-            Stop::AtTheFirst => met = true,
-            Stop::BehindTheFirst => {
-                assert!(rt; met, "the store never stopped under a client");
-                return Ok(());
-            }
+            Stop::AtTheOpening => return Err(Fail::from("a longer run stopped before")),
+            Stop::AtTheFirst => {}
+            Stop::BehindTheFirst => return Ok(()),
         }
     }
     Err(Fail::from("no run was long enough"))
+}
+
+/// After how many calls the log first stops under a client, and no more at the opening.
+pub fn calls_to_a_client(rt: &(impl Abort + AllocGlobal), disks: &Disks) -> Result<u64, Fail> {
+    for calls in 0..CALLS {
+        match stop_twice(rt, disks, calls)? {
+            Stop::AtTheOpening => {}
+            Stop::AtTheFirst => return Ok(calls),
+            Stop::BehindTheFirst => break,
+        }
+    }
+    Err(Fail::from("the store never stopped under a client"))
 }

@@ -1,8 +1,10 @@
 //! Connections over loopback, in one process with their clients.
 
+use super::disks::File;
 use super::http::{BAD_REQUEST, KEYED, KEYING};
 use super::keyings::begun;
-use super::steps::Step;
+use super::order_stops::{CLOSED_ANSWER, calls_to_a_client};
+use super::steps::{STOPPED_ANSWER, Step};
 use std::io::{Read, Write};
 use std::net::{OpenListener, OpenStream, Shutdown, TcpListener, TcpStream};
 use std::process::Abort;
@@ -44,5 +46,19 @@ fn a_silent_connection_is_let_go(rt: HostRuntime) -> Result<(), Fail> {
     disks.hear(&rt, &[(Step::Listen(&listener, 2), (0, "Ok(())", ""))])?;
     assert_eq!(rt; received(&rt, silent)?.as_str(), "");
     assert_eq!(rt; received(&rt, second)?.as_str(), KEYED);
+    Ok(())
+}
+
+#[test]
+fn a_closed_office_goes_on_answering(rt: HostRuntime) -> Result<(), Fail> {
+    let disks = begun(&rt)?;
+    let calls = calls_to_a_client(&rt, &disks)?;
+    let stopping = disks.copied(rt.alloc(), File::Log, calls)?;
+    let listener = TcpListener::bind(&rt, "127.0.0.1:0")?;
+    let first = connected(&rt, &listener, KEYING)?;
+    let second = connected(&rt, &listener, KEYING)?;
+    stopping.hear(&rt, &[(Step::Listen(&listener, 2), (0, "Ok(())", ""))])?;
+    assert_eq!(rt; received(&rt, first)?.as_str(), STOPPED_ANSWER);
+    assert_eq!(rt; received(&rt, second)?.as_str(), CLOSED_ANSWER);
     Ok(())
 }

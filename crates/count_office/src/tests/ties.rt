@@ -237,5 +237,6 @@ Elected
 fn ties_are_settled(rt: HostRuntime) -> Result<(), Fail> {
     play_whole(&rt, &TIE_BY_EARLIER_STAGE)?;
     play_whole(&rt, &TIE_OF_THREE)?;
-    play_whole(&rt, &LOT_BETWEEN_SURPLUSES)
+    play_whole(&rt, &LOT_BETWEEN_SURPLUSES)?;
+    Ok(())
 }

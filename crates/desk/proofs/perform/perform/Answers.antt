@@ -19,10 +19,10 @@ returns-in-Ok-Make-clause-performed g c =
     let file = option_map g.R.Read.remaining c.args.file in
     record {
       page = told.page;
-      broke = told.broke;
+      cut = told.cut;
       shown = told.shown;
       is = λ clean.
-          subst (λ work. IsPerformed told.broke work file told.page (state g.S.Store c.args.conn) (state g.S.Store c.make_office.result.1)) (rw c.in-Ok-Make.field-0-is at c.in-Ok-Make.ensures) (told.is clean file);
+          subst (λ work. IsPerformed told.cut work file told.page (state g.S.Store c.args.conn) (state g.S.Store c.make_office.result.1)) (rw c.in-Ok-Make.field-0-is at c.in-Ok-Make.ensures) (told.is clean file);
     }
 
 pub returns-in-Ok-Run-clause-performed : goal.returns-in-Ok-Run-clause-performed
@@ -31,10 +31,10 @@ returns-in-Ok-Run-clause-performed g c =
     let file = option_map g.R.Read.remaining c.args.file in
     record {
       page = told.page;
-      broke = told.broke;
+      cut = told.cut;
       shown = told.shown;
       is = λ clean.
-          subst (λ work. IsPerformed told.broke work file told.page (state g.S.Store c.args.conn) (state g.S.Store c.run_opened.result.1)) (rw c.in-Ok-Run.field-0-is at c.in-Ok-Run.ensures) (told.is clean);
+          subst (λ work. IsPerformed told.cut work file told.page (state g.S.Store c.args.conn) (state g.S.Store c.run_opened.result.1)) (rw c.in-Ok-Run.field-0-is at c.in-Ok-Run.ensures) (told.is clean);
     }
 
 pub returns-in-Ok-Serve-clause-performed : goal.returns-in-Ok-Serve-clause-performed
@@ -44,12 +44,13 @@ returns-in-Ok-Serve-clause-performed g c =
     let st = state g.S.Store c.args.conn in
     record {
       page = failed Output;
-      broke = told.0;
+      cut = told.0;
       shown = told.1;
       is = λ clean.
           subst (λ work. IsPerformed told.0 work file (failed Output) st st) (rw c.in-Ok-Serve.field-0-is at c.in-Ok-Serve.ensures) (record {
             in_office = λ db rests s left. inl (refl, rests_leaves s db st (λ trees is_open may. g.met.S.Store.settled c.args.conn.store trees is_open may) rests left);
             in_nothing = λ is. absurd (cc is);
+            taken = λ is. absurd (cc is);
             elsewhere = λ errand is. absurd (cc is);
           });
     }
@@ -60,11 +61,12 @@ returns-in-Err-clause-performed g c =
     let st = state g.S.Store c.args.conn in
     record {
       page = failed (Office Memory);
-      broke = told.0;
+      cut = told.0;
       shown = told.1;
       is = λ clean. record {
         in_office = λ db rests s left. inr (Memory, refl, memory_ends (work_for c.args.order.now), rests_leaves s db st (λ trees is_open may. g.met.S.Store.settled c.args.conn.store trees is_open may) rests left);
         in_nothing = λ is blank. inr (Memory, refl, inl refl, λ trees may. inl may);
+        taken = λ is db rests there. (inr refl, only_reads_itself st);
         elsewhere = λ errand is db ours rests none. record { fault = Memory; told = refl; given = tt; same = only_reads_itself st };
       };
     }
@@ -74,10 +76,10 @@ returns-in-Ok-Make-clause-headline g c =
     let told = returns-in-Ok-Make-clause-performed g c in
     record {
       page = told.page;
-      broke = told.broke;
+      cut = told.cut;
       shown = told.shown;
       is = λ clean db rests earlier left.
-          kept earlier (work_for c.args.order.now) (option_map g.R.Read.remaining c.args.file) told.broke _ _ told.page c.make_office.result.0 (state g.S.Store c.make_office.result.1) told.shown
+          kept earlier (work_for c.args.order.now) (option_map g.R.Read.remaining c.args.file) told.cut _ _ told.page c.make_office.result.0 (state g.S.Store c.make_office.result.1) told.shown
           ((told.is clean).in_office db rests (after empty_office earlier) left);
     }
 
@@ -86,10 +88,10 @@ returns-in-Ok-Run-clause-headline g c =
     let told = returns-in-Ok-Run-clause-performed g c in
     record {
       page = told.page;
-      broke = told.broke;
+      cut = told.cut;
       shown = told.shown;
       is = λ clean db rests earlier left.
-          kept earlier (work_for c.args.order.now) (option_map g.R.Read.remaining c.args.file) told.broke _ _ told.page c.run_opened.result.0 (state g.S.Store c.run_opened.result.1) told.shown
+          kept earlier (work_for c.args.order.now) (option_map g.R.Read.remaining c.args.file) told.cut _ _ told.page c.run_opened.result.0 (state g.S.Store c.run_opened.result.1) told.shown
           ((told.is clean).in_office db rests (after empty_office earlier) left);
     }
 
@@ -98,10 +100,10 @@ returns-in-Ok-Serve-clause-headline g c =
     let told = returns-in-Ok-Serve-clause-performed g c in
     record {
       page = told.page;
-      broke = told.broke;
+      cut = told.cut;
       shown = told.shown;
       is = λ clean db rests earlier left.
-          kept earlier (work_for c.args.order.now) (option_map g.R.Read.remaining c.args.file) told.broke _ _ told.page c.tell_failure.result (state g.S.Store c.args.conn) told.shown
+          kept earlier (work_for c.args.order.now) (option_map g.R.Read.remaining c.args.file) told.cut _ _ told.page c.tell_failure.result (state g.S.Store c.args.conn) told.shown
           ((told.is clean).in_office db rests (after empty_office earlier) left);
     }
 
@@ -110,9 +112,9 @@ returns-in-Err-clause-headline g c =
     let told = returns-in-Err-clause-performed g c in
     record {
       page = told.page;
-      broke = told.broke;
+      cut = told.cut;
       shown = told.shown;
       is = λ clean db rests earlier left.
-          kept earlier (work_for c.args.order.now) (option_map g.R.Read.remaining c.args.file) told.broke _ _ told.page c.tell.result (state g.S.Store c.args.conn) told.shown
+          kept earlier (work_for c.args.order.now) (option_map g.R.Read.remaining c.args.file) told.cut _ _ told.page c.tell.result (state g.S.Store c.args.conn) told.shown
           ((told.is clean).in_office db rests (after empty_office earlier) left);
     }

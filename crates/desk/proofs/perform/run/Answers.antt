@@ -6,14 +6,14 @@ use Rattle.desk.proofs.perform.run.Goals as goal
 pub returns-in-Send-clause-ran : goal.returns-in-Send-clause-ran
 returns-in-Send-clause-ran g c =
     let told = c.send_all.ensures.sent in
-    record { page = told.page; broke = told.broke; shown = told.shown; is = λ clean is_open s at. rw c.in-Send.is (inl (c.in-Send.request ∷ [], refl, told.is clean is_open s at)) }
+    record { page = told.page; cut = told.cut; shown = told.shown; is = λ clean is_open s at. rw c.in-Send.is (inl (c.in-Send.request ∷ [], refl, told.is clean is_open s at)) }
 
 pub returns-in-Ok-keying_of-clause-ran : goal.returns-in-Ok-keying_of-clause-ran
 returns-in-Ok-keying_of-clause-ran g c =
     let told = c.send_all-in-Ok-keying_of.ensures.sent in
     record {
       page = told.page;
-      broke = told.broke;
+      cut = told.cut;
       shown = told.shown;
       is = λ clean is_open s at.
           let read = c.in-Ok-keying_of.ensures.read (c.send_all-in-Ok-keying_of.ensures.clean clean) is_open s at in
@@ -25,7 +25,7 @@ returns-in-Err-keying_of-clause-ran g c =
     let told = c.tell-in-Err-keying_of.ensures in
     record {
       page = page_of c.in-Err-keying_of.outcome;
-      broke = told.0;
+      cut = told.0;
       shown = told.1;
       is = λ clean is_open s at. rw c.in-ImportKeying.is (inr (c.in-Err-keying_of.ensures.read clean is_open s at));
     }
@@ -33,9 +33,9 @@ returns-in-Err-keying_of-clause-ran g c =
 pub returns-in-TellStatus-clause-ran : goal.returns-in-TellStatus-clause-ran
 returns-in-TellStatus-clause-ran g c =
     let told = c.tell-in-TellStatus.ensures in
-    record { page = page_of c.standing_of.result; broke = told.0; shown = told.1; is = λ clean is_open s at. rw c.in-TellStatus.is (inr (c.standing_of.ensures.found clean is_open s at)) }
+    record { page = page_of c.standing_of.result; cut = told.0; shown = told.1; is = λ clean is_open s at. rw c.in-TellStatus.is (inr (c.standing_of.ensures.found clean is_open s at)) }
 
 pub returns-in-Print-clause-ran : goal.returns-in-Print-clause-ran
 returns-in-Print-clause-ran g c =
     let told = c.tell-in-Print.ensures in
-    record { page = page_of c.text_of.result; broke = told.0; shown = told.1; is = λ clean is_open s at. rw c.in-Print.is (inr (c.text_of.ensures.found clean is_open s at)) }
+    record { page = page_of c.text_of.result; cut = told.0; shown = told.1; is = λ clean is_open s at. rw c.in-Print.is (inr (c.text_of.ensures.found clean is_open s at)) }

@@ -14,7 +14,7 @@ returns-in-Ok g c =
     let told = c.run-status.ensures.ran in
     record {
       page = told.page;
-      broke = told.broke;
+      cut = told.cut;
       shown = told.shown;
       is = λ clean.
           let ended = subst (λ conn. HasCleanDisk (state g.S.Store conn)) c.into_connection.ensures clean in
@@ -23,8 +23,9 @@ returns-in-Ok g c =
             in_office = λ db rests s left.
                 let here = c.in-Ok.ensures.reopens opened db rests s left in
                 let ran = told.is ended here.is_open s here.at in
-                inl (subst (λ conn. IsDone told.broke s (running (errand_of c.args.task)) (option_map g.R.Read.remaining c.args.file) told.page (state g.S.Store conn)) (sym c.into_connection.ensures) (c.run-status.new.office.closed, ran));
+                inl (subst (λ conn. IsDone told.cut s (running (errand_of c.args.task)) (option_map g.R.Read.remaining c.args.file) told.page (state g.S.Store conn)) (sym c.into_connection.ensures) (c.run-status.new.office.closed, ran));
             in_nothing = λ is. absurd (cc is);
+            taken = λ is. absurd (cc is);
             elsewhere = λ errand is db ours rests none. let held = c.in-Ok.ensures.opened opened db ours rests in absurd (none held.0 held.1);
           };
     }
@@ -34,7 +35,7 @@ returns-in-Err g c =
     let told = c.tell.ensures in
     record {
       page = failed (Office c.in-Err.fault);
-      broke = told.0;
+      cut = told.0;
       shown = told.1;
       is = λ clean. record {
         in_office = λ db rests s left.
@@ -45,6 +46,7 @@ returns-in-Err g c =
               read_leaves s db (state g.S.Store c.args.conn) (state g.S.Store c.in-Err.conn) (λ trees is_open may. g.met.S.Store.settled c.args.conn.store trees is_open may) c.in-Err.ensures.reads_too clean rests left,
             );
         in_nothing = λ is. absurd (cc is);
+            taken = λ is. absurd (cc is);
         elsewhere = λ errand is db ours rests none. record { fault = c.in-Err.fault; told = refl; given = c.in-Err.ensures.told clean db ours rests; same = c.in-Err.ensures.reads_too };
       };
     }

@@ -3,7 +3,7 @@ use Rattle.std.proofs.Common.{◌<◌, ◌++◌, length, take, refl, arith}
 use Rattle.std.proofs.lemmas.List.{take_all}
 use Rattle.sqlite.specs.Held.{state}
 use Rattle.register.specs.Machine.{after}
-use Rattle.desk.specs.Pages.{below, empty_page, page_of}
+use Rattle.desk.specs.Pages.{below, cut_below, uncut, empty_page, page_of}
 use Rattle.desk.proofs.PageLemmas.{shown_below}
 use Rattle.desk.proofs.SentLemmas.{nothing_told, sent_all, sent_last, sent_more, status_zero, told_all, told_more}
 use Rattle.desk.proofs.sending.send_all.Goals as goal
@@ -45,7 +45,7 @@ returns-then-status-ne0-clause-sent g c =
     let told = c.tell-status.ensures in
     record {
       page = below so_far.said page;
-      broke = told.0;
+      cut = cut_below so_far.said told.0;
       shown = shown_below told.0 _ _ _ so_far.said page c.tell-status.result so_far.shown told.1;
       is = λ clean is_open s at.
           let so = so_far.is (c.outcome_of.ensures.clean clean) is_open s at in
@@ -60,7 +60,7 @@ returns-clause-sent g c =
     let so_far = c.loop-request.invariant.so_far in
     record {
       page = below so_far.said empty_page;
-      broke = _;
+      cut = uncut;
       shown = told_all _ _ so_far.said so_far.shown;
       is = λ clean is_open s at. sent_all s rs (take c.loop-request.request-index rs) so_far.said c.loop-request.office.closed (state g.S.Store c.loop-request.office.held)
           (take_all _ _ c.loop-request-test.false) (so_far.is clean is_open s at);
