@@ -1,11 +1,11 @@
 //! One connection: a request is read, handed on, and answered.
 
-ghost use Rattle.std.specs.Prelude.{◌≡◌, ◌+◌, ◌-◌, ◌^◌, ◌<◌, false, true, IfOk, OnErr};
+ghost use Rattle.std.specs.Prelude.{◌≡◌, ◌+◌, ◌-◌, ◌^◌, ◌<◌, false, true, ℕ, IfOk, OnErr, OnOk};
 ghost use Rattle.sqlite.specs.State.{HasCleanDisk};
 ghost use Rattle.sqlite.specs.Held.{state};
 ghost use Rattle.register.specs.Offices.{OfficeState};
 ghost use Rattle.store.specs.Offices.{IsAt};
-ghost use Rattle.wire.specs.Serving.{IsPut, OnReadFailed, OnWriteFailed, ReadiesClosed, ReadiesFor, Serves, ServesClosed};
+ghost use Rattle.wire.specs.Serving.{CountsFailures, IsPut, OnReadFailed, ReadiesClosed, ReadiesFor, Serves, ServesClosed};
 
 use crate::answering::answer;
 use crate::asked::read_asked;
@@ -36,6 +36,7 @@ fn response_to<R: Source, S: Alter>(
     requires { R.failed reader.old < 2 ^ 64 - 1 }
     ensures answers { HasCleanDisk (state S.Store office.new.held) → office.old.closed ≡ false → (s : OfficeState) → IsAt s (state S.Store office.old.held)
         → IfOk result (λ response. ReadiesFor (R.held reader.old) s response office.new.closed (state S.Store office.new.held)) }
+    ensures read { OnOk result (R.failed reader.new ≡ R.failed reader.old) }
     ensures failed { OnErr result (R.failed reader.new ≡ R.failed reader.old + 1) }
     ensures unasked { OnErr result (office.new ≡ office.old) }
     ensures closed { office.old.closed ≡ true → office.new ≡ office.old }
@@ -53,7 +54,7 @@ fn response_to<R: Source, S: Alter>(
 fn put<W: Sink>(writer: &mut W, response: &Response) -> Served
     requires { W.failed writer.old < 2 ^ 64 - 1 }
     ensures puts { IsPut (W.taken writer.old) (W.taken writer.new) response.now result }
-    ensures failed { OnWriteFailed result (W.failed writer.new ≡ W.failed writer.old + 1) }
+    ensures counts { (read : ℕ) → CountsFailures result read read (W.failed writer.old) (W.failed writer.new) }
 {
     match put_all(writer, response.bytes.as_slice()) {
         Ok(()) => Served::Answered(response.status),
@@ -63,8 +64,8 @@ fn put<W: Sink>(writer: &mut W, response: &Response) -> Served
 
 /// Serves one connection: reads a request, hands it on to the office, and writes the answer.
 ///
-/// `Answered`: the answer to what the reader's bytes ask was written whole, and the office is at the state
-/// after it. After a fault of the office it tells that fault (503); where memory was wanting for the
+/// `Answered`: neither reader nor writer failed, the answer to what the reader's bytes ask was written whole,
+/// and the office is at the state after it. After a fault of the office it tells that fault (503); where memory was wanting for the
 /// request or for the answer, it tells 101 (503), and the request wasn't handed on, or it was, and the
 /// office is at the state after it. `ReadFailed` comes only from the reader, which counts one failure more:
 /// nothing was written, and the office is as it was. `WriteFailed` comes only from the writer, which counts
@@ -80,8 +81,8 @@ pub fn serve_one<R: Source, W: Sink, S: Alter>(
     requires writes { W.failed writer.old < 2 ^ 64 - 1 }
     ensures served { HasCleanDisk (state S.Store office.new.held) → office.old.closed ≡ false → (s : OfficeState) → IsAt s (state S.Store office.old.held)
         → Serves (R.held reader.old) (W.taken writer.old) (W.taken writer.new) s result office.new.closed (state S.Store office.new.held) }
-    ensures read_failed { OnReadFailed result ((R.failed reader.new ≡ R.failed reader.old + 1) × (writer.new ≡ writer.old) × (office.new ≡ office.old)) }
-    ensures write_failed { OnWriteFailed result (W.failed writer.new ≡ W.failed writer.old + 1) }
+    ensures read_failed { OnReadFailed result ((writer.new ≡ writer.old) × (office.new ≡ office.old)) }
+    ensures counts { CountsFailures result (R.failed reader.old) (R.failed reader.new) (W.failed writer.old) (W.failed writer.new) }
     ensures closed { office.old.closed ≡ true → office.new ≡ office.old }
     ensures closed_served { office.old.closed ≡ true → ServesClosed (R.held reader.old) (W.taken writer.old) (W.taken writer.new) result }
     ensures clean { HasCleanDisk (state S.Store office.new.held) → HasCleanDisk (state S.Store office.old.held) }
