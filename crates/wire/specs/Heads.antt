@@ -1,14 +1,13 @@
 -- The head of a request, at the front of the bytes that a client sends.
 use Rattle.std.specs.Prelude.{◌≡◌, ◌≤◌, List, ◌++◌, length, ℕ}
 use Rattle.httparse.specs.Grammar.{IsRequestHead, RequestHead, print_request}
-use Rattle.wire.specs.declared.head.TheConstants.{MAX_HEAD_BYTES, MAX_HEADERS}
 
--- the bytes begin with a head as `httparse` reads it, which is short enough and has few enough headers; others follow it
+-- the bytes begin with a head as `httparse` reads it, of 8,192 bytes and 32 headers at most; others follow it
 pub record BeginsWith (bytes : List ℕ) (head : RequestHead) (behind : List ℕ) : Type 0 where
   pub is_head : IsRequestHead head
   pub parts : bytes ≡ print_request head ++ behind
-  pub short : length (print_request head) ≤ MAX_HEAD_BYTES
-  pub few : length head.fields ≤ MAX_HEADERS
+  pub short : length (print_request head) ≤ 8192
+  pub few : length head.fields ≤ 32
 
 -- they begin with no such head
 abbrev pub HasNoHead : List ℕ → Type 0
