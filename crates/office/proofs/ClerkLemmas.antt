@@ -1,7 +1,7 @@
 -- A clerk's answers among those of others are the ones that his requests alone get.
 use Rattle.std.proofs.Common.{◌≡◌, inl, inr, ℕ, zero, suc, Bool, true, false, cond, ◌==◌, List, [], ◌∷◌, map, filter, take, Result, Ok, Err, string_bytes, refl, sym, ap, ◌∙◌, subst}
 use Rattle.std.proofs.lemmas.Bool.{and_parts, eqb-true}
-use Rattle.std.specs.List.{list_all, zip}
+use Rattle.std.specs.List.{zip}
 use Rattle.sqlite.specs.State.{State}
 use Rattle.register.specs.declared.command.Command.{Command}
 use Rattle.register.specs.declared.command.Request.{Request}
@@ -9,7 +9,7 @@ use Rattle.register.specs.Ranges.{is_clerk}
 use Rattle.register.specs.Offices.{OfficeState}
 use Rattle.register.specs.Items.{IsState}
 use Rattle.register.specs.Seen.{seen_by}
-use Rattle.register.specs.Machine.{Ruling, accepts, keeps, refuses, ruling_at, outcome_at, step, state_after, step_of, after_one}
+use Rattle.register.specs.Machine.{Ruling, accepts, keeps, refuses, ruling_at, outcome_at, step, step_of, after_one}
 use Rattle.register.proofs.MachineLemmas.{step_stays}
 use Rattle.register.proofs.SeenLemmas.{ruling_seen, unseen, seen_alone}
 use Rattle.tables.specs.declared.fault.Fault.{Fault}

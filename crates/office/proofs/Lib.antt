@@ -1,3 +1,4 @@
 pub mod HandleLemmas
 pub mod RunLemmas
 mod ClerkLemmas
+pub mod SheetLemmas

@@ -1,5 +1,9 @@
 -- The stage sheet and the declaration of a ward, as the state has them.
-use Rattle.std.specs.Prelude.{◌≡◌, ◌⊎◌, ℕ, Bool, false, true, if◌then◌else◌, List, map, length, reverse, Option, Some, None, Result, Ok, Err}
+use Rattle.std.specs.Prelude.{◌≡◌, ◌≤◌, ◌⊎◌, ⊤, ℕ, Bool, false, true, if◌then◌else◌, List, map, length, reverse, Option, Some, None, Result, Ok, Err}
+use Rattle.std.specs.List.{list_all}
+use Rattle.votes.specs.Units.{max_seats, max_papers}
+use Rattle.paper.specs.Columns.{IsColumnSet}
+use Rattle.count.specs.Law.Contest.{IsContest}
 use Rattle.sheet.specs.declared.ward.Poll.{Poll}
 use Rattle.sheet.specs.Entries.{SheetEntry}
 use Rattle.sheet.specs.Sheet.{sheet, declaration}
@@ -11,9 +15,9 @@ use Rattle.office.specs.declared.answers.Stop.{Stop}
 use Rattle.office.specs.declared.answers.Stop.TheVariants.{Refused, Fault as Failed}
 use Rattle.office.specs.declared.sheets.Text.{Text}
 use Rattle.office.specs.declared.sheets.Text.TheVariants.{Sheet, Declaration}
-use Rattle.register.specs.Ranges.{is_ward_number}
+use Rattle.register.specs.Ranges.{last_ward, is_ward_number, is_candidate_number}
 use Rattle.register.specs.Offices.{WardEntry, CandidateEntry, OfficeState, ward_at}
-use Rattle.register.specs.Elections.{ElectionEntry, election_of, has_count, stages_of, elected_of, is_counted, is_declared}
+use Rattle.register.specs.Elections.{ElectionEntry, election_of, has_count, contest_of, stages_of, elected_of, is_counted, is_declared}
 
 -- a candidate's number and name
 abbrev pub candidate_shown : CandidateEntry → ℕ × List ℕ
@@ -27,6 +31,25 @@ poll_shown e = if has_count e then Some (record { valid = length e.ballots.paper
 abbrev pub election_shown : ElectionEntry → SheetEntry
 election_shown e =
     record { number = e.ward.number; name = e.ward.name; seats = e.ward.seats; candidates = map candidate_shown e.candidates; poll = poll_shown e }
+
+-- a candidate whose number is in range
+abbrev pub is_numbered : CandidateEntry → Bool
+is_numbered c = is_candidate_number c.number
+
+-- a count can be held where the election is contested
+abbrev pub CanBeCounted : ElectionEntry → Type 0
+CanBeCounted e = has_count e ≡ true → IsContest (contest_of e)
+
+-- an election whose texts can be written, as those of each ward of an office can: the ward's number and its seats are in range,
+-- so are the numbers of its candidates, which ascend, its papers are no more than a ward can have, and it can be counted
+pub record IsTextual (e : ElectionEntry) : Type 0 where
+  pub number : e.ward.number ≤ last_ward
+  pub some_seats : 1 ≤ e.ward.seats
+  pub few_seats : e.ward.seats ≤ max_seats
+  pub few_papers : length e.ballots.papers ≤ max_papers
+  pub numbered : list_all is_numbered e.candidates ≡ true
+  pub ascending : IsColumnSet (map (λ c. c.number) e.candidates)
+  pub counted : CanBeCounted e
 
 -- the stage sheet: the stages that are done, from the first on
 abbrev pub sheet_of : ElectionEntry → List ℕ
@@ -60,3 +83,8 @@ text_told text s ward = if is_ward_number ward then text_found text s (ward_at s
 abbrev pub StopsText : Text → Phase → Bool → Stop → Type 0
 StopsText text phase closed (Refused why) = (why ≡ WrongPhase) × (is_told_in text phase ≡ false) × (closed ≡ false)
 StopsText text phase closed (Failed f) = ((f ≡ Memory) × (closed ≡ false)) ⊎ ((f ≡ Store) × (closed ≡ true))
+
+-- a fault, if it is one, is want of memory
+abbrev pub IsOfMemory : Stop → Type 0
+IsOfMemory (Refused why) = ⊤
+IsOfMemory (Failed f) = f ≡ Memory

@@ -26,4 +26,4 @@ mod sheets;
 pub use answers::{Answer, Run, Stop};
 pub use offices::Office;
 pub use register::{Status, Work};
-pub use sheets::Text;
+pub use sheets::{Text, texts_are_there};

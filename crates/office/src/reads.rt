@@ -11,7 +11,7 @@ ghost use Rattle.tables.specs.Reading.{OnlyReads};
 ghost use Rattle.store.specs.Offices.{IsAt};
 ghost use Rattle.register.specs.Elections.{election_entry};
 ghost use Rattle.office.specs.Reads.{Read, status_told, columns_told, work_told, StopsFor};
-ghost use Rattle.office.specs.Sheets.{is_told_in, text_shown, text_told, StopsText};
+ghost use Rattle.office.specs.Sheets.{is_told_in, text_shown, text_told, StopsText, IsTextual, IsOfMemory};
 
 use crate::answers::Stop;
 use crate::offices::Office;
@@ -168,10 +168,12 @@ impl<S: Alter> Office<S> {
         }
     }
 
-    /// A text of the ward of an election that was read.
+    /// A text of the ward of an election that was read. Only want of memory fails it where its texts can be
+    /// written, as those of each ward of an office can.
     fn text_of(&mut self, election: &Election, text: Text) -> Result<String, Stop>
         ensures told { IfOk result (λ told. (is_told_in text election.now.ward.phase ≡ true) × (string_bytes told ≡ text_shown text (election_entry election.now))) }
         ensures stopped { self.old.closed ≡ false → IfErr result (λ stop. StopsText text election.now.ward.phase self.new.closed stop) }
+        ensures wants { IsTextual (election_entry election.now) → IfErr result IsOfMemory }
         ensures held { self.new.held ≡ self.old.held }
         ensures open_still { OnOk result (self.new.closed ≡ self.old.closed) }
     {

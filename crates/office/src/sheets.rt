@@ -1,11 +1,15 @@
 //! The stage sheet and the declaration of a ward, written from its election.
 
-ghost use Rattle.std.specs.Prelude.{◌≡◌, map, IfOk, IfSome, string_bytes};
-ghost use Rattle.register.specs.Offices.{candidate_entry};
-ghost use Rattle.register.specs.Elections.{election_entry, elected_of};
+ghost use Rattle.std.specs.Prelude.{◌≡◌, ◌≤◌, true, length, map, Some, IfOk, IfSome, IsSome, string_bytes};
+ghost use Rattle.std.specs.List.{list_all};
+ghost use Rattle.votes.specs.Units.{max_seats, max_papers};
+ghost use Rattle.register.specs.Ranges.{is_candidate_number};
+ghost use Rattle.register.specs.Offices.{WardEntry, OfficeState, ward_at, candidate_entry};
+ghost use Rattle.register.specs.Items.{IsState};
+ghost use Rattle.register.specs.Elections.{election_entry, election_of, elected_of};
 ghost use Rattle.sheet.specs.Entries.{shown};
 ghost use Rattle.sheet.specs.Wards.{CanBePrinted};
-ghost use Rattle.office.specs.Sheets.{candidate_shown, poll_shown, election_shown, sheet_of, declaration_of, is_told_in, text_shown};
+ghost use Rattle.office.specs.Sheets.{is_numbered, CanBeCounted, IsTextual, candidate_shown, poll_shown, election_shown, sheet_of, declaration_of, is_told_in, text_shown};
 
 use count::CountBook;
 use paper::Columns;
@@ -14,6 +18,14 @@ use register::wards::is_contested;
 use register::{Candidate, Election, Phase};
 use sheet::{Poll, Ward, can_be_printed, declaration_text, sheet_text};
 use std::alloc::{AllocError, Global};
+
+/// The law of the texts of an office, for its callers: at a state, those of each ward can be written.
+pub fn texts_are_there()
+    ensures { (s : OfficeState) (w : WardEntry) → IsState s → ward_at s w.number ≡ Some w → IsTextual (election_of s w) }
+{
+    // for its law, that a ward's columns are its candidates' numbers
+    columns_of(&[]);
+}
 
 /// Which text of a ward is told.
 #[derive(Clone, Copy, Debug)]
@@ -38,7 +50,8 @@ impl Text {
 
 /// A candidate's number and name; none where the number is out of range, as no candidate's of an office is.
 fn candidate_line(candidate: &Candidate) -> Result<Option<(u8, String)>, AllocError>
-    ensures { IfOk result (λ found. IfSome found (λ line. (line.0, string_bytes line.1) ≡ candidate_shown (candidate_entry candidate.now))) }
+    ensures is { IfOk result (λ found. IfSome found (λ line. (line.0, string_bytes line.1) ≡ candidate_shown (candidate_entry candidate.now))) }
+    ensures some { IfOk result (λ found. is_candidate_number candidate.now.number ≡ true → IsSome found) }
 {
     let Ok(number) = u8::try_from(candidate.number) else {
         return Ok(None);
@@ -46,12 +59,14 @@ fn candidate_line(candidate: &Candidate) -> Result<Option<(u8, String)>, AllocEr
     Ok(Some((number, candidate.name.clone()?)))
 }
 
-/// The numbers and names of candidates, in their order.
+/// The numbers and names of candidates, in their order; none where a number is out of range, as no
+/// candidate's of an office is.
 fn candidate_lines(
     alloc: Global,
     candidates: &[Candidate],
 ) -> Result<Option<Vec<(u8, String)>>, AllocError>
-    ensures { IfOk result (λ found. IfSome found (λ lines. map (λ line. (line.0, string_bytes line.1)) lines.items ≡ map candidate_shown (map candidate_entry candidates.now))) }
+    ensures is { IfOk result (λ found. IfSome found (λ lines. map (λ line. (line.0, string_bytes line.1)) lines.items ≡ map candidate_shown (map candidate_entry candidates.now))) }
+    ensures some { IfOk result (λ found. list_all is_numbered (map candidate_entry candidates.now) ≡ true → IsSome found) }
 {
     let mut lines = Vec::new(alloc);
     for candidate in candidates {
@@ -66,7 +81,8 @@ fn candidate_lines(
 /// What is told of the papers of a contested ward; none where they are too many to be counted, as no
 /// ward's of an office are.
 fn poll_of(election: &Election) -> Option<Option<Poll>>
-    ensures { IfSome result (λ poll. poll ≡ poll_shown (election_entry election.now)) }
+    ensures is { IfSome result (λ poll. poll ≡ poll_shown (election_entry election.now)) }
+    ensures some { 1 ≤ election.now.ward.seats → election.now.ward.seats ≤ max_seats → length election.now.ballots.papers.items ≤ max_papers → IsSome result }
 {
     if !is_contested(&election.ward, &election.candidates) {
         return Some(None);
@@ -83,8 +99,9 @@ fn poll_of(election: &Election) -> Option<Option<Poll>>
 /// The ward of an election, as the texts show it, with these lines of its candidates; none where a number
 /// is out of range, as none of an office is.
 fn ward_of<'a>(election: &'a Election, candidates: &'a [(u8, String)]) -> Option<Ward<'a>>
-    ensures { map (λ line. (line.0, string_bytes line.1)) candidates.now ≡ map candidate_shown (election_entry election.now).candidates
+    ensures is { map (λ line. (line.0, string_bytes line.1)) candidates.now ≡ map candidate_shown (election_entry election.now).candidates
         → IfSome result (λ ward. shown ward ≡ election_shown (election_entry election.now)) }
+    ensures some { IsTextual (election_entry election.now) → IsSome result }
 {
     let Ok(number) = u8::try_from(election.ward.number) else {
         return None;
@@ -112,7 +129,8 @@ fn stage_sheet(
     ward: &Ward<'_>,
 ) -> Result<Option<String>, AllocError>
     requires { CanBePrinted ward.now }
-    ensures { IfOk result (λ found. shown ward.now ≡ election_shown (election_entry election.now) → IfSome found (λ text. string_bytes text ≡ sheet_of (election_entry election.now))) }
+    ensures is { IfOk result (λ found. shown ward.now ≡ election_shown (election_entry election.now) → IfSome found (λ text. string_bytes text ≡ sheet_of (election_entry election.now))) }
+    ensures some { IfOk result (λ found. CanBeCounted (election_entry election.now) → IsSome found) }
 {
     if !is_contested(&election.ward, &election.candidates) {
         return Ok(Some(sheet_text(alloc, ward, &[])?));
@@ -126,7 +144,8 @@ fn stage_sheet(
 /// Who is elected; none where no count can be held, as it can in each contested ward of an office. An
 /// error is want of memory.
 fn elected_in(alloc: Global, election: &Election) -> Result<Option<Columns>, AllocError>
-    ensures { IfOk result (λ found. IfSome found (λ elected. elected ≡ elected_of (election_entry election.now))) }
+    ensures is { IfOk result (λ found. IfSome found (λ elected. elected ≡ elected_of (election_entry election.now))) }
+    ensures some { IfOk result (λ found. CanBeCounted (election_entry election.now) → IsSome found) }
 {
     if !is_contested(&election.ward, &election.candidates) {
         return Ok(Some(columns_of(&election.candidates)));
@@ -145,7 +164,8 @@ fn declaration(
     ward: &Ward<'_>,
 ) -> Result<Option<String>, AllocError>
     requires { CanBePrinted ward.now }
-    ensures { IfOk result (λ found. shown ward.now ≡ election_shown (election_entry election.now) → IfSome found (λ text. string_bytes text ≡ declaration_of (election_entry election.now))) }
+    ensures is { IfOk result (λ found. shown ward.now ≡ election_shown (election_entry election.now) → IfSome found (λ text. string_bytes text ≡ declaration_of (election_entry election.now))) }
+    ensures some { IfOk result (λ found. CanBeCounted (election_entry election.now) → IsSome found) }
 {
     let Some(elected) = elected_in(alloc, election)? else {
         return Ok(None);
@@ -159,7 +179,8 @@ pub(crate) fn text_of(
     election: &Election,
     text: Text,
 ) -> Result<Option<String>, AllocError>
-    ensures { IfOk result (λ found. IfSome found (λ told. string_bytes told ≡ text_shown text (election_entry election.now))) }
+    ensures is { IfOk result (λ found. IfSome found (λ told. string_bytes told ≡ text_shown text (election_entry election.now))) }
+    ensures some { IfOk result (λ found. IsTextual (election_entry election.now) → IsSome found) }
 {
     let Some(candidates) = candidate_lines(alloc, &election.candidates)? else {
         return Ok(None);

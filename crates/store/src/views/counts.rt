@@ -1,10 +1,12 @@
 //! What the commands about a ward's count need, read for a request.
 
-ghost use Rattle.std.specs.Prelude.{◌≡◌, ◌⊎◌, false, option_map, IfOk, IfErr, OnOk, IsTrue};
+ghost use Rattle.std.specs.Prelude.{◌≡◌, ◌≤◌, ◌⊎◌, true, false, length, option_map, MatchOption, IfOk, IfErr, IsOk, OnOk, IsTrue};
 ghost use Rattle.sqlite.specs.State.{HasCleanDisk};
 ghost use Rattle.sqlite.specs.Held.{state};
 ghost use Rattle.register.specs.Offices.{OfficeState, ward_at, candidate_at};
-ghost use Rattle.register.specs.Elections.{election_entry};
+ghost use Rattle.votes.specs.Units.{max_seats, max_papers};
+ghost use Rattle.count.specs.Law.Contest.{IsContest};
+ghost use Rattle.register.specs.Elections.{election_entry, has_count, contest_of};
 ghost use Rattle.register.specs.Counts.{poll_for, due_for, elected_for};
 ghost use Rattle.register.specs.Parts.{empty_part, part_entries};
 ghost use Rattle.tables.specs.Reading.{OnlyReads};
@@ -18,10 +20,12 @@ use sqlite::{Alter, Connection};
 use std::alloc::Global;
 use tables::Fault;
 
-/// The part of a command that needs the poll of an election, if it is there.
+/// The part of a command that needs the poll of an election, if it is there. An error is an election of too
+/// many seats or papers, or none, as no ward's of an office is.
 fn polled(alloc: Global, found: Option<Election>) -> Result<Part, Fault>
     ensures part { IfOk result (λ part. part_entries part ≡ polled_part (option_map election_entry found)) }
     ensures cause { IfErr result (λ f. f ≡ Fault.Store) }
+    ensures some { MatchOption found (IsOk result) (λ election. 1 ≤ election.ward.seats → election.ward.seats ≤ max_seats → length election.ballots.papers.items ≤ max_papers → IsOk result) }
 {
     let Some(election) = found else {
         return Ok(Part::empty(alloc));
@@ -38,10 +42,12 @@ fn polled(alloc: Global, found: Option<Election>) -> Result<Part, Fault>
 }
 
 /// The part of a command that needs what is due in the count of an election, if it is there, and who is
-/// elected.
+/// elected. Only want of memory fails it where a count can be held, as it can in each contested ward of an
+/// office.
 fn counted(alloc: Global, found: Option<Election>) -> Result<Part, Fault>
     ensures part { IfOk result (λ part. part_entries part ≡ counted_part (option_map election_entry found)) }
     ensures cause { IfErr result (λ f. (f ≡ Fault.Memory) ⊎ (f ≡ Fault.Store)) }
+    ensures some { MatchOption found (IsOk result) (λ election. (has_count (election_entry election) ≡ true → IsContest (contest_of (election_entry election))) → IfErr result (λ f. f ≡ Fault.Memory)) }
 {
     let Some(election) = found else {
         return Ok(Part::empty(alloc));

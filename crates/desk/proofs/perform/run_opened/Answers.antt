@@ -46,7 +46,7 @@ returns-in-Err g c =
               read_leaves s db (state g.S.Store c.args.conn) (state g.S.Store c.in-Err.conn) (λ trees is_open may. g.met.S.Store.settled c.args.conn.store trees is_open may) c.in-Err.ensures.reads_too clean rests left,
             );
         in_nothing = λ is. absurd (cc is);
-            taken = λ is. absurd (cc is);
+        taken = λ is. absurd (cc is);
         elsewhere = λ errand is db ours rests none. record { fault = c.in-Err.fault; told = refl; given = c.in-Err.ensures.told clean db ours rests; same = c.in-Err.ensures.reads_too };
       };
     }
