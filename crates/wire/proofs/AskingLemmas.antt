@@ -1,19 +1,22 @@
 -- What a request asks, from what was read of it.
-use Rattle.std.proofs.Common.{◌≡◌, ◌∙◌, ◌≤◌, List, ◌++◌, Option, Some, None, Result, Ok, Err, drop, inl, inr, length, map, refl, sym, ap, take, arith, append_assoc, ℕ}
-use Rattle.std.specs.Prelude.{IfOk, IfSome}
+use Rattle.std.proofs.Common.{◌≡◌, ◌∙◌, ◌≤◌, subst, List, ◌++◌, Option, Some, None, Result, Ok, Err, drop, inl, inr, length, map, refl, sym, ap, take, arith, append_assoc, ℕ}
+use Rattle.std.specs.Prelude.{IfErr, IfOk, IfSome}
 use Rattle.std.specs.Io.KnownBytes.{Consumes}
+use Rattle.std.proofs.KnownBytes.{Consumes-trans}
 use Rattle.std.proofs.lemmas.List.{length-append, length-map, length-take}
 use Rattle.httparse.specs.Grammar.{RequestHead, print_request}
 use Rattle.httparse.specs.Spans.{IsRequestAt, IsRequestOf, header_bytes, name_and_value, span_bytes}
 use Rattle.httparse.specs.declared.spans.HeaderSpan.{HeaderSpan}
 use Rattle.httparse.specs.declared.spans.RequestSpans.{RequestSpans}
 use Rattle.wire.proofs.HeadLemmas.{HasOneHead-all}
-use Rattle.wire.specs.Asking.{AskedEntry, Asks, AsksOneThing, asked_at, asked_by, asked_entry, asked_of, denied, wanted}
+use Rattle.wire.specs.Asking.{AskedEntry, Asks, AsksOneThing, FailsAfter, IsWanting, LacksAt, LacksBytes, asked_at, asked_by, asked_entry, asked_of, denied, wanted}
 use Rattle.wire.specs.Heads.{BeginsWith, HasNoHead}
 use Rattle.wire.specs.Lengths.{body_length}
 use Rattle.wire.specs.Targets.{named_by}
 use Rattle.wire.specs.declared.asked.Asked.{Asked}
 use Rattle.wire.specs.declared.denial.Denial.TheVariants.{BadRequest}
+use Rattle.wire.specs.declared.unread.Unread.{Unread}
+use Rattle.wire.specs.declared.unread.Unread.TheVariants.{Broken, Memory}
 
 -- ---- one thing is asked
 
@@ -64,3 +67,24 @@ pub Asks-head : {E : Type 0} (old mid : Option (List ℕ)) (got : List ℕ) (hea
 Asks-head None mid got headers spans found r fits places took is = tt
 Asks-head (Some bytes) mid got headers spans found (Err e) fits places took is = tt
 Asks-head (Some bytes) mid got headers spans found (Ok asked) fits places took is = Asks-entry (Some bytes) mid got headers spans found (asked_entry asked) fits places took is
+
+-- ---- what doesn't say yet what is asked
+
+-- there is a whole head, and what it asks for isn't all there
+pub FailsAfter-behind : (old mid new : Option (List ℕ)) (got : List ℕ) (headers : List HeaderSpan) (spans : RequestSpans) → IsRequestOf got headers spans → (r : Result Asked Unread)
+    → length got ≤ 8192 → length headers ≡ 32 → Consumes old mid got → IfErr r (FailsAfter mid new (LacksAt got headers spans)) → IfErr r (FailsAfter old new IsWanting)
+FailsAfter-behind old mid new got headers spans found (Ok asked) fits places took after = tt
+FailsAfter-behind old mid new got headers spans found (Err Memory) fits places took after = tt
+FailsAfter-behind old mid new got headers spans (head, there) (Err Broken) fits places took (more, then, lacks) = (
+  got ++ more,
+  Consumes-trans old mid new got more took then,
+  inr (
+    head,
+    drop spans.len got ++ more,
+    begins (got ++ more) got more headers spans head there fits places refl,
+    subst (λ fields. LacksBytes (wanted head.method (named_by head.target)) (body_length fields) (drop spans.len got ++ more)) there.fields
+        (subst (λ p. LacksBytes (wanted head.method (named_by p)) (body_length (map (header_bytes got) (take spans.headers headers))) (drop spans.len got ++ more)) there.path
+        (subst (λ m. LacksBytes (wanted m (named_by (span_bytes got spans.path))) (body_length (map (header_bytes got) (take spans.headers headers))) (drop spans.len got ++ more)) there.method
+        lacks)),
+  ),
+)

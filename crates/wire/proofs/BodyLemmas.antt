@@ -1,12 +1,14 @@
 -- How a body is filled.
-use Rattle.std.proofs.Common.{◌≡◌, ◌∙◌, ◌<◌, ◌≤◌, ◌+◌, ◌-◌, ◌⊎◌, inl, inr, ℕ, List, Option, Some, None, [], ◌++◌, length, take, drop, refl, sym, ap, arith, append_assoc, min}
-use Rattle.std.specs.Prelude.{IfSome}
-use Rattle.std.specs.Io.KnownBytes.{Consumes, IsAtEnd}
+use Rattle.std.proofs.Common.{◌≡◌, ◌∙◌, ◌<◌, ◌≤◌, ◌+◌, ◌-◌, ◌⊎◌, inl, inr, ℕ, List, Option, Some, None, Result, Ok, Err, [], ◌++◌, length, take, drop, refl, sym, ap, arith, append_assoc, min}
+use Rattle.std.specs.Prelude.{IfSome, OnErr}
+use Rattle.std.specs.Io.KnownBytes.{Consumes, IsAtEnd, Keeps}
+use Rattle.std.proofs.KnownBytes.{Consumes-kept}
 use Rattle.std.proofs.Math.Seq.{take-append_seam}
 use Rattle.std.proofs.lemmas.Bool.{cases_lt, le-leb, lt-leb}
 use Rattle.std.proofs.lemmas.List.{append-nil, length-append, length-take, length-take-le, nil_from_length, take-append-le, take-append-drop, take_all}
 use borrow.Rule.Slice.PartMut.{put_mid}
 use Rattle.std.proofs.lemmas.Slice.{take-put_mid}
+use Rattle.wire.specs.Asking.{HasRead}
 use Rattle.wire.specs.Bodies.{body_in}
 
 -- a buffer whose back was filled, as it stands in its `Vec` again
@@ -37,6 +39,14 @@ ends_before (Some left) (Some ys) (Some zs) room filled few took more ended =
     let rest : left ≡ take filled room = took ∙ ap (λ s. take filled room ++ s) nothing ∙ append-nil (take filled room) in
     let len : length left ≡ filled = ap length rest ∙ length-take-le filled room (omega arith) in
     omega arith
+
+-- the source failed before the room was full
+pub HasRead-few : {A E : Type 0} (old mid new : Option (List ℕ)) (room : List ℕ) (filled size : ℕ) (r : Result A E) → filled ≤ length room → filled < size → Consumes old mid (take filled room) → Keeps mid new
+    → OnErr r (HasRead old new (λ got. length got < size))
+HasRead-few old mid new room filled size (Ok x) within few took kept = tt
+HasRead-few old mid new room filled size (Err e) within few took kept =
+    let len = length-take-le filled room within in
+    (take filled room, Consumes-kept old mid new (take filled room) took kept, omega (arith, len))
 
 -- enough bytes follow the head, the body first
 enough : (body others : List ℕ) (size : ℕ) → length body ≡ size → Some body ≡ body_in size (body ++ others)

@@ -4,7 +4,7 @@ use Rattle.std.specs.Prelude.{IfSome}
 use Rattle.sqlite.specs.State.{State}
 use Rattle.register.specs.Offices.{OfficeState}
 use Rattle.wire.specs.Asking.{AskedEntry, Asks}
-use Rattle.wire.specs.Serving.{IsPut, OnReadFailed, Readies, ReadiesFor, Serves}
+use Rattle.wire.specs.Serving.{IsPut, OnAnswered, OnReadFailed, OnWriteFailed, Readies, ReadiesFor, Serves}
 use Rattle.wire.specs.declared.response.Response.{Response}
 use Rattle.wire.specs.declared.serving.Served.{Served}
 use Rattle.wire.specs.declared.serving.Served.TheVariants.{Answered, ReadFailed, WriteFailed}
@@ -26,3 +26,15 @@ pub put-read : (old new : Option (List ℕ)) (response : Response) (served : Ser
 put-read old new response (Answered status) P put = tt
 put-read old new response ReadFailed P put = absurd put
 put-read old new response WriteFailed P put = tt
+
+-- what holds however the writing ended, and what holds where the answer was written whole
+pub OnAnswered-both : (served : Served) (P Q : Type 0) → P → OnAnswered served Q → OnAnswered served (P × Q)
+OnAnswered-both (Answered status) P Q always own = (always, own)
+OnAnswered-both ReadFailed P Q always own = tt
+OnAnswered-both WriteFailed P Q always own = tt
+
+-- the same where the writer failed
+pub OnWriteFailed-both : (served : Served) (P Q : Type 0) → P → OnWriteFailed served Q → OnWriteFailed served (P × Q)
+OnWriteFailed-both (Answered status) P Q always own = tt
+OnWriteFailed-both ReadFailed P Q always own = tt
+OnWriteFailed-both WriteFailed P Q always own = (always, own)

@@ -1,5 +1,6 @@
 -- What a request asks, or why it is denied before the office is asked: by its head and the bytes behind it.
-use Rattle.std.specs.Prelude.{◌≡◌, ◌⊎◌, ◌+◌, ◌++◌, List, Option, Some, None, Result, Ok, Err, bytes_eq, codes, drop, if◌then◌else◌, map, option_and_then, string_bytes, take, ℕ}
+use Rattle.std.specs.Prelude.{◌≡◌, ◌⊎◌, ◌+◌, ◌<◌, ◌++◌, ⊤, List, Option, Some, None, Result, Ok, Err, bytes_eq, codes, drop, if◌then◌else◌, length, map, option_and_then, string_bytes, take, ℕ}
+use Rattle.std.specs.Io.KnownBytes.{Consumes}
 use Rattle.httparse.specs.Grammar.{RequestHead}
 use Rattle.httparse.specs.Spans.{header_bytes, name_and_value, span_bytes}
 use Rattle.httparse.specs.declared.spans.HeaderSpan.{HeaderSpan}
@@ -16,7 +17,7 @@ use Rattle.wire.specs.declared.target.Reading.{Reading}
 use Rattle.wire.specs.declared.target.Target.{Target}
 use Rattle.wire.specs.declared.target.Target.TheVariants as target
 use Rattle.wire.specs.Bodies.{KeyingEntry, body_in, keying_of}
-use Rattle.wire.specs.Heads.{BeginsWith, HasNoHead}
+use Rattle.wire.specs.Heads.{BeginsWith, HasNoHead, IsHeadWanting}
 use Rattle.wire.specs.Lengths.{body_length}
 use Rattle.wire.specs.Targets.{named_by}
 
@@ -85,3 +86,38 @@ Asks bytes asked =
 -- the same bytes ask one thing
 abbrev pub AsksOneThing : List ℕ → Type 0
 AsksOneThing bytes = (one two : AskedEntry) → Asks bytes one → Asks bytes two → one ≡ two
+
+-- ---- what doesn't say yet what is asked
+
+-- the bytes behind a head are fewer than the length of its body
+abbrev pub LacksBody : Result ℕ Denial → List ℕ → Type 0
+LacksBody (Ok n) behind = length behind < n
+LacksBody (Err why) behind = ⊥
+
+-- what is asked for needs more than the bytes behind the head: only a keying does, until its body is all there
+abbrev pub LacksBytes : Result Target Denial → Result ℕ Denial → List ℕ → Type 0
+LacksBytes (Ok (target.Keying clerk batch)) size behind = LacksBody size behind
+LacksBytes (Ok (target.Reading what)) size behind = ⊥
+LacksBytes (Err why) size behind = ⊥
+
+-- the same of a head and the bytes behind it
+abbrev pub LacksBehind : RequestHead → List ℕ → Type 0
+LacksBehind head behind = LacksBytes (wanted head.method (named_by head.target)) (body_length (map name_and_value head.fields)) behind
+
+-- the same of a head that was found in what was read, and of what was read then
+abbrev pub LacksAt : List ℕ → List HeaderSpan → RequestSpans → List ℕ → Type 0
+LacksAt got headers spans more =
+    LacksBytes (wanted (span_bytes got spans.method) (named_by (span_bytes got spans.path))) (body_length (map (header_bytes got) (take spans.headers headers))) (drop spans.len got ++ more)
+
+-- what was read doesn't say yet what is asked: it has no whole head yet, or the head of a keying whose body isn't all there
+abbrev pub IsWanting : List ℕ → Type 0
+IsWanting got = IsHeadWanting got ⊎ ((head : RequestHead) × (behind : List ℕ) × BeginsWith got head behind × LacksBehind head behind)
+
+-- something of which P holds was read, and of known bytes just that
+abbrev pub HasRead : Option (List ℕ) → Option (List ℕ) → (List ℕ → Type 0) → Type 0
+HasRead old new P = (got : List ℕ) × Consumes old new got × P got
+
+-- where the source failed, P holds of what was read before
+abbrev pub FailsAfter : Option (List ℕ) → Option (List ℕ) → (List ℕ → Type 0) → Unread → Type 0
+FailsAfter old new P Broken = HasRead old new P
+FailsAfter old new P Memory = ⊤

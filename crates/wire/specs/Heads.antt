@@ -1,17 +1,31 @@
 -- The head of a request, at the front of the bytes that a client sends.
-use Rattle.std.specs.Prelude.{◌≡◌, ◌≤◌, List, ◌++◌, length, ℕ}
-use Rattle.httparse.specs.Grammar.{IsRequestHead, RequestHead, print_request}
+use Rattle.std.specs.Prelude.{◌≡◌, ◌<◌, ◌≤◌, List, ◌++◌, length, ℕ}
+use Rattle.httparse.specs.Grammar.{IsRequestHead, MayBecomeRequest, RequestHead, print_request}
 
--- the bytes begin with a head as `httparse` reads it, of 8,192 bytes and 32 headers at most; others follow it
+-- the most bytes of a head
+abbrev pub most_head_bytes : ℕ
+most_head_bytes = 8192
+
+-- the most header fields of a head
+abbrev pub most_header_fields : ℕ
+most_header_fields = 32
+
+-- the bytes begin with a head as `httparse` reads it, which is short enough and has few enough headers; others follow it
 pub record BeginsWith (bytes : List ℕ) (head : RequestHead) (behind : List ℕ) : Type 0 where
   pub is_head : IsRequestHead head
   pub parts : bytes ≡ print_request head ++ behind
-  pub short : length (print_request head) ≤ 8192
-  pub few : length head.fields ≤ 32
+  pub short : length (print_request head) ≤ most_head_bytes
+  pub few : length head.fields ≤ most_header_fields
 
 -- they begin with no such head
 abbrev pub HasNoHead : List ℕ → Type 0
 HasNoHead bytes = (head : RequestHead) (behind : List ℕ) → ¬ (BeginsWith bytes head behind)
+
+-- what was read has no whole head yet, may still become one (as `httparse` tells), and isn't as long as a head may be
+pub record IsHeadWanting (got : List ℕ) : Type 0 where
+  pub none : HasNoHead got
+  pub may : MayBecomeRequest got
+  pub short : length got < most_head_bytes
 
 -- no bytes begin with two heads
 abbrev pub HasOneHead : List ℕ → Type 0

@@ -8,6 +8,10 @@ use Rattle.std.specs.Str.Parse.{digits_value}
 use Rattle.wire.specs.declared.denial.Denial.{Denial}
 use Rattle.wire.specs.declared.denial.Denial.TheVariants.{BadRequest, TooLarge}
 
+-- the most bytes of a body
+abbrev pub most_body_bytes : ℕ
+most_body_bytes = 1048576
+
 -- a header field: its name, and its value without the white space around it
 abbrev pub NamedValue : Type 0
 NamedValue = List ℕ × List ℕ
@@ -25,11 +29,11 @@ value_listed (Some value) = value.now ∷ []
 abbrev pub are_digits : List ℕ → Bool
 are_digits text = nat_lt 0 (length text) && list_all is_ascii_digit text
 
--- the length that a text writes, of 1,048,576 bytes at most
+-- the length that a text writes, up to the greatest
 abbrev pub length_in : List ℕ → Result ℕ Denial
 length_in text =
     if not (are_digits text) then Err BadRequest else (
-    if nat_le (digits_value 10 text) 1048576 then Ok (digits_value 10 text) else Err TooLarge)
+    if nat_le (digits_value 10 text) most_body_bytes then Ok (digits_value 10 text) else Err TooLarge)
 
 -- the length that the values of Content-Length tell: none tells 0, and two tell nothing
 abbrev pub told_length : List (List ℕ) → Result ℕ Denial

@@ -1,5 +1,5 @@
 -- What is answered at a state of the office, and what a connection leaves.
-use Rattle.std.specs.Prelude.{◌≡◌, ◌⊎◌, ◌+◌, ⊤, Bool, List, Option, Result, Ok, Err, IfSome, map, string_bytes, ℕ}
+use Rattle.std.specs.Prelude.{◌≡◌, ◌⊎◌, ⊤, Bool, List, Option, Result, Ok, Err, IfSome, map, string_bytes, ℕ}
 use Rattle.std.specs.Io.KnownBytes.{Appends}
 use Rattle.sqlite.specs.State.{State}
 use Rattle.votes.specs.Streams.{AppendsBeginning}
@@ -159,14 +159,20 @@ ServesClosed bytes old new (Answered status) = IsServed (ReadiesClosed bytes) ol
 ServesClosed bytes old new ReadFailed = new ≡ old
 ServesClosed bytes old new WriteFailed = IsServed (ReadiesClosed bytes) old new WriteFailed
 
+-- P, where an answer was written whole
+abbrev pub OnAnswered : Served → Type 0 → Type 0
+OnAnswered (Answered status) P = P
+OnAnswered ReadFailed P = ⊤
+OnAnswered WriteFailed P = ⊤
+
 -- P, where the reader failed
 abbrev pub OnReadFailed : Served → Type 0 → Type 0
 OnReadFailed (Answered status) P = ⊤
 OnReadFailed ReadFailed P = P
 OnReadFailed WriteFailed P = ⊤
 
--- how many failures the reader and the writer count before and after each end: the one that failed counts one more
-abbrev pub CountsFailures : Served → ℕ → ℕ → ℕ → ℕ → Type 0
-CountsFailures (Answered status) read read_after written written_after = (read_after ≡ read) × (written_after ≡ written)
-CountsFailures ReadFailed read read_after written written_after = (read_after ≡ read + 1) × (written_after ≡ written)
-CountsFailures WriteFailed read read_after written written_after = (read_after ≡ read) × (written_after ≡ written + 1)
+-- P, where the writer failed
+abbrev pub OnWriteFailed : Served → Type 0 → Type 0
+OnWriteFailed (Answered status) P = ⊤
+OnWriteFailed ReadFailed P = ⊤
+OnWriteFailed WriteFailed P = P

@@ -17,10 +17,14 @@ use Rattle.wire.specs.declared.target.Reading.TheVariants.{Declaration, Sheet, W
 use Rattle.wire.specs.declared.target.Target.{Target}
 use Rattle.wire.specs.declared.target.Target.TheVariants.{Keying, Reading}
 
+-- the most digits of a number
+abbrev pub most_digits : ℕ
+most_digits = 5
+
 -- 1 to 5 digits, the first not 0
 abbrev pub is_number : List ℕ → Bool
 is_number [] = false
-is_number (b ∷ bs) = not (b == 48) && (nat_le (length (b ∷ bs)) 5 && list_all is_ascii_digit (b ∷ bs))
+is_number (b ∷ bs) = not (b == 48) && (nat_le (length (b ∷ bs)) most_digits && list_all is_ascii_digit (b ∷ bs))
 
 -- the number that a parameter writes
 abbrev pub number_in : List ℕ → Option ℕ

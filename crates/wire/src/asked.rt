@@ -1,9 +1,9 @@
 //! What a request asks.
 
-ghost use Rattle.std.specs.Prelude.{◌≡◌, ◌-◌, ◌^◌, ◌<◌, ◌++◌, IfErr, IfOk, IfSome, List, OnOk, ℕ};
-ghost use Rattle.wire.specs.Asking.{Asks, AsksOneThing, IsUnread, asked_at, asked_entry, asked_with, verb_of, verb_text, wanted};
+ghost use Rattle.std.specs.Prelude.{◌≡◌, ◌≢◌, ◌-◌, ◌^◌, ◌<◌, ◌++◌, IfErr, IfOk, IfSome, List, Ok, OnOk, ℕ};
+ghost use Rattle.wire.specs.Asking.{Asks, AsksOneThing, FailsAfter, IsUnread, IsWanting, LacksAt, LacksBody, asked_at, asked_entry, asked_with, verb_of, verb_text, wanted};
 ghost use Rattle.wire.specs.Targets.{named_by};
-ghost use Rattle.httparse.specs.Spans.{IsRequestWithin};
+ghost use Rattle.httparse.specs.Spans.{IsRequestWithin, span_bytes};
 
 use crate::body::{KeyingBody, keying_of, read_body};
 use crate::denial::{Denial, Verb};
@@ -75,6 +75,7 @@ fn read_keying<R: Source>(
     ensures asks { IfSome (R.held reader.old) (λ left. IfOk result (λ asked. asked_entry asked ≡ asked_with clerk batch size (behind.now ++ left))) }
     ensures ok { OnOk result (R.failed reader.new ≡ R.failed reader.old) }
     ensures err { IfErr result (IsUnread (R.failed reader.old) (R.failed reader.new)) }
+    ensures wanting { IfErr result (FailsAfter (R.held reader.old) (R.held reader.new) (λ got. LacksBody size (behind.now ++ got))) }
 {
     let size = match size {
         Ok(size) => size,
@@ -124,6 +125,8 @@ fn read_behind<R: Source>(
     ensures asks { IfSome (R.held reader.old) (λ left. IfOk result (λ asked. asked_entry asked ≡ asked_at read.now headers.now spans left)) }
     ensures ok { OnOk result (R.failed reader.new ≡ R.failed reader.old) }
     ensures err { IfErr result (IsUnread (R.failed reader.old) (R.failed reader.new)) }
+    ensures wanting { IfErr result (FailsAfter (R.held reader.old) (R.held reader.new) (LacksAt read.now headers.now spans)) }
+    ensures untouched { ((clerk batch : ℕ) → wanted (span_bytes read.now spans.method) (named_by (span_bytes read.now spans.path)) ≢ Ok (Target.Keying clerk batch)) → reader.new ≡ reader.old }
 {
     match wanted(alloc, spans.method.of(read), spans.path.of(read))? {
         Ok(Target::Keying { clerk, batch }) => {
@@ -141,6 +144,7 @@ fn read_request<R: Source>(alloc: Global, reader: &mut R) -> Result<Asked, Unrea
     ensures asks { IfSome (R.held reader.old) (λ bytes. IfOk result (λ asked. Asks bytes (asked_entry asked))) }
     ensures ok { OnOk result (R.failed reader.new ≡ R.failed reader.old) }
     ensures err { IfErr result (IsUnread (R.failed reader.old) (R.failed reader.new)) }
+    ensures wanting { IfErr result (FailsAfter (R.held reader.old) (R.held reader.new) IsWanting) }
 {
     let mut buffer = [0; MAX_HEAD_BYTES];
     let mut headers = [EMPTY_HEADER_SPAN; MAX_HEADERS];
@@ -158,13 +162,15 @@ fn read_request<R: Source>(alloc: Global, reader: &mut R) -> Result<Asked, Unrea
 
 /// Reads what a request asks.
 ///
-/// `Broken` comes only from the source, which then counts one failure more. Of the bytes behind the request some
-/// may have been read.
+/// `Broken` comes only from the source, which then counts one failure more, and only while what was read doesn't
+/// say yet what is asked: once it does, nothing more is read, for the client may wait for its answer. Of the
+/// bytes behind the request some may have been read.
 pub fn read_asked<R: Source>(alloc: Global, reader: &mut R) -> Result<Asked, Unread>
     requires { R.failed reader.old < 2 ^ 64 - 1 }
     ensures asks { IfSome (R.held reader.old) (λ bytes. IfOk result (λ asked. Asks bytes (asked_entry asked))) }
     ensures ok { OnOk result (R.failed reader.new ≡ R.failed reader.old) }
     ensures err { IfErr result (IsUnread (R.failed reader.old) (R.failed reader.new)) }
+    ensures wanting { IfErr result (FailsAfter (R.held reader.old) (R.held reader.new) IsWanting) }
     ensures one { (bytes : List ℕ) → AsksOneThing bytes }
 {
     read_request(alloc, reader)

@@ -4,7 +4,7 @@ ghost use Rattle.std.specs.Prelude.{◌≡◌, ◌+◌, ◌-◌, ◌^◌, ◌<�
 ghost use Rattle.std.specs.Io.KnownBytes.{Consumes};
 ghost use Rattle.serde_json.specs.View.{view, items_view, members_view};
 ghost use Rattle.serde_json.specs.Find.{as_object, as_str};
-ghost use Rattle.wire.specs.Asking.{IsUnread};
+ghost use Rattle.wire.specs.Asking.{FailsAfter, HasRead, IsUnread};
 ghost use Rattle.wire.specs.Bodies.{body_entry, body_in, json_in, key_members, keying_of, papers_in, round_in, said_by, texts_in};
 
 use crate::unread::Unread;
@@ -28,6 +28,7 @@ fn fill<R: Source>(reader: &mut R, room: &mut [u8]) -> Result<bool, Broken>
     ensures cut { IfOk result (λ full. full ≡ false → IfSome (R.held reader.old) (λ left. length left < length room.new)) }
     ensures ok { OnOk result (R.failed reader.new ≡ R.failed reader.old) }
     ensures err { OnErr result (R.failed reader.new ≡ R.failed reader.old + 1) }
+    ensures wanting { OnErr result (HasRead (R.held reader.old) (R.held reader.new) (λ got. length got < length room.new)) }
 {
     let mut filled = 0;
     while filled < room.len() {
@@ -54,7 +55,7 @@ fn buffer_from(alloc: Global, front: &[u8], size: usize) -> Result<Vec<u8>, Allo
 /// Reads a body of some size, of which the bytes that were read behind the head are the first; `None`
 /// where the source ends before it.
 ///
-/// `Broken` comes only from the source, which counts one failure more.
+/// `Broken` comes only from the source, which counts one failure more, and only while the body isn't whole.
 pub(crate) fn read_body<R: Source>(
     alloc: Global,
     reader: &mut R,
@@ -65,6 +66,7 @@ pub(crate) fn read_body<R: Source>(
     ensures body { IfSome (R.held reader.old) (λ left. IfOk result (λ found. option_map (λ body. body.items) found ≡ body_in size (behind.now ++ left))) }
     ensures ok { OnOk result (R.failed reader.new ≡ R.failed reader.old) }
     ensures err { IfErr result (IsUnread (R.failed reader.old) (R.failed reader.new)) }
+    ensures wanting { IfErr result (FailsAfter (R.held reader.old) (R.held reader.new) (λ got. length (behind.now ++ got) < size)) }
 {
     let front = behind.len().min(size);
     let mut body = buffer_from(alloc, &behind[..front], size)?;

@@ -3,7 +3,8 @@
 ghost use Rattle.std.specs.Prelude.{◌≡◌, ◌+◌, ◌-◌, ◌^◌, ◌<◌, ◌≤◌, IfErr, IfNone, IfOk, IfSome, OnErr, OnOk, length, take};
 ghost use Rattle.std.specs.Io.KnownBytes.{Consumes};
 ghost use Rattle.httparse.specs.Spans.{IsRequestOf, IsRequestWithin};
-ghost use Rattle.wire.specs.Heads.{HasNoHead};
+ghost use Rattle.wire.specs.Asking.{HasRead};
+ghost use Rattle.wire.specs.Heads.{HasNoHead, IsHeadWanting};
 
 use httparse::Status;
 use httparse::spans::{HeaderSpan, RequestSpans, parse_request};
@@ -25,7 +26,7 @@ pub(crate) struct Front {
 
 /// Reads until a head is whole, or `None` as soon as none can come.
 ///
-/// `Broken` comes only from the source, which counts one failure more.
+/// `Broken` comes only from the source, which counts one failure more, and only while the head isn't whole.
 pub(crate) fn read_head<R: Source>(
     reader: &mut R,
     buffer: &mut [u8],
@@ -41,6 +42,7 @@ pub(crate) fn read_head<R: Source>(
     ensures none { IfOk result (λ found. IfNone found (IfSome (R.held reader.old) HasNoHead)) }
     ensures ok { OnOk result (R.failed reader.new ≡ R.failed reader.old) }
     ensures err { OnErr result (R.failed reader.new ≡ R.failed reader.old + 1) }
+    ensures wanting { OnErr result (HasRead (R.held reader.old) (R.held reader.new) IsHeadWanting) }
 {
     let mut filled = 0;
     'reading: loop {

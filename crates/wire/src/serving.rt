@@ -1,11 +1,11 @@
 //! One connection: a request is read, handed on, and answered.
 
-ghost use Rattle.std.specs.Prelude.{◌≡◌, ◌+◌, ◌-◌, ◌^◌, ◌<◌, false, true, ℕ, IfOk, OnErr, OnOk};
+ghost use Rattle.std.specs.Prelude.{◌≡◌, ◌+◌, ◌-◌, ◌^◌, ◌<◌, false, true, IfOk, OnErr, OnOk};
 ghost use Rattle.sqlite.specs.State.{HasCleanDisk};
 ghost use Rattle.sqlite.specs.Held.{state};
 ghost use Rattle.register.specs.Offices.{OfficeState};
 ghost use Rattle.store.specs.Offices.{IsAt};
-ghost use Rattle.wire.specs.Serving.{CountsFailures, IsPut, OnReadFailed, ReadiesClosed, ReadiesFor, Serves, ServesClosed};
+ghost use Rattle.wire.specs.Serving.{IsPut, OnAnswered, OnReadFailed, OnWriteFailed, ReadiesClosed, ReadiesFor, Serves, ServesClosed};
 
 use crate::answering::answer;
 use crate::asked::read_asked;
@@ -54,7 +54,8 @@ fn response_to<R: Source, S: Alter>(
 fn put<W: Sink>(writer: &mut W, response: &Response) -> Served
     requires { W.failed writer.old < 2 ^ 64 - 1 }
     ensures puts { IsPut (W.taken writer.old) (W.taken writer.new) response.now result }
-    ensures counts { (read : ℕ) → CountsFailures result read read (W.failed writer.old) (W.failed writer.new) }
+    ensures answered { OnAnswered result (W.failed writer.new ≡ W.failed writer.old) }
+    ensures failed { OnWriteFailed result (W.failed writer.new ≡ W.failed writer.old + 1) }
 {
     match put_all(writer, response.bytes.as_slice()) {
         Ok(()) => Served::Answered(response.status),
@@ -64,13 +65,15 @@ fn put<W: Sink>(writer: &mut W, response: &Response) -> Served
 
 /// Serves one connection: reads a request, hands it on to the office, and writes the answer.
 ///
-/// `Answered`: neither reader nor writer failed, the answer to what the reader's bytes ask was written whole,
-/// and the office is at the state after it. After a fault of the office it tells that fault (503); where memory was wanting for the
-/// request or for the answer, it tells 101 (503), and the request wasn't handed on, or it was, and the
-/// office is at the state after it. `ReadFailed` comes only from the reader, which counts one failure more:
-/// nothing was written, and the office is as it was. `WriteFailed` comes only from the writer, which counts
-/// one failure more: a beginning of the answer was written, and what the office answered stands. A closed
-/// office tells that it is closed, 104 (503), where it is asked anything, and stays as it is.
+/// `Answered`: the answer to what the reader's bytes ask was written whole, the office is at the state
+/// after it, and neither the reader nor the writer failed. After a fault of the office it tells that fault
+/// (503); where memory was wanting for the request or for the answer, it tells 101 (503), and the request
+/// wasn't handed on, or it was, and the office is at the state after it. `ReadFailed` comes only from the
+/// reader, which counts one failure more: a failed read isn't answered, nothing was written, and the office
+/// is as it was. `WriteFailed` comes only from the writer, which counts one failure more, where the reader
+/// counts none: a beginning of the answer was written, the write isn't tried again, and what the office
+/// answered stands. A closed office tells that it is closed, 104 (503), where it is asked anything, and
+/// stays as it is.
 pub fn serve_one<R: Source, W: Sink, S: Alter>(
     alloc: Global,
     reader: &mut R,
@@ -81,8 +84,9 @@ pub fn serve_one<R: Source, W: Sink, S: Alter>(
     requires writes { W.failed writer.old < 2 ^ 64 - 1 }
     ensures served { HasCleanDisk (state S.Store office.new.held) → office.old.closed ≡ false → (s : OfficeState) → IsAt s (state S.Store office.old.held)
         → Serves (R.held reader.old) (W.taken writer.old) (W.taken writer.new) s result office.new.closed (state S.Store office.new.held) }
-    ensures read_failed { OnReadFailed result ((writer.new ≡ writer.old) × (office.new ≡ office.old)) }
-    ensures counts { CountsFailures result (R.failed reader.old) (R.failed reader.new) (W.failed writer.old) (W.failed writer.new) }
+    ensures read_failed { OnReadFailed result ((R.failed reader.new ≡ R.failed reader.old + 1) × (writer.new ≡ writer.old) × (office.new ≡ office.old)) }
+    ensures answered { OnAnswered result ((R.failed reader.new ≡ R.failed reader.old) × (W.failed writer.new ≡ W.failed writer.old)) }
+    ensures write_failed { OnWriteFailed result ((R.failed reader.new ≡ R.failed reader.old) × (W.failed writer.new ≡ W.failed writer.old + 1)) }
     ensures closed { office.old.closed ≡ true → office.new ≡ office.old }
     ensures closed_served { office.old.closed ≡ true → ServesClosed (R.held reader.old) (W.taken writer.old) (W.taken writer.new) result }
     ensures clean { HasCleanDisk (state S.Store office.new.held) → HasCleanDisk (state S.Store office.old.held) }
