@@ -3,9 +3,9 @@
 ghost use Rattle.std.specs.Prelude.{◌≡◌, ◌≤◌, ◌⊎◌, true, false, length, option_map, MatchOption, IfOk, IfErr, IsOk, OnOk, IsTrue};
 ghost use Rattle.sqlite.specs.State.{HasCleanDisk};
 ghost use Rattle.sqlite.specs.Held.{state};
-ghost use Rattle.register.specs.Offices.{OfficeState, ward_at, candidate_at};
 ghost use Rattle.votes.specs.Units.{max_seats, max_papers};
 ghost use Rattle.count.specs.Law.Contest.{IsContest};
+ghost use Rattle.register.specs.Offices.{OfficeState, ward_at, candidate_at};
 ghost use Rattle.register.specs.Elections.{election_entry, has_count, contest_of};
 ghost use Rattle.register.specs.Counts.{poll_for, due_for, elected_for};
 ghost use Rattle.register.specs.Parts.{empty_part, part_entries};
@@ -20,8 +20,8 @@ use sqlite::{Alter, Connection};
 use std::alloc::Global;
 use tables::Fault;
 
-/// The part of a command that needs the poll of an election, if it is there. An error is an election of too
-/// many seats or papers, or none, as no ward's of an office is.
+/// The part of a command that needs the poll of an election, if it is there. It fails only where the ward
+/// has no seats, or more seats or papers than it can have, as none of an office has.
 fn polled(alloc: Global, found: Option<Election>) -> Result<Part, Fault>
     ensures part { IfOk result (λ part. part_entries part ≡ polled_part (option_map election_entry found)) }
     ensures cause { IfErr result (λ f. f ≡ Fault.Store) }
