@@ -23,6 +23,7 @@ use Rattle.office.proofs.RunLemmas.{beginning}
 use Rattle.desk.specs.Errands.{File, IsAnswered, IsAnswerAbove, IsEndOf, IsKept, IsPlain, IsReplyAbove, IsRun, IsSent, IsStopped, Performs, Sends, SendsSome, TellsAnswers, TellsFault, TellsOther}
 use Rattle.desk.specs.Pages.{Cut, uncut, cut_behind, cut_error, IsShown, Outputs, Page, cut_below, page_told}
 use Rattle.desk.specs.Requests.{Errand, Work, making, running, serving}
+use Rattle.desk.proofs.PageLemmas.{broken_ends}
 
 -- ---- a connection at rest
 
@@ -62,6 +63,12 @@ blank_told st fault blank (inr (inr there)) =
     let none : has_some_table no_schema ≡ false = refl in
     let bad : true ≡ false = sym there.1 ∙ ap has_some_table blank.schema ∙ none in
     absurd (cc bad)
+
+-- making an office fails as at a wrong database, so of the faults that it tells this is the one
+pub wrong_same : {T P : Type 0} (fault : Fault) → fault ≡ WrongDatabase → (fault ≡ Memory) ⊎ ((fault ≡ Store) ⊎ ((fault ≡ WrongDatabase) × T × P)) → P
+wrong_same fault wrong (inl memory) = let bad : WrongDatabase ≡ Memory = sym wrong ∙ memory in absurd (cc bad)
+wrong_same fault wrong (inr (inl failing)) = let bad : WrongDatabase ≡ Store = sym wrong ∙ failing in absurd (cc bad)
+wrong_same fault wrong (inr (inr there)) = there.2
 
 pub memory_ends : (work : Work) → IsEndOf work Memory
 memory_ends making = inl (inl refl)
@@ -144,7 +151,7 @@ sent_leaves cut s (r ∷ rs) page closed st (inr last) = last_leaves cut s r rs 
 -- a status 0 comes of a page that was told whole
 shown_zero : (cut : Cut) (old new : Outputs) (page : Page) (status : ℕ) → IsShown cut old new page status → status ≡ 0 → (cut ≡ uncut) × (page.status ≡ 0)
 shown_zero uncut old new page status all zero = (refl, sym all.ends ∙ zero)
-shown_zero (cut_behind took) old new page status broken zero = let three : status ≡ 3 = broken.ends in absurd (omega arith)
+shown_zero (cut_behind took) old new page status broken zero = let three : status ≡ 3 = broken_ends broken in absurd (omega arith)
 shown_zero cut_error old new page status broken zero = let three : status ≡ 3 = broken.ends in absurd (omega arith)
 
 sends_some : (s : OfficeState) (errand : Errand) (file : File) (requests : List Request) → Sends s errand file requests → SendsSome s (running errand) file requests

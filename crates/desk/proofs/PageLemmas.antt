@@ -9,7 +9,7 @@ use Rattle.std.proofs.lemmas.List.{append-nil, append_assoc, take_more, take-app
 use Rattle.clap.specs.Words.{Text}
 use Rattle.votes.proofs.Beginnings.{AppendsBeginning-front, AppendsBeginning-behind}
 use Rattle.desk.specs.declared.lines.Failure.TheVariants.{Output}
-use Rattle.desk.specs.Pages.{Cut, uncut, cut_behind, cut_error, IsErrorTold, IsPut, IsShown, IsWhole, Outputs, Page, Shows, below, cut_below, failed, outputs_of, printed}
+use Rattle.desk.specs.Pages.{Cut, uncut, cut_behind, cut_error, IsErrorTold, IsOutputBroken, IsPut, IsShown, IsWhole, Outputs, Page, Shows, below, cut_below, failed, outputs_of, printed}
 
 -- the pieces of one more
 pieces_more : {X : Type 0} (f : X → Text) (xs : List X) (i : ℕ) (d : X) → i < length xs → flat_map f (take (i + 1) xs) ≡ flat_map f (take i xs) ++ f (get_or xs i d)
@@ -53,10 +53,8 @@ module _ {O E : Type 0} (taken : O → Option (List ℕ)) (failed_out : O → �
   pub output_broken : {X F : Type 0} {f : F} (old new : O) (err told : E) (text : Text) (status : ℕ) → IsPut {X = X} taken failed_out old new text (Err f)
       → IsErrorTold taken_err failed_err err told (failed Output).err 3 status
       → Shows (outputs_of taken failed_out taken_err failed_err old err) (outputs_of taken failed_out taken_err failed_err new told) (printed text) status
-  output_broken old new err told text status put line = elim line [
-    | inl whole ↦ (cut_behind (take n text), record { out = put.cut_off.appends; begins = (drop n text, take-append-drop n text); out_failed = put.err; err = inl (whole.0, whole.1); ends = whole.2 })
-    | inr cut ↦ (cut_behind (take n text), record { out = put.cut_off.appends; begins = (drop n text, take-append-drop n text); out_failed = put.err; err = inr (cut.0, cut.1); ends = cut.2 })
-  ]
+  output_broken old new err told text status put line =
+      (cut_behind (take n text), record { out = put.cut_off.appends; begins = (drop n text, take-append-drop n text); out_failed = put.err; told = line })
     where
       n : ℕ
       n = put.cut_off.count
@@ -68,6 +66,13 @@ module _ {O E : Type 0} (taken : O → Option (List ℕ)) (failed_out : O → �
     | inl whole ↦ (uncut, record { out = rw none (Appends-nil (taken out)); out_failed = refl; err = whole.0; err_failed = whole.1; ends = whole.2 })
     | inr cut ↦ (cut_error, record { out = rw none (Appends-nil (taken out)); out_failed = refl; err = cut.0; err_failed = cut.1; ends = cut.2 })
   ]
+
+-- the status where the output failed
+pub broken_ends : {took : Text} {old new : Outputs} {page : Page} {status : ℕ} → IsOutputBroken took old new page status → status ≡ 3
+broken_ends broken = elim broken.told [
+  | inl whole ↦ whole.2
+  | inr part ↦ part.2
+]
 
 -- a page that is told below a text
 pub shown_below : (cut : Cut) (old mid new : Outputs) (text : Text) (page : Page) (status : ℕ) → IsWhole old mid (printed text) 0 → IsShown cut mid new page status
@@ -83,11 +88,10 @@ shown_below (cut_behind took) old mid new text page status first next = record {
   out = Appends-trans _ _ _ _ _ first.out next.out;
   begins = (next.begins.0, append_assoc text took next.begins.0 ∙ ap (λ all. text ++ all) next.begins.1);
   out_failed = next.out_failed ∙ ap (λ n. n + 1) first.out_failed;
-  err = elim next.err [
-    | inl whole ↦ inl (Appends-trans _ _ _ _ _ first.err whole.0, whole.1 ∙ first.err_failed)
-    | inr part ↦ inr (AppendsBeginning-behind _ _ _ _ _ first.err part.0, part.1 ∙ ap (λ n. n + 1) first.err_failed)
+  told = elim next.told [
+    | inl whole ↦ inl (Appends-trans _ _ _ _ _ first.err whole.0, whole.1 ∙ first.err_failed, whole.2)
+    | inr part ↦ inr (AppendsBeginning-behind _ _ _ _ _ first.err part.0, part.1 ∙ ap (λ n. n + 1) first.err_failed, part.2)
   ];
-  ends = next.ends;
 }
 shown_below cut_error old mid new text page status first next = record {
   out = Appends-trans _ _ _ _ _ first.out next.out;

@@ -15,7 +15,7 @@ use Rattle.desk.specs.Errands.{IsAnswered, IsReplyAbove, IsSent}
 use Rattle.desk.specs.Pages.{Cut, uncut, cut_behind, cut_error, IsShown, IsWhole, Outputs, Page, Shows, below, cut_below, empty_page, page_of, page_told, printed, replied}
 use Rattle.desk.specs.declared.lines.Outcome.{Outcome}
 use Rattle.desk.specs.declared.lines.Outcome.TheVariants as outcome
-use Rattle.desk.proofs.PageLemmas.{shown_below}
+use Rattle.desk.proofs.PageLemmas.{broken_ends, shown_below}
 
 -- requests that all got replies, and these in lines
 abbrev pub Replies : OfficeState → List Request → Text → Type 0
@@ -52,7 +52,7 @@ silent (outcome.Failed fault) zero = absurd (omega arith)
 -- an outcome that was told with status 0 was told whole
 whole : (old new : Outputs) (page : Page) (status : ℕ) → status ≡ 0 → Shows old new page status → IsWhole old new page status
 whole old new page status zero (uncut, shown) = shown
-whole old new page status zero (cut_behind took, cut) = let three : status ≡ 3 = cut.ends in absurd (omega arith)
+whole old new page status zero (cut_behind took, cut) = let three : status ≡ 3 = broken_ends cut in absurd (omega arith)
 whole old new page status zero (cut_error, cut) = let three : status ≡ 3 = cut.ends in absurd (omega arith)
 
 pub status_zero : (old new : Outputs) (page : Page) (status : ℕ) → status ≡ 0 → Shows old new page status → page.status ≡ 0

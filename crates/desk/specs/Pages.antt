@@ -113,6 +113,21 @@ words_page (words.Words text status) = if status == 0 then printed (string_bytes
 abbrev pub below : Text → Page → Page
 below text page = record { out = text ++ page.out; err = page.err; status = page.status }
 
+-- ---- a text that is put to one output
+
+-- the text was taken; or a beginning of it, and a call failed
+pub record IsPut {W X E : Type 0} (taken : W → Option (List ℕ)) (failed : W → ℕ) (old new : W) (text : Text) (result : Result X E) : Type 0 where
+  pub all : OnOk result (Appends (taken old) (taken new) text)
+  pub ok : OnOk result (failed new ≡ failed old)
+  pub cut_off : OnErr result (AppendsBeginning (taken old) (taken new) text)
+  pub err : OnErr result (failed new ≡ failed old + 1)
+
+-- the text was told on the error output, with this status; or a beginning of it, and the status is 3
+abbrev pub IsErrorTold : {E : Type 0} → (E → Option (List ℕ)) → (E → ℕ) → E → E → Text → ℕ → ℕ → Type 0
+IsErrorTold taken failed old new text wanted status =
+    (Appends (taken old) (taken new) text × (failed new ≡ failed old) × (status ≡ wanted))
+    ⊎ (AppendsBeginning (taken old) (taken new) text × (failed new ≡ failed old + 1) × (status ≡ 3))
+
 -- ---- what was told of a page
 
 -- the two outputs: the bytes that each took, as far as it tells them, and how many of its calls failed
@@ -145,8 +160,7 @@ pub record IsOutputBroken (took : Text) (old new : Outputs) (page : Page) (statu
   pub out : Appends old.out new.out took
   pub begins : (left : Text) × (took ++ left ≡ page.out)
   pub out_failed : new.out_failed ≡ old.out_failed + 1
-  pub err : (Appends old.err new.err (failed Output).err × (new.err_failed ≡ old.err_failed)) ⊎ (AppendsBeginning old.err new.err (failed Output).err × (new.err_failed ≡ old.err_failed + 1))
-  pub ends : status ≡ 3
+  pub told : IsErrorTold (λ (o : Outputs). o.err) (λ (o : Outputs). o.err_failed) old new (failed Output).err 3 status
 
 -- the error output failed: it took a beginning
 pub record IsErrorOutputBroken (old new : Outputs) (page : Page) (status : ℕ) : Type 0 where
@@ -178,18 +192,3 @@ pub record Tells (old new : Outputs) (status : ℕ) (P : Cut → Page → Type 0
   pub cut : Cut
   pub shown : IsShown cut old new page status
   pub is : P cut page
-
--- ---- the parts of it: a text that is put to one output
-
--- the text was taken; or a beginning of it, and a call failed
-pub record IsPut {W X E : Type 0} (taken : W → Option (List ℕ)) (failed : W → ℕ) (old new : W) (text : Text) (result : Result X E) : Type 0 where
-  pub all : OnOk result (Appends (taken old) (taken new) text)
-  pub ok : OnOk result (failed new ≡ failed old)
-  pub cut_off : OnErr result (AppendsBeginning (taken old) (taken new) text)
-  pub err : OnErr result (failed new ≡ failed old + 1)
-
--- the text was told on the error output, with this status; or a beginning of it, and the status is 3
-abbrev pub IsErrorTold : {E : Type 0} → (E → Option (List ℕ)) → (E → ℕ) → E → E → Text → ℕ → ℕ → Type 0
-IsErrorTold taken failed old new text wanted status =
-    (Appends (taken old) (taken new) text × (failed new ≡ failed old) × (status ≡ wanted))
-    ⊎ (AppendsBeginning (taken old) (taken new) text × (failed new ≡ failed old + 1) × (status ≡ 3))

@@ -112,7 +112,8 @@ fn make_office<S: Alter, O: Sink, E: Sink>(
 /// were ever sent, which contains every answered one and at most one more; with status 0 all of the order's
 /// were answered.
 ///
-/// A database that holds no office, or a newer or damaged one, is told as that fault, and not changed.
+/// A database that holds no office, or a newer or damaged one, is told as that fault, and not changed. Where a
+/// table has one of our names, `init` makes no office: that is told (105), and nothing is changed.
 ///
 /// An order to serve needs a socket, which is none of these: `serve_on` follows it, and here it is told as
 /// a failed one.

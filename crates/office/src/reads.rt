@@ -173,7 +173,7 @@ impl<S: Alter> Office<S> {
     fn text_of(&mut self, election: &Election, text: Text) -> Result<String, Stop>
         ensures told { IfOk result (λ told. (is_told_in text election.now.ward.phase ≡ true) × (string_bytes told ≡ text_shown text (election_entry election.now))) }
         ensures stopped { self.old.closed ≡ false → IfErr result (λ stop. StopsText text election.now.ward.phase self.new.closed stop) }
-        ensures wants { IsTextual (election_entry election.now) → IfErr result IsOfMemory }
+        ensures cause { IsTextual (election_entry election.now) → IfErr result IsOfMemory }
         ensures held { self.new.held ≡ self.old.held }
         ensures open_still { OnOk result (self.new.closed ≡ self.old.closed) }
     {

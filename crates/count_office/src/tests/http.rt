@@ -5,6 +5,7 @@ use super::counts::{SURPLUS_CUT_BY_FRACTIONS, play_whole};
 use super::disks::Disks;
 use super::keyings::begun;
 use super::steps::{Case, Step, Told};
+use office::texts_are_there;
 use std::process::Abort;
 use std::test::Fail;
 
@@ -193,6 +194,7 @@ Elected
 
 #[test]
 fn a_sheet_and_a_declaration_are_read_over_http(rt: HostRuntime) -> Result<(), Fail> {
+    texts_are_there();
     play_whole(&rt, &SURPLUS_CUT_BY_FRACTIONS)?.hear_unchanged(&rt, &COUNTED)?;
     Ok(())
 }

@@ -53,7 +53,7 @@ const ANSWERS: &str = "$ ward 7 2 Harbour --id w1
 ward 7 added
 $ ward 8 2 Quay --id w1
 1| refused 2: id used for another subject
-$ ward 8 2 Quay --id W1
+$ ward 8 2 Quay --id QUAY
 1| refused 1: bad id
 $ ward 7 3 Pier --id w4
 1| refused 6: ward exists

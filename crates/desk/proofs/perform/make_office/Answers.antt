@@ -1,16 +1,15 @@
 -- Why `make_office` keeps its promise.
-use Rattle.std.proofs.Common.{inl, inr, refl, ap, subst, sym, ◌∙◌, ◌≡◌}
+use Rattle.std.proofs.Common.{inl, inr, refl, ap, subst, sym, ◌≡◌}
 use Rattle.sqlite.specs.State.{HasCleanDisk}
 use Rattle.sqlite.specs.Held.{state}
 use Rattle.register.specs.Offices.{empty_office}
-use Rattle.tables.specs.declared.fault.Fault.TheVariants.{Memory, Store, WrongDatabase}
 use Rattle.tables.specs.Reading.{OnlyReads}
 use Rattle.tables.proofs.ReadLemmas.{only_reads_itself}
 use Rattle.store.specs.Offices.{IsAt, LeavesState}
 use Rattle.desk.specs.Pages.{failed, page_of}
 use Rattle.desk.specs.declared.lines.Failure.TheVariants.{Office}
 use Rattle.desk.specs.declared.lines.Outcome.TheVariants.{Ready}
-use Rattle.desk.proofs.KeptLemmas.{blank_told, has_tables, rests_leaves, table_rests}
+use Rattle.desk.proofs.KeptLemmas.{blank_told, has_tables, rests_leaves, table_rests, wrong_same}
 use Rattle.desk.proofs.perform.make_office.Goals as goal
 
 pub returns-in-Ok : goal.returns-in-Ok
@@ -43,22 +42,10 @@ returns-in-Err g c =
         taken = λ is db rests there.
             let st = state g.S.Store c.args.conn in
             let wrong = c.in-Err.ensures.wrong (table_rests db (state g.S.Store c.args.conn) rests there) rests.outside in
-            elim c.in-Err.ensures.told [
-              | inl memory ↦ let bad : WrongDatabase ≡ Memory = sym wrong ∙ memory in absurd (cc bad)
-              | inr others ↦ elim others [
-                | inl failing ↦ let bad : WrongDatabase ≡ Store = sym wrong ∙ failing in absurd (cc bad)
-                | inr known ↦ (inl (ap (λ fault. failed (Office fault)) wrong), subst (λ conn. OnlyReads st (state g.S.Store conn)) (sym known.2) (only_reads_itself st))
-              ]
-            ];
+            (inl (ap (λ fault. failed (Office fault)) wrong), subst (λ conn. OnlyReads st (state g.S.Store conn)) (sym (wrong_same c.in-Err.fault wrong c.in-Err.ensures.told)) (only_reads_itself st));
         in_office = λ db rests s left.
             let wrong = c.in-Err.ensures.wrong (has_tables s db (state g.S.Store c.args.conn) rests left) rests.outside in
             let here = rests_leaves s db (state g.S.Store c.args.conn) (λ trees is_open may. g.met.S.Store.settled c.args.conn.store trees is_open may) rests left in
-            elim c.in-Err.ensures.told [
-              | inl memory ↦ let bad : WrongDatabase ≡ Memory = sym wrong ∙ memory in absurd (cc bad)
-              | inr others ↦ elim others [
-                | inl failing ↦ let bad : WrongDatabase ≡ Store = sym wrong ∙ failing in absurd (cc bad)
-                | inr there ↦ inr (c.in-Err.fault, refl, inr wrong, subst (λ conn. LeavesState (state g.S.Store conn) (λ x. x ≡ s)) (sym there.2) here)
-              ]
-            ];
+            inr (c.in-Err.fault, refl, inr wrong, subst (λ conn. LeavesState (state g.S.Store conn) (λ x. x ≡ s)) (sym (wrong_same c.in-Err.fault wrong c.in-Err.ensures.told)) here);
       };
     }
