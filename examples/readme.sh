@@ -1,0 +1,13 @@
+#!/usr/bin/env bash
+# Plays the ten lines of an election that README.md shows, in their order, over the files that they name.
+source "$(dirname "$(readlink -f "${BASH_SOURCE[0]}")")/play.bash"
+
+printf '%s\n' ward,candidate,name 7,1,Ann 7,2,Bob 7,3,Cy >"$folder/candidates.csv"
+printf '%s\n' paper,1,2,3 1,1,2, 2,,1, | tee "$folder/clerk4.csv" >"$folder/clerk9.csv"
+
+while IFS= read -r line; do
+    # What stands behind a # is told to readers alone.
+    if [[ $line == './count-office town.db '* ]]; then eval "play ${line#./count-office }"; fi
+done <"$here/../README.md" >"$folder/played"
+
+compare readme
