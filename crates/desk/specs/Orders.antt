@@ -1,11 +1,14 @@
 -- The orders of the program: the name and the words of each, and the values that an order has.
-use Rattle.std.specs.Prelude.{ℕ, List, [], ◌∷◌, Option, Some, codes, map}
+use Rattle.std.specs.Prelude.{ℕ, zero, suc, List, [], ◌∷◌, ◌++◌, Option, Some, codes, map, string_bytes}
 use Rattle.clap.specs.Words.{Text}
-use Rattle.desk.specs.Verdicts.{Judgement, judgement_of}
+use Rattle.office.specs.declared.sheets.Text.TheVariants as ward_text
+use Rattle.desk.specs.Verdicts.{Judgement}
+use Rattle.desk.specs.Requests.{Asked, asked_by, batch_to_add, batch_to_key_again, candidate_to_add, candidate_to_withdraw, keying_to_keep, lot_to_record, paper_to_judge, stage_to_count, ward_to_add, ward_to_close, ward_to_declare, ward_to_seal}
 use Rattle.desk.specs.declared.table.Kind.{Kind}
 use Rattle.desk.specs.declared.table.Kind.TheVariants as kind
 use Rattle.desk.specs.declared.table.Word.{Word}
 use Rattle.desk.specs.declared.table.Entry.{Entry}
+use Rattle.desk.specs.declared.orders.Errand.TheVariants as errand
 use Rattle.desk.specs.declared.orders.Order.{Order}
 use Rattle.desk.specs.declared.orders.Order.TheVariants as order
 
@@ -83,23 +86,38 @@ pub data Value : Type 0 where
   worded : Text → Value
   judged : Option Judgement → Value
 
+-- the name of the order that sends a command of the office, and the values of the command in the sequence of the order's words; a keying is
+-- sent for a clerk, by none of these
+abbrev pub words_of : Asked → Text × List Value
+words_of (ward_to_add ward seats name) = (codes "ward", numbered ward ∷ numbered seats ∷ worded name ∷ [])
+words_of (ward_to_close ward) = (codes "close", numbered ward ∷ [])
+words_of (candidate_to_add ward candidate name) = (codes "candidate", numbered ward ∷ numbered candidate ∷ worded name ∷ [])
+words_of (candidate_to_withdraw ward candidate) = (codes "withdraw", numbered ward ∷ numbered candidate ∷ [])
+words_of (batch_to_add batch ward size first_clerk second_clerk) = (codes "batch", numbered batch ∷ numbered ward ∷ numbered size ∷ numbered first_clerk ∷ numbered second_clerk ∷ [])
+words_of (batch_to_key_again batch) = (codes "again", numbered batch ∷ [])
+words_of (keying_to_keep batch round papers) = ([], [])
+words_of (paper_to_judge batch paper judgement) = (codes "judge", numbered batch ∷ numbered paper ∷ judged (Some judgement) ∷ [])
+words_of (ward_to_seal ward) = (codes "seal", numbered ward ∷ [])
+words_of (stage_to_count ward) = (codes "advance", numbered ward ∷ [])
+words_of (lot_to_record ward stage candidate) = (codes "lot", numbered ward ∷ numbered stage ∷ numbered candidate ∷ [])
+words_of (ward_to_declare ward) = (codes "declare", numbered ward ∷ [])
+
+-- the order that sends a command of the office under an id
+abbrev pub office_words_of : Asked → Text → Text × List Value
+office_words_of asked under = ((words_of asked).0, (words_of asked).1 ++ worded under ∷ [])
+
+-- the order that sends a request; none sends another's than the office's own
+abbrev pub words_sent : ℕ → Asked → Text → Text × List Value
+words_sent zero asked under = office_words_of asked under
+words_sent (suc clerk) asked under = ([], [])
+
 -- an order's name, and its values in the sequence of its words
 abbrev pub told : Order → Text × List Value
 told order.Init = (codes "init", [])
-told (order.Ward w) = (codes "ward", numbered w.ward ∷ numbered w.seats ∷ worded w.name.now ∷ worded w.id.now ∷ [])
-told (order.Candidate c) = (codes "candidate", numbered c.ward ∷ numbered c.candidate ∷ worded c.name.now ∷ worded c.id.now ∷ [])
-told (order.ImportCandidates file id) = (codes "import-candidates", worded file.now ∷ worded id.now ∷ [])
-told (order.Withdraw w) = (codes "withdraw", numbered w.ward ∷ numbered w.candidate ∷ worded w.id.now ∷ [])
-told (order.Close ward id) = (codes "close", numbered ward ∷ worded id.now ∷ [])
-told (order.Batch b) = (codes "batch", numbered b.batch ∷ numbered b.ward ∷ numbered b.size ∷ numbered b.first_clerk ∷ numbered b.second_clerk ∷ worded b.id.now ∷ [])
-told (order.ImportKeying k) = (codes "import-keying", numbered k.clerk ∷ numbered k.batch ∷ numbered k.round ∷ worded k.file.now ∷ worded k.id.now ∷ [])
-told (order.Again batch id) = (codes "again", numbered batch ∷ worded id.now ∷ [])
-told (order.Judge j) = (codes "judge", numbered j.batch ∷ numbered j.paper ∷ judged (Some (judgement_of j.verdict)) ∷ worded j.id.now ∷ [])
-told (order.Seal ward id) = (codes "seal", numbered ward ∷ worded id.now ∷ [])
-told (order.Advance ward id) = (codes "advance", numbered ward ∷ worded id.now ∷ [])
-told (order.Lot l) = (codes "lot", numbered l.ward ∷ numbered l.stage ∷ numbered l.candidate ∷ worded l.id.now ∷ [])
-told (order.Declare ward id) = (codes "declare", numbered ward ∷ worded id.now ∷ [])
-told (order.Status ward) = (codes "status", numbered ward ∷ [])
-told (order.Sheet ward) = (codes "sheet", numbered ward ∷ [])
-told (order.Result ward) = (codes "result", numbered ward ∷ [])
+told (order.Run (errand.Send r)) = words_sent r.actor (asked_by r.command) (string_bytes r.id)
+told (order.Run (errand.ImportCandidates file id)) = (codes "import-candidates", worded file.now ∷ worded id.now ∷ [])
+told (order.Run (errand.ImportKeying k)) = (codes "import-keying", numbered k.clerk ∷ numbered k.batch ∷ numbered k.round ∷ worded k.file.now ∷ worded k.id.now ∷ [])
+told (order.Run (errand.TellStatus ward)) = (codes "status", numbered ward ∷ [])
+told (order.Run (errand.Print ward ward_text.Sheet)) = (codes "sheet", numbered ward ∷ [])
+told (order.Run (errand.Print ward ward_text.Declaration)) = (codes "result", numbered ward ∷ [])
 told (order.Serve port connections) = (codes "serve", numbered port ∷ numbered connections ∷ [])

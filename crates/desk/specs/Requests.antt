@@ -12,17 +12,14 @@ use Rattle.register.specs.declared.counts.CountCommand.TheVariants as count_comm
 use Rattle.register.specs.declared.verdicts.Verdict.{Verdict}
 use Rattle.register.specs.declared.verdicts.Verdict.TheVariants as verdict
 use Rattle.office.specs.declared.sheets.Text.{Text as WardText}
-use Rattle.office.specs.declared.sheets.Text.TheVariants as ward_text
 use Rattle.keyfile.specs.Candidates.{CandidateEntry}
 use Rattle.keyfile.specs.declared.fault.FileFault.{FileFault}
-use Rattle.desk.specs.Verdicts.{Judgement, accepted, judgement_of, rejected}
+use Rattle.desk.specs.Verdicts.{Judgement, accepted, rejected}
 use Rattle.desk.specs.declared.orders.KeyingFile.{KeyingFile}
+use Rattle.desk.specs.declared.orders.Errand.{Errand as OrderErrand}
+use Rattle.desk.specs.declared.orders.Errand.TheVariants as order_errand
 use Rattle.desk.specs.declared.orders.Order.{Order}
 use Rattle.desk.specs.declared.orders.Order.TheVariants as order
-use Rattle.desk.specs.declared.tasks.OfficeTask.{OfficeTask}
-use Rattle.desk.specs.declared.tasks.OfficeTask.TheVariants as office_task
-use Rattle.desk.specs.declared.tasks.Task.{Task}
-use Rattle.desk.specs.declared.tasks.Task.TheVariants as task
 
 -- what a command asks, its names as text
 pub data Asked : Type 0 where
@@ -87,49 +84,24 @@ pub data Work : Type 0 where
   running : Errand → Work
   serving : ℕ → ℕ → Work
 
--- what a task in an opened office is
-abbrev pub errand_of : OfficeTask → Errand
-errand_of (office_task.Send request) = sending (sent_as request)
-errand_of (office_task.ImportCandidates id) = importing_candidates id.now
-errand_of (office_task.ImportKeying keying) = importing_keying keying
-errand_of (office_task.TellStatus ward) = telling_status ward
-errand_of (office_task.Print ward text) = printing ward text
+-- what an order does in an opened office
+abbrev pub errand_of : OrderErrand → Errand
+errand_of (order_errand.Send request) = sending (sent_as request)
+errand_of (order_errand.ImportCandidates file id) = importing_candidates id.now
+errand_of (order_errand.ImportKeying keying) = importing_keying keying
+errand_of (order_errand.TellStatus ward) = telling_status ward
+errand_of (order_errand.Print ward text) = printing ward text
 
--- what a task is
-abbrev pub work_of : Task → Work
-work_of task.Make = making
-work_of (task.Run errand) = running (errand_of errand)
-work_of (task.Serve port connections) = serving port connections
-
--- an order of the office itself sends one request
-abbrev pub office_sends : Text → Asked → Work
-office_sends id asked = running (sending (by_office id asked))
-
--- what each order is done by
+-- what is done for an order
 abbrev pub work_for : Order → Work
 work_for order.Init = making
-work_for (order.Ward w) = office_sends w.id.now (ward_to_add w.ward w.seats w.name.now)
-work_for (order.Candidate c) = office_sends c.id.now (candidate_to_add c.ward c.candidate c.name.now)
-work_for (order.ImportCandidates file id) = running (importing_candidates id.now)
-work_for (order.Withdraw w) = office_sends w.id.now (candidate_to_withdraw w.ward w.candidate)
-work_for (order.Close ward id) = office_sends id.now (ward_to_close ward)
-work_for (order.Batch b) = office_sends b.id.now (batch_to_add b.batch b.ward b.size b.first_clerk b.second_clerk)
-work_for (order.ImportKeying keying) = running (importing_keying keying)
-work_for (order.Again batch id) = office_sends id.now (batch_to_key_again batch)
-work_for (order.Judge j) = office_sends j.id.now (paper_to_judge j.batch j.paper (judgement_of j.verdict))
-work_for (order.Seal ward id) = office_sends id.now (ward_to_seal ward)
-work_for (order.Advance ward id) = office_sends id.now (stage_to_count ward)
-work_for (order.Lot l) = office_sends l.id.now (lot_to_record l.ward l.stage l.candidate)
-work_for (order.Declare ward id) = office_sends id.now (ward_to_declare ward)
-work_for (order.Status ward) = running (telling_status ward)
-work_for (order.Sheet ward) = running (printing ward ward_text.Sheet)
-work_for (order.Result ward) = running (printing ward ward_text.Declaration)
+work_for (order.Run errand) = running (errand_of errand)
 work_for (order.Serve port connections) = serving port connections
 
 -- the file that an order names
 abbrev pub file_of : Order → Option Text
-file_of (order.ImportCandidates file id) = Some file.now
-file_of (order.ImportKeying keying) = Some keying.file.now
+file_of (order.Run (order_errand.ImportCandidates file id)) = Some file.now
+file_of (order.Run (order_errand.ImportKeying keying)) = Some keying.file.now
 file_of other = None
 
 -- the id of the request for the record of some number: the order's, a hyphen, and that number

@@ -3,18 +3,11 @@ use Rattle.std.specs.Prelude.{ℕ, nat_eq, drop, length, Option, Some, None, cod
 use Rattle.std.specs.List.{starts_with}
 use Rattle.clap.specs.Words.{Text}
 use Rattle.desk.specs.Numbers.{is_number, number_of}
-use Rattle.desk.specs.declared.orders.VerdictWord.{VerdictWord}
-use Rattle.desk.specs.declared.orders.VerdictWord.TheVariants.{Accept, Reject}
 
 -- a verdict on a doubtful paper: it counts with these marks, or it is rejected for the reason of this code
 pub data Judgement : Type 0 where
   accepted : Text → Judgement
   rejected : ℕ → Judgement
-
--- the verdict of an order
-abbrev pub judgement_of : VerdictWord → Judgement
-judgement_of (Accept marks) = accepted marks.now
-judgement_of (Reject code) = rejected code
 
 -- what stands behind a front in a text, where the text begins with it
 abbrev pub behind : Text → Text → Option Text

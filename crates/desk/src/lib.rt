@@ -20,10 +20,9 @@ pub mod orders;
 mod table;
 mod verdicts;
 pub mod words;
-// An order to what is to be done,
+// An order to requests,
 mod requests;
-mod tasks;
-// and that to lines and a status.
+// and those to lines and a status.
 mod import;
 pub mod lines;
 pub mod perform;
@@ -34,9 +33,7 @@ pub mod serving;
 mod standing;
 
 pub use lines::{Failure, tell_failure, tell_words};
-pub use orders::{
-    Drawing, Judging, KeyingFile, NewBatch, NewCandidate, NewWard, Order, VerdictWord, Withdrawal,
-};
+pub use orders::{Errand, KeyingFile, Order};
 pub use progress::Progress;
 pub use serving::serve_on;
 pub use words::{WordsFault, order};

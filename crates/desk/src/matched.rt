@@ -1,20 +1,26 @@
 //! The order that matched words mean.
 #![tactic(auto, unfolding(crate::specs::Orders::orders))]
 
-ghost use Rattle.std.specs.Prelude.{◌≡◌, true, false, Err, Some, codes, IfErr, IfOk};
+ghost use Rattle.std.specs.Prelude.{◌≡◌, ◌⊎◌, true, false, Err, Some, codes, IfErr, IfOk, string_bytes};
 ghost use Rattle.clap.specs.Words.{found_of, rows_of, subcommand_rows_of};
-ghost use Rattle.desk.specs.Orders.{told};
+ghost use Rattle.desk.specs.Orders.{office_words_of, told};
+ghost use Rattle.desk.specs.Requests.{asked_by, judgement_given};
+ghost use Rattle.desk.specs.Verdicts.{judgement_in};
 ghost use Rattle.desk.specs.Words.{has_bad_verdict, is_order_name, meaning, meaning_of, names_order, number_at, text_at};
 
-use crate::orders::{
-    Drawing, Judging, KeyingFile, NewBatch, NewCandidate, NewWard, Order, Withdrawal,
-};
+use crate::orders::{Errand, KeyingFile, Order};
+use crate::requests::by_office;
 use crate::table::{
     BATCH, CANDIDATE, CLERK, CONNECTIONS, FILE, FIRST_CLERK, ID, NAME, PAPER, PORT, ROUND, SEATS,
     SECOND_CLERK, SIZE, STAGE, VERDICT, WARD, Word,
 };
 use crate::verdicts::verdict_in;
 use clap::ArgMatches;
+use office::Text;
+use register::{
+    BatchCommand, CandidateCommand, Command, CountCommand, VerdictCommand, WardCommand,
+};
+use std::alloc::{AllocError, Global};
 
 /// Why matched words mean no order.
 #[derive(Clone, Copy, Debug)]
@@ -23,6 +29,18 @@ pub(crate) enum NoOrder {
     Unknown,
     /// The word of a verdict says none.
     BadVerdict,
+    /// Memory was wanting.
+    Memory,
+}
+
+impl From<AllocError> for NoOrder {
+    ghost use Rattle.desk.specs.declared.matched.NoOrder.TheVariants.{Memory};
+
+    ghost from_gives = { λ _ why. why ≡ Memory };
+
+    fn from(_: AllocError) -> NoOrder {
+        NoOrder::Memory
+    }
 }
 
 fn number_in(matches: &ArgMatches<'_>, word: Word) -> u32
@@ -40,65 +58,157 @@ fn text_in<'a>(matches: &ArgMatches<'a>, word: Word) -> &'a str
     }
 }
 
-fn ward<'a>(matches: &ArgMatches<'a>) -> Order<'a>
-    ensures { meaning_of (codes "ward") (rows_of (found_of matches.now)) ≡ Some (told result) }
+fn text_copied(alloc: Global, matches: &ArgMatches<'_>, word: Word) -> Result<String, AllocError>
+    ensures { IfOk result (λ text. string_bytes text ≡ text_at word.name.now (rows_of (found_of matches.now))) }
 {
-    Order::Ward(NewWard {
+    String::from_str(alloc, text_in(matches, word))
+}
+
+/// Sends a command of the office under the id that was matched.
+fn sending<'a>(
+    alloc: Global,
+    matches: &ArgMatches<'a>,
+    command: Command,
+) -> Result<Order<'a>, NoOrder>
+    ensures ok { IfOk result (λ o. told o ≡ office_words_of (asked_by command) (text_at (codes "id") (rows_of (found_of matches.now)))) }
+    ensures err { IfErr result (λ why. why ≡ NoOrder.Memory) }
+{
+    let id = text_copied(alloc, matches, ID)?;
+    Ok(Order::Run(Errand::Send(by_office(id, command))))
+}
+
+fn ward<'a>(alloc: Global, matches: &ArgMatches<'a>) -> Result<Order<'a>, NoOrder>
+    ensures ok { IfOk result (λ o. meaning_of (codes "ward") (rows_of (found_of matches.now)) ≡ Some (told o)) }
+    ensures err { IfErr result (λ why. why ≡ NoOrder.Memory) }
+{
+    let command = WardCommand::Add {
         ward: number_in(matches, WARD),
         seats: number_in(matches, SEATS),
-        name: text_in(matches, NAME),
-        id: text_in(matches, ID),
-    })
+        name: text_copied(alloc, matches, NAME)?,
+    };
+    sending(alloc, matches, Command::Ward(command))
 }
 
-fn candidate<'a>(matches: &ArgMatches<'a>) -> Order<'a>
-    ensures { meaning_of (codes "candidate") (rows_of (found_of matches.now)) ≡ Some (told result) }
+fn candidate<'a>(alloc: Global, matches: &ArgMatches<'a>) -> Result<Order<'a>, NoOrder>
+    ensures ok { IfOk result (λ o. meaning_of (codes "candidate") (rows_of (found_of matches.now)) ≡ Some (told o)) }
+    ensures err { IfErr result (λ why. why ≡ NoOrder.Memory) }
 {
-    Order::Candidate(NewCandidate {
+    let command = CandidateCommand::Add {
         ward: number_in(matches, WARD),
         candidate: number_in(matches, CANDIDATE),
-        name: text_in(matches, NAME),
-        id: text_in(matches, ID),
-    })
+        name: text_copied(alloc, matches, NAME)?,
+    };
+    sending(alloc, matches, Command::Candidate(command))
 }
 
-fn import_candidates<'a>(matches: &ArgMatches<'a>) -> Order<'a>
-    ensures { meaning_of (codes "import-candidates") (rows_of (found_of matches.now)) ≡ Some (told result) }
+fn withdraw<'a>(alloc: Global, matches: &ArgMatches<'a>) -> Result<Order<'a>, NoOrder>
+    ensures ok { IfOk result (λ o. meaning_of (codes "withdraw") (rows_of (found_of matches.now)) ≡ Some (told o)) }
+    ensures err { IfErr result (λ why. why ≡ NoOrder.Memory) }
 {
-    Order::ImportCandidates {
-        file: text_in(matches, FILE),
-        id: text_in(matches, ID),
-    }
-}
-
-fn withdraw<'a>(matches: &ArgMatches<'a>) -> Order<'a>
-    ensures { meaning_of (codes "withdraw") (rows_of (found_of matches.now)) ≡ Some (told result) }
-{
-    Order::Withdraw(Withdrawal {
+    let command = CandidateCommand::Withdraw {
         ward: number_in(matches, WARD),
         candidate: number_in(matches, CANDIDATE),
-        id: text_in(matches, ID),
-    })
+    };
+    sending(alloc, matches, Command::Candidate(command))
 }
 
-fn close<'a>(matches: &ArgMatches<'a>) -> Order<'a>
-    ensures { meaning_of (codes "close") (rows_of (found_of matches.now)) ≡ Some (told result) }
+fn close<'a>(alloc: Global, matches: &ArgMatches<'a>) -> Result<Order<'a>, NoOrder>
+    ensures ok { IfOk result (λ o. meaning_of (codes "close") (rows_of (found_of matches.now)) ≡ Some (told o)) }
+    ensures err { IfErr result (λ why. why ≡ NoOrder.Memory) }
 {
-    Order::Close {
+    let command = WardCommand::Close {
         ward: number_in(matches, WARD),
-        id: text_in(matches, ID),
-    }
+    };
+    sending(alloc, matches, Command::Ward(command))
 }
 
-fn batch<'a>(matches: &ArgMatches<'a>) -> Order<'a>
-    ensures { meaning_of (codes "batch") (rows_of (found_of matches.now)) ≡ Some (told result) }
+fn batch<'a>(alloc: Global, matches: &ArgMatches<'a>) -> Result<Order<'a>, NoOrder>
+    ensures ok { IfOk result (λ o. meaning_of (codes "batch") (rows_of (found_of matches.now)) ≡ Some (told o)) }
+    ensures err { IfErr result (λ why. why ≡ NoOrder.Memory) }
 {
-    Order::Batch(NewBatch {
+    let command = BatchCommand::Add {
         batch: number_in(matches, BATCH),
         ward: number_in(matches, WARD),
         size: number_in(matches, SIZE),
         first_clerk: number_in(matches, FIRST_CLERK),
         second_clerk: number_in(matches, SECOND_CLERK),
+    };
+    sending(alloc, matches, Command::Batch(command))
+}
+
+fn again<'a>(alloc: Global, matches: &ArgMatches<'a>) -> Result<Order<'a>, NoOrder>
+    ensures ok { IfOk result (λ o. meaning_of (codes "again") (rows_of (found_of matches.now)) ≡ Some (told o)) }
+    ensures err { IfErr result (λ why. why ≡ NoOrder.Memory) }
+{
+    let command = BatchCommand::Again {
+        batch: number_in(matches, BATCH),
+    };
+    sending(alloc, matches, Command::Batch(command))
+}
+
+fn seal<'a>(alloc: Global, matches: &ArgMatches<'a>) -> Result<Order<'a>, NoOrder>
+    ensures ok { IfOk result (λ o. meaning_of (codes "seal") (rows_of (found_of matches.now)) ≡ Some (told o)) }
+    ensures err { IfErr result (λ why. why ≡ NoOrder.Memory) }
+{
+    let command = CountCommand::Seal {
+        ward: number_in(matches, WARD),
+    };
+    sending(alloc, matches, Command::Count(command))
+}
+
+fn advance<'a>(alloc: Global, matches: &ArgMatches<'a>) -> Result<Order<'a>, NoOrder>
+    ensures ok { IfOk result (λ o. meaning_of (codes "advance") (rows_of (found_of matches.now)) ≡ Some (told o)) }
+    ensures err { IfErr result (λ why. why ≡ NoOrder.Memory) }
+{
+    let command = CountCommand::Advance {
+        ward: number_in(matches, WARD),
+    };
+    sending(alloc, matches, Command::Count(command))
+}
+
+fn declare<'a>(alloc: Global, matches: &ArgMatches<'a>) -> Result<Order<'a>, NoOrder>
+    ensures ok { IfOk result (λ o. meaning_of (codes "declare") (rows_of (found_of matches.now)) ≡ Some (told o)) }
+    ensures err { IfErr result (λ why. why ≡ NoOrder.Memory) }
+{
+    let command = CountCommand::Declare {
+        ward: number_in(matches, WARD),
+    };
+    sending(alloc, matches, Command::Count(command))
+}
+
+fn lot<'a>(alloc: Global, matches: &ArgMatches<'a>) -> Result<Order<'a>, NoOrder>
+    ensures ok { IfOk result (λ o. meaning_of (codes "lot") (rows_of (found_of matches.now)) ≡ Some (told o)) }
+    ensures err { IfErr result (λ why. why ≡ NoOrder.Memory) }
+{
+    let command = CountCommand::Lot {
+        ward: number_in(matches, WARD),
+        stage: number_in(matches, STAGE),
+        candidate: number_in(matches, CANDIDATE),
+    };
+    sending(alloc, matches, Command::Count(command))
+}
+
+fn judge<'a>(alloc: Global, matches: &ArgMatches<'a>) -> Result<Order<'a>, NoOrder>
+    ensures ok { IfOk result (λ o. meaning_of (codes "judge") (rows_of (found_of matches.now)) ≡ Some (told o)) }
+    ensures err { IfErr result (λ why. (why ≡ NoOrder.Memory)
+        ⊎ ((why ≡ NoOrder.BadVerdict) × (has_bad_verdict (meaning_of (codes "judge") (rows_of (found_of matches.now))) ≡ true))) }
+{
+    let Some(verdict) = verdict_in(alloc, text_in(matches, VERDICT))? else {
+        return Err(NoOrder::BadVerdict);
+    };
+    let command = VerdictCommand {
+        batch: number_in(matches, BATCH),
+        paper: number_in(matches, PAPER),
+        verdict,
+    };
+    sending(alloc, matches, Command::Verdict(command))
+}
+
+fn import_candidates<'a>(matches: &ArgMatches<'a>) -> Order<'a>
+    ensures { meaning_of (codes "import-candidates") (rows_of (found_of matches.now)) ≡ Some (told result) }
+{
+    Order::Run(Errand::ImportCandidates {
+        file: text_in(matches, FILE),
         id: text_in(matches, ID),
     })
 }
@@ -106,99 +216,39 @@ fn batch<'a>(matches: &ArgMatches<'a>) -> Order<'a>
 fn import_keying<'a>(matches: &ArgMatches<'a>) -> Order<'a>
     ensures { meaning_of (codes "import-keying") (rows_of (found_of matches.now)) ≡ Some (told result) }
 {
-    Order::ImportKeying(KeyingFile {
+    Order::Run(Errand::ImportKeying(KeyingFile {
         clerk: number_in(matches, CLERK),
         batch: number_in(matches, BATCH),
         round: number_in(matches, ROUND),
         file: text_in(matches, FILE),
         id: text_in(matches, ID),
-    })
-}
-
-fn again<'a>(matches: &ArgMatches<'a>) -> Order<'a>
-    ensures { meaning_of (codes "again") (rows_of (found_of matches.now)) ≡ Some (told result) }
-{
-    Order::Again {
-        batch: number_in(matches, BATCH),
-        id: text_in(matches, ID),
-    }
-}
-
-fn judge<'a>(matches: &ArgMatches<'a>) -> Result<Order<'a>, NoOrder>
-    ensures ok { IfOk result (λ o. meaning_of (codes "judge") (rows_of (found_of matches.now)) ≡ Some (told o)) }
-    ensures err { IfErr result (λ why. (why ≡ NoOrder.BadVerdict) × (has_bad_verdict (meaning_of (codes "judge") (rows_of (found_of matches.now))) ≡ true)) }
-{
-    let Some(verdict) = verdict_in(text_in(matches, VERDICT)) else {
-        return Err(NoOrder::BadVerdict);
-    };
-    Ok(Order::Judge(Judging {
-        batch: number_in(matches, BATCH),
-        paper: number_in(matches, PAPER),
-        verdict,
-        id: text_in(matches, ID),
     }))
-}
-
-fn seal<'a>(matches: &ArgMatches<'a>) -> Order<'a>
-    ensures { meaning_of (codes "seal") (rows_of (found_of matches.now)) ≡ Some (told result) }
-{
-    Order::Seal {
-        ward: number_in(matches, WARD),
-        id: text_in(matches, ID),
-    }
-}
-
-fn advance<'a>(matches: &ArgMatches<'a>) -> Order<'a>
-    ensures { meaning_of (codes "advance") (rows_of (found_of matches.now)) ≡ Some (told result) }
-{
-    Order::Advance {
-        ward: number_in(matches, WARD),
-        id: text_in(matches, ID),
-    }
-}
-
-fn lot<'a>(matches: &ArgMatches<'a>) -> Order<'a>
-    ensures { meaning_of (codes "lot") (rows_of (found_of matches.now)) ≡ Some (told result) }
-{
-    Order::Lot(Drawing {
-        ward: number_in(matches, WARD),
-        stage: number_in(matches, STAGE),
-        candidate: number_in(matches, CANDIDATE),
-        id: text_in(matches, ID),
-    })
-}
-
-fn declare<'a>(matches: &ArgMatches<'a>) -> Order<'a>
-    ensures { meaning_of (codes "declare") (rows_of (found_of matches.now)) ≡ Some (told result) }
-{
-    Order::Declare {
-        ward: number_in(matches, WARD),
-        id: text_in(matches, ID),
-    }
 }
 
 fn status<'a>(matches: &ArgMatches<'a>) -> Order<'a>
     ensures { meaning_of (codes "status") (rows_of (found_of matches.now)) ≡ Some (told result) }
 {
-    Order::Status {
+    Order::Run(Errand::TellStatus {
         ward: number_in(matches, WARD),
-    }
+    })
 }
 
 fn sheet<'a>(matches: &ArgMatches<'a>) -> Order<'a>
     ensures { meaning_of (codes "sheet") (rows_of (found_of matches.now)) ≡ Some (told result) }
 {
-    Order::Sheet {
+    Order::Run(Errand::Print {
         ward: number_in(matches, WARD),
-    }
+        text: Text::Sheet,
+    })
 }
 
 fn result<'a>(matches: &ArgMatches<'a>) -> Order<'a>
     ensures { meaning_of (codes "result") (rows_of (found_of matches.now)) ≡ Some (told result) }
 {
-    Order::Result {
+    Order::Run(Errand::Print {
         ward: number_in(matches, WARD),
-    }
+        text: Text::Declaration,
+    })
 }
 
 fn serve<'a>(matches: &ArgMatches<'a>) -> Order<'a>
@@ -211,26 +261,30 @@ fn serve<'a>(matches: &ArgMatches<'a>) -> Order<'a>
 }
 
 /// The order of this name, with the values that were matched.
-fn order_named<'a>(name: &str, matches: &ArgMatches<'a>) -> Result<Order<'a>, NoOrder>
+fn order_named<'a>(
+    alloc: Global,
+    name: &str,
+    matches: &ArgMatches<'a>,
+) -> Result<Order<'a>, NoOrder>
     ensures ok { IfOk result (λ o. meaning_of name.now (rows_of (found_of matches.now)) ≡ Some (told o)) }
     ensures unknown { result ≡ Err NoOrder.Unknown → is_order_name name.now ≡ false }
     ensures bad { result ≡ Err NoOrder.BadVerdict → has_bad_verdict (meaning_of name.now (rows_of (found_of matches.now))) ≡ true }
 {
     match name {
         "init" => Ok(Order::Init),
-        "ward" => Ok(ward(matches)),
-        "candidate" => Ok(candidate(matches)),
+        "ward" => ward(alloc, matches),
+        "candidate" => candidate(alloc, matches),
         "import-candidates" => Ok(import_candidates(matches)),
-        "withdraw" => Ok(withdraw(matches)),
-        "close" => Ok(close(matches)),
-        "batch" => Ok(batch(matches)),
+        "withdraw" => withdraw(alloc, matches),
+        "close" => close(alloc, matches),
+        "batch" => batch(alloc, matches),
         "import-keying" => Ok(import_keying(matches)),
-        "again" => Ok(again(matches)),
-        "judge" => judge(matches),
-        "seal" => Ok(seal(matches)),
-        "advance" => Ok(advance(matches)),
-        "lot" => Ok(lot(matches)),
-        "declare" => Ok(declare(matches)),
+        "again" => again(alloc, matches),
+        "judge" => judge(alloc, matches),
+        "seal" => seal(alloc, matches),
+        "advance" => advance(alloc, matches),
+        "lot" => lot(alloc, matches),
+        "declare" => declare(alloc, matches),
         "status" => Ok(status(matches)),
         "sheet" => Ok(sheet(matches)),
         "result" => Ok(result(matches)),
@@ -240,13 +294,13 @@ fn order_named<'a>(name: &str, matches: &ArgMatches<'a>) -> Result<Order<'a>, No
 }
 
 /// The order that the matched words mean.
-pub(crate) fn order_in<'a>(matches: &ArgMatches<'a>) -> Result<Order<'a>, NoOrder>
+pub(crate) fn order_in<'a>(alloc: Global, matches: &ArgMatches<'a>) -> Result<Order<'a>, NoOrder>
     ensures ok { IfOk result (λ o. meaning (subcommand_rows_of matches.now) ≡ Some (told o)) }
     ensures unknown { result ≡ Err NoOrder.Unknown → names_order (subcommand_rows_of matches.now) ≡ false }
     ensures bad { result ≡ Err NoOrder.BadVerdict → has_bad_verdict (meaning (subcommand_rows_of matches.now)) ≡ true }
 {
     match matches.subcommand() {
-        Some((name, inner)) => order_named(name, inner),
+        Some((name, inner)) => order_named(alloc, name, inner),
         None => Err(NoOrder::Unknown),
     }
 }

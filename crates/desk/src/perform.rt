@@ -15,24 +15,22 @@ ghost use Rattle.desk.specs.Requests.{errand_of, making, running, work_for};
 
 use crate::import::{candidate_requests, keying_of};
 use crate::lines::{Failure, Outcome, tell, tell_failure};
-use crate::orders::Order;
+use crate::orders::{Errand, Order};
 use crate::printing::text_of;
 use crate::sending::send_all;
 use crate::standing::standing_of;
-use crate::tasks::{OfficeTask, Task, task_for};
 use office::Office;
-use register::Request;
 use sqlite::{Alter, Connection};
-use std::alloc::{AllocError, Global};
+use std::alloc::Global;
 use std::io::Read;
-use store::Fault;
+use std::slice;
 use votes::Sink;
 
-/// Does a task in an opened office, tells what comes of it, and gives the status.
+/// Does an errand in an opened office, tells what comes of it, and gives the status.
 fn run<S: Alter, R: Read + Drop, O: Sink, E: Sink>(
     alloc: Global,
     office: &mut Office<S>,
-    task: OfficeTask<'_>,
+    errand: &Errand<'_>,
     file: Option<R>,
     out: &mut O,
     err: &mut E,
@@ -41,29 +39,29 @@ fn run<S: Alter, R: Read + Drop, O: Sink, E: Sink>(
     requires err { E.failed err.old < 2 ^ 64 - 1 }
     ensures ran { Tells (outputs_of O.taken O.failed E.taken E.failed out.old err.old) (outputs_of O.taken O.failed E.taken E.failed out.new err.new) result
         (λ cut page. WhereOpen office.old.closed (state S.Store office.old.held) (state S.Store office.new.held)
-        (λ s. IsRun cut s (errand_of task.entry) (option_map R.remaining file) page office.new.closed (state S.Store office.new.held))) }
+        (λ s. IsRun cut s (errand_of errand.now) (option_map R.remaining file) page office.new.closed (state S.Store office.new.held))) }
     ensures clean { HasCleanDisk (state S.Store office.new.held) → HasCleanDisk (state S.Store office.old.held) }
 {
-    match task {
-        OfficeTask::Send(request) => send_all(office, &[request], out, err),
-        OfficeTask::ImportCandidates { id } => match candidate_requests(alloc, id, file) {
+    match errand {
+        Errand::Send(request) => send_all(office, slice::from_ref(request), out, err),
+        Errand::ImportCandidates { id, .. } => match candidate_requests(alloc, id, file) {
             Ok(requests) => send_all(office, &requests, out, err),
             Err(outcome) => tell(&outcome, out, err),
         },
-        OfficeTask::ImportKeying(keyed) => match keying_of(alloc, office, keyed, file) {
+        Errand::ImportKeying(keyed) => match keying_of(alloc, office, *keyed, file) {
             Ok(request) => send_all(office, &[request], out, err),
             Err(outcome) => tell(&outcome, out, err),
         },
-        OfficeTask::TellStatus { ward } => tell(&standing_of(alloc, office, ward), out, err),
-        OfficeTask::Print { ward, text } => tell(&text_of(office, ward, text), out, err),
+        Errand::TellStatus { ward } => tell(&standing_of(alloc, office, *ward), out, err),
+        Errand::Print { ward, text } => tell(&text_of(office, *ward, *text), out, err),
     }
 }
 
-/// Opens the office that a connection has, and does a task in it.
+/// Opens the office that a connection has, and does an errand in it.
 fn run_opened<S: Alter, R: Read + Drop, O: Sink, E: Sink>(
     alloc: Global,
     conn: Connection<S>,
-    task: OfficeTask<'_>,
+    errand: &Errand<'_>,
     file: Option<R>,
     out: &mut O,
     err: &mut E,
@@ -71,11 +69,11 @@ fn run_opened<S: Alter, R: Read + Drop, O: Sink, E: Sink>(
     requires out { O.failed out.old < 2 ^ 64 - 1 }
     requires err { E.failed err.old < 2 ^ 64 - 1 }
     ensures { Tells (outputs_of O.taken O.failed E.taken E.failed out.old err.old) (outputs_of O.taken O.failed E.taken E.failed out.new err.new) result.0
-        (λ cut page. HasCleanDisk (state S.Store result.1) → IsPerformed cut (running (errand_of task.entry)) (option_map R.remaining file) page (state S.Store conn) (state S.Store result.1)) }
+        (λ cut page. HasCleanDisk (state S.Store result.1) → IsPerformed cut (running (errand_of errand.now)) (option_map R.remaining file) page (state S.Store conn) (state S.Store result.1)) }
 {
     match Office::open_from(alloc, conn) {
         Ok(mut office) => {
-            let status = run(alloc, &mut office, task, file, out, err);
+            let status = run(alloc, &mut office, errand, file, out, err);
             (status, office.into_connection())
         }
         Err((fault, conn)) => (tell(&Outcome::Failed(fault), out, err), conn),
@@ -133,10 +131,9 @@ pub fn perform<S: Alter, R: Read + Drop, O: Sink, E: Sink>(
         (λ cut page. HasCleanDisk (state S.Store result.1) → (db : Database) → RestsAt db (state S.Store conn) → (earlier : List Request) → IsLeftAt (after empty_office earlier) db
         → IsKept earlier (work_for order.now) (option_map R.remaining file) cut page result.0 (state S.Store result.1)) }
 {
-    match task_for(alloc, order) {
-        Ok(Task::Make) => make_office(alloc, conn, out, err),
-        Ok(Task::Run(task)) => run_opened(alloc, conn, task, file, out, err),
-        Ok(Task::Serve { .. }) => (tell_failure(Failure::Output, err), conn),
-        Err(AllocError) => (tell(&Outcome::Failed(Fault::Memory), out, err), conn),
+    match order {
+        Order::Init => make_office(alloc, conn, out, err),
+        Order::Run(errand) => run_opened(alloc, conn, errand, file, out, err),
+        Order::Serve { .. } => (tell_failure(Failure::Output, err), conn),
     }
 }

@@ -1,8 +1,9 @@
 //! The table of orders: the name of each, its words, and its help.
 //!
-//! One order more is a variant of [`Order`](crate::orders::Order), an entry of [`ORDERS`], which says its
-//! words, and a function of [`matched`](crate::matched), which says what each word is to the order. In
-//! specs/Orders.antt it is an entry of `orders` and a line of `told`.
+//! One order more is an entry of [`ORDERS`], which says its words, and a function of
+//! [`matched`](crate::matched), which says what each word is to the order; where it sends no command, a
+//! variant of [`Errand`](crate::orders::Errand) too. In specs/Orders.antt it is an entry of `orders` and a
+//! line of `words_of` or `told`.
 
 ghost use Rattle.std.specs.Prelude.{◌≡◌, map};
 ghost use Rattle.desk.specs.Orders.{entry_of, orders};

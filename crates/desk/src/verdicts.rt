@@ -1,10 +1,11 @@
 //! The words of verdicts.
 
-ghost use Rattle.std.specs.Prelude.{◌≡◌, option_map};
-ghost use Rattle.desk.specs.Verdicts.{behind, judgement_in, judgement_of, rejection_in};
-ghost use Rattle.std.specs.Prelude.{Some};
+ghost use Rattle.std.specs.Prelude.{◌≡◌, option_map, IfOk, Some};
+ghost use Rattle.desk.specs.Requests.{judgement_given};
+ghost use Rattle.desk.specs.Verdicts.{behind, judgement_in, rejection_in};
 
-use crate::orders::VerdictWord;
+use register::Verdict;
+use std::alloc::{AllocError, Global};
 
 /// What stands behind a front in a text, None where the text doesn't begin with it.
 fn behind<'a>(front: &str, text: &'a str) -> Option<&'a str>
@@ -14,24 +15,24 @@ fn behind<'a>(front: &str, text: &'a str) -> Option<&'a str>
 }
 
 /// A rejection for the reason of a code.
-fn rejection_in<'a>(code: &str) -> Option<VerdictWord<'a>>
-    ensures { option_map judgement_of result ≡ rejection_in (Some code.now) }
+fn rejection_in(code: &str) -> Option<Verdict>
+    ensures { option_map judgement_given result ≡ rejection_in (Some code.now) }
 {
     match code.parse::<u32>() {
-        Ok(code) => Some(VerdictWord::Reject(code)),
+        Ok(code) => Some(Verdict::Reject(code)),
         Err(_) => None,
     }
 }
 
-/// The verdict that a word says, if it says one.
-pub(crate) fn verdict_in(text: &str) -> Option<VerdictWord<'_>>
-    ensures { option_map judgement_of result ≡ judgement_in text.now }
+/// The verdict that a word says, if it says one, its marks copied.
+pub(crate) fn verdict_in(alloc: Global, text: &str) -> Result<Option<Verdict>, AllocError>
+    ensures { IfOk result (λ verdict. option_map judgement_given verdict ≡ judgement_in text.now) }
 {
     if let Some(marks) = behind("accept:", text) {
-        return Some(VerdictWord::Accept(marks));
+        return Ok(Some(Verdict::Accept(String::from_str(alloc, marks)?)));
     }
     match behind("reject:", text) {
-        Some(code) => rejection_in(code),
-        None => None,
+        Some(code) => Ok(rejection_in(code)),
+        None => Ok(None),
     }
 }

@@ -230,8 +230,9 @@ pub fn order<'a>(alloc: Global, words: &'a [&'a str]) -> Result<Order<'a>, Words
         Ok(matches) => matches,
         Err(error) => return Err(refused(alloc, &error)),
     };
-    match order_in(&matches) {
+    match order_in(alloc, &matches) {
         Ok(order) => Ok(order),
+        Err(NoOrder::Memory) => Err(WordsFault::Memory),
         Err(NoOrder::BadVerdict) => Err(WordsFault::Verdict),
         Err(NoOrder::Unknown) => Err(WordsFault::Words {
             text: String::new(alloc),

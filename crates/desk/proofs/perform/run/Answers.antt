@@ -6,7 +6,12 @@ use Rattle.desk.proofs.perform.run.Goals as goal
 pub returns-in-Send-clause-ran : goal.returns-in-Send-clause-ran
 returns-in-Send-clause-ran g c =
     let told = c.send_all.ensures.sent in
-    record { page = told.page; cut = told.cut; shown = told.shown; is = λ clean is_open s at. rw c.in-Send.is (inl (c.in-Send.request ∷ [], refl, told.is clean is_open s at)) }
+    record {
+      page = told.page;
+      cut = told.cut;
+      shown = told.shown;
+      is = λ clean is_open s at. rw c.in-Send.is (inl (c.in-Send.request ∷ [], refl, rw c.from_ref.ensures.value at (told.is clean is_open s at)));
+    }
 
 pub returns-in-Ok-keying_of-clause-ran : goal.returns-in-Ok-keying_of-clause-ran
 returns-in-Ok-keying_of-clause-ran g c =

@@ -23,7 +23,7 @@ returns-in-Ok g c =
             in_office = λ db rests s left.
                 let here = c.in-Ok.ensures.reopens opened db rests s left in
                 let ran = told.is ended here.is_open s here.at in
-                inl (subst (λ conn. IsDone told.cut s (running (errand_of c.args.task)) (option_map g.R.Read.remaining c.args.file) told.page (state g.S.Store conn)) (sym c.into_connection.ensures) (c.run-status.new.office.closed, ran));
+                inl (subst (λ conn. IsDone told.cut s (running (errand_of c.args.errand.now)) (option_map g.R.Read.remaining c.args.file) told.page (state g.S.Store conn)) (sym c.into_connection.ensures) (c.run-status.new.office.closed, ran));
             in_nothing = λ is. absurd (cc is);
             taken = λ is. absurd (cc is);
             elsewhere = λ errand is db ours rests none. let held = c.in-Ok.ensures.opened opened db ours rests in absurd (none held.0 held.1);
