@@ -39,14 +39,25 @@ def targets_of(crate, edit):
     """What an edit changes: functions of the crate, or (file, name) of something else."""
     found = []
     for path, old in changes_of(edit):
-        text = crate.texts[path] if path in crate.texts else (crate.folder / path).read_text()
+        there = crate.folder / path
+        text = there.read_text() if there.is_file() else ""
         place = text.find(old)
         inside = [f for f in crate.functions if f.path == path and f.start <= place < f.end]
         if inside and inside[-1] not in found:
             found.append(inside[-1])
         elif not inside and not old.startswith("use "):
-            found.append((path, definition_at(text, place)))
+            found.append((path, definition_at(text, place) if place >= 0 else None))
     return found
+
+
+def misplaced(crate):
+    """What is told of the edits whose old text doesn't stand just once in its file."""
+    for name, edit in crate.edits.items():
+        for path, old in changes_of(edit):
+            there = crate.folder / path
+            times = there.read_text().count(old) if there.is_file() else 0
+            if times != 1:
+                yield f"crates/{crate.name}/must-fail/{name}.edit: its old text stands {times} times in {path}"
 
 
 def function_cell(crate, function):
