@@ -7,7 +7,7 @@ HEAD = """# Every public function and its clauses
 
 `tools/check-proofs --write` makes this page from the sources, and `tools/check-proofs` compares it with them. What the promises rest on, what is only tested, the premises and what is trusted stand in [PROOFS.md](PROOFS.md).
 
-Each function is proved safe, to return, and to meet its clauses. They stand above its body, as its documentation does, of which the first sentence is shown; a clause without a name most often says what the result is, and a dash stands where the type or the trait says all. A *wrong body* is an edit in `crates/NAME/must-fail/` that turns the meaning of the function in its row, and that the contract of its own crate refuses. Functions that aren't public, and definitions, are listed only where an edit changes them.
+Each function is proved safe, to return, and to meet its clauses. They stand above its body, as its documentation does, of which the first sentence is shown; a clause without a name most often says what the result is, and a dash stands where the type or the trait says all. A *wrong body* is an edit in `crates/NAME/must-fail/` that turns the meaning of the function in its row, and that the contract of its own crate refuses. Functions that aren't public, and definitions, are listed only where an edit changes them. All crates together have {public} public functions with {clauses} clauses, and {edits} wrong bodies.
 """
 
 
@@ -103,4 +103,7 @@ def section(crate):
 
 def page(crates):
     """The whole page, as text."""
-    return "\n".join([HEAD.rstrip()] + [line for crate in crates for line in section(crate)]) + "\n"
+    shown = [function for crate in crates for function in crate.functions if crate.is_shown(function)]
+    clauses, edits = sum(len(function.ensures) for function in shown), sum(len(crate.edits) for crate in crates)
+    head = HEAD.rstrip().format(public=len(shown), clauses=clauses, edits=edits)
+    return "\n".join([head] + [line for crate in crates for line in section(crate)]) + "\n"
