@@ -41,12 +41,12 @@ def make_ward(folder, count):
     return town
 
 
-def advance(town, stages):
-    """Counts so many stages, or all where none is given; gives how many there were."""
+def advance(town, stages, found=0):
+    """Counts so many stages, or all where none is given, past those found; gives how many were added."""
     done = 0
     while stages is None or done < stages:
         try:
-            run([PROGRAM, town, "advance", "7", "--id", f"s{done}"])
+            run([PROGRAM, town, "advance", "7", "--id", f"s{found + done}"])
         except SystemExit:
             break
         done += 1
@@ -69,7 +69,7 @@ def measure(folder, count):
     timed("advance", "advance", "7", "--id", "x")
     timed("lot (refused)", "lot", "7", "5", "1", "--id", "x", status=1)
     timed("sheet, 3 stages", "sheet", "7")
-    stages = 3 + advance(town, None)
+    stages = 3 + advance(town, None, 3)
     timed(f"ward 8 2 Quay, all {stages} stages done", *idle)
     timed("sheet, all stages", "sheet", "7")
     timed("declare", "declare", "7", "--id", "x")

@@ -16,6 +16,12 @@ file thirteen.csv paper,1,2,3 1,,1, 2,3,2,1 3,1,,
 file unlike.csv paper,1,2,3 1,,1, 2,3,2,1 3,1,2,
 file bad.csv paper,1,2,3 1,,1, 2,3,2,100 3,1,,
 printf 'paper,1,2,3\n1,1,2,\n2,D' >"$folder/cut.csv"
+# what a spreadsheet may have done: semicolons, spaces, UTF-16, and a row of commas behind the last paper
+file semicolons.csv 'paper;1;2;3' '1;1;2;' '2;D;;'
+file spaces.csv 'paper, 1, 2, 3' '1, 1, 2,' '2, D,,'
+printf '\377\376p\0a\0p\0e\0r\0,\0001\0\n\0' >"$folder/utf-16.csv"
+file commas.csv paper,1,2,3 1,1,2, 2,D,, ,,,
+file many.csv paper,1,2,3 $(printf '%s,1,, ' {1..500}) ,,,
 
 {
     play town.db init
@@ -35,6 +41,7 @@ printf 'paper,1,2,3\n1,1,2,\n2,D' >"$folder/cut.csv"
     play town.db import-keying 4 12 1 missing.csv --id k1
     play town.db import-keying 4 12 1 . --id k1
     play town.db import-keying 4 12 1 cut.csv --id k1
+    for saved in semicolons spaces utf-16 commas many; do play town.db import-keying 4 12 1 "$saved.csv" --id k1; done
     play town.db import-keying 4 12 1 short.csv --id k1
     play town.db import-keying 5 12 1 twelve.csv --id k1
     play town.db import-keying 4 12 1 twelve.csv --id k1

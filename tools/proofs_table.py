@@ -7,7 +7,7 @@ HEAD = """# Every public function and its clauses
 
 `tools/check-proofs --write` makes this page from the sources, and `tools/check-proofs` compares it with them. What the promises rest on, what is only tested, the premises and what is trusted stand in [PROOFS.md](PROOFS.md).
 
-Each function is proved safe, to return, and to meet its clauses. They stand above its body, as its documentation does, of which the first sentence is shown; a clause without a name most often says what the result is, and a dash stands where the type or the trait says all. A *wrong body* is an edit in `crates/NAME/must-fail/` that turns the meaning of the function in its row, and that the contract of its own crate refuses. Functions that aren't public, and definitions, are listed only where an edit changes them.
+Each function is proved safe, to return, and to meet its clauses. They stand above its body, as its documentation does, of which the first sentence is shown; a clause without a name most often says what the result is, and a dash stands where the type or the trait says all. A *wrong body* is an edit in `crates/NAME/must-fail/` that turns the meaning of the function in its row, and that the contract of its own crate refuses. Functions that aren't public, and definitions, are listed only where an edit changes them. All crates together have {public} public functions with {clauses} clauses, and {edits} wrong bodies.
 """
 
 
@@ -39,14 +39,25 @@ def targets_of(crate, edit):
     """What an edit changes: functions of the crate, or (file, name) of something else."""
     found = []
     for path, old in changes_of(edit):
-        text = crate.texts[path] if path in crate.texts else (crate.folder / path).read_text()
+        there = crate.folder / path
+        text = there.read_text() if there.is_file() else ""
         place = text.find(old)
         inside = [f for f in crate.functions if f.path == path and f.start <= place < f.end]
         if inside and inside[-1] not in found:
             found.append(inside[-1])
         elif not inside and not old.startswith("use "):
-            found.append((path, definition_at(text, place)))
+            found.append((path, definition_at(text, place) if place >= 0 else None))
     return found
+
+
+def misplaced(crate):
+    """What is told of the edits whose old text doesn't stand just once in its file."""
+    for name, edit in crate.edits.items():
+        for path, old in changes_of(edit):
+            there = crate.folder / path
+            times = there.read_text().count(old) if there.is_file() else 0
+            if times != 1:
+                yield f"crates/{crate.name}/must-fail/{name}.edit: its old text stands {times} times in {path}"
 
 
 def function_cell(crate, function):
@@ -92,4 +103,7 @@ def section(crate):
 
 def page(crates):
     """The whole page, as text."""
-    return "\n".join([HEAD.rstrip()] + [line for crate in crates for line in section(crate)]) + "\n"
+    shown = [function for crate in crates for function in crate.functions if crate.is_shown(function)]
+    clauses, edits = sum(len(function.ensures) for function in shown), sum(len(crate.edits) for crate in crates)
+    head = HEAD.rstrip().format(public=len(shown), clauses=clauses, edits=edits)
+    return "\n".join([head] + [line for crate in crates for line in section(crate)]) + "\n"
