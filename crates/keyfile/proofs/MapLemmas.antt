@@ -1,6 +1,7 @@
 -- Tests of lent texts are those of the texts, and lent texts that write columns.
 use Rattle.std.proofs.Common.{◌≡◌, ◌||◌, ◌&&◌, ◌<◌, ◌≤◌, ◌==◌, ℕ, suc, zero, Bool, false, List, [], ◌∷◌, length, map, drop, refl, ap, Bor, arith}
 use Rattle.std.specs.List.{list_all, list_any}
+use Rattle.std.proofs.lemmas.Bool.{ne_eqb}
 use Rattle.keyfile.specs.Keying.{are_columns}
 
 pub list_any_map : (test : List ℕ → Bool) (texts : List (Bor (List ℕ))) → list_any test (map (λ t. t.now) texts) ≡ list_any (λ t. test t.now) texts
@@ -22,7 +23,7 @@ are_columns-short [] (c ∷ cs) (suc i) none more = are_columns-short [] cs i no
 pub are_columns-end : (texts : List (Bor (List ℕ))) (columns : List ℕ) (i : ℕ) → length columns ≤ i → (length texts == 0) ≡ are_columns (map (λ t. t.now) texts) (drop i columns)
 are_columns-end [] [] zero all = refl
 are_columns-end [] [] (suc i) all = refl
-are_columns-end (t ∷ ts) [] zero all = refl
-are_columns-end (t ∷ ts) [] (suc i) all = refl
+are_columns-end (t ∷ ts) [] zero all = ne_eqb (length (t ∷ ts)) 0 (λ none. omega (arith, none))
+are_columns-end (t ∷ ts) [] (suc i) all = ne_eqb (length (t ∷ ts)) 0 (λ none. omega (arith, none))
 are_columns-end texts (c ∷ cs) zero all = absurd (omega (arith, all))
 are_columns-end texts (c ∷ cs) (suc i) all = are_columns-end texts cs i (omega (arith, all))
