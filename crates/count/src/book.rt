@@ -1,14 +1,14 @@
 //! A count that is under way, however its papers are kept.
 
-ghost use Rattle.std.specs.Prelude.{◌≡◌, ℕ, reverse, OnOk, OnErr, IfSome, IfNone, IsOkUnless};
+ghost use Rattle.std.specs.Prelude.{◌≡◌, ℕ, reverse, OnOk, OnErr, IfOk, IfErr, IfSome, IfNone, IsOkUnless, Some};
 ghost use Rattle.count.specs.Law.Contest.{Contest, History, IsContest};
-ghost use Rattle.count.specs.Law.Due.{due_after};
+ghost use Rattle.count.specs.Law.Due.{due_after, drawn};
 ghost use Rattle.count.specs.Law.Elected.{elected_after};
 ghost use Rattle.count.specs.Law.Right.{IsRightByItself};
 ghost use Rattle.count.specs.Law.Laws.{IsConserved, IsShort, FillsSeats, OnlyCandidatesHaveVotes, IsAmongSeveral};
 ghost use Rattle.count.specs.Advance.{refusal, Advances};
 
-use crate::stages::{Due, Stage};
+use crate::stages::{Action, Due, Stage};
 use paper::Columns;
 use thiserror::Error;
 
@@ -60,6 +60,13 @@ pub trait CountBook {
     /// Who is elected after the stages so far ("Quota"; "Filling of last vacancies").
     fn elected(&self) -> Columns
         ensures { result ≡ elected_after (contest self.now) (history self.now) };
+
+    /// The action that comes next, with the lot where one is needed; else the lot is ignored. Answers 1
+    /// where the count is finished, 2 and 3 where a lot is due and none, or one for a candidate who isn't
+    /// tied, is handed. Moves no paper, and takes no memory.
+    fn action_by(&self, lot: Option<u8>) -> Result<Action, AdvanceError>
+        ensures ok { IfOk result (λ action. drawn (contest self.now) (history self.now) lot (due_after (contest self.now) (history self.now)) ≡ Some action) }
+        ensures err { IfErr result (λ e. refusal lot (due_after (contest self.now) (history self.now)) ≡ Some e) };
 
     /// Adds the one stage that is due, with the lot where one is needed; else the lot is ignored.
     ///

@@ -1,33 +1,33 @@
 //! Whether a count may be held.
 
-ghost use Rattle.std.specs.Prelude.{◌≡◌, ◌↔◌, IsTrue};
+ghost use Rattle.std.specs.Prelude.{◌≡◌, ◌↔◌, true, IsTrue};
 ghost use Rattle.std.specs.List.{AllByRecursion};
-ghost use Rattle.count.specs.Law.Contest.{contest_for, In, AreForCandidates, IsContest};
+ghost use Rattle.paper.specs.Standing.{is_continuing};
+ghost use Rattle.count.specs.Law.Contest.{contest_for, AreForCandidates, IsContest};
 
-use paper::{Columns, Prefs};
+use paper::{Columns, Prefs, Standing};
 use votes::{MAX_PAPERS, MAX_SEATS};
 
-/// Whether all preferences of a paper are for candidates.
-fn is_for_candidates(candidates: &Columns, preferences: &[u8]) -> bool
-    ensures { IsTrue result ↔ AllByRecursion (λ c. In c candidates.now) preferences.now }
+/// Whether all preferences of a paper are for those who continue.
+fn is_for(standing: &Standing, preferences: &[u8]) -> bool
+    ensures { IsTrue result ↔ AllByRecursion (λ c. is_continuing standing.now c ≡ true) preferences.now }
 {
-    match preferences.split_first() {
-        None => true,
-        Some((c, others)) => {
-            if !candidates.has(*c) {
-                return false;
-            }
-            is_for_candidates(candidates, others)
+    for c in preferences {
+        if !standing.continues(*c) {
+            return false;
         }
     }
+    true
 }
 
-/// Whether all preferences of all papers are for candidates.
+/// Whether all preferences of all papers are for candidates. Each is one look at the standing in which
+/// all candidates continue.
 fn are_for_candidates(candidates: &Columns, papers: &[Prefs]) -> bool
     ensures { IsTrue result ↔ AreForCandidates candidates.now papers.now }
 {
+    let standing = Standing::new(*candidates, Columns::empty(), Columns::empty());
     for paper in papers {
-        if !is_for_candidates(candidates, paper.as_slice()) {
+        if !is_for(&standing, paper.as_slice()) {
             return false;
         }
     }

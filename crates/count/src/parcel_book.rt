@@ -7,7 +7,7 @@ use crate::act::act;
 use crate::book::{AdvanceError, CountBook};
 use crate::due::{action_by, due, elected_with};
 use crate::parcel::Holding;
-use crate::stages::{Due, Stage};
+use crate::stages::{Action, Due, Stage};
 use crate::terms::Terms;
 use paper::{Columns, Prefs};
 use std::alloc::{AllocError, Global};
@@ -82,6 +82,11 @@ impl<'a> CountBook for ParcelBook<'a> {
 
     fn elected(&self) -> Columns {
         elected_with(&self.terms, self.papers, &self.stages)
+    }
+
+    #[tactic(auto, using(crate::proofs::BookLemmas::book_facts))]
+    fn action_by(&self, lot: Option<u8>) -> Result<Action, AdvanceError> {
+        action_by(&self.terms, self.papers, &self.stages, lot)
     }
 
     #[tactic(auto, using(crate::proofs::BookLemmas::book_facts))]

@@ -24,7 +24,7 @@ pub enum CountEnd {
 }
 
 /// The candidate that the lot for a stage names.
-fn lot_at(lots: &[(u8, u8)], stage: u8) -> Option<u8>
+pub fn lot_at(lots: &[(u8, u8)], stage: u8) -> Option<u8>
     ensures { result ≡ lot_for lots.now stage }
 {
     lots.iter().find(|lot| lot.0 == stage).map(|lot| lot.1)

@@ -1,40 +1,34 @@
 //! A count to some stage of it, by the recorded lots.
 
-ghost use Rattle.std.specs.Prelude.{◌≡◌, ◌+◌, ℕ, [], map, length, OnOk, OnErr, IfOk};
+ghost use Rattle.std.specs.Prelude.{◌≡◌, ◌+◌, ◌≤◌, ℕ, [], map, length, OnOk, OnErr, IfOk};
 ghost use Rattle.std.specs.List.{range_with_len};
 ghost use Rattle.count.specs.Law.Contest.{History};
-ghost use Rattle.count.specs.Law.Due.{due_after, next_action};
+ghost use Rattle.count.specs.Law.Due.{due_after};
 ghost use Rattle.count.specs.Law.Right.{IsRight};
 ghost use Rattle.count.specs.Law.Count.{with_next, stages_to, due_by as due_by_lots};
 
 use crate::book::CountBook;
-use crate::run::step;
-use crate::stages::{Action, Due};
+use crate::run::{lot_at, step};
+use crate::stages::Due;
 use std::alloc::{AllocError, Global};
 
-/// Adds the stage that comes next by the recorded lots, where there is one, and tells its action.
+/// Adds the stage that comes next by the recorded lots, where there is one.
 #[tactic(auto, using(crate::proofs::Law::CountLemmas::stages_next))]
-fn advance_by<B: CountBook>(book: &mut B, lots: &[(u8, u8)]) -> Result<Option<Action>, AllocError>
+fn advance_by<B: CountBook>(book: &mut B, lots: &[(u8, u8)]) -> Result<(), AllocError>
     ensures same { B.contest book.new ≡ B.contest book.old }
     ensures is { OnOk result (B.history book.new ≡ with_next (B.contest book.old) lots.now (B.history book.old)) }
-    ensures action { IfOk result (λ action. action ≡ next_action (B.contest book.old) lots.now (B.history book.old)) }
     ensures err { OnErr result (B.history book.new ≡ B.history book.old) }
 {
-    if step(book, lots)?.is_some() {
-        return Ok(None);
-    }
-    match book.stages().split_last() {
-        Some((newest, _)) => Ok(Some(newest.action)),
-        None => Ok(None),
-    }
+    step(book, lots)?;
+    Ok(())
 }
 
 /// Counts so many stages, or as many as there are: a new book has those stages of the count then.
 ///
 /// A lot is a pair of a stage, counted from 1, and the candidate that it names; where two are for one
 /// stage, the first counts. These stages are right for the lots, and the only right ones. An error is want
-/// of memory; the book has the stages made so far then, and they are right.
-#[tactic(auto, using(crate::proofs::Law::CountLemmas::stages_right, crate::proofs::Law::CountLemmas::stages_only), unfolding(crate::specs::Law::Count::stages_to))]
+/// of memory; the book has the stages made so far then, no more than asked for, and they are right.
+#[tactic(auto, using(crate::proofs::Law::CountLemmas::stages_right, crate::proofs::Law::CountLemmas::stages_few, crate::proofs::Law::CountLemmas::stages_only), unfolding(crate::specs::Law::Count::stages_to))]
 pub fn count_to<B: CountBook>(
     book: &mut B,
     lots: &[(u8, u8)],
@@ -44,6 +38,7 @@ pub fn count_to<B: CountBook>(
     ensures same { B.contest book.new ≡ B.contest book.old }
     ensures is { OnOk result (B.history book.new ≡ stages_to (B.contest book.old) lots.now stages) }
     ensures err { OnErr result (IsRight (B.contest book.old) lots.now (B.history book.new)) }
+    ensures err_few { OnErr result (length (B.history book.new) ≤ stages) }
     ensures right { (k : ℕ) → IsRight (B.contest book.old) lots.now (stages_to (B.contest book.old) lots.now k) }
     ensures only { (h : History) → IsRight (B.contest book.old) lots.now h → h ≡ stages_to (B.contest book.old) lots.now (length h) }
 {
@@ -54,25 +49,25 @@ pub fn count_to<B: CountBook>(
 }
 
 /// What is due by the recorded lots: the action that comes next, or else the lot that is waited for, or
-/// nothing. Where an action comes next, the book has its stage then. An error is want of memory, and leaves
-/// the book as it was.
-pub fn due_by<B: CountBook>(book: &mut B, lots: &[(u8, u8)]) -> Result<Due, AllocError>
-    ensures same { B.contest book.new ≡ B.contest book.old }
-    ensures is { IfOk result (λ due. due ≡ due_by_lots (B.contest book.old) lots.now (B.history book.old)) }
-    ensures counted { OnOk result (B.history book.new ≡ with_next (B.contest book.old) lots.now (B.history book.old)) }
-    ensures err { OnErr result (B.history book.new ≡ B.history book.old) }
+/// nothing. Moves no paper, and takes no memory.
+#[tactic(auto, using(crate::proofs::Law::DueLemmas::due_lot, crate::proofs::Law::CountLemmas::due_lots))]
+pub fn due_by<B: CountBook>(book: &B, lots: &[(u8, u8)]) -> Due
+    ensures { result ≡ due_by_lots (B.contest book.now) lots.now (B.history book.now) }
 {
     let due = book.due();
-    match advance_by(book, lots)? {
-        Some(action) => Ok(Due::Act(action)),
-        None => Ok(due),
+    match due {
+        Due::Act(_) | Due::Finished => due,
+        Due::Lot { stage, .. } => match book.action_by(lot_at(lots, stage)) {
+            Ok(action) => Due::Act(action),
+            Err(_) => due,
+        },
     }
 }
 
 /// What is due before each of so many stages of the count, and after them, whatever lots are recorded; a
-/// new book has those stages then. An error is want of memory; the book has the stages made so far then,
-/// and they are right.
-#[tactic(auto, using(crate::proofs::Law::CountLemmas::stages_right), unfolding(crate::specs::Law::Count::stages_to))]
+/// new book has those stages then. An error is want of memory; the book has the stages made so far then, no
+/// more than asked for, and they are right.
+#[tactic(auto, using(crate::proofs::Law::CountLemmas::stages_right, crate::proofs::Law::CountLemmas::stages_few), unfolding(crate::specs::Law::Count::stages_to))]
 pub fn dues_to<B: CountBook>(
     alloc: Global,
     book: &mut B,
@@ -83,6 +78,7 @@ pub fn dues_to<B: CountBook>(
     ensures same { B.contest book.new ≡ B.contest book.old }
     ensures counted { OnOk result (B.history book.new ≡ stages_to (B.contest book.old) lots.now stages) }
     ensures err { OnErr result (IsRight (B.contest book.old) lots.now (B.history book.new)) }
+    ensures err_few { OnErr result (length (B.history book.new) ≤ stages) }
     ensures is { IfOk result (λ dues. dues.items ≡ map (λ k. due_after (B.contest book.old) (stages_to (B.contest book.old) lots.now k)) (range_with_len 0 (stages + 1))) }
 {
     let mut dues = Vec::new(alloc);

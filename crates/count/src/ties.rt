@@ -17,20 +17,16 @@ fn is_above(stages: &[Stage], c: u8, d: u8) -> bool
     requires few_other { d ≤ max_candidates }
     ensures { result ≡ is_above_of (reverse stages.now) c d }
 {
-    match stages.split_last() {
-        None => false,
-        Some((newest, before)) => {
-            let of_c = votes_after(newest, c).units();
-            let of_d = votes_after(newest, d).units();
-            if of_d < of_c {
-                return true;
-            }
-            if of_d == of_c {
-                return is_above(before, c, d);
-            }
-            false
+    let mut rest = stages;
+    while let Some((newest, before)) = rest.split_last() {
+        let of_c = votes_after(newest, c).units();
+        let of_d = votes_after(newest, d).units();
+        if of_c != of_d {
+            return of_d < of_c;
         }
+        rest = before;
     }
+    false
 }
 
 /// Whether one of a group is above a candidate.

@@ -81,13 +81,17 @@ impl FileFormat for KeyingFile {
 fn are_columns(texts: &[&str], columns: &[u8]) -> bool
     ensures { result ≡ are_columns (map (λ t. t.now) texts.now) columns.now }
 {
-    let [text, others @ ..] = texts else {
-        return columns.is_empty();
-    };
-    let [column, more @ ..] = columns else {
-        return false;
-    };
-    number_in(text) == Some(u32::from(*column)) && are_columns(others, more)
+    let mut rest = texts;
+    for column in columns {
+        let [text, others @ ..] = rest else {
+            return false;
+        };
+        if number_in(text) != Some(u32::from(*column)) {
+            return false;
+        }
+        rest = others;
+    }
+    rest.is_empty()
 }
 
 /// Makes sure that a paper's number is the record's and that its mark fields can be joined.

@@ -1,11 +1,13 @@
 -- Marks side by side with candidates, and who bears a number.
-use Rattle.std.proofs.Common.{◌≡◌, ℕ, suc, zero, ◌+◌, ◌<◌, ◌≤◌, ◌==◌, Bool, true, false, cond, List, [], ◌∷◌, ◌++◌, length, take, drop, get_or, map, refl, sym, ap, ◌∙◌, arith, append-nil}
+use Rattle.std.proofs.Common.{◌≡◌, ℕ, suc, zero, ◌+◌, ◌<◌, ◌≤◌, ◌==◌, Bool, true, false, cond, List, [], ◌∷◌, ◌++◌, length, take, drop, set, replicate, get_or, map, inl, inr, refl, sym, ap, ◌∙◌, arith, append-nil, get_or-set_same, get_or-set_other}
 use Rattle.std.specs.List.{zip, filter}
-use Rattle.std.proofs.lemmas.Bool.{eq-eqb, ne_eqb}
+use Rattle.std.proofs.lemmas.Bool.{eq-eqb, ne_eqb, cases_eq}
 use Rattle.std.proofs.lemmas.List.{take_all}
-use Rattle.paper.specs.Bearers.{bearers_of, one_more}
+use Rattle.paper.specs.Bearers.{AreBearers, bearers_of, one_more}
+use Rattle.paper.specs.Columns.{max_candidates}
 use Rattle.paper.specs.Marking.{Marking, candidates_of, marked_with}
 use Rattle.paper.specs.declared.marked.Bearers.{Bearers}
+use Rattle.paper.specs.declared.marked.Bearers.TheVariants.{Nobody}
 
 -- the first of two lists side by side, and one more of each
 zip-take_more : (xs ys : List ℕ) (i : ℕ) → i < length xs → i < length ys → take (i + 1) (zip xs ys) ≡ take i (zip xs ys) ++ (get_or xs i 0, get_or ys i 0) ∷ []
@@ -43,7 +45,7 @@ zip-within (x ∷ xs) [] same = cc
 zip-within (x ∷ xs) (y ∷ ys) same = omega (arith, zip-within xs ys (ap (drop 1) same))
 
 -- the bearers among the first, with a candidate more who is one, or isn't
-pub bearers-yes : (n : ℕ) (xs ys : List ℕ) (i : ℕ) (found more : Bearers) → found ≡ bearers_of (marked_with n (take i (zip xs ys))) → i < length xs → i < length ys →
+bearers-yes : (n : ℕ) (xs ys : List ℕ) (i : ℕ) (found more : Bearers) → found ≡ bearers_of (marked_with n (take i (zip xs ys))) → i < length xs → i < length ys →
     get_or ys i 0 ≡ n → more ≡ one_more found (get_or xs i 0) → more ≡ bearers_of (marked_with n (take (i + 1) (zip xs ys)))
 bearers-yes n xs ys i found more so_far here there same one =
     one ∙ ap (λ b. one_more b (get_or xs i 0)) so_far ∙ sym (bearers_of-append (marked_with n (take i (zip xs ys))) (get_or xs i 0))
@@ -51,13 +53,38 @@ bearers-yes n xs ys i found more so_far here there same one =
     ∙ ap bearers_of (sym (marked_with-append n (take i (zip xs ys)) (get_or xs i 0) (get_or ys i 0)))
     ∙ ap (λ ms. bearers_of (marked_with n ms)) (sym (zip-take_more xs ys i here there))
 
-pub bearers-no : (n : ℕ) (xs ys : List ℕ) (i : ℕ) (found : Bearers) → found ≡ bearers_of (marked_with n (take i (zip xs ys))) → i < length xs → i < length ys →
+bearers-no : (n : ℕ) (xs ys : List ℕ) (i : ℕ) (found : Bearers) → found ≡ bearers_of (marked_with n (take i (zip xs ys))) → i < length xs → i < length ys →
     (get_or ys i 0 ≡ n → ⊥) → found ≡ bearers_of (marked_with n (take (i + 1) (zip xs ys)))
 bearers-no n xs ys i found so_far here there other =
     so_far ∙ ap bearers_of (sym (append-nil (marked_with n (take i (zip xs ys)))))
     ∙ ap (λ b. bearers_of (marked_with n (take i (zip xs ys)) ++ cond b (get_or xs i 0 ∷ []) [])) (sym (ne_eqb (get_or ys i 0) n other))
     ∙ ap bearers_of (sym (marked_with-append n (take i (zip xs ys)) (get_or xs i 0) (get_or ys i 0)))
     ∙ ap (λ ms. bearers_of (marked_with n ms)) (sym (zip-take_more xs ys i here there))
+
+-- at first nobody bears a number
+pub nobody-yet : (k n : ℕ) → get_or (replicate k Nobody) n Nobody ≡ Nobody
+nobody-yet zero n = refl
+nobody-yet (suc k) zero = refl
+nobody-yet (suc k) (suc n) = nobody-yet k n
+
+-- a candidate more bears his number,
+pub AreBearers-more : (xs ys : List ℕ) (i mark : ℕ) (bearers after : List Bearers) (more : Bearers) → AreBearers (take i (zip xs ys)) bearers → i < length xs → i < length ys → mark ≡ get_or ys i 0 → mark < max_candidates + 1 →
+    length bearers ≡ max_candidates + 1 → more ≡ one_more (get_or bearers mark Nobody) (get_or xs i 0) → after ≡ set bearers mark more → AreBearers (take (i + 1) (zip xs ys)) after
+AreBearers-more xs ys i mark bearers after more so_far here there is few size one put n small =
+    ap (λ all. get_or all n Nobody) put
+    ∙ elim (cases_eq n mark) as (λ _. get_or (set bearers mark more) n Nobody ≡ bearers_of (marked_with n (take (i + 1) (zip xs ys)))) [
+      | inl same ↦
+          let found = ap (λ k. get_or bearers k Nobody) (sym same) ∙ so_far n small in
+          ap (λ k. get_or (set bearers mark more) k Nobody) same ∙ get_or-set_same bearers mark more Nobody (omega (arith, few, size))
+          ∙ bearers-yes n xs ys i (get_or bearers mark Nobody) more found here there (sym is ∙ sym same) one
+      | inr other ↦ get_or-set_other bearers mark n more Nobody other ∙ bearers-no n xs ys i (get_or bearers n Nobody) (so_far n small) here there (λ same. other (sym same ∙ sym is))
+    ]
+
+-- and one whose number is too large bears none of these
+pub AreBearers-past : (xs ys : List ℕ) (i mark : ℕ) (bearers after : List Bearers) → AreBearers (take i (zip xs ys)) bearers → i < length xs → i < length ys → mark ≡ get_or ys i 0 → max_candidates + 1 ≤ mark → after ≡ bearers →
+    AreBearers (take (i + 1) (zip xs ys)) after
+AreBearers-past xs ys i mark bearers after so_far here there is large same n small =
+    ap (λ all. get_or all n Nobody) same ∙ bearers-no n xs ys i (get_or bearers n Nobody) (so_far n small) here there (λ at. omega (arith, at, is, large, small))
 
 -- the first of a pair of lists are all
 pub zip-all : (xs ys : List ℕ) (i : ℕ) → length xs ≤ i → take i (zip xs ys) ≡ zip xs ys

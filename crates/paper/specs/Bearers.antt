@@ -1,5 +1,7 @@
--- The candidates beside whom one number stands.
-use Rattle.std.specs.Prelude.{ℕ, List, [], ◌∷◌}
+-- The candidates beside whom each number stands.
+use Rattle.std.specs.Prelude.{◌≡◌, ℕ, ◌≤◌, List, [], ◌∷◌, slice_index_or}
+use Rattle.paper.specs.Columns.{max_candidates}
+use Rattle.paper.specs.Marking.{Marking, marked_with}
 use Rattle.paper.specs.declared.marked.Bearers.{Bearers}
 use Rattle.paper.specs.declared.marked.Bearers.TheVariants.{Nobody, One, Several}
 
@@ -14,3 +16,7 @@ abbrev pub one_more : Bearers → ℕ → Bearers
 one_more Nobody c = One c
 one_more (One d) c = Several
 one_more Several c = Several
+
+-- the bearers of each number from 0 to the most candidates on a paper
+abbrev pub AreBearers : Marking → List Bearers → Type 0
+AreBearers marking bearers = (n : ℕ) → n ≤ max_candidates → slice_index_or bearers n Nobody ≡ bearers_of (marked_with n marking)

@@ -2,15 +2,18 @@
 
 ghost use Rattle.std.specs.Prelude.{◌≡◌, ℕ, ◌+◌, ◌≤◌, ◌++◌, length, IfOk, OnOk, string_bytes};
 ghost use Rattle.std.specs.List.{zip};
-ghost use Rattle.paper.specs.Bearers.{bearers_of, one_more};
+ghost use Rattle.paper.specs.Bearers.{AreBearers, one_more};
 ghost use Rattle.paper.specs.MarksText.{ReadsBack, field_text, spelling};
-ghost use Rattle.paper.specs.Marking.{IsMarking, candidates_of, marks_of, marked_with};
+ghost use Rattle.paper.specs.Marking.{IsMarking, candidates_of, marks_of};
 ghost use Rattle.paper.specs.Padded.{padded};
 
 use crate::columns::{Columns, MAX_CANDIDATES};
 use std::alloc::{AllocError, Global};
 use std::fmt::Write;
 use std::marker::Model;
+
+/// The numbers to look for beside candidates: 0, and one for each preference.
+pub(crate) const NUMBERS: usize = MAX_CANDIDATES + 1;
 
 /// The marks on a ballot paper, seen as each candidate's number beside the number in the field for
 /// him, 1 to 99, or 0 where that is empty, in ascending order of the candidates.
@@ -83,15 +86,16 @@ impl Marked {
         Marked { columns, marks }
     }
 
-    /// Who has a number beside him.
-    pub(crate) fn bearers(&self, n: u8) -> Bearers
-        ensures is { result ≡ bearers_of (marked_with n self.now) }
+    /// Who has each number beside him, from 0 to the most that a preference can have.
+    pub(crate) fn bearers(&self) -> [Bearers; NUMBERS]
+        ensures is { AreBearers self.now result }
         ensures marking { IsMarking self.now }
     {
-        let mut bearers = Bearers::Nobody;
+        let mut bearers = [Bearers::Nobody; NUMBERS];
         for (i, c) in self.columns.as_slice().iter().enumerate() {
-            if self.marks[i] == n {
-                bearers = bearers.and(*c);
+            let n = usize::from(self.marks[i]);
+            if n < NUMBERS {
+                bearers[n] = bearers[n].and(*c);
             }
         }
         bearers

@@ -76,19 +76,12 @@ fn is_ranking(list: &[u8]) -> bool
     ensures is { IsTrue result ↔ IsRanking list.now }
     ensures few { IsTrue result → length list.now ≤ max_candidates }
 {
-    match list.split_first() {
-        None => true,
-        Some((c, others)) => {
-            if *c == 0 {
-                return false;
-            }
-            if usize::from(*c) > MAX_CANDIDATES {
-                return false;
-            }
-            if others.contains(c) {
-                return false;
-            }
-            is_ranking(others)
+    let mut rest = list;
+    while let Some((c, others)) = rest.split_first() {
+        if *c == 0 || usize::from(*c) > MAX_CANDIDATES || others.contains(c) {
+            return false;
         }
+        rest = others;
     }
+    true
 }

@@ -1,12 +1,14 @@
 //! Whether a ballot paper is valid, and its preferences.
 
 ghost use Rattle.std.specs.Prelude.{◌≡◌, ℕ, ◌+◌, ◌-◌, ◌<◌, ◌≤◌, IfOk, IsOk, IfSome, IfNone, Err};
+ghost use Rattle.paper.specs.Bearers.{AreBearers};
+ghost use Rattle.paper.specs.Marking.{Marking};
 ghost use Rattle.paper.specs.Padded.{padded};
 ghost use Rattle.paper.specs.Numbers.{rejection_code};
 ghost use Rattle.paper.specs.Preferences.{IsPreferences, LowerMarksDecide, preferences, rejection_of};
 
 use crate::columns::MAX_CANDIDATES;
-use crate::marked::{Bearers, Marked};
+use crate::marked::{Bearers, Marked, NUMBERS};
 use crate::prefs::Prefs;
 use thiserror::Error;
 
@@ -53,21 +55,23 @@ pub fn judge(m: &Marked) -> Result<Prefs, Rejection>
     ensures longest { IfOk result (IsPreferences m.now) }
     ensures lower { LowerMarksDecide m.now }
 {
-    match m.bearers(1) {
+    let bearers = m.bearers();
+    match bearers[1] {
         Bearers::Nobody => Err(Rejection::NoFirstPreference),
-        Bearers::One(_) => Ok(Prefs::from_ranking(preferred(m))),
+        Bearers::One(_) => Ok(Prefs::from_ranking(preferred(&bearers))),
         Bearers::Several => Err(Rejection::SeveralFirstPreferences),
     }
 }
 
-/// The preferences of a paper in an array, with zeros behind them.
-fn preferred(m: &Marked) -> [u8; MAX_CANDIDATES]
-    ensures { result ≡ padded (preferences m.now) }
+/// The preferences of a paper by those who have each number beside them, in an array with zeros behind
+/// them.
+fn preferred(bearers: &[Bearers; NUMBERS]) -> [u8; MAX_CANDIDATES]
+    ensures { (m : Marking) → AreBearers m bearers.now → result ≡ padded (preferences m) }
 {
     let mut numbers = [0; MAX_CANDIDATES];
-    for place in 0..MAX_CANDIDATES as u8 {
-        match m.bearers(place + 1) {
-            Bearers::One(c) => numbers[usize::from(place)] = c,
+    for place in 0..MAX_CANDIDATES {
+        match bearers[place + 1] {
+            Bearers::One(c) => numbers[place] = c,
             Bearers::Nobody | Bearers::Several => return numbers,
         }
     }

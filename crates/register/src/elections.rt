@@ -153,11 +153,12 @@ impl Election {
                 elected: columns_of(&self.candidates),
             }));
         }
-        let Some(mut book) = self.counted(alloc)? else {
+        let Some(book) = self.counted(alloc)? else {
             return Ok(None);
         };
-        let elected = book.elected();
-        let due = due_by(&mut book, &self.lots)?;
-        Ok(Some(Progress { due, elected }))
+        Ok(Some(Progress {
+            due: due_by(&book, &self.lots),
+            elected: book.elected(),
+        }))
     }
 }

@@ -11,15 +11,14 @@ use votes::{MAX_PAPERS, MAX_SEATS};
 fn ascend_above(low: u8, candidates: &[(u8, String)]) -> bool
     ensures { IsTrue result ↔ Ascend low (map (λ candidate. candidate.0) candidates.now) }
 {
-    match candidates.split_first() {
-        None => true,
-        Some((candidate, others)) => {
-            if candidate.0 <= low || usize::from(candidate.0) > MAX_CANDIDATES {
-                return false;
-            }
-            ascend_above(candidate.0, others)
+    let mut below = low;
+    for candidate in candidates {
+        if candidate.0 <= below || usize::from(candidate.0) > MAX_CANDIDATES {
+            return false;
         }
+        below = candidate.0;
     }
+    true
 }
 
 /// Whether there are no more valid papers than a ward can have, if it has a poll.

@@ -1,17 +1,19 @@
 -- The stages that are worked out are the right ones.
-use Rattle.std.proofs.Common.{◌≡◌, ℕ, zero, suc, ◌+◌, true, false, Bool, cond, nat_eq, List, [], ◌∷◌, ◌++◌, length, map, Option, Some, None, refl, sym, ap, ◌∙◌, arith}
+use Rattle.std.proofs.Common.{◌≡◌, ℕ, zero, suc, ◌+◌, ◌≤◌, true, false, Bool, cond, nat_eq, List, [], ◌∷◌, ◌++◌, length, map, Option, Some, None, refl, sym, ap, ◌∙◌, arith}
 use Rattle.std.specs.Prelude.{IfSome, IfNone}
 use Rattle.std.specs.List.{list_any, range_with_len}
 use Rattle.std.proofs.lemmas.List.FromFn.{map-range_with_len_more}
 use Rattle.count.specs.Law.Contest.{Contest, History}
 use Rattle.count.specs.Law.Due.{due_after, drawn, lot_for, next_action, action_on}
 use Rattle.count.specs.Law.Right.{Tells, IsRight}
-use Rattle.count.specs.Law.Count.{stage_of, with_stage, with_next, stages_to}
-use Rattle.count.specs.Advance.{AdvancesBy, end_of, end_after}
+use Rattle.count.specs.Law.Count.{stage_of, with_stage, with_next, stages_to, due_or, due_by}
+use Rattle.count.specs.Advance.{AdvancesBy, refusal, end_of, end_after}
 use Rattle.count.specs.declared.stages.Stage.{Stage}
 use Rattle.count.specs.declared.stages.Action.{Action}
 use Rattle.count.specs.declared.stages.Due.{Due}
 use Rattle.count.specs.declared.stages.Due.TheVariants.{Act, Lot, Finished}
+use Rattle.count.specs.declared.book.AdvanceError.{AdvanceError}
+use Rattle.count.specs.declared.book.AdvanceError.TheVariants.{LotNotAmong as not_among}
 use Rattle.count.specs.declared.run.CountEnd.{CountEnd}
 use Rattle.count.specs.declared.run.CountEnd.TheVariants.{LotNotAmong as misses_lot}
 use Rattle.count.proofs.Law.RightLemmas.{is_told}
@@ -30,6 +32,16 @@ unfolding stages_to
 stages_right contest lots zero = tt
 stages_right contest lots (suc k) = next_right contest lots (stages_to contest lots k) (stages_right contest lots k) _ refl
 
+-- no more than are asked for,
+next_few : (contest : Contest) (before : History) (o : Option Action) → length (with_stage contest before o) ≤ length before + 1
+next_few contest before None = omega arith
+next_few contest before (Some action) = omega arith
+
+pub stages_few : (contest : Contest) (lots : List (ℕ × ℕ)) (k : ℕ) → length (stages_to contest lots k) ≤ k
+unfolding stages_to
+stages_few contest lots zero = omega arith
+stages_few contest lots (suc k) = omega (arith, next_few contest (stages_to contest lots k) (next_action contest lots (stages_to contest lots k)), stages_few contest lots k)
+
 -- and they are the only right ones
 pub stages_only : (contest : Contest) (lots : List (ℕ × ℕ)) (stages : History) → IsRight contest lots stages → stages ≡ stages_to contest lots (length stages)
 unfolding stages_to
@@ -46,11 +58,38 @@ ended_none contest stages lot (Act action) e is = cc
 ended_none contest stages None Finished e is = refl
 ended_none contest stages (Some c) Finished e is = refl
 ended_none contest stages None (Lot stage kind tied) e is = refl
-ended_none contest stages (Some c) (Lot stage kind tied) e is = go (list_any (nat_eq c) tied) is
+ended_none contest stages (Some c) (Lot stage kind tied) e is = by_tied (list_any (nat_eq c) tied) is
   where
-    go : (b : Bool) → cond b None (Some (misses_lot stage)) ≡ Some e → cond b (Some (action_on contest stages kind c)) None ≡ None
-    go true h = cc
-    go false h = refl
+    by_tied : (b : Bool) → cond b None (Some (misses_lot stage)) ≡ Some e → cond b (Some (action_on contest stages kind c)) None ≡ None
+    by_tied true h = cc
+    by_tied false h = refl
+
+-- what is due by the lots, where a lot is due: the action that it draws, or still the lot where it is refused
+refused_none : (contest : Contest) (stages : History) (lot : Option ℕ) (due : Due) (e : AdvanceError) → refusal lot due ≡ Some e → drawn contest stages lot due ≡ None
+refused_none contest stages lot (Act action) e is = cc
+refused_none contest stages None Finished e is = refl
+refused_none contest stages (Some c) Finished e is = refl
+refused_none contest stages None (Lot stage kind tied) e is = refl
+refused_none contest stages (Some c) (Lot stage kind tied) e is = by_tied (list_any (nat_eq c) tied) is
+  where
+    by_tied : (b : Bool) → cond b None (Some not_among) ≡ Some e → cond b (Some (action_on contest stages kind c)) None ≡ None
+    by_tied true h = cc
+    by_tied false h = refl
+
+pub due_by-drawn : (contest : Contest) (lots : List (ℕ × ℕ)) (stages : History) (stage : ℕ) (lot : Option ℕ) (action : Action) → stage ≡ length stages + 1 → lot ≡ lot_for lots stage → drawn contest stages lot (due_after contest stages) ≡ Some action
+    → Act action ≡ due_by contest lots stages
+due_by-drawn contest lots stages stage lot action here is drew =
+    let lot_is : lot_for lots (length stages + 1) ≡ lot = ap (lot_for lots) (sym here) ∙ sym is in
+    sym (ap (λ (l : Option ℕ). due_or (due_after contest stages) (drawn contest stages l (due_after contest stages))) lot_is ∙ ap (due_or (due_after contest stages)) drew)
+
+pub due_by-refused : (contest : Contest) (lots : List (ℕ × ℕ)) (stages : History) (stage : ℕ) (lot : Option ℕ) (e : AdvanceError) → stage ≡ length stages + 1 → lot ≡ lot_for lots stage → refusal lot (due_after contest stages) ≡ Some e
+    → due_after contest stages ≡ due_by contest lots stages
+due_by-refused contest lots stages stage lot e here is refused =
+    let lot_is : lot_for lots (length stages + 1) ≡ lot = ap (lot_for lots) (sym here) ∙ sym is in
+    sym (ap (λ (l : Option ℕ). due_or (due_after contest stages) (drawn contest stages l (due_after contest stages))) lot_is
+    ∙ ap (due_or (due_after contest stages)) (refused_none contest stages lot (due_after contest stages) e refused))
+
+pub ruleset due_lots = (due_by-drawn, due_by-refused)
 
 -- a book that advanced by the lots, or ended, has the stages that come next
 pub stages_next : (contest : Contest) (lots : List (ℕ × ℕ)) (old new : History) (end : Option CountEnd) → end ≡ end_after contest lots old → IfSome end (λ _. new ≡ old) → IfNone end (AdvancesBy contest lots old new)

@@ -1,7 +1,8 @@
 -- Of the proof of `are_for_candidates`: what holds at each round of its loop.
-use Rattle.std.proofs.Common.{take}
-use Rattle.count.specs.Law.Contest.{AreForCandidates}
+use Rattle.std.proofs.Common.{◌≡◌, true, take}
+use Rattle.std.specs.List.{AllByRecursion}
+use Rattle.paper.specs.Standing.{is_continuing}
 use Rattle.count.proofs.contest.are_for_candidates.Given as goal
 
 abbrev pub invariant-loop-paper : goal.invariant-loop-paper
-invariant-loop-paper l = AreForCandidates l.candidates (take l.paper-index l.papers)
+invariant-loop-paper l = AllByRecursion (λ paper. AllByRecursion (λ c. is_continuing l.standing c ≡ true) paper) (take l.paper-index l.papers)
