@@ -32,14 +32,14 @@ use Rattle.register.specs.Polls.{piles_of}
 use Rattle.register.specs.Elections.{election_of, has_count, contest_of, stages_of, due_of, is_finished}
 use Rattle.register.specs.Items.{is_lot, IsState}
 use Rattle.register.specs.Effects.{in_phase, at_stage, stage_counted, lot_drawn, with_effect, with_receipt}
-use Rattle.register.specs.Views.{HasStageMore}
+use Rattle.register.specs.Views.{HasStageMore, HasSameStages}
 use Rattle.register.specs.Counts.{poll_for, due_for, elected_for, part_of, is_in_range, is_ready, has_finished, lot_objection, waits_at, is_among, objections, subject_of, next_stage, poll_told, action_told, reply_to, effect_of}
 use Rattle.register.proofs.LineLemmas.{upper, is_plain-decimal, are_plain-from, IsLine, given, line_append, line_decimal, line_number, line_within, line_reply, line_text}
 use Rattle.register.proofs.ObjectionLemmas.{none_objects, asked, unasked, there}
 use Rattle.register.proofs.MapLemmas.{put_all, put_is_map, filter_put, filter_put_in, found_filter, found_key, found_passes, found_number, changed_at, same_number, both_equal, kept_all, all_but_number}
 use Rattle.register.proofs.ElectionLemmas.{is_sound, sound_of, lots_placed_of, right_in}
 use Rattle.register.proofs.StageLemmas.{acted, stage_added, stage_more}
-use Rattle.register.proofs.ProgressLemmas.{with_lots, held, in_count, sound_sealed, sound_advanced, sound_declared, lot_new, sound_drawn}
+use Rattle.register.proofs.ProgressLemmas.{with_lots, held, in_count, sound_sealed, sound_advanced, sound_declared, lot_new, stages_still, sound_drawn}
 use Rattle.register.proofs.ItemLemmas.{MapName, lot_map, Holds, maps_of, state_from, rounds_still, lot_total, are_placed, are_all, has_enough, IsFit, office_about}
 use Rattle.register.proofs.NominationLemmas.{moved, staged, changed_stays}
 use Rattle.register.proofs.ContestLemmas.{fair_contest, columns_are_set, papers_are_rankings}
@@ -123,27 +123,32 @@ module _ (s : OfficeState) (n : ℕ) (w : WardEntry) (is : IsState s) (found : w
       subst (λ (k : ℕ). IsState (with_effect (stage_counted n k) s)) (sym (ap next_stage found ∙ next_is (few_done action phased due)))
       (changed_stays s n w (at_stage (w.done + 1)) found (staged (w.done + 1)) enough (sound_advanced (election_of s w) action phased due own_sound) is)
 
+  -- the ward, where it is changed
+  changed_there : (change : WardEntry → WardEntry) → ((x : WardEntry) → (change x).number ≡ x.number) → entry_at (ward_compared n) (changed (ward_compared n) change s.wards) ≡ Some (change w)
+  changed_there change kept =
+      changed_at (ward_compared n) (ward_compared n) change (λ x. ap (nat_cmp n) (kept x)) s.wards
+      ∙ ap (option_map (λ (x : WardEntry). cond (is_eq (ward_compared n x)) (change x) x)) found
+      ∙ ap (λ (b : Bool). Some (cond b (change w) w)) (found_key (ward_compared n) w s.wards found)
+
   -- the ward and its count with the stage that is due
   advanced_more : (action : Action) (r : ReceiptEntry) → w.phase ≡ Sealed → due_of (election_of s w) ≡ Act action → HasStageMore s (with_receipt r (with_effect (stage_counted n (next_stage (ward_at s n))) s)) n
   advanced_more action r phased due =
       let e = election_of s w in
       let h = held e (Act action) due refl in
       let next : next_stage (ward_at s n) ≡ w.done + 1 = ap next_stage found ∙ next_is (few_done action phased due) in
-      let own : is_eq (ward_compared n w) ≡ true = found_key (ward_compared n) w s.wards found in
-      let there : entry_at (ward_compared n) (changed (ward_compared n) (at_stage (w.done + 1)) s.wards) ≡ Some (at_stage (w.done + 1) w) =
-      changed_at (ward_compared n) (ward_compared n) (at_stage (w.done + 1)) (λ x. refl) s.wards
-      ∙ ap (option_map (λ (x : WardEntry). cond (is_eq (ward_compared n x)) (at_stage (w.done + 1) x) x)) found
-      ∙ ap (λ (b : Bool). Some (cond b (at_stage (w.done + 1) w) w)) own
-      in
       record {
         before = w;
         found = found;
         after = at_stage (w.done + 1) w;
-        stays = ap (λ (k : ℕ). entry_at (ward_compared n) (changed (ward_compared n) (at_stage k) s.wards)) next ∙ there;
+        stays = ap (λ (k : ℕ). entry_at (ward_compared n) (changed (ward_compared n) (at_stage k) s.wards)) next ∙ changed_there (at_stage (w.done + 1)) (λ x. refl);
         action = action;
         due = due;
         added = stage_added (contest_of e) e.lots w.done action (acted (contest_of e) e.lots (stages_of e) action h.is);
       }
+
+  -- the ward declared, and its count as it was
+  declared_same : (r : ReceiptEntry) → HasSameStages s (with_receipt r (with_effect (effect_of (Declare n) (part_of s 0 (Declare n))) s)) n
+  declared_same r = record { before = w; found = found; after = in_phase Declared w; stays = changed_there (in_phase Declared) (λ x. refl); done = refl; same = refl }
 
   stage_told : (action : Action) → w.phase ≡ Sealed → due_of (election_of s w) ≡ Act action → IsLine 10 (decimal (next_stage (ward_at s n)))
   stage_told action phased due = let few = few_done action phased due in subst (λ (o : Option WardEntry). IsLine 10 (decimal (next_stage o))) (sym found) (subst (λ (k : ℕ). IsLine 10 (decimal k)) (sym (next_is few)) (line_decimal 10 (w.done + 1) (omega arith) (omega (arith, few)) (omega (arith, few))))
@@ -243,6 +248,15 @@ drawn_stays s l w good found phased due is =
     maps lot_map = put_is_map lot_total l s.lots good new (maps_of is lot_map)
     maps m = maps_of is m
 
+-- the count as it was, as far as it is done
+drawn_same : (s : OfficeState) (l : LotEntry) (w : WardEntry) (r : ReceiptEntry) → ward_at s l.ward ≡ Some w → w.phase ≡ Sealed → IsLotAt (due_of (election_of s w)) l.stage l.candidate → IsState s
+    → HasSameStages s (with_receipt r (with_effect (lot_drawn l) s)) l.ward
+drawn_same s l w r found phased due is =
+    let at = number s l.ward w is found in
+    let in_place = filter_put_in lot_total (λ (x : LotEntry). x.ward == w.number) l s.lots (eq-eqb l.ward w.number at) is.rise.lots in
+    let still = stages_still (election_of s w) (lots_of s w.number) l due.kind due.tied refl phased due.is (own_sound s l.ward w is found) in
+    record { before = w; found = found; after = w; stays = found; done = refl; same = ap (λ (ls : List LotEntry). stages_of (with_lots ls (election_of s w))) in_place ∙ still }
+
 -- ---- each command
 
 lot_stage_line : (stage : ℕ) → is_lot_stage stage ≡ true → IsLine 10 (decimal stage)
@@ -275,6 +289,56 @@ pub advance_adds : (s : OfficeState) (actor ward : ℕ) (r : ReceiptEntry) → I
     → HasStageMore s (with_receipt r (with_effect (effect_of (Advance ward) (part_of s actor (Advance ward))) s)) ward
 advance_adds s actor ward r is none = let d = is_due s actor ward none in advanced_more s ward d.own is d.found d.action r d.phased d.due
 
+-- a Lot that nothing stands against: its numbers, its ward in count, and the lot that is waited for
+record IsWaited (s : OfficeState) (actor ward stage candidate : ℕ) : Type 0 where
+  office : is_office actor ≡ true
+  good : is_ward_number ward && (is_lot_stage stage && is_candidate_number candidate) ≡ true
+  own : WardEntry
+  found : ward_at s ward ≡ Some own
+  phased : own.phase ≡ Sealed
+  due : IsLotAt (due_of (election_of s own)) stage candidate
+
+is_waited : (s : OfficeState) (actor ward stage candidate : ℕ) → first_reason (objections actor (Lot ward stage candidate) (part_of s actor (Lot ward stage candidate))) ≡ None → IsWaited s actor ward stage candidate
+is_waited s actor ward stage candidate none =
+    let command = Lot ward stage candidate in
+    let part = part_of s actor command in
+    let each = none_objects (objections actor command part) none in
+    let range = and_parts (is_office actor) (is_ward_number ward && (is_lot_stage stage && is_candidate_number candidate)) (asked (is_in_range actor command) NumberOutOfRange each.0) in
+    let found = there Sealed (ward_at s ward) WrongPhase ((each.1).1).0 in
+    let others = (((each.1).1).1).1 in
+    let waited : waits_at stage (Some (due_of (election_of s found.ward))) ≡ true = ap (λ (o : Option WardEntry). waits_at stage (due_for s o)) (sym found.is) ∙ asked (waits_at stage part.due) NoSuchLot others.0 in
+    let among : is_among candidate (Some (due_of (election_of s found.ward))) ≡ true = ap (λ (o : Option WardEntry). is_among candidate (due_for s o)) (sym found.is) ∙ asked (is_among candidate part.due) NotAmong (others.1).0 in
+    record { office = range.0; good = range.1; own = found.ward; found = found.is; phased = found.phased; due = waits (due_of (election_of s found.ward)) stage candidate waited among }
+
+-- it leaves the stages done
+pub lot_keeps : (s : OfficeState) (actor ward stage candidate : ℕ) (r : ReceiptEntry) → IsState s → first_reason (objections actor (Lot ward stage candidate) (part_of s actor (Lot ward stage candidate))) ≡ None
+    → HasSameStages s (with_receipt r (with_effect (effect_of (Lot ward stage candidate) (part_of s actor (Lot ward stage candidate))) s)) ward
+lot_keeps s actor ward stage candidate r is none =
+    let d = is_waited s actor ward stage candidate none in drawn_same s (record { ward = ward; stage = stage; candidate = candidate }) d.own r d.found d.phased d.due is
+
+-- a Declare that nothing stands against: its numbers, its ward in count, where nothing is due any more
+record IsOver (s : OfficeState) (actor ward : ℕ) : Type 0 where
+  office : is_office actor ≡ true
+  number : is_ward_number ward ≡ true
+  own : WardEntry
+  found : ward_at s ward ≡ Some own
+  phased : own.phase ≡ Sealed
+  finished : is_finished (due_of (election_of s own)) ≡ true
+
+is_over : (s : OfficeState) (actor ward : ℕ) → first_reason (objections actor (Declare ward) (part_of s actor (Declare ward))) ≡ None → IsOver s actor ward
+is_over s actor ward none =
+    let part = part_of s actor (Declare ward) in
+    let each = none_objects (objections actor (Declare ward) part) none in
+    let range = and_parts (is_office actor) (is_ward_number ward) (asked (is_in_range actor (Declare ward)) NumberOutOfRange each.0) in
+    let found = there Sealed (ward_at s ward) WrongPhase ((each.1).1).0 in
+    let finished : is_finished (due_of (election_of s found.ward)) ≡ true = ap (λ (o : Option WardEntry). has_finished (due_for s o)) (sym found.is) ∙ asked (has_finished part.due) CountNotFinished (((each.1).1).1).0 in
+    record { office = range.0; number = range.1; own = found.ward; found = found.is; phased = found.phased; finished = finished }
+
+-- it leaves the stages done
+pub declare_keeps : (s : OfficeState) (actor ward : ℕ) (r : ReceiptEntry) → IsState s → first_reason (objections actor (Declare ward) (part_of s actor (Declare ward))) ≡ None
+    → HasSameStages s (with_receipt r (with_effect (effect_of (Declare ward) (part_of s actor (Declare ward))) s)) ward
+declare_keeps s actor ward r is none = let d = is_over s actor ward none in declared_same s ward d.own is d.found r
+
 pub count_fits : (s : OfficeState) (actor : ℕ) (command : CountCommand) → IsState s → first_reason (objections actor command (part_of s actor command)) ≡ None
     → IsFit s actor (effect_of command (part_of s actor command)) (subject_of command) (reply_to command (part_of s actor command))
 unfolding subject_of reply_to is_lot
@@ -304,38 +368,26 @@ count_fits s actor (Advance ward) is none =
       line = line_reply (line_append (given (codes "ward ") refl) (line_append digits told)) (omega arith);
     }
 count_fits s actor (Lot ward stage candidate) is none =
-    let command = Lot ward stage candidate in
-    let part = part_of s actor command in
-    let each = none_objects (objections actor command part) none in
-    let range = and_parts (is_office actor) (is_ward_number ward && (is_lot_stage stage && is_candidate_number candidate)) (asked (is_in_range actor command) NumberOutOfRange each.0) in
-    let numbers = and_parts (is_ward_number ward) (is_lot_stage stage && is_candidate_number candidate) range.1 in
+    let d = is_waited s actor ward stage candidate none in
+    let numbers = and_parts (is_ward_number ward) (is_lot_stage stage && is_candidate_number candidate) d.good in
     let own = and_parts (is_lot_stage stage) (is_candidate_number candidate) numbers.1 in
-    let found = there Sealed (ward_at s ward) WrongPhase ((each.1).1).0 in
-    let others = (((each.1).1).1).1 in
-    let waited : waits_at stage (Some (due_of (election_of s found.ward))) ≡ true = ap (λ (o : Option WardEntry). waits_at stage (due_for s o)) (sym found.is) ∙ asked (waits_at stage part.due) NoSuchLot others.0 in
-    let among : is_among candidate (Some (due_of (election_of s found.ward))) ≡ true = ap (λ (o : Option WardEntry). is_among candidate (due_for s o)) (sym found.is) ∙ asked (is_among candidate part.due) NotAmong (others.1).0 in
     let lot : LotEntry = record { ward = ward; stage = stage; candidate = candidate } in
-    let good : is_lot lot ≡ true = range.1 in
     let wards = line_number last_ward ward (omega arith) numbers.0 in
     let stages = lot_stage_line stage own.0 in
     let candidates = line_number max_candidates candidate (omega arith) own.1 in
     let told = line_append (given (codes " stage ") refl) (line_append stages (line_append (given (codes ": candidate ") refl) candidates)) in
     record {
-      state = drawn_stays s lot found.ward good found.is found.phased (waits (due_of (election_of s found.ward)) stage candidate waited among) is;
-      about = office_about actor _ range.0 (lot_about ward stage numbers.0 own.0);
+      state = drawn_stays s lot d.own d.good d.found d.phased d.due is;
+      about = office_about actor _ d.office (lot_about ward stage numbers.0 own.0);
       text = line_text (line_append (given (codes "lot ") refl) (line_append wards (line_append (given (codes " ") refl) stages)));
       line = line_reply (line_append (given (codes "lot at ward ") refl) (line_append wards told)) (omega arith);
     }
 count_fits s actor (Declare ward) is none =
-    let part = part_of s actor (Declare ward) in
-    let each = none_objects (objections actor (Declare ward) part) none in
-    let range = and_parts (is_office actor) (is_ward_number ward) (asked (is_in_range actor (Declare ward)) NumberOutOfRange each.0) in
-    let found = there Sealed (ward_at s ward) WrongPhase ((each.1).1).0 in
-    let finished : is_finished (due_of (election_of s found.ward)) ≡ true = ap (λ (o : Option WardEntry). has_finished (due_for s o)) (sym found.is) ∙ asked (has_finished part.due) CountNotFinished (((each.1).1).1).0 in
-    let digits = line_number last_ward ward (omega arith) range.1 in
+    let d = is_over s actor ward none in
+    let digits = line_number last_ward ward (omega arith) d.number in
     record {
-      state = declared_stays s ward found.ward is found.is found.phased finished;
-      about = office_about actor _ range.0 (declare_about ward range.1);
+      state = declared_stays s ward d.own is d.found d.phased d.finished;
+      about = office_about actor _ d.office (declare_about ward d.number);
       text = line_text (line_append (given (codes "declare ") refl) digits);
-      line = line_reply (line_append (given (codes "ward ") refl) (line_append digits (line_append (given (codes " declared: ") refl) (elected_told s ward found.ward is found.is)))) (omega arith);
+      line = line_reply (line_append (given (codes "ward ") refl) (line_append digits (line_append (given (codes " declared: ") refl) (elected_told s ward d.own is d.found)))) (omega arith);
     }

@@ -17,7 +17,7 @@ use Rattle.register.specs.Offices.{OfficeState, ReceiptEntry, receipt_at, entry_
 use Rattle.register.specs.Items.{is_receipt, IsState}
 use Rattle.register.specs.Effects.{EffectEntry, with_effect, with_receipt}
 use Rattle.register.specs.Parts.{PartEntries}
-use Rattle.register.specs.Machine.{keeps, refuses, part_of, objections, subject_of, reply_to, effect_of, receipt_for, judged, answered, decided, ruling_at, outcome_at, step, state_after, after, after_one, IsKeptAgain}
+use Rattle.register.specs.Machine.{keeps, refuses, kept, refused, part_of, objections, subject_of, reply_to, effect_of, receipt_for, judged, answered, decided, ruling_at, outcome_at, step, state_after, after, after_one, IsKeptAgain}
 use Rattle.register.specs.Views.{IsToldAlike, IsAdvanced}
 use Rattle.register.proofs.MapLemmas.{found_put, found_put_new}
 use Rattle.register.proofs.ItemLemmas.{IsFit, receipt_total, receipt_stays, same_receipts}
@@ -26,7 +26,7 @@ use Rattle.register.proofs.CandidateLemmas.{candidate_fits}
 use Rattle.register.proofs.BatchLemmas.{batch_fits}
 use Rattle.register.proofs.KeyingLemmas.{keying_fits}
 use Rattle.register.proofs.VerdictLemmas.{verdict_fits}
-use Rattle.register.proofs.CountLemmas.{count_fits, advance_adds}
+use Rattle.register.proofs.CountLemmas.{count_fits, advance_adds, lot_keeps, declare_keeps}
 
 -- ---- the commands, by subject
 
@@ -122,29 +122,40 @@ module _ (s : OfficeState) (actor : ℕ) (id : List ℕ) (command : Command) whe
       go true good (Some r) found = elim (bytes_eq r.subject (subject_of command)) as (λ b. IsKeptAgain actor id command (outcome_at s (cond b (keeps r.reply) (refuses IdUsed)))) [ true ↦ tt | false ↦ tt ]
       go true good None found = judged_again good found (first_reason (objections actor command (part_of s actor command)))
 
--- ---- a stage more
+-- ---- the stages of a count
 
--- an accepted Advance adds the stage that is due
-pub advances : (s : OfficeState) (actor : ℕ) (id : List ℕ) (command : Command) → IsState s → IsAdvanced s command (step s actor id command)
-unfolding step decided
-advances s actor id (Count (Advance ward)) is = go (is_id id) (receipt_at s actor id)
-  where
-    added : (o : Option Reason) → first_reason (objections actor (Count (Advance ward)) (part_of s actor (Count (Advance ward)))) ≡ o → IsAdvanced s (Count (Advance ward)) (outcome_at s (judged actor id (Count (Advance ward)) (part_of s actor (Count (Advance ward))) o))
-    added (Some why) told = tt
-    added None told = advance_adds s actor ward (receipt_for actor id (Count (Advance ward)) (part_of s actor (Count (Advance ward)))) is told
+module _ (s : OfficeState) (actor : ℕ) (id : List ℕ) where
+  -- what is kept or refused says nothing of them; so it is enough to look at what nothing stands against
+  advances_where : (command : Command) → ((reply : List ℕ) → IsAdvanced s command (kept reply)) → ((why : Reason) → IsAdvanced s command (refused why))
+      → (first_reason (objections actor command (part_of s actor command)) ≡ None → IsAdvanced s command (outcome_at s (judged actor id command (part_of s actor command) None)))
+      → IsAdvanced s command (step s actor id command)
+  unfolding step decided
+  advances_where command of_kept of_refused of_accepted = go (is_id id) (receipt_at s actor id)
+    where
+      added : (o : Option Reason) → first_reason (objections actor command (part_of s actor command)) ≡ o → IsAdvanced s command (outcome_at s (judged actor id command (part_of s actor command) o))
+      added (Some why) told = of_refused why
+      added None told = of_accepted told
 
-    go : (b : Bool) (o : Option ReceiptEntry) → IsAdvanced s (Count (Advance ward)) (outcome_at s (cond b (answered actor id (Count (Advance ward)) o (part_of s actor (Count (Advance ward)))) (refuses BadId)))
-    go false o = tt
-    go true (Some r) = elim (bytes_eq r.subject (subject_of (Count (Advance ward)))) as (λ b. IsAdvanced s (Count (Advance ward)) (outcome_at s (cond b (keeps r.reply) (refuses IdUsed)))) [ true ↦ tt | false ↦ tt ]
-    go true None = added (first_reason (objections actor (Count (Advance ward)) (part_of s actor (Count (Advance ward))))) refl
-advances s actor id (Count (Seal ward)) is = tt
-advances s actor id (Count (Lot ward stage candidate)) is = tt
-advances s actor id (Count (Declare ward)) is = tt
-advances s actor id (Ward command) is = tt
-advances s actor id (Candidate command) is = tt
-advances s actor id (Batch command) is = tt
-advances s actor id (Keying command) is = tt
-advances s actor id (Verdict command) is = tt
+      go : (b : Bool) (o : Option ReceiptEntry) → IsAdvanced s command (outcome_at s (cond b (answered actor id command o (part_of s actor command)) (refuses BadId)))
+      go false o = of_refused BadId
+      go true (Some r) = elim (bytes_eq r.subject (subject_of command)) as (λ b. IsAdvanced s command (outcome_at s (cond b (keeps r.reply) (refuses IdUsed)))) [ true ↦ of_kept r.reply | false ↦ of_refused IdUsed ]
+      go true None = added (first_reason (objections actor command (part_of s actor command))) refl
+
+  abbrev own_receipt : Command → ReceiptEntry
+  own_receipt command = receipt_for actor id command (part_of s actor command)
+
+  -- an accepted Advance adds the stage that is due, an accepted Lot or Declare leaves those that are done
+  pub advances : (command : Command) → IsState s → IsAdvanced s command (step s actor id command)
+  advances (Count (Advance ward)) is = advances_where (Count (Advance ward)) (λ reply. tt) (λ why. tt) (λ none. advance_adds s actor ward (own_receipt (Count (Advance ward))) is none)
+  advances (Count (Lot ward stage candidate)) is =
+      advances_where (Count (Lot ward stage candidate)) (λ reply. tt) (λ why. tt) (λ none. lot_keeps s actor ward stage candidate (own_receipt (Count (Lot ward stage candidate))) is none)
+  advances (Count (Declare ward)) is = advances_where (Count (Declare ward)) (λ reply. tt) (λ why. tt) (λ none. declare_keeps s actor ward (own_receipt (Count (Declare ward))) is none)
+  advances (Count (Seal ward)) is = tt
+  advances (Ward command) is = tt
+  advances (Candidate command) is = tt
+  advances (Batch command) is = tt
+  advances (Keying command) is = tt
+  advances (Verdict command) is = tt
 
 -- ---- what a clerk is told
 

@@ -183,6 +183,10 @@ module _ (e : ElectionEntry) (ls : List LotEntry) (l : LotEntry) (kind : Kind) (
   as_before : (k : ℕ) → k < l.stage → stages_to (contest_of e) drawn_lots k ≡ stages_to (contest_of e) e.lots k
   as_before k low = same_stages (contest_of e) e.lots drawn_lots l.stage agree k low
 
+  -- so are the stages that are done
+  pub stages_still : stages_of (with_lots (put lot_cmp l ls) e) ≡ stages_of e
+  stages_still = let n = next_stage in as_before e.ward.done (omega (arith, n))
+
   still_drawn : (lot : ℕ × ℕ) → is_drawn_for e lot ≡ true → is_drawn_for (with_lots (put lot_cmp l ls) e) lot ≡ true
   still_drawn lot was =
       let n = next_stage in

@@ -34,10 +34,11 @@ use Rattle.register.proofs.KeyingLemmas.{keyed_among}
 
 -- ---- what is not a clerk's to ask
 
-no_office : (actor : ℕ) → is_clerk actor ≡ true → is_office actor ≡ false
+-- a clerk is not the office
+pub no_office : (actor : ℕ) → is_clerk actor ≡ true → is_office actor ≡ false
 no_office actor clerk = ne_eqb actor 0 (λ same. let some = leb-true 1 actor (and_parts _ _ clerk).0 in omega (arith, some, same))
 
--- commands other than a keying are refused to a clerk, whatever the state
+-- commands other than a keying are refused to who isn't the office, whatever the state
 data IsOwn : Command → Type 0 where
   key : (command : KeyingCommand) → IsOwn (Key command)
   not_his : (command : Command) → ((part : PartEntries) (actor : ℕ) → is_office actor ≡ false → first_reason (objections actor command part) ≡ Some NumberOutOfRange) → IsOwn command
@@ -101,30 +102,30 @@ objections_alike actor command part (Some w) = refl
 
 -- ---- what is decided
 
-judged_alike : (s : OfficeState) (actor : ℕ) (id : List ℕ) (command : Command) → is_clerk actor ≡ true
+judged_alike : (s : OfficeState) (actor : ℕ) (id : List ℕ) (command : Command) → is_office actor ≡ false
     → judged actor id command (part_of (seen_by actor s) actor command) (first_reason (objections actor command (part_of (seen_by actor s) actor command)))
     ≡ judged actor id command (part_of s actor command) (first_reason (objections actor command (part_of s actor command)))
-judged_alike s actor id command clerk = go command (kind_of command)
+judged_alike s actor id command other_actor = go command (kind_of command)
   where
     go : (command : Command) → IsOwn command → judged actor id command (part_of (seen_by actor s) actor command) (first_reason (objections actor command (part_of (seen_by actor s) actor command)))
         ≡ judged actor id command (part_of s actor command) (first_reason (objections actor command (part_of s actor command)))
-    go command (not_his _ refused) = rw (refused (part_of (seen_by actor s) actor command) actor (no_office actor clerk)) (rw (refused (part_of s actor command) actor (no_office actor clerk)) refl)
+    go command (not_his _ refused) = rw (refused (part_of (seen_by actor s) actor command) actor other_actor) (rw (refused (part_of s actor command) actor other_actor) refl)
     go (Key command) (key _) =
         let part = keyings.part_of s actor command in
         ap (λ (p : PartEntries). judged actor id (Key command) p (first_reason (keyings.objections actor command p))) (part_seen s actor command)
         ∙ ap (λ (os : List (Option Reason)). judged actor id (Key command) part (first_reason os)) (objections_alike actor command part (ward_for s (batch_at s command.batch)))
 
 -- what is decided for a clerk rests on what he sees alone
-pub ruling_seen : (s : OfficeState) (actor : ℕ) (id : List ℕ) (command : Command) → is_clerk actor ≡ true → ruling_at (seen_by actor s) actor id command ≡ ruling_at s actor id command
+pub ruling_seen : (s : OfficeState) (actor : ℕ) (id : List ℕ) (command : Command) → is_office actor ≡ false → ruling_at (seen_by actor s) actor id command ≡ ruling_at s actor id command
 unfolding decided
-ruling_seen s actor id command clerk = ap (cond_on (is_id id)) (ap (λ (o : Option ReceiptEntry). answered actor id command o (part_of (seen_by actor s) actor command)) (receipt_seen s actor id) ∙ go (receipt_at s actor id))
+ruling_seen s actor id command other_actor = ap (cond_on (is_id id)) (ap (λ (o : Option ReceiptEntry). answered actor id command o (part_of (seen_by actor s) actor command)) (receipt_seen s actor id) ∙ go (receipt_at s actor id))
   where
     cond_on : Bool → Ruling → Ruling
     cond_on b ruling = cond b ruling (refuses BadId)
 
     go : (o : Option ReceiptEntry) → answered actor id command o (part_of (seen_by actor s) actor command) ≡ answered actor id command o (part_of s actor command)
     go (Some r) = refl
-    go None = judged_alike s actor id command clerk
+    go None = judged_alike s actor id command other_actor
 
 -- ---- what is left of what he sees
 
@@ -139,7 +140,7 @@ unfolding papers_from
 papers_other batch round clerk other paper [] apart = refl
 papers_other batch round clerk other paper (marks ∷ others) apart = and_from _ _ (ap not apart) (papers_other batch round clerk other (paper + 1) others apart)
 
-module _ (s : OfficeState) (actor : ℕ) (id : List ℕ) (clerk : is_clerk actor ≡ true) where
+module _ (s : OfficeState) (actor : ℕ) (id : List ℕ) (other_actor : is_office actor ≡ false) where
   -- an accepted keying leaves what another clerk sees
   keyed_unseen : (other : ℕ) → (actor == other) ≡ false → (command : KeyingCommand) (r : ReceiptEntry) → r.actor ≡ actor → seen_by other (with_change (record { effect = keyings.effect_of actor command; receipt = r }) s) ≡ seen_by other s
   keyed_unseen other apart command r own =
@@ -149,7 +150,7 @@ module _ (s : OfficeState) (actor : ℕ) (id : List ℕ) (clerk : is_clerk actor
 
   judged_unseen : (other : ℕ) → (actor == other) ≡ false → (command : Command) → IsOwn command
       → seen_by other (state_after s (outcome_at s (judged actor id command (part_of s actor command) (first_reason (objections actor command (part_of s actor command)))))) ≡ seen_by other s
-  judged_unseen other apart command (not_his _ refused) = rw (refused (part_of s actor command) actor (no_office actor clerk)) refl
+  judged_unseen other apart command (not_his _ refused) = rw (refused (part_of s actor command) actor other_actor) refl
   judged_unseen other apart (Key command) (key _) = go (first_reason (keyings.objections actor command (keyings.part_of s actor command)))
     where
       go : (o : Option Reason) → seen_by other (state_after s (outcome_at s (judged actor id (Key command) (keyings.part_of s actor command) o))) ≡ seen_by other s
@@ -178,7 +179,7 @@ module _ (s : OfficeState) (actor : ℕ) (id : List ℕ) (clerk : is_clerk actor
 
     judged_alone : (command : Command) → IsOwn command → seen_by actor (state_after s (outcome_at s (judged actor id command (part_of s actor command) (first_reason (objections actor command (part_of s actor command))))))
         ≡ state_after (seen_by actor s) (outcome_at (seen_by actor s) (judged actor id command (part_of s actor command) (first_reason (objections actor command (part_of s actor command)))))
-    judged_alone command (not_his _ refused) = rw (refused (part_of s actor command) actor (no_office actor clerk)) refl
+    judged_alone command (not_his _ refused) = rw (refused (part_of s actor command) actor other_actor) refl
     judged_alone (Key command) (key _) = go (first_reason (keyings.objections actor command (keyings.part_of s actor command))) refl
       where
         go : (o : Option Reason) → first_reason (keyings.objections actor command (keyings.part_of s actor command)) ≡ o
@@ -199,7 +200,7 @@ module _ (s : OfficeState) (actor : ℕ) (id : List ℕ) (clerk : is_clerk actor
     -- a clerk's request leaves of what he sees what it would make of that alone
     pub seen_alone : (command : Command) → seen_by actor (state_after s (step s actor id command)) ≡ state_after (seen_by actor s) (step (seen_by actor s) actor id command)
     unfolding step
-    seen_alone command = ruled_alone command ∙ ap (λ (ruling : Ruling). state_after (seen_by actor s) (outcome_at (seen_by actor s) ruling)) (sym (ruling_seen s actor id command clerk))
+    seen_alone command = ruled_alone command ∙ ap (λ (ruling : Ruling). state_after (seen_by actor s) (outcome_at (seen_by actor s) ruling)) (sym (ruling_seen s actor id command other_actor))
 
 -- ---- his work
 

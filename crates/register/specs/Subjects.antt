@@ -18,38 +18,42 @@ is_space b = b == 32
 abbrev pub are_plain_numbers : ℕ → ℕ → ℕ → ℕ → List ℕ → Bool
 are_plain_numbers low high least most t = is_plain_number low high (before_first is_space t) && is_plain_number least most (after_first is_space t)
 
--- one of some words, a space, and numbers that pass a test
-abbrev pub is_about : List (List ℕ) → (List ℕ → Bool) → List ℕ → Bool
-is_about words numbers t = list_any (bytes_eq (before_first is_space t)) words && numbers (after_first is_space t)
+-- one of some words, and numbers behind it that pass a test
+abbrev pub is_about : List (List ℕ) → (List ℕ → Bool) → List ℕ → List ℕ → Bool
+is_about words passes word numbers = list_any (bytes_eq word) words && passes numbers
 
 -- a ward added, closed, sealed, advanced or declared
-abbrev pub is_about_ward : List ℕ → Bool
+abbrev pub is_about_ward : List ℕ → List ℕ → Bool
 is_about_ward = is_about (codes "ward" ∷ codes "close" ∷ codes "seal" ∷ codes "advance" ∷ codes "declare" ∷ []) (is_plain_number 1 last_ward)
 
 -- a candidate of a ward, added or withdrawn
-abbrev pub is_about_candidate : List ℕ → Bool
+abbrev pub is_about_candidate : List ℕ → List ℕ → Bool
 is_about_candidate = is_about (codes "candidate" ∷ codes "withdraw" ∷ []) (are_plain_numbers 1 last_ward 1 max_candidates)
 
 -- the lot of a ward at a stage
-abbrev pub is_about_lot : List ℕ → Bool
+abbrev pub is_about_lot : List ℕ → List ℕ → Bool
 is_about_lot = is_about (codes "lot" ∷ []) (are_plain_numbers 1 last_ward first_lot_stage last_lot_stage)
 
 -- a batch, added or keyed again
-abbrev pub is_about_batch : List ℕ → Bool
+abbrev pub is_about_batch : List ℕ → List ℕ → Bool
 is_about_batch = is_about (codes "batch" ∷ codes "again" ∷ []) (is_plain_number 1 last_batch)
 
 -- a paper of a batch, judged
-abbrev pub is_about_paper : List ℕ → Bool
+abbrev pub is_about_paper : List ℕ → List ℕ → Bool
 is_about_paper = is_about (codes "judge" ∷ []) (are_plain_numbers 1 last_batch 1 most_papers)
 
 -- the keying of a batch in a round
-abbrev pub is_about_keying : List ℕ → Bool
+abbrev pub is_about_keying : List ℕ → List ℕ → Bool
 is_about_keying = is_about (codes "key" ∷ []) (are_plain_numbers 1 last_batch 1 last_round)
 
--- a subject of the office's own commands
+-- a subject of the office's own commands, by its word and its numbers
+abbrev pub is_of_office : List ℕ → List ℕ → Bool
+is_of_office word numbers = is_about_ward word numbers || (is_about_candidate word numbers || (is_about_lot word numbers || (is_about_batch word numbers || is_about_paper word numbers)))
+
+-- the word stands before the first space, the numbers behind it
 unfoldable pub is_office_subject : List ℕ → Bool
-is_office_subject t = is_about_ward t || (is_about_candidate t || (is_about_lot t || (is_about_batch t || is_about_paper t)))
+is_office_subject t = is_of_office (before_first is_space t) (after_first is_space t)
 
 -- a subject of a clerk's command
 unfoldable pub is_clerk_subject : List ℕ → Bool
-is_clerk_subject t = is_about_keying t
+is_clerk_subject t = is_about_keying (before_first is_space t) (after_first is_space t)

@@ -5,7 +5,7 @@ use Rattle.count.specs.declared.stages.Action.{Action}
 use Rattle.count.specs.declared.stages.Due.TheVariants.{Act}
 use Rattle.register.specs.declared.command.Command.{Command}
 use Rattle.register.specs.declared.command.Command.TheVariants.{Keying, Count}
-use Rattle.register.specs.declared.counts.CountCommand.TheVariants.{Advance}
+use Rattle.register.specs.declared.counts.CountCommand.TheVariants.{Advance, Lot, Declare}
 use Rattle.register.specs.declared.view.View.{View}
 use Rattle.register.specs.declared.decision.Decision.{Decision}
 use Rattle.register.specs.declared.decision.Decision.TheVariants.{Accepted, Kept, Refused}
@@ -50,7 +50,18 @@ pub record HasStageMore (s next : OfficeState) (ward : ℕ) : Type 0 where
   pub due : due_of (election_of s before) ≡ Act action
   pub added : stages_of (election_of next after) ≡ stage_of (contest_of (election_of s before)) (stages_of (election_of s before)) action ∷ stages_of (election_of s before)
 
--- an accepted Advance adds the stage that is due after the stages found
+-- A ward whose count has the stages that it had, each as it was.
+pub record HasSameStages (s next : OfficeState) (ward : ℕ) : Type 0 where
+  pub before : WardEntry
+  pub found : ward_at s ward ≡ Some before
+  pub after : WardEntry
+  pub stays : ward_at next ward ≡ Some after
+  pub done : after.done ≡ before.done
+  pub same : stages_of (election_of next after) ≡ stages_of (election_of s before)
+
+-- an accepted Advance adds the stage that is due after the stages found; an accepted Lot or Declare leaves these as they were
 abbrev pub IsAdvanced : OfficeState → Command → Outcome → Type 0
 IsAdvanced s (Count (Advance ward)) (accepted next reply) = HasStageMore s next ward
+IsAdvanced s (Count (Lot ward stage candidate)) (accepted next reply) = HasSameStages s next ward
+IsAdvanced s (Count (Declare ward)) (accepted next reply) = HasSameStages s next ward
 IsAdvanced s command outcome = ⊤

@@ -1,14 +1,16 @@
 //! The step of the machine on a view.
 
-ghost use Rattle.std.specs.Prelude.{◌≡◌, ℕ, ◌==◌, true, false, None, IfOk, string_bytes};
+ghost use Rattle.std.specs.Prelude.{◌≡◌, ℕ, ◌==◌, true, false, List, None, IfOk, string_bytes};
 ghost use Rattle.register.specs.Reasons.{first_reason};
-ghost use Rattle.register.specs.Ranges.{is_clerk};
-ghost use Rattle.register.specs.Offices.{OfficeState};
+ghost use Rattle.register.specs.Ranges.{is_office};
+ghost use Rattle.register.specs.Offices.{OfficeState, empty_office};
 ghost use Rattle.register.specs.Items.{IsState};
 ghost use Rattle.register.specs.Effects.{effect_entry};
 ghost use Rattle.register.specs.Seen.{seen_by};
 ghost use Rattle.register.specs.Parts.{part_entries};
-ghost use Rattle.register.specs.Machine.{objections, subject_of, reply_to, effect_of, judged, ruling_at, step, state_after, IsKeptAgain};
+ghost use Rattle.register.specs.declared.command.Request.{Request};
+ghost use Rattle.register.specs.Standings.{work_of};
+ghost use Rattle.register.specs.Machine.{objections, subject_of, reply_to, effect_of, judged, ruling_at, step, state_after, after, accepted_of, IsKeptAgain};
 ghost use Rattle.register.specs.Views.{IsViewOf, decided_on, ruling_of, outcome_of, IsToldAlike, IsAdvanced};
 
 use crate::command::Command;
@@ -134,11 +136,12 @@ fn decided(alloc: Global, view: &View<'_>, command: &Command) -> Result<Decision
 /// A bad id is refused first. An id that has a receipt gets the reply of then, or is refused where the
 /// receipt is about something else. Of several objections to a new request the one with the lowest
 /// number is told. The reply to a keying says nothing of the other clerk's. An accepted Advance adds the
-/// stage that is due after the ward's stages found, which stay as they are. An error is want of memory, and
-/// nothing was decided then.
+/// stage that is due after the ward's stages found, which stay as they are; an accepted Lot or Declare leaves
+/// them as they are. An error is want of memory, and nothing was decided then.
 ///
-/// A clerk is answered by what he sees of the state alone: the wards and their phases, the candidates, the
-/// batches, his own keyings and receipts. His requests leave what any other clerk sees as it was.
+/// A clerk, or whoever else isn't the office, is answered by what he sees of the state alone: the wards and
+/// their phases, the candidates, the batches, his own keyings and receipts. His requests leave what any other
+/// clerk sees as it was.
 pub fn decide(alloc: Global, view: &View<'_>, command: &Command) -> Result<Decision, AllocError>
     ensures on_view { IfOk result (λ decision. ruling_of decision ≡ decided_on view.now command.now) }
     ensures decides { IfOk result (λ decision. (s : OfficeState) → IsViewOf s command.now view.now → outcome_of s decision ≡ step s view.now.actor view.now.id.now command.now) }
@@ -146,10 +149,23 @@ pub fn decide(alloc: Global, view: &View<'_>, command: &Command) -> Result<Decis
     ensures kept_again { (s : OfficeState) → IsKeptAgain view.now.actor view.now.id.now command.now (step s view.now.actor view.now.id.now command.now) }
     ensures stays_a_state { (s : OfficeState) → IsState s → IsState (state_after s (step s view.now.actor view.now.id.now command.now)) }
     ensures advances { (s : OfficeState) → IsState s → IsAdvanced s command.now (step s view.now.actor view.now.id.now command.now) }
-    ensures blind { is_clerk view.now.actor ≡ true → IfOk result (λ decision. (s : OfficeState) → IsViewOf s command.now view.now → ruling_of decision ≡ ruling_at (seen_by view.now.actor s) view.now.actor view.now.id.now command.now) }
-    ensures unseen { is_clerk view.now.actor ≡ true → (s : OfficeState) (clerk : ℕ) → (view.now.actor == clerk) ≡ false → seen_by clerk (state_after s (step s view.now.actor view.now.id.now command.now)) ≡ seen_by clerk s }
-    ensures seen_alone { is_clerk view.now.actor ≡ true → (s : OfficeState) → IsState s
+    ensures blind { is_office view.now.actor ≡ false → IfOk result (λ decision. (s : OfficeState) → IsViewOf s command.now view.now → ruling_of decision ≡ ruling_at (seen_by view.now.actor s) view.now.actor view.now.id.now command.now) }
+    ensures unseen { is_office view.now.actor ≡ false → (s : OfficeState) (clerk : ℕ) → (view.now.actor == clerk) ≡ false → seen_by clerk (state_after s (step s view.now.actor view.now.id.now command.now)) ≡ seen_by clerk s }
+    ensures seen_alone { is_office view.now.actor ≡ false → (s : OfficeState) → IsState s
         → seen_by view.now.actor (state_after s (step s view.now.actor view.now.id.now command.now)) ≡ state_after (seen_by view.now.actor s) (step (seen_by view.now.actor s) view.now.actor view.now.id.now command.now) }
 {
     decided(alloc, view, command)
 }
+
+/// What any list of requests leads to: from the office where nothing has happened yet a state, from a state a
+/// state again; and those alone that are accepted, each where its turn comes, lead to the same.
+pub fn lists_make_states()
+    ensures from_empty { (requests : List Request) → IsState (after empty_office requests) }
+    ensures from_state { (s : OfficeState) (requests : List Request) → IsState s → IsState (after s requests) }
+    ensures of_accepted { (s : OfficeState) (requests : List Request) → after s (accepted_of s requests) ≡ after s requests }
+{}
+
+/// A clerk's work is told by what he sees alone: of the keyings by his own.
+pub fn work_is_seen()
+    ensures { (s : OfficeState) (clerk : ℕ) → work_of (seen_by clerk s) clerk ≡ work_of s clerk }
+{}

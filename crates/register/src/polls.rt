@@ -3,13 +3,14 @@
 ghost use Rattle.std.specs.Prelude.{◌≡◌, ◌++◌, ◌∷◌, [], ◌==◌, Ok, Some, find, map, fold, IfOk};
 ghost use Rattle.std.specs.List.{flat_map};
 ghost use Rattle.paper.specs.MarksText.{reading};
+ghost use Rattle.paper.specs.Preferences.{rejection_of};
 ghost use Rattle.register.specs.Offices.{keyed_entry, judged_entry};
-ghost use Rattle.register.specs.Polls.{Pile, by_reading, by_verdict, judgement_on, judgements_on, preferences_by, with_rejected, and_rejected, ballots_in, ballots_entry};
+ghost use Rattle.register.specs.Polls.{Pile, by_rejection, by_reading, by_verdict, judgement_on, judgements_on, preferences_by, with_rejected, and_rejected, ballots_in, ballots_entry};
 
 use crate::keyings::KeyedPaper;
 use crate::papers::{are_taken, count_open};
 use crate::verdicts::JudgedPaper;
-use paper::{Columns, Keyed, Marks, Prefs, judge};
+use paper::{Columns, Keyed, Marked, Marks, Prefs, judge};
 use std::alloc::{AllocError, Global};
 use votes::Votes;
 
@@ -48,25 +49,32 @@ pub struct Poll {
     pub settled: bool,
 }
 
-/// The judgement on a paper as it is keyed; where that is doubtful, another one.
-fn by_keyed(keyed: &Keyed, doubtful: Judgement) -> Judgement
-    ensures { result ≡ by_reading doubtful (Ok keyed.now) }
+/// The judgement on a paper by the marks on it.
+fn by_marks(marked: &Marked) -> Judgement
+    ensures { result ≡ by_rejection marked.now (rejection_of marked.now) }
 {
-    match keyed {
-        Keyed::Marked(marked) => match judge(marked) {
-            Ok(prefs) => Judgement::Valid(prefs),
-            Err(rejection) => Judgement::Rejected(rejection.number()),
-        },
-        Keyed::Doubtful => doubtful,
+    match judge(marked) {
+        Ok(prefs) => Judgement::Valid(prefs),
+        Err(rejection) => Judgement::Rejected(rejection.number()),
     }
 }
 
-/// The judgement by a marks text; where that is doubtful, another one.
-fn by_text(columns: Columns, marks: &str, doubtful: Judgement) -> Judgement
-    ensures { result ≡ by_reading doubtful (reading columns marks.now) }
+/// The judgement on a paper as it is keyed; where that is doubtful, it is open.
+fn by_keyed(keyed: &Keyed) -> Judgement
+    ensures { result ≡ by_reading Judgement.Open (Ok keyed.now) }
+{
+    match keyed {
+        Keyed::Marked(marked) => by_marks(marked),
+        Keyed::Doubtful => Judgement::Open,
+    }
+}
+
+/// The judgement by the marks text that a paper is accepted with.
+fn by_text(columns: Columns, marks: &str) -> Judgement
+    ensures { result ≡ by_reading Judgement.Open (reading columns marks.now) }
 {
     match Marks::read(marks.as_bytes(), columns) {
-        Ok(keyed) => by_keyed(&keyed, doubtful),
+        Ok(keyed) => by_keyed(&keyed),
         Err(_) => Judgement::Open,
     }
 }
@@ -76,7 +84,7 @@ fn by_verdict(columns: Columns, judged: &JudgedPaper) -> Judgement
     ensures { result ≡ by_verdict columns (Some (judged_entry judged.now)) }
 {
     if judged.code == 0 {
-        return by_text(columns, judged.marks.as_str(), Judgement::Open);
+        return by_text(columns, judged.marks.as_str());
     }
     Judgement::Rejected(judged.code)
 }
@@ -93,12 +101,30 @@ fn by_verdicts(columns: Columns, verdicts: &[JudgedPaper], paper: u32) -> Judgem
     Judgement::Open
 }
 
+/// The judgement on the paper of this number as it is keyed; where that is doubtful, by its verdict. The
+/// verdicts are looked through for doubtful papers alone.
+fn by_keyed_or_verdicts(
+    columns: Columns,
+    verdicts: &[JudgedPaper],
+    paper: u32,
+    keyed: &Keyed,
+) -> Judgement
+    ensures { result ≡ by_reading (by_verdict columns (find (λ v. v.paper == paper) (map judged_entry verdicts.now))) (Ok keyed.now) }
+{
+    match keyed {
+        Keyed::Marked(marked) => by_marks(marked),
+        Keyed::Doubtful => by_verdicts(columns, verdicts, paper),
+    }
+}
+
 /// The judgement on a keyed paper: by its marks, or if it is doubtful by its verdict.
 fn judgement_on(columns: Columns, verdicts: &[JudgedPaper], keyed: &KeyedPaper) -> Judgement
     ensures { result ≡ judgement_on columns (map judged_entry verdicts.now) (keyed_entry keyed.now) }
 {
-    let doubtful = by_verdicts(columns, verdicts, keyed.paper);
-    by_text(columns, keyed.marks.as_str(), doubtful)
+    match Marks::read(keyed.marks.as_str().as_bytes(), columns) {
+        Ok(read) => by_keyed_or_verdicts(columns, verdicts, keyed.paper, &read),
+        Err(_) => Judgement::Open,
+    }
 }
 
 impl Ballots {

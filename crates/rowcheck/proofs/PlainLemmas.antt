@@ -1,10 +1,10 @@
 -- Digits, and the number that they write.
-use Rattle.std.proofs.Common.{◌≡◌, ℕ, ◌+◌, ◌*◌, ◌-◌, ◌<◌, ◌≤◌, Bool, true, false, ◌&&◌, cond, nat_le, List, [], ◌∷◌, length, get_or, Some, None, refl, arith, inl, inr}
+use Rattle.std.proofs.Common.{◌≡◌, ℕ, ◌+◌, ◌*◌, ◌-◌, ◌<◌, ◌≤◌, Bool, true, false, ◌&&◌, cond, nat_le, List, [], ◌∷◌, Option, Some, None, refl, sym, ap, ◌∙◌, arith, inl, inr}
 use Rattle.std.specs.Char.{digit_value, is_ascii_digit}
 use Rattle.std.specs.Str.{all_ascii_digits}
 use Rattle.std.specs.Str.Parse.{digits_value_after}
 use Rattle.std.proofs.lemmas.Bool.{and_parts, leb-true}
-use Rattle.std.proofs.lemmas.Bool.Decides.{leb_tells}
+use Rattle.std.proofs.lemmas.Bool.Decides.{leb_tells, nat_tests}
 use Rattle.std.proofs.lemmas.Str.{digit_value_digit}
 use Rattle.register.specs.Ranges.{is_between}
 
@@ -21,14 +21,31 @@ too_big most n ds true past = elim (leb_tells (digits_value_after 10 n ds) most)
   | inr high ↦ rw high.0 refl
 ]
 
-pub too_big_from : (most n : ℕ) (ds : List ℕ) → 1 ≤ length ds → is_ascii_digit (get_or ds 0 0) ≡ true → most < n * 10 + (get_or ds 0 0 - 48)
-    → None ≡ cond (all_ascii_digits ds && nat_le (digits_value_after 10 n ds) most) (Some (digits_value_after 10 n ds)) None
-too_big_from most n [] some digit past = absurd (omega (arith, some))
-too_big_from most n (d ∷ ds) some digit past =
+-- what digits come to where they follow those of another number
+abbrev pub up_to : ℕ → ℕ → List ℕ → Option ℕ
+up_to most n ds = cond (all_ascii_digits ds && nat_le (digits_value_after 10 n ds) most) (Some (digits_value_after 10 n ds)) None
+
+-- a digit more
+pub up_to-digit : (most n d : ℕ) (ds : List ℕ) → is_ascii_digit d ≡ true → up_to most n (d ∷ ds) ≡ up_to most (n * 10 + (d - 48)) ds
+up_to-digit most n d ds digit =
     let low = leb-true 48 d (and_parts (nat_le 48 d) (nat_le d 57) digit).0 in
     let high = leb-true d 57 (and_parts (nat_le 48 d) (nat_le d 57) digit).1 in
     let value = digit_value_digit d (omega (arith, low), omega (arith, high)) in
-    too_big most (n * 10 + digit_value d) ds (is_ascii_digit d && all_ascii_digits ds) (omega (arith, value, past))
+    let same : digit_value d ≡ d - 48 = omega (arith, value) in
+    let later : ℕ = digits_value_after 10 (n * 10 + digit_value d) ds in
+    ap (λ (b : Bool). cond ((b && all_ascii_digits ds) && nat_le later most) (Some later) None) digit ∙ ap (λ (v : ℕ). up_to most (n * 10 + v) ds) same
+
+-- past the most, no digits lead back
+pub up_to-past : (most n : ℕ) (ds : List ℕ) → most < n → up_to most n ds ≡ None
+up_to-past most n ds past = sym (too_big most n ds (all_ascii_digits ds) past)
+
+-- what is no digit ends it
+pub up_to-other : (most n d : ℕ) (ds : List ℕ) → is_ascii_digit d ≡ false → up_to most n (d ∷ ds) ≡ None
+up_to-other most n d ds other = rw other refl
+
+-- no digits more
+pub up_to-end : (most n : ℕ) → n ≤ most → up_to most n [] ≡ Some n
+up_to-end most n within = grind (arith, nat_tests)
 
 pub within : (b : Bool) (low high value n : ℕ) → Some n ≡ cond (b && nat_le value high) (Some value) None → nat_le low n ≡ (b && is_between low high value)
 within false low high value n is = cc

@@ -1,31 +1,29 @@
 //! Numbers as they are written plainly.
 
-ghost use Rattle.std.specs.Prelude.{◌≡◌, ◌<◌, ◌≤◌, ◌&&◌, nat_le, position, Some, None, if◌then◌else◌};
+ghost use Rattle.std.specs.Prelude.{◌≡◌, ◌<◌, ◌&&◌, nat_le, position, Some, None, if◌then◌else◌};
 ghost use Rattle.std.specs.List.{before_first, after_first};
 ghost use Rattle.std.specs.Str.{all_ascii_digits};
-ghost use Rattle.std.specs.Str.Parse.{digits_value, digits_value_after};
+ghost use Rattle.std.specs.Str.Parse.{digits_value};
 ghost use Rattle.register.specs.Ranges.{is_between};
 ghost use Rattle.register.specs.Subjects.{is_plain_number, are_plain_numbers, is_space};
 
-/// The number that digits write where they follow those of another, if it is at most `most`.
-fn number_after(most: u32, so_far: u32, digits: &[u8]) -> Option<u32>
-    requires low { most < 10000 }
-    requires within { so_far ≤ most }
-    ensures { result ≡ (if all_ascii_digits digits.now && nat_le (digits_value_after 10 so_far digits.now) most then Some (digits_value_after 10 so_far digits.now) else None) }
+/// The number that digits write, if it is at most `most`. Past that no digit more is read.
+fn number_up_to(most: u32, digits: &[u8]) -> Option<u32>
+    requires { most < 10000 }
+    ensures { result ≡ (if all_ascii_digits digits.now && nat_le (digits_value 10 digits.now) most then Some (digits_value 10 digits.now) else None) }
 {
-    match digits {
-        [] => Some(so_far),
-        [digit, others @ ..] => {
-            if !digit.is_ascii_digit() {
-                return None;
-            }
-            let next = so_far * 10 + u32::from(*digit - b'0');
-            if next > most {
-                return None;
-            }
-            number_after(most, next, others)
+    let mut so_far = 0;
+    for digit in digits {
+        if !digit.is_ascii_digit() {
+            return None;
         }
+        let next = so_far * 10 + u32::from(*digit - b'0');
+        if next > most {
+            return None;
+        }
+        so_far = next;
     }
+    Some(so_far)
 }
 
 /// Whether a text is digits of a number in a range.
@@ -33,21 +31,22 @@ fn is_number_within(low: u32, high: u32, digits: &[u8]) -> bool
     requires { high < 10000 }
     ensures { result ≡ (all_ascii_digits digits.now && is_between low high (digits_value 10 digits.now)) }
 {
-    match number_after(high, 0, digits) {
+    match number_up_to(high, digits) {
         Some(n) => low <= n,
         None => false,
     }
 }
 
 #[tactic(auto, unfolding(register::specs::Subjects::is_plain_number))]
-/// Whether a text is a plain number in a range: digits, the first not 0.
+/// Whether a text is a plain number in a range: digits, the first not 0. At most five bytes are read, however
+/// many zeros stand there.
 pub(crate) fn is_plain_number(low: u32, high: u32, text: &[u8]) -> bool
     requires { high < 10000 }
     ensures { result ≡ is_plain_number low high text.now }
 {
     let first = text.first().copied().unwrap_or(0);
     let plain = first != b'0';
-    plain & is_number_within(low, high, text)
+    plain && is_number_within(low, high, text)
 }
 
 fn first_space(text: &[u8]) -> Option<usize>
@@ -75,5 +74,5 @@ pub(crate) fn are_plain_numbers(low: u32, high: u32, least: u32, most: u32, text
 {
     let (one, other) = parted(text);
     let is_first = is_plain_number(low, high, one);
-    is_first & is_plain_number(least, most, other)
+    is_first && is_plain_number(least, most, other)
 }

@@ -3,7 +3,7 @@
 ghost use Rattle.std.specs.Prelude.{◌≡◌};
 ghost use Rattle.std.specs.List.{list_all};
 ghost use Rattle.register.specs.Offices.{ward_entry, candidate_entry, batch_entry, keyed_entry, judged_entry, lot_entry, receipt_entry};
-ghost use Rattle.register.specs.Items.{is_ward, is_candidate, is_batch, is_keyed_paper, is_judged_paper, is_lot, is_receipt, item1};
+ghost use Rattle.register.specs.Items.{is_ward, is_candidate, is_batch, is_keyed_paper, is_judged_paper, is_lot, is_about, is_receipt, item1};
 ghost use Rattle.rowcheck.specs.States.{state_of};
 
 use crate::rows::Rows;
@@ -72,16 +72,22 @@ fn is_lot(lot: &DrawnLot) -> bool
     ward & (stage & is_candidate_number(lot.candidate))
 }
 
+/// Whether a text is what this actor's receipt may be about.
+fn is_about(actor: u32, subject: &str) -> bool
+    ensures { result ≡ is_about actor subject.now }
+{
+    if actor == 0 {
+        return is_office_subject(subject);
+    }
+    is_clerk(actor) && is_clerk_subject(subject)
+}
+
 fn is_receipt(receipt: &Receipt) -> bool
     ensures { result ≡ is_receipt (receipt_entry receipt.now) }
 {
-    let office = receipt.actor == 0;
-    let clerk = is_clerk(receipt.actor);
-    let about_office = is_office_subject(receipt.subject.as_str());
-    let about_clerk = is_clerk_subject(receipt.subject.as_str());
+    let about = is_about(receipt.actor, receipt.subject.as_str());
     let id = is_id(receipt.id.as_str());
-    let reply = is_reply(receipt.reply.as_str());
-    ((office & about_office) | (clerk & about_clerk)) & (id & reply)
+    about & (id & is_reply(receipt.reply.as_str()))
 }
 
 fn are_wards(wards: &[Ward]) -> bool

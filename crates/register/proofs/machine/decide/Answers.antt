@@ -35,15 +35,15 @@ pub returns-clause-advances : goal.returns-clause-advances
 returns-clause-advances c s is = advances s c.args.view.now.actor c.args.view.now.id.now c.args.command.now is
 
 pub returns-clause-blind : goal.returns-clause-blind
-returns-clause-blind c clerk =
+returns-clause-blind c other_actor =
     let view = c.args.view.now in
     let command = c.args.command.now in
     IfOk-weaker c.decided.result (λ d. ruling_of d ≡ decided_on view command) (λ d. (s : OfficeState) → IsViewOf s command view → ruling_of d ≡ ruling_at (seen_by view.actor s) view.actor view.id.now command)
-    (λ d same s shows. same ∙ ruling_on s view.actor view.id.now command (option_map receipt_entry view.receipt) (part_entries view.part) shows.receipt shows.part ∙ sym (ruling_seen s view.actor view.id.now command clerk))
+    (λ d same s shows. same ∙ ruling_on s view.actor view.id.now command (option_map receipt_entry view.receipt) (part_entries view.part) shows.receipt shows.part ∙ sym (ruling_seen s view.actor view.id.now command other_actor))
     c.decided.ensures
 
 pub returns-clause-unseen : goal.returns-clause-unseen
-returns-clause-unseen c clerk s other apart = unseen s c.args.view.now.actor c.args.view.now.id.now clerk c.args.command.now other apart
+returns-clause-unseen c other_actor s other apart = unseen s c.args.view.now.actor c.args.view.now.id.now other_actor c.args.command.now other apart
 
 pub returns-clause-seen_alone : goal.returns-clause-seen_alone
-returns-clause-seen_alone c clerk s is = seen_alone s c.args.view.now.actor c.args.view.now.id.now clerk is c.args.command.now
+returns-clause-seen_alone c other_actor s is = seen_alone s c.args.view.now.actor c.args.view.now.id.now other_actor is c.args.command.now

@@ -8,15 +8,4 @@ pub returns : goal.returns
 unfolding is_receipt
 returns c =
     let written : is_utf8 (string_bytes c.args.receipt.now.subject) ≡ true = ap is_utf8 (sym c.as_str.ensures.value) ∙ is_utf8-from_IsUtf8 _ c.as_str.utf8 in
-    rw (
-      c.is_clerk-clerk.ensures,
-      c.is_office_subject-about_office.ensures,
-      c.is_clerk_subject-about_clerk.ensures,
-      c.is_id-id.ensures,
-      c.is_reply-reply.ensures,
-      c.as_str.ensures.value,
-      c.as_str-2.ensures.value,
-      c.as_str-3.ensures.value,
-      c.as_str-4.ensures.value,
-      written,
-    )
+    rw (c.is_about-about.ensures, c.is_id-id.ensures, c.is_reply.ensures, c.as_str.ensures.value, c.as_str-2.ensures.value, c.as_str-3.ensures.value, written)
