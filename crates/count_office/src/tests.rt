@@ -22,7 +22,6 @@ mod orders;
 mod outputs;
 mod progress;
 mod sockets;
-mod statements;
 mod stops;
 mod ties;
 mod words;

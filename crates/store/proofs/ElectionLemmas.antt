@@ -1,7 +1,13 @@
 -- What is read for the count of a ward is what the state has.
-use Rattle.std.proofs.Common.{◌≡◌, Option, Some, None, option_map, refl, ap, ◌∙◌}
-use Rattle.register.specs.Offices.{WardEntry, OfficeState}
-use Rattle.register.specs.Elections.{ElectionEntry, election_of}
+use Rattle.std.proofs.Common.{◌≡◌, ◌≤◌, ℕ, Option, Some, None, MatchOption, option_map, length, true, refl, sym, ap, subst, ◌∙◌}
+use Rattle.register.specs.Offices.{WardEntry, OfficeState, ward_at}
+use Rattle.register.specs.declared.elections.Election.{Election}
+use Rattle.register.specs.Elections.{ElectionEntry, election_of, election_entry, has_count, contest_of}
+use Rattle.register.specs.Items.{IsState}
+use Rattle.register.proofs.MapLemmas.{found_number}
+use Rattle.register.proofs.ContestLemmas.{seats_and_papers_are_few, contest_is_fair}
+use Rattle.votes.specs.Units.{max_seats, max_papers}
+use Rattle.count.specs.Law.Contest.{IsContest}
 use Rattle.register.specs.Counts.{poll_for, due_for, elected_for}
 use Rattle.register.specs.Parts.{empty_part}
 use Rattle.store.specs.Elections.{polled_part, counted_part}
@@ -23,3 +29,36 @@ part_polled s (Some w) = refl
 pub part_counted : (s : OfficeState) (ward : Option WardEntry) → counted_part (option_map (election_of s) ward) ≡ record empty_part { ward = ward; due = due_for s ward; elected = elected_for s ward }
 part_counted s None = refl
 part_counted s (Some w) = refl
+
+-- ---- a poll and a count can be had of each election of a state
+
+-- its seats and its papers are few, and a count of it can be held
+record IsSound (e : ElectionEntry) : Type 0 where
+  some_seats : 1 ≤ e.ward.seats
+  few_seats : e.ward.seats ≤ max_seats
+  few_papers : length e.ballots.papers ≤ max_papers
+  fair : has_count e ≡ true → IsContest (contest_of e)
+
+ward_is_sound : (s : OfficeState) (ward : ℕ) (w : WardEntry) → IsState s → ward_at s ward ≡ Some w → IsSound (election_of s w)
+ward_is_sound s ward w is found =
+    let there : ward_at s w.number ≡ Some w = subst (λ (n : ℕ). ward_at s n ≡ Some w) (found_number (λ (x : WardEntry). x.number) s.wards ward w found) found in
+    let few = seats_and_papers_are_few s w is.in_range is.keyed is.rise there in
+    record { some_seats = few.0; few_seats = few.1; few_papers = few.2; fair = contest_is_fair s w is.in_range is.keyed is.rise there }
+
+found_is_sound : (s : OfficeState) (ward : ℕ) (e : Election) → IsState s → Some (election_entry e) ≡ option_map (election_of s) (ward_at s ward) → IsSound (election_entry e)
+found_is_sound s ward e is same = go (ward_at s ward) refl
+  where
+    go : (o : Option WardEntry) → ward_at s ward ≡ o → IsSound (election_entry e)
+    go None none = absurd (let no = same ∙ ap (option_map (election_of s)) none in cc)
+    go (Some w) there = subst IsSound (let yes = same ∙ ap (option_map (election_of s)) there in cc) (ward_is_sound s ward w is there)
+
+-- so what asks that of an election that was found has it
+pub sound_polled : {R : Type 0} (s : OfficeState) (ward : ℕ) (found : Option Election) → IsState s → option_map election_entry found ≡ option_map (election_of s) (ward_at s ward)
+    → MatchOption found R (λ e. 1 ≤ e.ward.seats → e.ward.seats ≤ max_seats → length e.ballots.papers.items ≤ max_papers → R) → R
+sound_polled s ward None is same r = r
+sound_polled s ward (Some e) is same r = let it = found_is_sound s ward e is same in r it.some_seats it.few_seats it.few_papers
+
+pub sound_counted : {Q R : Type 0} (s : OfficeState) (ward : ℕ) (found : Option Election) → IsState s → option_map election_entry found ≡ option_map (election_of s) (ward_at s ward)
+    → MatchOption found Q (λ e. (has_count (election_entry e) ≡ true → IsContest (contest_of (election_entry e))) → R) → (Q → R) → R
+sound_counted s ward None is same r other = other r
+sound_counted s ward (Some e) is same r other = r (found_is_sound s ward e is same).fair

@@ -177,6 +177,9 @@ verdicts_fit s is = all_passed is_judged_paper IsJudgedRow row_of_judged judged_
 beyond_verdicts : (s : OfficeState) → IsState s → (list_all is_lot s.lots && list_all is_receipt s.receipts) ≡ true
 beyond_verdicts s is = (and_parts _ _ (beyond_keyings s is)).1
 
+pub lots_in_range : (s : OfficeState) → IsState s → list_all is_lot s.lots ≡ true
+lots_in_range s is = (and_parts _ _ (beyond_verdicts s is)).0
+
 pub lots_fit : (s : OfficeState) → IsState s → AllByRecursion IsLotRow (tables_of s Lot)
 unfolding tables_of
 lots_fit s is = all_passed is_lot IsLotRow row_of_lot lot_fits s.lots (and_parts _ _ (beyond_verdicts s is)).0

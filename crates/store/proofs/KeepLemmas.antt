@@ -1,5 +1,5 @@
 -- A store that keeps a state.
-use Rattle.std.proofs.Common.{◌≡◌, ◌⊎◌, inl, inr, IsTrue, refl, subst, Result, Ok, Err, OnOk}
+use Rattle.std.proofs.Common.{◌≡◌, ◌⊎◌, inl, inr, IsTrue, refl, subst, ◌∙◌, arith, Result, Ok, Err, OnOk}
 use Rattle.sqlite.specs.Tree.{Trees}
 use Rattle.sqlite.specs.Effect.{Database}
 use Rattle.sqlite.specs.State.{State, HasCleanDisk, Survives}
@@ -8,7 +8,7 @@ use Rattle.register.specs.Items.{IsState}
 use Rattle.register.specs.Effects.{ChangeEntry, with_change}
 use Rattle.tables.specs.Contents.{Contents, Stores, Rests, RestsAt}
 use Rattle.tables.specs.Reading.{OnlyReads}
-use Rattle.store.specs.Offices.{tables_of, ChangesTo, HoldsState, IsAt, LeavesState}
+use Rattle.store.specs.Offices.{tables_of, ChangesTo, HoldsState, IsAt, LeavesState, Wears}
 use Rattle.tables.proofs.StopLemmas.{rests_leaves}
 use Rattle.tables.proofs.ReadLemmas.{rests_read, rests_from}
 
@@ -17,7 +17,7 @@ pub rests_is_at : (s : OfficeState) (st : State) → ((trees : Trees) → IsTrue
 rests_is_at s st settled is rests = record {
   is = is;
   rests = λ _. rests;
-  leaves = λ trees may. let it = rests_leaves (tables_of s) st settled rests trees may in (s, refl, subst (λ (c : Contents). Stores c trees) it.1 it.2);
+  leaves = λ trees may. let it = rests_leaves (tables_of s) st settled rests trees may in (s, refl, record { is = is; stores = subst (λ (c : Contents). Stores c trees) it.1 it.2 });
 }
 
 pub if_rests_is_at : {X E : Type 0} (r : Result X E) (s : OfficeState) (st : State) → ((trees : Trees) → IsTrue st.is_open → st.may_leave trees → trees ≡ st.committed.trees) → IsState s → OnOk r (Rests (tables_of s) st) → OnOk r (IsAt s st)
@@ -37,10 +37,18 @@ pub changes_to : (change : ChangeEntry) (s : OfficeState) → ChangesTo change (
 changes_to change s = record { old = s; from = refl; to = refl }
 
 -- a stop in a change leaves the old tables or the new ones
-pub change_leaves : (change : ChangeEntry) (s : OfficeState) (old new : State) → HasCleanDisk new → IsAt s old → Survives old new (Stores (tables_of (with_change change s))) → LeavesState new (λ x. (x ≡ s) ⊎ (x ≡ with_change change s))
-change_leaves change s old new honest at survives trees may = elim (survives.crash honest trees may) [
+pub change_stops : (change : ChangeEntry) (s : OfficeState) (old new : State) → HasCleanDisk new → IsAt s old → Survives old new (Stores (tables_of (with_change change s)))
+    → (trees : Trees) → new.may_leave trees → Stores (tables_of s) trees ⊎ Stores (tables_of (with_change change s)) trees
+change_stops change s old new honest at survives trees may = elim (survives.crash honest trees may) [
+  | inl was ↦ let it = at.leaves trees was in inl (subst (λ (x : OfficeState). Stores (tables_of x) trees) it.1 it.2.stores)
+  | inr made ↦ inr made
+]
+
+-- and so the old state or the new one
+pub change_leaves : (change : ChangeEntry) (s : OfficeState) (old new : State) → HasCleanDisk new → IsAt s old → IsState (with_change change s) → Survives old new (Stores (tables_of (with_change change s))) → LeavesState new (λ x. (x ≡ s) ⊎ (x ≡ with_change change s))
+change_leaves change s old new honest at after survives trees may = elim (survives.crash honest trees may) [
   | inl was ↦ let it = at.leaves trees was in (it.0, inl it.1, it.2)
-  | inr made ↦ (with_change change s, inr refl, made)
+  | inr made ↦ (with_change change s, inr refl, record { is = after; stores = made })
 ]
 
 -- a database that holds a state, found by reads alone, is kept at it
@@ -48,3 +56,24 @@ pub opened_is_at : (db : Database) (old new : State) → ((trees : Trees) → Is
     → HasCleanDisk new → IsTrue new.is_open → OnlyReads old new → RestsAt db old → (s : OfficeState) × HoldsState db s → (s : OfficeState) × HoldsState db s × IsAt s new
 opened_is_at db old new settled honest is_open reads at found =
     (found.0, found.1, rests_is_at found.0 new settled found.1.is (rests_from db new (tables_of found.0) found.1.office (reads.rests honest is_open db at)))
+
+-- ---- what each call does to the connection
+
+pub survives_wears : (old new : State) (P : Trees → Type 0) → Survives old new P → Wears old new
+survives_wears old new P h = record { limit = h.limit; counts = h.counts; closes = h.closes }
+
+pub reads_wear : (old new : State) → OnlyReads old new → Wears old new
+reads_wear old new h = record { limit = h.limit; counts = h.counts; closes = h.closes }
+
+pub wears_itself : (a : State) → Wears a a
+wears_itself a = record { limit = refl; counts = omega arith; closes = λ honest was. inl was }
+
+pub wears_then : (a b c : State) → (HasCleanDisk c → HasCleanDisk b) → Wears a b → Wears b c → Wears a c
+wears_then a b c clean first second = record {
+  limit = second.limit ∙ first.limit;
+  counts = omega (arith, first.counts, second.counts);
+  closes = λ honest was. elim (first.closes (clean honest) was) [
+    | inl still ↦ elim (second.closes honest still) [ inl last ↦ inl last | inr fault ↦ inr (omega (arith, first.counts, fault)) ]
+    | inr fault ↦ inr (omega (arith, second.counts, fault))
+  ];
+}

@@ -1,8 +1,9 @@
 -- The tables of a state, and a store that keeps a state.
-use Rattle.std.specs.Prelude.{◌≡◌, [], ◌∷◌, map, IsTrue}
+use Rattle.std.specs.Prelude.{◌≡◌, ◌≤◌, ◌⊎◌, [], ◌∷◌, map, IsTrue}
 use Rattle.sqlite.specs.Tree.{Trees}
 use Rattle.sqlite.specs.Effect.{Database}
-use Rattle.sqlite.specs.State.{State}
+use Rattle.sqlite.specs.Disk.{MoreFaults}
+use Rattle.sqlite.specs.State.{State, HasCleanDisk}
 use Rattle.register.specs.Offices.{OfficeState}
 use Rattle.register.specs.Items.{IsState}
 use Rattle.register.specs.Effects.{ChangeEntry, with_change}
@@ -36,12 +37,23 @@ pub record HoldsState (db : Database) (s : OfficeState) : Type 0 where
   pub is : IsState s
   pub office : IsOffice (tables_of s) db
 
--- whatever a stop leaves now are the tables of a state of this kind, and of no other
+-- these are the tables of this, which is a state
+pub record StoresState (s : OfficeState) (trees : Trees) : Type 0 where
+  pub is : IsState s
+  pub stores : Stores (tables_of s) trees
+
+-- whatever a stop leaves now are the tables of a state, and one of this kind
 abbrev pub LeavesState : State → (OfficeState → Type 0) → Type 0
-LeavesState st P = (trees : Trees) → st.may_leave trees → (s : OfficeState) × P s × Stores (tables_of s) trees
+LeavesState st P = (trees : Trees) → st.may_leave trees → (s : OfficeState) × P s × StoresState s trees
 
 -- The store keeps this state: while its connection is open it rests at the state's tables, and a stop leaves them alone.
 pub record IsAt (s : OfficeState) (st : State) : Type 0 where
   pub is : IsState s
   pub rests : IsTrue st.is_open → Rests (tables_of s) st
   pub leaves : LeavesState st (λ x. x ≡ s)
+
+-- No call sets a limit on the steps of a query or forgets a fault of the disk, and only such a fault shuts the connection.
+pub record Wears (old new : State) : Type 0 where
+  pub limit : new.step_limit ≡ old.step_limit
+  pub counts : old.faults ≤ new.faults
+  pub closes : HasCleanDisk new → IsTrue old.is_open → IsTrue new.is_open ⊎ MoreFaults old.faults new.faults

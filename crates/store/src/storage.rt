@@ -1,6 +1,6 @@
 //! A store that keeps the state of an office.
 
-ghost use Rattle.std.specs.Prelude.{◌≡◌, ◌⊎◌, true, false, IfOk, IfErr, OnOk, OnErr, IsTrue};
+ghost use Rattle.std.specs.Prelude.{◌≡◌, ◌⊎◌, true, false, Err, IfOk, IfErr, OnOk, OnErr, IsTrue};
 ghost use Rattle.sqlite.specs.Tree.{Trees};
 ghost use Rattle.sqlite.specs.State.{HasCleanDisk, Survives};
 ghost use Rattle.sqlite.specs.Held.{state};
@@ -11,7 +11,7 @@ ghost use Rattle.sqlite.specs.Effect.{Database};
 ghost use Rattle.tables.specs.Contents.{Contents, SameContents, Rests, RestsAt, Stores};
 ghost use Rattle.tables.specs.Presence.{has_some_table, has_every_table, IsOurs};
 ghost use Rattle.tables.specs.Reading.{OnlyReads};
-ghost use Rattle.store.specs.Offices.{tables_of, ChangesTo, HoldsState, IsAt, LeavesState};
+ghost use Rattle.store.specs.Offices.{tables_of, ChangesTo, HoldsState, IsAt, LeavesState, Wears};
 ghost use Rattle.store.specs.Openings.{IsBlank, IsToldBy, IsLeftAt};
 
 use crate::opening::check;
@@ -54,6 +54,7 @@ fn commit_change<S: Alter>(
         → OnOk result (Rests d (state S.Store conn.new)) }
     ensures survives { (c d : Contents) → ChangesTo (change_entry change.now) c d → Rests c (state S.Store conn.old)
         → Survives (state S.Store conn.old) (state S.Store conn.new) (Stores d) }
+    ensures wears { Wears (state S.Store conn.old) (state S.Store conn.new) }
     ensures clean { HasCleanDisk (state S.Store conn.new) → HasCleanDisk (state S.Store conn.old) }
     ensures outside { conn.new.in_transaction ≡ false }
     ensures cause { IfErr result (λ f. (f ≡ Fault.Memory) ⊎ (f ≡ Fault.Store)) }
@@ -70,6 +71,7 @@ fn commit_new_office<S: Alter>(conn: &mut Connection<S>) -> Result<(), Fault>
     requires { conn.old.in_transaction ≡ false }
     ensures done { HasCleanDisk (state S.Store conn.new) → IsBlank (state S.Store conn.old) → OnOk result (Rests (tables_of empty_office) (state S.Store conn.new)) }
     ensures survives { IsBlank (state S.Store conn.old) → Survives (state S.Store conn.old) (state S.Store conn.new) (Stores (tables_of empty_office)) }
+    ensures wears { Wears (state S.Store conn.old) (state S.Store conn.new) }
     ensures clean { HasCleanDisk (state S.Store conn.new) → HasCleanDisk (state S.Store conn.old) }
     ensures every { OnOk result (has_every_table (state S.Store conn.new).now.schema ≡ true) }
     ensures outside { conn.new.in_transaction ≡ false }
@@ -100,9 +102,12 @@ impl<S: Alter> Store<S> {
         ensures made { IfOk result (λ store. HasCleanDisk (state S.Store store) → IsBlank (state S.Store conn) → IsAt empty_office (state S.Store store)) }
         ensures stops { IfErr result (λ e. HasCleanDisk (state S.Store e.1) → IsBlank (state S.Store conn)
             → (trees : Trees) → (state S.Store e.1).may_leave trees → (state S.Store conn).may_leave trees ⊎ Stores (tables_of empty_office) trees) }
+        ensures wears { IfOk result (λ store. Wears (state S.Store conn) (state S.Store store)) }
+        ensures wears_too { IfErr result (λ e. Wears (state S.Store conn) (state S.Store e.1)) }
         ensures whole { IfOk result (λ store. has_every_table (state S.Store store).now.schema ≡ true) }
         ensures taken { has_some_table (state S.Store conn).now.schema ≡ true → OnOk result ⊥ }
         ensures wrong { has_some_table (state S.Store conn).now.schema ≡ true → conn.in_transaction ≡ false → IfErr result (λ e. e.0 ≡ Fault.WrongDatabase) }
+        ensures inside { conn.in_transaction ≡ true → result ≡ Err (Fault.Store, conn) }
         ensures told { IfErr result (λ e. (e.0 ≡ Fault.Memory) ⊎ ((e.0 ≡ Fault.Store) ⊎ ((e.0 ≡ Fault.WrongDatabase) × (has_some_table (state S.Store conn).now.schema ≡ true) × (e.1 ≡ conn)))) }
     {
         if !conn.is_autocommit() {
@@ -130,6 +135,7 @@ impl<S: Alter> Store<S> {
         ensures refuses { IfErr result (λ e. HasCleanDisk (state S.Store e.1) → (db : Database) → RestsAt db (state S.Store conn) → (s : OfficeState) → IsLeftAt s db → (e.0 ≡ Fault.Memory) ⊎ (e.0 ≡ Fault.Store)) }
         ensures reads { IfOk result (λ store. OnlyReads (state S.Store conn) (state S.Store store)) }
         ensures reads_too { IfErr result (λ e. OnlyReads (state S.Store conn) (state S.Store e.1)) }
+        ensures inside { conn.in_transaction ≡ true → result ≡ Err (Fault.Store, conn) }
         ensures alone { (db : Database) → (s t : OfficeState) → HoldsState db s → HoldsState db t → s ≡ t }
         ensures equal { (s t : OfficeState) → IsState s → IsState t → SameContents (tables_of s) (tables_of t) → s ≡ t }
     {
@@ -149,7 +155,10 @@ impl<S: Alter> Store<S> {
         ensures done { HasCleanDisk (state S.Store self.new) → IsTrue (state S.Store self.old).is_open → (s : OfficeState) → IsAt s (state S.Store self.old)
             → IsState (with_change (change_entry change.now) s) → OnOk result (IsAt (with_change (change_entry change.now) s) (state S.Store self.new)) }
         ensures stops { HasCleanDisk (state S.Store self.new) → IsTrue (state S.Store self.old).is_open → (s : OfficeState) → IsAt s (state S.Store self.old)
-            → LeavesState (state S.Store self.new) (λ x. (x ≡ s) ⊎ (x ≡ with_change (change_entry change.now) s)) }
+            → (trees : Trees) → (state S.Store self.new).may_leave trees → Stores (tables_of s) trees ⊎ Stores (tables_of (with_change (change_entry change.now) s)) trees }
+        ensures leaves { HasCleanDisk (state S.Store self.new) → IsTrue (state S.Store self.old).is_open → (s : OfficeState) → IsAt s (state S.Store self.old)
+            → IsState (with_change (change_entry change.now) s) → LeavesState (state S.Store self.new) (λ x. (x ≡ s) ⊎ (x ≡ with_change (change_entry change.now) s)) }
+        ensures wears { Wears (state S.Store self.old) (state S.Store self.new) }
         ensures clean { HasCleanDisk (state S.Store self.new) → HasCleanDisk (state S.Store self.old) }
         ensures cause { IfErr result (λ f. (f ≡ Fault.Memory) ⊎ (f ≡ Fault.Store)) }
     {

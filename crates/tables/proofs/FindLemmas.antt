@@ -1,5 +1,5 @@
 -- What a query of some rows finds.
-use Rattle.std.proofs.Common.{◌≡◌, ◌⊎◌, inl, inr, List, [], ◌∷◌, map, filter, length, Option, Some, None, option_map, Bool, refl, sym, ap, subst, ◌∙◌, arith}
+use Rattle.std.proofs.Common.{◌≡◌, ◌⊎◌, inl, inr, List, [], ◌∷◌, map, filter, length, Option, Some, None, IfSome, slice_index_or, option_map, Bool, refl, sym, ap, subst, ◌∙◌, arith}
 use Rattle.std.specs.Option.{option_to_list}
 use Rattle.std.specs.List.{AllByRecursion}
 use Rattle.std.specs.List.Sorted.{IsPermutation}
@@ -11,11 +11,11 @@ use Rattle.sqlite.specs.Order.{Row}
 use Rattle.sqlite.specs.State.{State}
 use Rattle.tables.specs.declared.table.Table.{Table}
 use Rattle.tables.specs.declared.fault.Fault.{Fault}
-use Rattle.tables.specs.declared.fault.Fault.TheVariants.{Memory, Store, Damaged}
+use Rattle.tables.specs.declared.fault.Fault.TheVariants.{Memory, Damaged}
 use Rattle.tables.specs.Schema.{columns_of}
 use Rattle.tables.specs.Rows.{at, column_places, is_row_of}
 use Rattle.tables.specs.Contents.{Contents, Rests}
-use Rattle.tables.specs.Reading.{Finds, HasOther}
+use Rattle.tables.specs.Reading.{FailsBy, Finds, HasOther}
 use Rattle.tables.proofs.ListLemmas.{mapped_same, mapped_itself, permuted_has, has_at}
 use Rattle.tables.proofs.PlaceLemmas.{typed_at}
 use Rattle.tables.proofs.ListingLemmas.{office_of}
@@ -32,14 +32,23 @@ found_as t test c rows shown finds is s rests =
     subst (Finds t test c) (sym whole ∙ is) finds
 
 -- where all rows are entries', only want of memory is told
-pub found_cause : (t : Table) (test : Row → Bool) (c : Contents) (IsRow : Row → Type 0) (rows : List Row) (f : Fault) → Finds t test c rows → AllByRecursion IsRow (c t) → (f ≡ Memory) ⊎ ((f ≡ Damaged) × HasOther IsRow rows) → (f ≡ Memory) ⊎ (f ≡ Store)
-found_cause t test c IsRow rows f finds all (inl memory) = inl memory
-found_cause t test c IsRow rows f finds all (inr wrong) =
+pub found_cause : (t : Table) (test : Row → Bool) (c : Contents) (IsRow : Row → Type 0) (rows : List Row) (f : Fault) → Finds t test c rows → AllByRecursion IsRow (c t) → (f ≡ Memory) ⊎ ((f ≡ Damaged) × HasOther IsRow rows) → (old new : State) → FailsBy old new f
+found_cause t test c IsRow rows f finds all (inl memory) old new = inl memory
+found_cause t test c IsRow rows f finds all (inr wrong) old new =
     let k = wrong.1 in
     let there = has_filtered test (c t) _ (permuted_has _ rows (filter test (c t)) (IsPermutation-sym _ _ finds.same) (has_at rows k.0 [] k.1)) in
     absurd (k.2 (all_has IsRow (c t) _ all there.0))
 
 -- ---- the row with a key
+
+-- the one row of a query is that of no entry
+pub one_other : (IsRow : Row → Type 0) (o : Option Row) (rows : List Row) → rows ≡ option_to_list o → HasOther IsRow rows → ¬ IfSome o IsRow
+one_other IsRow None rows is wrong fits = let low = wrong.1 in let none = ap length is in omega (arith, low, none)
+one_other IsRow (Some r) rows is wrong fits =
+    let low = wrong.1 in
+    let one = ap length is in
+    let first : wrong.0 ≡ 0 = omega (arith, low, one) in
+    wrong.2 (subst IsRow (sym (ap (λ k. slice_index_or rows k []) first ∙ ap (λ l. slice_index_or l 0 []) is)) fits)
 
 pub one_found : (t : Table) (test : Row → Bool) (c : Contents) (o : Option Row) (rows : List Row) → filter test (c t) ≡ option_to_list o → Finds t test c rows → rows ≡ option_to_list o
 one_found t test c None [] only finds = refl

@@ -8,7 +8,6 @@ pub mod InsertLemmas
 pub mod Inserts
 pub mod Edits
 pub mod OrderLemmas
-pub mod KeyLemmas
 pub mod RemoveLemmas
 pub mod ReplaceLemmas
 pub mod ContentsLemmas
@@ -19,6 +18,7 @@ pub mod QueryLemmas
 pub mod SelectLemmas
 pub mod Queries
 pub mod ReadLemmas
+pub mod CauseLemmas
 pub mod ListingLemmas
 pub mod HoldLemmas
 pub mod FindLemmas

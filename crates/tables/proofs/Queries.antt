@@ -27,41 +27,41 @@ pub record Reads (t : Table) (sql : List ℕ) (tests : List Term) : Type 0 where
 
 pub selects : (t : Table) (n : ℕ) → n ≤ (shape t).key → Reads t (select_text t n) (tests_from 0 n)
 unfolding understood everything select_text
-selects Office zero low = record { query = refl; select = λ rest others views. record { is = refl; unlisted = refl; plain = (refl, refl); low = λ db. refl } }
-selects Office (suc zero) low = record { query = refl; select = λ rest others views. record { is = refl; unlisted = refl; plain = (refl, refl); low = λ db. refl } }
+selects Office zero low = record { query = refl; select = λ rest others views. record { is = refl; unlisted = refl; plain = (refl, refl); low = λ db. refl; whole = refl; given = refl } }
+selects Office (suc zero) low = record { query = refl; select = λ rest others views. record { is = refl; unlisted = refl; plain = (refl, refl); low = λ db. refl; whole = refl; given = refl } }
 selects Office (suc (suc n)) low = absurd (omega (arith, low))
-selects Ward zero low = record { query = refl; select = λ rest others views. record { is = refl; unlisted = refl; plain = (refl, refl); low = λ db. refl } }
-selects Ward (suc zero) low = record { query = refl; select = λ rest others views. record { is = refl; unlisted = refl; plain = (refl, refl); low = λ db. refl } }
+selects Ward zero low = record { query = refl; select = λ rest others views. record { is = refl; unlisted = refl; plain = (refl, refl); low = λ db. refl; whole = refl; given = refl } }
+selects Ward (suc zero) low = record { query = refl; select = λ rest others views. record { is = refl; unlisted = refl; plain = (refl, refl); low = λ db. refl; whole = refl; given = refl } }
 selects Ward (suc (suc n)) low = absurd (omega (arith, low))
-selects Candidate zero low = record { query = refl; select = λ rest others views. record { is = refl; unlisted = refl; plain = (refl, refl); low = λ db. refl } }
-selects Candidate (suc zero) low = record { query = refl; select = λ rest others views. record { is = refl; unlisted = refl; plain = (refl, refl); low = λ db. refl } }
-selects Candidate (suc (suc zero)) low = record { query = refl; select = λ rest others views. record { is = refl; unlisted = refl; plain = (refl, refl); low = λ db. refl } }
+selects Candidate zero low = record { query = refl; select = λ rest others views. record { is = refl; unlisted = refl; plain = (refl, refl); low = λ db. refl; whole = refl; given = refl } }
+selects Candidate (suc zero) low = record { query = refl; select = λ rest others views. record { is = refl; unlisted = refl; plain = (refl, refl); low = λ db. refl; whole = refl; given = refl } }
+selects Candidate (suc (suc zero)) low = record { query = refl; select = λ rest others views. record { is = refl; unlisted = refl; plain = (refl, refl); low = λ db. refl; whole = refl; given = refl } }
 selects Candidate (suc (suc (suc n))) low = absurd (omega (arith, low))
-selects Batch zero low = record { query = refl; select = λ rest others views. record { is = refl; unlisted = refl; plain = (refl, refl); low = λ db. refl } }
-selects Batch (suc zero) low = record { query = refl; select = λ rest others views. record { is = refl; unlisted = refl; plain = (refl, refl); low = λ db. refl } }
+selects Batch zero low = record { query = refl; select = λ rest others views. record { is = refl; unlisted = refl; plain = (refl, refl); low = λ db. refl; whole = refl; given = refl } }
+selects Batch (suc zero) low = record { query = refl; select = λ rest others views. record { is = refl; unlisted = refl; plain = (refl, refl); low = λ db. refl; whole = refl; given = refl } }
 selects Batch (suc (suc n)) low = absurd (omega (arith, low))
-selects Keying zero low = record { query = refl; select = λ rest others views. record { is = refl; unlisted = refl; plain = (refl, refl); low = λ db. refl } }
-selects Keying (suc zero) low = record { query = refl; select = λ rest others views. record { is = refl; unlisted = refl; plain = (refl, refl); low = λ db. refl } }
-selects Keying (suc (suc zero)) low = record { query = refl; select = λ rest others views. record { is = refl; unlisted = refl; plain = (refl, refl); low = λ db. refl } }
-selects Keying (suc (suc (suc zero))) low = record { query = refl; select = λ rest others views. record { is = refl; unlisted = refl; plain = (refl, refl); low = λ db. refl } }
-selects Keying (suc (suc (suc (suc zero)))) low = record { query = refl; select = λ rest others views. record { is = refl; unlisted = refl; plain = (refl, refl); low = λ db. refl } }
+selects Keying zero low = record { query = refl; select = λ rest others views. record { is = refl; unlisted = refl; plain = (refl, refl); low = λ db. refl; whole = refl; given = refl } }
+selects Keying (suc zero) low = record { query = refl; select = λ rest others views. record { is = refl; unlisted = refl; plain = (refl, refl); low = λ db. refl; whole = refl; given = refl } }
+selects Keying (suc (suc zero)) low = record { query = refl; select = λ rest others views. record { is = refl; unlisted = refl; plain = (refl, refl); low = λ db. refl; whole = refl; given = refl } }
+selects Keying (suc (suc (suc zero))) low = record { query = refl; select = λ rest others views. record { is = refl; unlisted = refl; plain = (refl, refl); low = λ db. refl; whole = refl; given = refl } }
+selects Keying (suc (suc (suc (suc zero)))) low = record { query = refl; select = λ rest others views. record { is = refl; unlisted = refl; plain = (refl, refl); low = λ db. refl; whole = refl; given = refl } }
 selects Keying (suc (suc (suc (suc (suc n))))) low = absurd (omega (arith, low))
-selects Verdict zero low = record { query = refl; select = λ rest others views. record { is = refl; unlisted = refl; plain = (refl, refl); low = λ db. refl } }
-selects Verdict (suc zero) low = record { query = refl; select = λ rest others views. record { is = refl; unlisted = refl; plain = (refl, refl); low = λ db. refl } }
-selects Verdict (suc (suc zero)) low = record { query = refl; select = λ rest others views. record { is = refl; unlisted = refl; plain = (refl, refl); low = λ db. refl } }
+selects Verdict zero low = record { query = refl; select = λ rest others views. record { is = refl; unlisted = refl; plain = (refl, refl); low = λ db. refl; whole = refl; given = refl } }
+selects Verdict (suc zero) low = record { query = refl; select = λ rest others views. record { is = refl; unlisted = refl; plain = (refl, refl); low = λ db. refl; whole = refl; given = refl } }
+selects Verdict (suc (suc zero)) low = record { query = refl; select = λ rest others views. record { is = refl; unlisted = refl; plain = (refl, refl); low = λ db. refl; whole = refl; given = refl } }
 selects Verdict (suc (suc (suc n))) low = absurd (omega (arith, low))
-selects Lot zero low = record { query = refl; select = λ rest others views. record { is = refl; unlisted = refl; plain = (refl, refl); low = λ db. refl } }
-selects Lot (suc zero) low = record { query = refl; select = λ rest others views. record { is = refl; unlisted = refl; plain = (refl, refl); low = λ db. refl } }
-selects Lot (suc (suc zero)) low = record { query = refl; select = λ rest others views. record { is = refl; unlisted = refl; plain = (refl, refl); low = λ db. refl } }
+selects Lot zero low = record { query = refl; select = λ rest others views. record { is = refl; unlisted = refl; plain = (refl, refl); low = λ db. refl; whole = refl; given = refl } }
+selects Lot (suc zero) low = record { query = refl; select = λ rest others views. record { is = refl; unlisted = refl; plain = (refl, refl); low = λ db. refl; whole = refl; given = refl } }
+selects Lot (suc (suc zero)) low = record { query = refl; select = λ rest others views. record { is = refl; unlisted = refl; plain = (refl, refl); low = λ db. refl; whole = refl; given = refl } }
 selects Lot (suc (suc (suc n))) low = absurd (omega (arith, low))
-selects Receipt zero low = record { query = refl; select = λ rest others views. record { is = refl; unlisted = refl; plain = (refl, refl); low = λ db. refl } }
-selects Receipt (suc zero) low = record { query = refl; select = λ rest others views. record { is = refl; unlisted = refl; plain = (refl, refl); low = λ db. refl } }
-selects Receipt (suc (suc zero)) low = record { query = refl; select = λ rest others views. record { is = refl; unlisted = refl; plain = (refl, refl); low = λ db. refl } }
+selects Receipt zero low = record { query = refl; select = λ rest others views. record { is = refl; unlisted = refl; plain = (refl, refl); low = λ db. refl; whole = refl; given = refl } }
+selects Receipt (suc zero) low = record { query = refl; select = λ rest others views. record { is = refl; unlisted = refl; plain = (refl, refl); low = λ db. refl; whole = refl; given = refl } }
+selects Receipt (suc (suc zero)) low = record { query = refl; select = λ rest others views. record { is = refl; unlisted = refl; plain = (refl, refl); low = λ db. refl; whole = refl; given = refl } }
 selects Receipt (suc (suc (suc n))) low = absurd (omega (arith, low))
 
 pub selects_by_reference : (r : Reference) → Reads (table_sought r) (select_by_reference_text r) (op2 (Compare Eq Binary) (col 1 (suc (place_sought r))) (col 0 0) ∷ [])
 unfolding understood everything select_by_reference_text
-selects_by_reference WardOfBatch = record { query = refl; select = λ rest others views. record { is = refl; unlisted = refl; plain = (refl, refl); low = λ db. refl } }
+selects_by_reference WardOfBatch = record { query = refl; select = λ rest others views. record { is = refl; unlisted = refl; plain = (refl, refl); low = λ db. refl; whole = refl; given = refl } }
 
 -- what a SELECT of the rowids has to be
 pub record ReadsRowids (t : Table) : Type 0 where
@@ -71,9 +71,9 @@ pub record ReadsRowids (t : Table) : Type 0 where
 pub selects_rowids : (t : Table) → changes_rows t ≡ true → ReadsRowids t
 unfolding understood everything select_rowids_text
 selects_rowids Office changes = absurd (true≢false (sym changes))
-selects_rowids Ward changes = record { query = refl; select = λ rest others views. record { is = refl; unlisted = refl; plain = (refl, refl); low = λ db. refl } }
-selects_rowids Candidate changes = record { query = refl; select = λ rest others views. record { is = refl; unlisted = refl; plain = (refl, refl); low = λ db. refl } }
-selects_rowids Batch changes = record { query = refl; select = λ rest others views. record { is = refl; unlisted = refl; plain = (refl, refl); low = λ db. refl } }
+selects_rowids Ward changes = record { query = refl; select = λ rest others views. record { is = refl; unlisted = refl; plain = (refl, refl); low = λ db. refl; whole = refl; given = refl } }
+selects_rowids Candidate changes = record { query = refl; select = λ rest others views. record { is = refl; unlisted = refl; plain = (refl, refl); low = λ db. refl; whole = refl; given = refl } }
+selects_rowids Batch changes = record { query = refl; select = λ rest others views. record { is = refl; unlisted = refl; plain = (refl, refl); low = λ db. refl; whole = refl; given = refl } }
 selects_rowids Keying changes = absurd (true≢false (sym changes))
 selects_rowids Verdict changes = absurd (true≢false (sym changes))
 selects_rowids Lot changes = absurd (true≢false (sym changes))

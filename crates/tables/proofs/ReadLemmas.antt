@@ -39,6 +39,9 @@ never_commits sql params s trees query h = absurd (let some = rw (query s.now.sc
 pub only_reads : {X : Type 0} (sql : List ℕ) (params : Row) (old new : State) (rows : X → List Row) (r : Result X Error) → IsQuery sql
     → (HasCleanDisk new → IfOk r (λ x. Shown sql params old new (rows x))) → (HasCleanDisk new → IfErr r (FailsToQuery sql params old new)) → Survives old new (CommitsShowing sql params old) → OnlyReads old new
 only_reads sql params old new rows r query shown failed survives = record {
+  limit = survives.limit;
+  counts = survives.counts;
+  closes = survives.closes;
   clean = λ honest. let low = survives.clean in omega (arith, low, honest);
   was_open = λ honest is_open. elim (left sql params old new rows r query (shown honest) (failed honest)) [
     | inl same ↦ same.0.was_open
@@ -63,6 +66,12 @@ query_opens sql params old new rows (Err e) query shown = tt
 
 pub only_reads_then : (a b c : State) → OnlyReads a b → OnlyReads b c → OnlyReads a c
 only_reads_then a b c first second = record {
+  limit = second.limit ∙ first.limit;
+  counts = omega (arith, first.counts, second.counts);
+  closes = λ honest was. elim (first.closes (second.clean honest) was) [
+    | inl still ↦ elim (second.closes honest still) [ inl last ↦ inl last | inr fault ↦ inr (omega (arith, first.counts, fault)) ]
+    | inr fault ↦ inr (omega (arith, second.counts, fault))
+  ];
   clean = λ honest. first.clean (second.clean honest);
   was_open = λ honest is_open. first.was_open (second.clean honest) (second.was_open honest is_open);
   rests = λ honest is_open db at. second.rests honest is_open db (first.rests (second.clean honest) (second.was_open honest is_open) db at);
@@ -70,7 +79,7 @@ only_reads_then a b c first second = record {
 }
 
 pub only_reads_itself : (a : State) → OnlyReads a a
-only_reads_itself a = record { clean = λ h. h; was_open = λ h is_open. is_open; rests = λ h is_open db at. at; leaves = λ h trees may. may }
+only_reads_itself a = record { limit = refl; counts = omega arith; closes = λ h was. inl was; clean = λ h. h; was_open = λ h is_open. is_open; rests = λ h is_open db at. at; leaves = λ h trees may. may }
 
 -- ---- an office between two transactions
 

@@ -1,5 +1,5 @@
 -- One SELECT over one table.
-use Rattle.std.proofs.Common.{◌≡◌, ℕ, zero, suc, pos, negsuc, List, [], ◌∷◌, ◌++◌, map, filter, drop, Bool, true, false, cond, None, refl, sym, ap, subst, ◌∙◌, Ordering, ◌&&◌}
+use Rattle.std.proofs.Common.{◌≡◌, ℕ, zero, suc, pos, negsuc, List, [], ◌∷◌, ◌++◌, map, filter, drop, Bool, true, false, cond, None, length, Ok, Err, Result, refl, sym, ap, subst, ◌∙◌, Ordering, ◌&&◌}
 use Rattle.std.specs.List.{list_all, flat_map}
 use Rattle.std.specs.Ordering.{on}
 use Rattle.std.specs.List.Sorted.{IsPermutation, IsSorted}
@@ -13,6 +13,8 @@ use Rattle.sqlite_sql.specs.declared.ops.CompareOp.TheVariants.{Eq}
 use Rattle.sqlite.specs.Order.{Row, column}
 use Rattle.sqlite_value.specs.declared.keys.Key.{Key}
 use Rattle.sqlite_schema.specs.Rules.{equal}
+use Rattle.sqlite_resolve.specs.declared.compiled.Compiled.{Compiled}
+use Rattle.sqlite_resolve.specs.declared.error.CompileError.{CompileError}
 use Rattle.sqlite_value.specs.Keys.{ascending}
 use Rattle.sqlite.specs.Term.{Term, lit, col, op2, eval_all, holds}
 use Rattle.sqlite.specs.Query.{Query, inner, end, IsAnswer, Output, output, output_cmp, key_cmp}
@@ -90,12 +92,23 @@ module _ (into : Row → Row) (tree : ℕ) (tests : List Term) (project : List T
             shown = a.shown ∙ drop_none _ ∙ ap (map (λ (o : Output). o.1)) pulled.2 ∙ shown_pairs pulled.0;
           }
 
+-- where the statement ends, and how many parameters it takes
+abbrev pub tail_of : Result Compiled CompileError → ℕ
+tail_of (Ok c) = c.tail
+tail_of (Err e) = 0
+
+abbrev pub asked_of : Result Compiled CompileError → ℕ
+asked_of (Ok c) = length c.names
+asked_of (Err e) = 0
+
 -- what a SELECT over one table has to be
 pub record IsSelect (schema : Schema) (sql : List ℕ) (tree : ℕ) (tests project : List Term) (order : List (Term × Key)) (names : List (List ℕ)) : Type 0 where
   pub is : command_of (understood schema sql) ≡ Select (record { lets = []; body = query tree tests project order }) names
   pub unlisted : reads_listing schema sql ≡ false
   pub plain : IsPlain (understood schema sql)
   pub low : (db : Trees) → overlay db [] tree ≡ db tree
+  pub whole : tail_of (understood schema sql) ≡ length sql
+  pub given : asked_of (understood schema sql) ≡ length tests
 
 module _ (schema : Schema) (sql : List ℕ) (tree : ℕ) (tests project : List Term) (order : List (Term × Key)) (names : List (List ℕ)) (it : IsSelect schema sql tree tests project order names)
     (into : Row → Row) (params : Row) (test : Row → Bool) (key show : Row → Row)

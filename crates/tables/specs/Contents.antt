@@ -38,10 +38,6 @@ added t row = changed t (λ rows. row ∷ rows)
 unfoldable pub added_all : Table → List Row → Contents → Contents
 added_all t news = changed t (λ rows. news ++ rows)
 
--- this row in the place of the one with its key
-unfoldable pub replaced : Table → Row → Contents → Contents
-replaced t row = changed t (map (λ r. if has_key t row r then row else r))
-
 -- a value in one column of the row with a key; the key and the value in turn
 unfoldable pub value_put : Setting → Row → Contents → Contents
 value_put g values = changed (table_set g) (map (λ r. if has_key (table_set g) values r then with_value g (value_set g values) r else r))

@@ -1,15 +1,10 @@
 -- The faults of a store, and which error of `sqlite` each tells.
-use Rattle.std.specs.Prelude.{◌≡◌, ◌<◌, ℕ, List, [], codes, length, slice_index_or, take, Err, IsTrue}
+use Rattle.std.specs.Prelude.{◌≡◌, ℕ, List, codes, Err, IsTrue}
 use Rattle.sqlite.specs.declared.error.Error.{Error}
 use Rattle.sqlite.specs.declared.error.Error.TheVariants.{SqliteFailure}
 use Rattle.sqlite.specs.declared.error.ErrorCode.TheVariants.{OutOfMemory}
 use Rattle.sqlite.specs.Order.{Row}
-use Rattle.sqlite_trees.specs.declared.store.Store.{Ghosts}
-use Rattle.sqlite.specs.Held.{Held, state}
 use Rattle.sqlite.specs.State.{State, HasCleanDisk, ExecutesInside, FailsToQuery}
-use Rattle.tables.specs.declared.table.Table.{Table}
-use Rattle.tables.specs.Texts.{insert_text}
-use Rattle.tables.specs.Contents.{Contents, Sees, added_all}
 use Rattle.tables.specs.declared.fault.Fault.{Fault}
 use Rattle.tables.specs.declared.fault.Fault.TheVariants.{Memory, Store, Damaged, Closed, WrongDatabase, NewerSchema}
 
@@ -48,9 +43,3 @@ TellsQuery sql params old new f = (e : Error) × (f ≡ fault_of e) × (HasClean
 -- the fault tells why `sqlite` refused this statement inside a transaction
 abbrev pub TellsStatement : List ℕ → Row → State → State → Fault → Type 0
 TellsStatement sql params old new f = (e : Error) × (f ≡ fault_of e) × (HasCleanDisk new → IsTrue old.in_transaction → ExecutesInside 0 sql params old new (Err e))
-
--- the fault tells why `sqlite` refused to add one of the rows, once those before it were added
-abbrev pub TellsRow : {S : Type 0} → Ghosts S → Table → List Row → Held S → Held S → Fault → Type 0
-TellsRow {S} store t rows old new f =
-    (k : ℕ) × (between : Held S) × (k < length rows) × (HasCleanDisk (state store new) → (c : Contents) → Sees c (state store old) → Sees (added_all t (take k rows) c) (state store between))
-    × TellsStatement (insert_text t) (slice_index_or rows k []) (state store between) (state store new) f

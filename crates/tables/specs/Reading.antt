@@ -1,5 +1,5 @@
 -- What a read tells, and what it leaves.
-use Rattle.std.specs.Prelude.{◌≡◌, ◌≢◌, ◌⊎◌, ◌<◌, ◌+◌, ◌≤ℤ◌, ℕ, ℤ, List, [], ◌∷◌, map, filter, length, slice_index_or, Bool, true, false, None, Ok, Err, IsTrue}
+use Rattle.std.specs.Prelude.{◌≡◌, ◌≢◌, ◌⊎◌, ◌<◌, ◌≤◌, ◌+◌, ◌≤ℤ◌, ℕ, ℤ, List, [], ◌∷◌, map, filter, length, slice_index_or, Bool, true, false, None, IsSome, Ok, Err, IsTrue}
 use Rattle.std.specs.declared.cmp.Ordering.TheVariants.{Less}
 use Rattle.std.specs.Ordering.{on}
 use Rattle.sqlite.specs.declared.types.Value.TheVariants.{Int}
@@ -18,6 +18,9 @@ use Rattle.sqlite.specs.Schema.{Schema}
 use Rattle.sqlite.specs.Listing.{understood}
 use Rattle.sqlite.specs.Effect.{Database}
 use Rattle.sqlite.specs.State.{State, HasCleanDisk}
+use Rattle.sqlite.specs.Disk.{MoreFaults}
+use Rattle.tables.specs.declared.fault.Fault.{Fault}
+use Rattle.tables.specs.declared.fault.Fault.TheVariants.{Memory, Store}
 use Rattle.tables.specs.declared.table.Table.{Table}
 use Rattle.tables.specs.Rows.{tuples, at, column_places, is_row_of, begins_with, row_cmp, Keyed}
 use Rattle.tables.specs.Contents.{Contents, HoldsTable, RestsAt}
@@ -35,12 +38,24 @@ is_query_text (Err e) = false
 abbrev pub IsQuery : List ℕ → Type 0
 IsQuery sql = (s : Schema) (c : Compiled) → understood s sql ≡ Ok c → c.returning ≡ None
 
--- A read leaves the database as it was, if the connection is still open, and adds nothing to what a stop may leave.
+-- A read leaves the database as it was, if the connection is still open, and adds nothing to what a stop may leave. It sets no limit on the steps of
+-- later queries, and only a fault of the disk shuts the connection.
 pub record OnlyReads (old new : State) : Type 0 where
+  pub limit : new.step_limit ≡ old.step_limit
+  pub counts : old.faults ≤ new.faults
+  pub closes : HasCleanDisk new → IsTrue old.is_open → IsTrue new.is_open ⊎ MoreFaults old.faults new.faults
   pub clean : HasCleanDisk new → HasCleanDisk old
   pub was_open : HasCleanDisk new → IsTrue new.is_open → IsTrue old.is_open
   pub rests : HasCleanDisk new → IsTrue new.is_open → (db : Database) → RestsAt db old → RestsAt db new
   pub leaves : HasCleanDisk new → (trees : Trees) → new.may_leave trees → old.may_leave trees
+
+-- the store failed: the disk failed or refused once more, or the connection was shut before, or the caller had set a limit on the steps of a query
+abbrev pub HasFailed : State → State → Type 0
+HasFailed old new = MoreFaults old.faults new.faults ⊎ ((old.is_open ≡ false) ⊎ IsSome old.step_limit)
+
+-- why a read of rows that are all entries' tells nothing: memory was wanting, or the store failed
+abbrev pub FailsBy : State → State → Fault → Type 0
+FailsBy old new f = (f ≡ Memory) ⊎ ((f ≡ Store) × HasFailed old new)
 
 -- the rows of the table that pass a test, each with all its columns, in the order of the key
 pub record Lists (t : Table) (test : Row → Bool) (db : Database) (rows : List Row) : Type 0 where

@@ -54,6 +54,16 @@ are_of _ _ = false
 abbrev pub is_row_of : Table → Row → Bool
 is_row_of t = are_of (columns_of t)
 
+-- these are values of the first columns' kinds
+abbrev pub are_first : List Column → Row → Bool
+are_first cs [] = true
+are_first [] (v ∷ vs) = false
+are_first (c ∷ cs) (v ∷ vs) = is_of c.kind v && are_first cs vs
+
+-- the values are of the kinds of the columns that a key begins with
+abbrev pub begins_key : Table → Row → Bool
+begins_key t = are_first (columns_of t)
+
 -- two rows have the same values at these places, as SQL's = says
 abbrev pub agree_at : List ℕ → Row → Row → Bool
 agree_at [] a b = true

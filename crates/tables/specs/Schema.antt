@@ -75,7 +75,7 @@ shape Verdict = record { name = codes "verdict"; key = 2; fields = within (codes
 shape Lot = record { name = codes "lot"; key = 2; fields = within (codes "ward") 1 99 ∷ within (codes "stage") 2 31 ∷ within (codes "candidate") 1 30 ∷ [] }
 shape Receipt = record { name = codes "receipt"; key = 2; fields = within (codes "actor") 0 999 ∷ words (codes "id") ∷ words (codes "subject") ∷ words (codes "reply") ∷ [] }
 
--- the tables whose rows are replaced or removed; the others only grow
+-- the tables whose rows are changed or removed; the others only grow
 abbrev pub changes_rows : Table → Bool
 changes_rows Ward = true
 changes_rows Candidate = true

@@ -4,11 +4,10 @@ ghost use Rattle.std.specs.Prelude.{◌≡◌, ◌↔◌};
 ghost use Rattle.tables.specs.Faults.{fault_number, fault_text, fault_of};
 
 use sqlite::{Error, ErrorCode};
-use thiserror::Error as Describe;
+use std::fmt;
 
 /// The faults of an office, which are told by their numbers, 101 to 106.
-#[derive(Clone, Copy, Debug, PartialEq, Eq, Drop, Describe)]
-#[error("{}", self.text())]
+#[derive(Clone, Copy, Debug, PartialEq, Eq, Drop)]
 pub enum Fault {
     /// Memory was wanting.
     Memory,
@@ -53,6 +52,19 @@ impl Fault {
         }
     }
 }
+
+impl fmt::Display for Fault {
+    ghost use Rattle.std.specs.Prelude.{Some};
+    ghost use Rattle.tables.specs.Faults.{fault_text};
+
+    ghost output = { λ f. Some (fault_text f) };
+
+    fn fmt<W: fmt::Write>(&self, f: &mut fmt::Formatter<W>) -> fmt::Result {
+        f.write_str(self.text())
+    }
+}
+
+impl std::error::Error for Fault {}
 
 /// Why `sqlite` refused a call: `Memory` for want of memory, and `Store` for any other cause.
 pub fn fault_of(e: Error) -> Fault

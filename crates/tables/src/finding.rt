@@ -1,17 +1,18 @@
 //! Some entries of a table: those with a key, with a beginning of it, or with another value.
 
-ghost use Rattle.std.specs.Prelude.{◌≡◌, ◌≤◌, ◌⊎◌, false, length, filter, map, Option, option_map, IfOk, IfErr, IfSome, OnOk, IsTrue};
+ghost use Rattle.std.specs.Prelude.{◌≡◌, ◌≤◌, ◌⊎◌, true, false, length, filter, map, Option, option_map, IfOk, IfErr, IfSome, OnOk, IsTrue};
 ghost use Rattle.std.specs.List.{AllByRecursion};
 ghost use Rattle.std.specs.Option.{option_to_list};
 ghost use Rattle.sqlite.specs.Order.{Row};
 ghost use Rattle.sqlite.specs.Value.{owned};
+ghost use Rattle.sqlite.specs.Kind.TheVariants.{Integer};
 ghost use Rattle.sqlite.specs.Values.{bound, bound_value};
 ghost use Rattle.sqlite.specs.State.{HasCleanDisk};
 ghost use Rattle.sqlite.specs.Held.{state};
 ghost use Rattle.tables.specs.Schema.{shape, table_sought};
-ghost use Rattle.tables.specs.Rows.{at, column_places, begins_with, refers_to};
+ghost use Rattle.tables.specs.Rows.{at, column_places, is_of, begins_key, begins_with, refers_to};
 ghost use Rattle.tables.specs.Contents.{Contents, RestsIfOpen};
-ghost use Rattle.tables.specs.Reading.{OnlyReads, Finds};
+ghost use Rattle.tables.specs.Reading.{OnlyReads, FailsBy, Finds, HasOther};
 
 use crate::entry::Entries;
 use crate::fault::Fault;
@@ -33,8 +34,8 @@ pub fn entries_beginning<E: Entries, S: Alter>(
     requires key { length key.now ≤ (shape E.TABLE).key }
     ensures finds { HasCleanDisk (state S.Store conn.new) → (c : Contents) → RestsIfOpen c (state S.Store conn.old)
         → IfOk result (λ found. Finds E.TABLE (begins_with (bound key.now)) c (map E.row_of found.items)) }
-    ensures cause { HasCleanDisk (state S.Store conn.new) → (c : Contents) → RestsIfOpen c (state S.Store conn.old) → AllByRecursion E.is_row (c E.TABLE)
-        → IfErr result (λ f. (f ≡ Fault.Memory) ⊎ (f ≡ Fault.Store)) }
+    ensures cause { HasCleanDisk (state S.Store conn.new) → (c : Contents) → RestsIfOpen c (state S.Store conn.old)
+        → begins_key E.TABLE (bound key.now) ≡ true → AllByRecursion E.is_row (c E.TABLE) → IfErr result (FailsBy (state S.Store conn.old) (state S.Store conn.new)) }
     ensures opens { HasCleanDisk (state S.Store conn.new) → OnOk result (IsTrue (state S.Store conn.new).is_open) }
     ensures reads { OnlyReads (state S.Store conn.old) (state S.Store conn.new) }
     ensures outside { conn.new.in_transaction ≡ false }
@@ -56,8 +57,8 @@ pub fn entries_referring<E: Entries, S: Alter>(
     requires table { table_sought reference ≡ E.TABLE }
     ensures finds { HasCleanDisk (state S.Store conn.new) → (c : Contents) → RestsIfOpen c (state S.Store conn.old)
         → IfOk result (λ found. Finds E.TABLE (refers_to reference (bound_value (owned value.entry))) c (map E.row_of found.items)) }
-    ensures cause { HasCleanDisk (state S.Store conn.new) → (c : Contents) → RestsIfOpen c (state S.Store conn.old) → AllByRecursion E.is_row (c E.TABLE)
-        → IfErr result (λ f. (f ≡ Fault.Memory) ⊎ (f ≡ Fault.Store)) }
+    ensures cause { HasCleanDisk (state S.Store conn.new) → (c : Contents) → RestsIfOpen c (state S.Store conn.old)
+        → is_of Integer (bound_value (owned value.entry)) ≡ true → AllByRecursion E.is_row (c E.TABLE) → IfErr result (FailsBy (state S.Store conn.old) (state S.Store conn.new)) }
     ensures opens { HasCleanDisk (state S.Store conn.new) → OnOk result (IsTrue (state S.Store conn.new).is_open) }
     ensures reads { OnlyReads (state S.Store conn.old) (state S.Store conn.new) }
     ensures outside { conn.new.in_transaction ≡ false }
@@ -70,7 +71,7 @@ pub fn entries_referring<E: Entries, S: Alter>(
 /// The entry of the one row of a query, if there is one.
 fn first_entry<E: Entries>(rows: &[Row]) -> Result<Option<E::Entry>, Fault>
     ensures entry { (row : Option Row) → rows.now ≡ option_to_list row → IfOk result (λ found. option_map (at (column_places E.TABLE)) row ≡ option_map E.row_of found) }
-    ensures cause { (row : Option Row) → rows.now ≡ option_to_list row → IfSome row E.is_row → IfErr result (λ f. f ≡ Fault.Memory) }
+    ensures cause { IfErr result (λ f. (f ≡ Fault.Memory) ⊎ ((f ≡ Fault.Damaged) × HasOther E.is_row rows.now)) }
 {
     match rows {
         [] => Ok(None),
@@ -88,7 +89,9 @@ pub fn find_entry<E: Entries, S: Alter>(
     ensures found { HasCleanDisk (state S.Store conn.new) → (c : Contents) → RestsIfOpen c (state S.Store conn.old) → (row : Option Row) → filter (begins_with (bound key.now)) (c E.TABLE) ≡ option_to_list row
         → IfOk result (λ entry. option_map E.row_of entry ≡ row) }
     ensures cause { HasCleanDisk (state S.Store conn.new) → (c : Contents) → RestsIfOpen c (state S.Store conn.old) → (row : Option Row) → filter (begins_with (bound key.now)) (c E.TABLE) ≡ option_to_list row
-        → IfSome row E.is_row → IfErr result (λ f. (f ≡ Fault.Memory) ⊎ (f ≡ Fault.Store)) }
+        → begins_key E.TABLE (bound key.now) ≡ true → IfSome row E.is_row → IfErr result (FailsBy (state S.Store conn.old) (state S.Store conn.new)) }
+    ensures told { HasCleanDisk (state S.Store conn.new) → (c : Contents) → RestsIfOpen c (state S.Store conn.old) → (row : Option Row) → filter (begins_with (bound key.now)) (c E.TABLE) ≡ option_to_list row
+        → begins_key E.TABLE (bound key.now) ≡ true → IfErr result (λ f. FailsBy (state S.Store conn.old) (state S.Store conn.new) f ⊎ ((f ≡ Fault.Damaged) × ¬ IfSome row E.is_row)) }
     ensures opens { HasCleanDisk (state S.Store conn.new) → OnOk result (IsTrue (state S.Store conn.new).is_open) }
     ensures reads { OnlyReads (state S.Store conn.old) (state S.Store conn.new) }
     ensures outside { conn.new.in_transaction ≡ false }

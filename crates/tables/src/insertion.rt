@@ -1,21 +1,19 @@
-//! Rows that are added, one or many, inside a transaction.
+//! Rows that are added, inside a transaction.
 
-ghost use Rattle.std.specs.Prelude.{◌≡◌, map, true, IfErr, OnOk};
-ghost use Rattle.std.specs.List.{list_all};
+ghost use Rattle.std.specs.Prelude.{◌≡◌, true, IfErr, OnOk};
 ghost use Rattle.sqlite.specs.Values.{bound};
 ghost use Rattle.sqlite.specs.State.{HasCleanDisk, KeepsCommit, Survives};
 ghost use Rattle.sqlite.specs.Held.{state};
 ghost use Rattle.tables.specs.Texts.{insert_text};
 ghost use Rattle.tables.specs.Rows.{is_row_of};
-ghost use Rattle.tables.specs.Contents.{Contents, Sees, added, added_all};
-ghost use Rattle.tables.specs.Faults.{TellsStatement, TellsRow};
+ghost use Rattle.tables.specs.Contents.{Contents, Sees, added};
+ghost use Rattle.tables.specs.Faults.{TellsStatement};
 
 use crate::fault::{Fault, fault_of};
 use crate::table::Table;
 use crate::texts::insert_text;
 use sqlite::{Alter, Transaction};
 use sqlite_value::value::ValueRef;
-use std::convert::AsSlice;
 
 /// Adds one row of these values, one for each column and of its kind. A fault, as where a row with
 /// the key is there, leaves the last commit as it was.
@@ -36,25 +34,4 @@ pub fn insert<S: Alter>(
         Ok(_) => Ok(()),
         Err(e) => Err(fault_of(e)),
     }
-}
-
-/// Adds rows of these values, each as `insert` does. A fault, as where a row with the key of one of
-/// them is there, leaves the last commit as it was.
-pub fn insert_all<'a, S: Alter, R: AsSlice<ValueRef<'a>>>(
-    tx: &mut Transaction<'_, S>,
-    table: Table,
-    rows: &[R],
-) -> Result<(), Fault>
-    requires kinds { list_all (is_row_of table) (map (λ row. bound (R.items row)) rows.now) ≡ true }
-    ensures same_reference { tx.new.conn.ghost_name ≡ tx.old.conn.ghost_name }
-    ensures adds { HasCleanDisk (state S.Store tx.new.conn.now) → (c : Contents) → Sees c (state S.Store tx.old.conn.now)
-        → OnOk result (Sees (added_all table (map (λ row. bound (R.items row)) rows.now) c) (state S.Store tx.new.conn.now)) }
-    ensures keeps { HasCleanDisk (state S.Store tx.new.conn.now) → KeepsCommit (state S.Store tx.old.conn.now) (state S.Store tx.new.conn.now) }
-    ensures survives { Survives (state S.Store tx.old.conn.now) (state S.Store tx.new.conn.now) (λ _. ⊥) }
-    ensures cause { IfErr result (TellsRow S.Store table (map (λ row. bound (R.items row)) rows.now) tx.old.conn.now tx.new.conn.now) }
-{
-    for row in rows {
-        insert(tx, table, row.as_slice())?;
-    }
-    Ok(())
 }

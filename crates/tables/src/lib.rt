@@ -1,7 +1,7 @@
 //! The tables of an office in a store of `sqlite`, and the statements over any of them.
 //!
 //! `Table` names the tables. A statement is a function of one call, proved once for any table: `insertion`
-//! adds rows, `replacement` and `removal` change the one with a key, `reading` reads all rows, those whose
+//! adds a row, `replacement` and `removal` change the one with a key, `reading` reads all rows, those whose
 //! key begins alike, or those with another value, `making` makes the tables, `presence` looks for them by
 //! name. Their clauses say what the tables hold afterwards and what a stop may leave of them.
 //!

@@ -24,7 +24,8 @@ fn value_at(row: &Row, place: usize) -> ValueRef<'_>
     }
 }
 
-/// The order of two rows by so many columns, from a place on.
+/// The order of two rows by so many columns, from a place on. It calls itself once a column of the key,
+/// of which there are four at most.
 fn order_from(a: &Row, b: &Row, place: usize, columns: usize) -> Ordering
     requires { place + columns < 2 ^ 64 }
     ensures { result ≡ key_cmp place (ascending_keys columns) a.now b.now }

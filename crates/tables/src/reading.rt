@@ -1,16 +1,17 @@
 //! Rows that are read, outside a transaction.
 
-ghost use Rattle.std.specs.Prelude.{◌≡◌, ◌≤◌, [], ◌∷◌, false, length, IfOk, IfErr, OnOk, IsTrue};
+ghost use Rattle.std.specs.Prelude.{◌≡◌, ◌≤◌, [], ◌∷◌, true, false, length, IfOk, IfErr, OnOk, IsTrue};
 ghost use Rattle.sqlite.specs.Value.{owned};
+ghost use Rattle.sqlite.specs.Kind.TheVariants.{Integer};
 ghost use Rattle.sqlite.specs.Values.{bound, bound_value};
 ghost use Rattle.sqlite.specs.Effect.{Database};
 ghost use Rattle.sqlite.specs.State.{HasCleanDisk, Shown};
 ghost use Rattle.sqlite.specs.Held.{state};
 ghost use Rattle.tables.specs.Texts.{select_text, select_by_reference_text};
 ghost use Rattle.tables.specs.Schema.{BeginsTo, shape, table_sought};
-ghost use Rattle.tables.specs.Rows.{begins_with, refers_to};
-ghost use Rattle.tables.specs.Contents.{Contents, RestsAt, Rests};
-ghost use Rattle.tables.specs.Reading.{IsQuery, OnlyReads, Lists, Finds};
+ghost use Rattle.tables.specs.Rows.{is_of, begins_key, begins_with, refers_to};
+ghost use Rattle.tables.specs.Contents.{Contents, RestsAt, Rests, RestsIfOpen};
+ghost use Rattle.tables.specs.Reading.{IsQuery, OnlyReads, FailsBy, Lists, Finds};
 ghost use Rattle.tables.specs.Faults.{TellsQuery};
 
 use crate::fault::{Fault, fault_of};
@@ -48,6 +49,8 @@ pub fn all_rows<S: Alter>(conn: &mut Connection<S>, table: Table) -> Result<Vec<
     ensures reads { OnlyReads (state S.Store conn.old) (state S.Store conn.new) }
     ensures outside { conn.new.in_transaction ≡ false }
     ensures cause { IfErr result (TellsQuery (select_text table 0) [] (state S.Store conn.old) (state S.Store conn.new)) }
+    ensures fails { HasCleanDisk (state S.Store conn.new) → (db : Database) → BeginsTo table db.schema → RestsAt db (state S.Store conn.old)
+        → IfErr result (FailsBy (state S.Store conn.old) (state S.Store conn.new)) }
 {
     query(conn, select_text(table, 0), &[])
 }
@@ -67,6 +70,8 @@ pub fn rows_beginning<S: Alter>(
     ensures reads { OnlyReads (state S.Store conn.old) (state S.Store conn.new) }
     ensures outside { conn.new.in_transaction ≡ false }
     ensures cause { IfErr result (TellsQuery (select_text table (length key.now)) (bound key.now) (state S.Store conn.old) (state S.Store conn.new)) }
+    ensures fails { HasCleanDisk (state S.Store conn.new) → (c : Contents) → RestsIfOpen c (state S.Store conn.old) → begins_key table (bound key.now) ≡ true
+        → IfErr result (FailsBy (state S.Store conn.old) (state S.Store conn.new)) }
 {
     query(conn, select_text(table, key.len()), key)
 }
@@ -84,6 +89,8 @@ pub fn rows_referring<S: Alter>(
     ensures reads { OnlyReads (state S.Store conn.old) (state S.Store conn.new) }
     ensures outside { conn.new.in_transaction ≡ false }
     ensures cause { IfErr result (λ f. TellsQuery (select_by_reference_text reference) (bound_value (owned value.entry) ∷ []) (state S.Store conn.old) (state S.Store conn.new) f) }
+    ensures fails { HasCleanDisk (state S.Store conn.new) → (c : Contents) → RestsIfOpen c (state S.Store conn.old) → is_of Integer (bound_value (owned value.entry)) ≡ true
+        → IfErr result (FailsBy (state S.Store conn.old) (state S.Store conn.new)) }
 {
     query(conn, select_by_reference_text(reference), &[value])
 }

@@ -56,7 +56,7 @@ impl Table {
         }
     }
 
-    /// Whether rows are replaced or removed, and not only added.
+    /// Whether rows are changed or removed, and not only added.
     pub fn changes_rows(self) -> bool
         ensures { result ≡ changes_rows self }
     {

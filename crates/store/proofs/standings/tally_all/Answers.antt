@@ -7,6 +7,7 @@ use Rattle.register.specs.Offices.{BatchEntry, batch_entry}
 use Rattle.tables.proofs.ListLemmas.{get_mapped, mapped_length}
 use Rattle.tables.proofs.ReadLemmas.{only_reads_then, only_reads_itself}
 use Rattle.store.specs.Tallies.{IsTally}
+use Rattle.tables.proofs.CauseLemmas.{fails_later}
 use Rattle.store.proofs.KeepLemmas.{is_at_read}
 use Rattle.store.proofs.TallyLemmas.{no_tally, more_tally}
 use Rattle.store.proofs.standings.tally_all.Goals as goal
@@ -42,4 +43,4 @@ pub returns-in_err-one-clause-cause : goal.returns-in_err-one-clause-cause
 returns-in_err-one-clause-cause g c clean s at =
     let mid = is_at_read s _ _ c.loop-batch.invariant.reads (c.tally_of.ensures.reads.clean clean) at in
     let p = err_from_is_err_and c.from_residual.result c.from_residual.ensures.1 in
-    rw (p.1, p.2) (c.in_err-one.ensures.cause clean s mid)
+    rw (p.1, p.2) (fails_later _ _ _ _ c.loop-batch.invariant.reads c.tally_of.ensures.reads clean (c.in_err-one.ensures.cause clean s mid))

@@ -2,6 +2,7 @@
 use Rattle.std.proofs.Common.{sym, subst, [], ◌∷◌}
 use Rattle.std.proofs.lemmas.Result.{err_from_is_err_and}
 use Rattle.tables.proofs.ReadLemmas.{only_reads_then}
+use Rattle.tables.proofs.CauseLemmas.{fails_later}
 use Rattle.store.proofs.KeepLemmas.{is_at_read}
 use Rattle.register.specs.Offices.{batch_entry}
 use Rattle.store.specs.Tallies.{IsTally}
@@ -21,7 +22,7 @@ pub returns-in_err-verdicts-clause-cause : goal.returns-in_err-verdicts-clause-c
 returns-in_err-verdicts-clause-cause g c clean s at =
     let mid = is_at_read s _ _ c.keyings_of.ensures.reads (c.list_verdicts.ensures.reads.clean clean) at in
     let p = err_from_is_err_and c.from_residual-in_err-verdicts.result c.from_residual-in_err-verdicts.ensures.1 in
-    rw (p.1, p.2) (c.in_err-verdicts.ensures.cause clean s mid)
+    rw (p.1, p.2) (fails_later _ _ _ _ c.keyings_of.ensures.reads c.list_verdicts.ensures.reads clean (c.in_err-verdicts.ensures.cause clean s mid))
 
 pub returns-clause-reads : goal.returns-clause-reads
 returns-clause-reads g c = only_reads_then _ _ _ c.keyings_of.ensures.reads c.list_verdicts.ensures.reads

@@ -5,6 +5,7 @@ use Rattle.register.specs.Offices.{BatchEntry, candidate_entry, batch_entry}
 use Rattle.tables.proofs.ListLemmas.{mapped_length}
 use Rattle.tables.proofs.ReadLemmas.{only_reads_then}
 use Rattle.store.specs.Tallies.{IsTally}
+use Rattle.tables.proofs.CauseLemmas.{fails_later}
 use Rattle.store.proofs.KeepLemmas.{is_at_read}
 use Rattle.store.proofs.TallyLemmas.{same_status}
 use Rattle.store.proofs.standings.ward_status.Goals as goal
@@ -24,7 +25,7 @@ pub returns-in_err-batches-clause-cause : goal.returns-in_err-batches-clause-cau
 returns-in_err-batches-clause-cause g c clean s at =
     let mid = is_at_read s _ _ c.list_candidates.ensures.reads (c.list_batches.ensures.reads.clean clean) at in
     let p = err_from_is_err_and c.from_residual-in_err-batches.result c.from_residual-in_err-batches.ensures.1 in
-    rw (p.1, p.2) (c.in_err-batches.ensures.cause clean s mid)
+    rw (p.1, p.2) (fails_later _ _ _ _ c.list_candidates.ensures.reads c.list_batches.ensures.reads clean (c.in_err-batches.ensures.cause clean s mid))
 
 pub returns-in_err-tally-clause-cause : goal.returns-in_err-tally-clause-cause
 returns-in_err-tally-clause-cause g c clean s at =
@@ -32,7 +33,7 @@ returns-in_err-tally-clause-cause g c clean s at =
     let mid = is_at_read s _ _ c.list_candidates.ensures.reads (c.list_batches.ensures.reads.clean later) at in
     let late = is_at_read s _ _ c.list_batches.ensures.reads later mid in
     let p = err_from_is_err_and c.from_residual-in_err-tally.result c.from_residual-in_err-tally.ensures.1 in
-    rw (p.1, p.2) (c.in_err-tally.ensures.cause clean s late)
+    rw (p.1, p.2) (fails_later _ _ _ _ (only_reads_then _ _ _ c.list_candidates.ensures.reads c.list_batches.ensures.reads) c.tally_all.ensures.reads clean (c.in_err-tally.ensures.cause clean s late))
 
 pub returns-clause-reads : goal.returns-clause-reads
 returns-clause-reads g c = only_reads_then _ _ _ c.list_candidates.ensures.reads (only_reads_then _ _ _ c.list_batches.ensures.reads c.tally_all.ensures.reads)

@@ -8,6 +8,7 @@ use Rattle.register.specs.Offices.{BatchEntry, batch_entry}
 use Rattle.register.specs.Standings.{work_entry}
 use Rattle.tables.proofs.ListLemmas.{get_mapped, mapped_length}
 use Rattle.tables.proofs.ReadLemmas.{only_reads_then}
+use Rattle.tables.proofs.CauseLemmas.{fails_later}
 use Rattle.store.proofs.KeepLemmas.{is_at_read}
 use Rattle.store.proofs.WorkLemmas.{work_among, more_work}
 use Rattle.store.proofs.working.work_in.Goals as goal
@@ -40,7 +41,7 @@ pub returns-in_err-work-clause-cause : goal.returns-in_err-work-clause-cause
 returns-in_err-work-clause-cause g c clean s at =
     let mid = is_at_read s _ _ c.loop-batch.invariant.reads (c.own_work.ensures.reads.clean clean) at in
     let p = err_from_is_err_and c.from_residual.result c.from_residual.ensures.1 in
-    rw (p.1, p.2) (c.in_err-work.ensures.cause clean s mid)
+    rw (p.1, p.2) (fails_later _ _ _ _ c.loop-batch.invariant.reads c.own_work.ensures.reads clean (c.in_err-work.ensures.cause clean s mid))
 
 pub returns-in_err-work-clause-reads : goal.returns-in_err-work-clause-reads
 returns-in_err-work-clause-reads g c = only_reads_then _ _ _ c.loop-batch.invariant.reads c.own_work.ensures.reads

@@ -5,6 +5,7 @@ use Rattle.tables.specs.Texts.{select_text}
 use Rattle.tables.specs.Rows.{begins_with}
 use Rattle.tables.proofs.Queries.{selects, selects_query}
 use Rattle.tables.proofs.ListingLemmas.{if_listed}
+use Rattle.tables.proofs.CauseLemmas.{all_fails}
 use Rattle.tables.proofs.reading.all_rows.Goals as goal
 
 pub returns-clause-lists : goal.returns-clause-lists
@@ -16,3 +17,7 @@ returns-clause-opens g c clean = (rw c.select_text.ensures at (c.query.ensures.o
 
 pub returns-clause-reads : goal.returns-clause-reads
 returns-clause-reads g c = (rw c.select_text.ensures at c.query.ensures.reads) (selects_query c.args.table 0 (omega arith))
+
+pub returns-clause-fails : goal.returns-clause-fails
+returns-clause-fails g c clean db begins rests =
+    all_fails c.args.table db begins (state g.S.Store c.args.conn.now) (state g.S.Store c.query.new.conn) c.query.result clean rests (rw c.select_text.ensures at c.query.ensures.cause)

@@ -9,6 +9,7 @@ use Rattle.tables.proofs.ListLemmas.{mapped_length}
 use Rattle.tables.proofs.SelectLemmas.{tests_agree}
 use Rattle.tables.proofs.Queries.{selects, selects_query}
 use Rattle.tables.proofs.ListingLemmas.{if_found}
+use Rattle.tables.proofs.CauseLemmas.{key_fails}
 use Rattle.tables.proofs.reading.rows_beginning.Goals as goal
 
 pub returns-clause-finds : goal.returns-clause-finds
@@ -23,3 +24,7 @@ returns-clause-opens g c clean = (rw c.select_text.ensures at (c.query.ensures.o
 
 pub returns-clause-reads : goal.returns-clause-reads
 returns-clause-reads g c = (rw c.select_text.ensures at c.query.ensures.reads) (selects_query c.args.table (length c.args.key.now) c.requires.key)
+
+pub returns-clause-fails : goal.returns-clause-fails
+returns-clause-fails g c clean contents at kinds =
+    key_fails c.args.table (length c.args.key.now) (bound c.args.key.now) (mapped_length _ c.args.key.now) c.requires.key kinds contents (state g.S.Store c.args.conn.now) (state g.S.Store c.query.new.conn) c.query.result clean at (rw c.select_text.ensures at c.query.ensures.cause)

@@ -9,6 +9,7 @@ use Rattle.tables.specs.Rows.{refers_to}
 use Rattle.tables.proofs.SelectLemmas.{refers}
 use Rattle.tables.proofs.Queries.{selects_by_reference, reference_query}
 use Rattle.tables.proofs.ListingLemmas.{if_found}
+use Rattle.tables.proofs.CauseLemmas.{reference_fails}
 use Rattle.tables.proofs.reading.rows_referring.Goals as goal
 
 pub returns-clause-finds : goal.returns-clause-finds
@@ -23,3 +24,7 @@ returns-clause-opens g c clean = (rw c.select_by_reference_text.ensures at (c.qu
 
 pub returns-clause-reads : goal.returns-clause-reads
 returns-clause-reads g c = (rw c.select_by_reference_text.ensures at c.query.ensures.reads) (reference_query c.args.reference)
+
+pub returns-clause-fails : goal.returns-clause-fails
+returns-clause-fails g c clean contents at kind =
+    reference_fails c.args.reference (bound_value (owned c.args.value)) kind contents (state g.S.Store c.args.conn.now) (state g.S.Store c.query.new.conn) c.query.result clean at (rw c.select_by_reference_text.ensures at c.query.ensures.cause)

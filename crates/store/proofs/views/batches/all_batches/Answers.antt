@@ -1,4 +1,5 @@
 -- Why `all_batches` keeps its promise.
+use Rattle.std.proofs.Common.{refl}
 use Rattle.register.specs.Offices.{batch_entry}
 use Rattle.store.specs.EntryRows.{row_of_batch}
 use Rattle.store.specs.Offices.{tables_of}
@@ -13,4 +14,4 @@ returns-clause-found g c clean s at =
     if_entries_told (λ found. found.items) batch_entry row_of_batch batch_in batch_back c.entries_beginning.result s.batches _ (all_batches_listed s at.is) (c.entries_beginning.ensures.finds clean (tables_of s) at.rests)
 
 pub returns-clause-cause : goal.returns-clause-cause
-returns-clause-cause g c clean s at = c.entries_beginning.ensures.cause clean (tables_of s) at.rests (batches_fit s at.is)
+returns-clause-cause g c clean s at = c.entries_beginning.ensures.cause clean (tables_of s) at.rests refl (batches_fit s at.is)

@@ -1,5 +1,5 @@
 -- Why `find_batch` keeps its promise.
-use Rattle.std.proofs.Common.{option_map}
+use Rattle.std.proofs.Common.{refl, option_map}
 use Rattle.register.specs.Offices.{batch_entry, batch_at}
 use Rattle.store.specs.EntryRows.{row_of_batch}
 use Rattle.store.specs.Offices.{tables_of}
@@ -15,4 +15,4 @@ returns-clause-found g c clean s at =
 
 pub returns-clause-cause : goal.returns-clause-cause
 returns-clause-cause g c clean s at =
-    (rw c.number.ensures at (c.find_entry.ensures.cause clean (tables_of s) at.rests)) (option_map row_of_batch (batch_at s c.args.batch)) (batch_found s at.is c.args.batch) (batch_fits s at.is c.args.batch)
+    (rw c.number.ensures at (c.find_entry.ensures.cause clean (tables_of s) at.rests)) (option_map row_of_batch (batch_at s c.args.batch)) (batch_found s at.is c.args.batch) refl (batch_fits s at.is c.args.batch)

@@ -1,4 +1,5 @@
 -- Why `list_batches` keeps its promise.
+use Rattle.std.proofs.Common.{refl}
 use Rattle.register.specs.Offices.{batch_entry}
 use Rattle.register.specs.Papers.{batches_of}
 use Rattle.store.specs.EntryRows.{row_of_batch}
@@ -15,4 +16,4 @@ returns-clause-found g c clean s at =
     (rw c.number.ensures at (c.entries_referring.ensures.finds clean (tables_of s) at.rests))
 
 pub returns-clause-cause : goal.returns-clause-cause
-returns-clause-cause g c clean s at = c.entries_referring.ensures.cause clean (tables_of s) at.rests (batches_fit s at.is)
+returns-clause-cause g c clean s at = (rw c.number.ensures at (c.entries_referring.ensures.cause clean (tables_of s) at.rests)) refl (batches_fit s at.is)

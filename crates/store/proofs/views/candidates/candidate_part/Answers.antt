@@ -2,6 +2,7 @@
 use Rattle.std.proofs.Common.{ap}
 use Rattle.std.proofs.lemmas.Result.{err_from_is_err_and}
 use Rattle.tables.proofs.ReadLemmas.{only_reads_then}
+use Rattle.tables.proofs.CauseLemmas.{fails_later}
 use Rattle.store.proofs.KeepLemmas.{is_at_read}
 use Rattle.store.proofs.PartLemmas.{same_part}
 use Rattle.store.proofs.views.candidates.candidate_part.Goals as goal
@@ -17,7 +18,7 @@ pub returns-in_err-candidate-clause-cause : goal.returns-in_err-candidate-clause
 returns-in_err-candidate-clause-cause g c clean s at =
     let mid = is_at_read s _ _ c.find_ward.ensures.reads (c.find_candidate.ensures.reads.clean clean) at in
     let p = err_from_is_err_and c.from_residual-in_err-candidate.result c.from_residual-in_err-candidate.ensures.1 in
-    rw (p.1, p.2) (c.in_err-candidate.ensures.cause clean s mid)
+    rw (p.1, p.2) (fails_later _ _ _ _ c.find_ward.ensures.reads c.find_candidate.ensures.reads clean (c.in_err-candidate.ensures.cause clean s mid))
 
 pub returns-clause-reads : goal.returns-clause-reads
 returns-clause-reads g c = only_reads_then _ _ _ c.find_ward.ensures.reads c.find_candidate.ensures.reads

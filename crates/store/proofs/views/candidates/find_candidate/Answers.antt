@@ -1,5 +1,5 @@
 -- Why `find_candidate` keeps its promise.
-use Rattle.std.proofs.Common.{option_map}
+use Rattle.std.proofs.Common.{refl, option_map}
 use Rattle.register.specs.Offices.{candidate_entry, candidate_at}
 use Rattle.store.specs.EntryRows.{row_of_candidate}
 use Rattle.store.specs.Offices.{tables_of}
@@ -17,4 +17,4 @@ returns-clause-found g c clean s at =
 pub returns-clause-cause : goal.returns-clause-cause
 returns-clause-cause g c clean s at =
     (rw (c.number.ensures, c.number-2.ensures) at (c.find_entry.ensures.cause clean (tables_of s) at.rests)) (option_map row_of_candidate (candidate_at s c.args.ward c.args.candidate)) (candidate_found s at.is c.args.ward c.args.candidate)
-    (candidate_fits s at.is c.args.ward c.args.candidate)
+    refl (candidate_fits s at.is c.args.ward c.args.candidate)

@@ -1,6 +1,7 @@
 -- Why `lot_part` keeps its promise.
 use Rattle.std.proofs.Common.{ap}
 use Rattle.std.proofs.lemmas.Result.{err_from_is_err_and}
+use Rattle.tables.proofs.CauseLemmas.{fails_later}
 use Rattle.store.proofs.KeepLemmas.{is_at_read}
 use Rattle.store.proofs.PartLemmas.{same_part}
 use Rattle.store.proofs.views.counts.lot_part.Goals as goal
@@ -16,4 +17,4 @@ pub returns-in_err-candidate-clause-cause : goal.returns-in_err-candidate-clause
 returns-in_err-candidate-clause-cause g c clean s at =
     let mid = is_at_read s _ _ c.count_part.ensures.reads (c.find_candidate.ensures.reads.clean clean) at in
     let p = err_from_is_err_and c.from_residual-in_err-candidate.result c.from_residual-in_err-candidate.ensures.1 in
-    rw (p.1, p.2) (c.in_err-candidate.ensures.cause clean s mid)
+    rw (p.1, p.2) (fails_later _ _ _ _ c.count_part.ensures.reads c.find_candidate.ensures.reads clean (c.in_err-candidate.ensures.cause clean s mid))

@@ -1,4 +1,5 @@
 -- Why `list_lots` keeps its promise.
+use Rattle.std.proofs.Common.{refl}
 use Rattle.register.specs.Offices.{lot_entry, lots_of}
 use Rattle.store.specs.EntryRows.{row_of_lot}
 use Rattle.store.specs.Offices.{tables_of}
@@ -14,4 +15,4 @@ returns-clause-found g c clean s at =
     (rw c.number.ensures at (c.entries_beginning.ensures.finds clean (tables_of s) at.rests))
 
 pub returns-clause-cause : goal.returns-clause-cause
-returns-clause-cause g c clean s at = c.entries_beginning.ensures.cause clean (tables_of s) at.rests (lots_fit s at.is)
+returns-clause-cause g c clean s at = (rw c.number.ensures at (c.entries_beginning.ensures.cause clean (tables_of s) at.rests)) refl (lots_fit s at.is)

@@ -4,6 +4,8 @@ use Rattle.std.proofs.lemmas.Result.{err_from_is_err_and}
 use Rattle.register.specs.Offices.{candidate_entry}
 use Rattle.register.specs.Marks.{columns_of}
 use Rattle.register.specs.Polls.{piles_of, ballots_in}
+use Rattle.tables.proofs.ReadLemmas.{only_reads_then}
+use Rattle.tables.proofs.CauseLemmas.{fails_later}
 use Rattle.store.proofs.KeepLemmas.{is_at_read}
 use Rattle.store.proofs.ElectionLemmas.{same_election}
 use Rattle.store.proofs.views.elections.ward_election.Goals as goal
@@ -24,4 +26,10 @@ returns-in_err-lots-clause-cause g c clean s at =
     let mid = is_at_read s _ _ c.list_candidates.ensures.reads (c.ward_ballots.ensures.reads.clean later) at in
     let late = is_at_read s _ _ c.ward_ballots.ensures.reads later mid in
     let p = err_from_is_err_and c.from_residual-in_err-lots.result c.from_residual-in_err-lots.ensures.1 in
-    rw (p.1, p.2) (c.in_err-lots.ensures.cause clean s late)
+    rw (p.1, p.2) (fails_later _ _ _ _ (only_reads_then _ _ _ c.list_candidates.ensures.reads c.ward_ballots.ensures.reads) c.recorded_lots.ensures.reads clean (c.in_err-lots.ensures.cause clean s late))
+
+pub returns-in_err-ballots-clause-cause : goal.returns-in_err-ballots-clause-cause
+returns-in_err-ballots-clause-cause g c clean s at =
+    let mid = is_at_read s _ _ c.list_candidates.ensures.reads (c.ward_ballots.ensures.reads.clean clean) at in
+    let p = err_from_is_err_and c.from_residual-in_err-ballots.result c.from_residual-in_err-ballots.ensures.1 in
+    rw (p.1, p.2) (fails_later _ _ _ _ c.list_candidates.ensures.reads c.ward_ballots.ensures.reads clean (c.in_err-ballots.ensures.cause clean s mid))

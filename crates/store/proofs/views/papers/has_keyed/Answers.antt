@@ -1,5 +1,5 @@
 -- Why `has_keyed` keeps its promise.
-use Rattle.std.proofs.Common.{option_map, ◌∙◌}
+use Rattle.std.proofs.Common.{refl, option_map, ◌∙◌}
 use Rattle.std.proofs.lemmas.Result.{err_from_is_err_and}
 use Rattle.register.specs.Offices.{keyed_entry, entry_at}
 use Rattle.store.specs.EntryRows.{row_of_keyed}
@@ -23,4 +23,4 @@ returns-in_err-paper-clause-cause g c clean s at =
     let p = err_from_is_err_and c.from_residual.result c.from_residual.ensures.1 in
     rw (p.1, p.2)
     ((rw (c.number.ensures, c.number-2.ensures, c.number-3.ensures, c.number-4.ensures) at (c.in_err-paper.ensures.cause clean (tables_of s) at.rests)) (option_map row_of_keyed paper) (keyed_found s at.is c.args.batch c.args.round c.args.clerk 1)
-    (keyed_fits s at.is c.args.batch c.args.round c.args.clerk 1))
+    refl (keyed_fits s at.is c.args.batch c.args.round c.args.clerk 1))

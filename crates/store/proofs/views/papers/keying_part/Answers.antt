@@ -2,6 +2,7 @@
 use Rattle.std.proofs.Common.{ap}
 use Rattle.std.proofs.lemmas.Result.{err_from_is_err_and}
 use Rattle.tables.proofs.ReadLemmas.{only_reads_then}
+use Rattle.tables.proofs.CauseLemmas.{fails_later}
 use Rattle.store.proofs.KeepLemmas.{is_at_read}
 use Rattle.store.proofs.PartLemmas.{same_part}
 use Rattle.store.proofs.views.papers.keying_part.Goals as goal
@@ -18,7 +19,7 @@ pub returns-in_err-own-clause-cause : goal.returns-in_err-own-clause-cause
 returns-in_err-own-clause-cause g c clean s at =
     let mid = is_at_read s _ _ c.polled_batch.ensures.reads (c.list_keying.ensures.reads.clean clean) at in
     let p = err_from_is_err_and c.from_residual-in_err-own.result c.from_residual-in_err-own.ensures.1 in
-    rw (p.1, p.2) (c.in_err-own.ensures.cause clean s mid)
+    rw (p.1, p.2) (fails_later _ _ _ _ c.polled_batch.ensures.reads c.list_keying.ensures.reads clean (c.in_err-own.ensures.cause clean s mid))
 
 pub returns-clause-reads : goal.returns-clause-reads
 returns-clause-reads g c = only_reads_then _ _ _ c.polled_batch.ensures.reads c.list_keying.ensures.reads

@@ -1,4 +1,5 @@
 -- Why `list_keying` keeps its promise.
+use Rattle.std.proofs.Common.{refl}
 use Rattle.register.specs.Offices.{keyed_entry, keying_of}
 use Rattle.store.specs.EntryRows.{row_of_keyed}
 use Rattle.store.specs.Offices.{tables_of}
@@ -14,4 +15,4 @@ returns-clause-found g c clean s at =
     (rw (c.number.ensures, c.number-2.ensures, c.number-3.ensures) at (c.entries_beginning.ensures.finds clean (tables_of s) at.rests))
 
 pub returns-clause-cause : goal.returns-clause-cause
-returns-clause-cause g c clean s at = c.entries_beginning.ensures.cause clean (tables_of s) at.rests (keyings_fit s at.is)
+returns-clause-cause g c clean s at = (rw (c.number.ensures, c.number-2.ensures, c.number-3.ensures) at (c.entries_beginning.ensures.cause clean (tables_of s) at.rests)) refl (keyings_fit s at.is)

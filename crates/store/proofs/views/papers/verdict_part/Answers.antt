@@ -3,6 +3,7 @@ use Rattle.std.proofs.Common.{ap, ◌∙◌}
 use Rattle.std.proofs.lemmas.Result.{err_from_is_err_and}
 use Rattle.register.specs.Batches.{first_for, second_for}
 use Rattle.tables.proofs.ReadLemmas.{only_reads_then}
+use Rattle.tables.proofs.CauseLemmas.{fails_later}
 use Rattle.store.proofs.KeepLemmas.{is_at_read}
 use Rattle.store.proofs.PartLemmas.{same_part}
 use Rattle.store.proofs.views.papers.verdict_part.Goals as goal
@@ -22,7 +23,7 @@ pub returns-in_err-first-clause-cause : goal.returns-in_err-first-clause-cause
 returns-in_err-first-clause-cause g c clean s at =
     let mid = is_at_read s _ _ c.polled_batch.ensures.reads (c.both_keyings.ensures.reads.clean clean) at in
     let p = err_from_is_err_and c.from_residual-in_err-first.result c.from_residual-in_err-first.ensures.1 in
-    rw (p.1, p.2) (c.in_err-first.ensures.cause clean s mid)
+    rw (p.1, p.2) (fails_later _ _ _ _ c.polled_batch.ensures.reads c.both_keyings.ensures.reads clean (c.in_err-first.ensures.cause clean s mid))
 
 pub returns-in_err-verdict-clause-cause : goal.returns-in_err-verdict-clause-cause
 returns-in_err-verdict-clause-cause g c clean s at =
@@ -30,7 +31,7 @@ returns-in_err-verdict-clause-cause g c clean s at =
     let mid = is_at_read s _ _ c.polled_batch.ensures.reads (c.both_keyings.ensures.reads.clean later) at in
     let late = is_at_read s _ _ c.both_keyings.ensures.reads later mid in
     let p = err_from_is_err_and c.from_residual-in_err-verdict.result c.from_residual-in_err-verdict.ensures.1 in
-    rw (p.1, p.2) (c.in_err-verdict.ensures.cause clean s late)
+    rw (p.1, p.2) (fails_later _ _ _ _ (only_reads_then _ _ _ c.polled_batch.ensures.reads c.both_keyings.ensures.reads) c.find_verdict.ensures.reads clean (c.in_err-verdict.ensures.cause clean s late))
 
 pub returns-clause-reads : goal.returns-clause-reads
 returns-clause-reads g c = only_reads_then _ _ _ c.polled_batch.ensures.reads (only_reads_then _ _ _ c.both_keyings.ensures.reads c.find_verdict.ensures.reads)

@@ -1,5 +1,5 @@
 -- Why `find_receipt` keeps its promise.
-use Rattle.std.proofs.Common.{option_map}
+use Rattle.std.proofs.Common.{refl, option_map}
 use Rattle.register.specs.Offices.{receipt_entry, receipt_at}
 use Rattle.store.specs.EntryRows.{row_of_receipt}
 use Rattle.store.specs.Offices.{tables_of}
@@ -17,4 +17,4 @@ returns-clause-found g c clean s at =
 pub returns-clause-cause : goal.returns-clause-cause
 returns-clause-cause g c clean s at =
     (rw (c.number.ensures, c.text.ensures) at (c.find_entry.ensures.cause clean (tables_of s) at.rests)) (option_map row_of_receipt (receipt_at s c.args.actor c.args.id.now)) (receipt_found s at.is c.args.actor c.args.id.now)
-    (receipt_fits s at.is c.args.actor c.args.id.now)
+    refl (receipt_fits s at.is c.args.actor c.args.id.now)

@@ -1,5 +1,5 @@
 -- Why `find_ward` keeps its promise.
-use Rattle.std.proofs.Common.{option_map}
+use Rattle.std.proofs.Common.{refl, option_map}
 use Rattle.register.specs.Offices.{ward_entry, ward_at}
 use Rattle.store.specs.EntryRows.{row_of_ward}
 use Rattle.store.specs.Offices.{tables_of}
@@ -15,4 +15,4 @@ returns-clause-found g c clean s at =
 
 pub returns-clause-cause : goal.returns-clause-cause
 returns-clause-cause g c clean s at =
-    (rw c.number.ensures at (c.find_entry.ensures.cause clean (tables_of s) at.rests)) (option_map row_of_ward (ward_at s c.args.ward)) (ward_found s at.is c.args.ward) (ward_fits s at.is c.args.ward)
+    (rw c.number.ensures at (c.find_entry.ensures.cause clean (tables_of s) at.rests)) (option_map row_of_ward (ward_at s c.args.ward)) (ward_found s at.is c.args.ward) refl (ward_fits s at.is c.args.ward)
