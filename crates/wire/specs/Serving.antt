@@ -1,5 +1,5 @@
 -- What is answered at a state of the office, and what a connection leaves.
-use Rattle.std.specs.Prelude.{◌≡◌, ◌⊎◌, ⊤, Bool, List, Option, Result, Ok, Err, IfSome, map, string_bytes, ℕ}
+use Rattle.std.specs.Prelude.{◌≡◌, ◌⊎◌, ◌∷◌, ⊤, Bool, List, [], Option, Result, Ok, Err, IfSome, map, string_bytes, ℕ}
 use Rattle.std.specs.Io.KnownBytes.{Appends}
 use Rattle.sqlite.specs.State.{State}
 use Rattle.votes.specs.Streams.{AppendsBeginning}
@@ -109,6 +109,23 @@ abbrev pub IsReadTold : {X Y : Type 0} → (X → ResponseEntry) → (Y → X) �
 IsReadTold entry view (Ok y) response = IsTold (entry (view y)) response
 IsReadTold entry view (Err (Refused why)) response = IsTold (refused_for why) response
 IsReadTold entry view (Err (Failed f)) response = IsTold (fault_response (fault_number f)) response
+
+-- ---- what is told, and what is handed on for it
+
+-- the requests that are handed on for what is asked at a state, and what is told: a clerk's keying is handed on, and what the office says to it is told
+abbrev pub TellsAsked : OfficeState → AskedEntry → Response → List Request → Type 0
+TellsAsked s (denied why) response sent = IsTold (denied_response why) response × (sent ≡ [])
+TellsAsked s (reading what) response sent = IsTold (reading_response s what) response × (sent ≡ [])
+TellsAsked s (keying clerk batch entry) response sent =
+    (request : Request) × IsHandedOn clerk batch entry request × IsTold (told_response (told_of (step_of s request))) response × (sent ≡ request ∷ [])
+
+-- a fault is told (503)
+abbrev pub TellsFault : Response → Type 0
+TellsFault response = (fault : Fault) × IsTold (fault_response (fault_number fault)) response
+
+-- what is asked is told; or a fault is, and nothing was handed on, or what was is as if it had never come
+abbrev pub TellsFor : Option (List ℕ) → OfficeState → List Request → Response → Type 0
+TellsFor bytes s sent response = ((asked : AskedEntry) × IfSome bytes (λ xs. Asks xs asked) × TellsAsked s asked response sent) ⊎ (TellsFault response × (sent ≡ []))
 
 -- ---- a closed office
 
