@@ -20,7 +20,7 @@ use Rattle.store.specs.Openings.{IsBlank, IsLeftAt}
 use Rattle.store.proofs.ReopenLemmas.{left_holds}
 use Rattle.office.specs.Answers.{Told, again, done, no, told_of}
 use Rattle.office.proofs.RunLemmas.{beginning}
-use Rattle.desk.specs.Errands.{File, IsAnswered, IsAnswerAbove, IsEndOf, IsKept, IsPlain, IsReplyAbove, IsRun, IsSent, IsStopped, Performs, Sends, SendsSome, TellsAnswers, TellsFault, TellsOther}
+use Rattle.desk.specs.Errands.{File, IsAnswered, IsAnswerAbove, IsEndOf, IsKept, IsPerformed, IsPerformedAndKept, IsPlain, IsReplyAbove, IsRun, IsSent, IsStopped, Performs, Sends, SendsSome, TellsAnswers, TellsFault, TellsOther}
 use Rattle.desk.specs.Pages.{Cut, uncut, cut_behind, cut_error, IsShown, Outputs, Page, cut_below, page_told}
 use Rattle.desk.specs.Requests.{Errand, Work, making, running, serving}
 use Rattle.desk.proofs.PageLemmas.{broken_ends}
@@ -217,3 +217,11 @@ kept earlier work file cut old new page status st shown (inr unopened) =
 kept earlier making file cut old new page status st shown (inl it) = absurd it
 kept earlier (serving port connections) file cut old new page status st shown (inl it) = nothing_kept earlier (serving port connections) file cut page status st (inl it.0) it.1
 kept earlier (running errand) file cut old new page status st shown (inl it) = run_kept earlier errand file cut old new page status it.0 st shown it.1
+
+-- what comes of an order, with what is kept of it
+pub with_kept : (cut : Cut) (work : Work) (file : File) (shown_before shown_after : Outputs) (page : Page) (status : ℕ) (old new : State) → IsShown cut shown_before shown_after page status
+    → IsPerformed cut work file page old new → IsPerformedAndKept cut work file page status old new
+with_kept cut work file shown_before shown_after page status old new shown did = record {
+  performed = did;
+  headline = λ db rests earlier left. kept earlier work file cut shown_before shown_after page status new shown (did.in_office db rests (after empty_office earlier) left);
+}

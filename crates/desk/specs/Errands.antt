@@ -171,13 +171,18 @@ pub record IsForeign (db : Database) (page : Page) (old new : State) : Type 0 wh
   pub given : IsToldBy db fault
   pub same : OnlyReads old new
 
+-- What needs a socket is told as a failed one, or want of memory is, and nothing is changed.
+abbrev pub IsUnserved : Page → State → State → Type 0
+IsUnserved page old new = ((page ≡ failed Output) ⊎ (page ≡ failed (Office Memory))) × OnlyReads old new
+
 -- what comes of what is to be done, by what the connection rests at: an office at a state, a database with nothing in it, one with a
--- table of our names, or one of no office
+-- table of our names, one of no office, or anything
 pub record IsPerformed (cut : Cut) (work : Work) (file : File) (page : Page) (old new : State) : Type 0 where
   pub in_office : (db : Database) → RestsAt db old → (s : OfficeState) → IsLeftAt s db → Performs cut s work file page new
   pub in_nothing : work ≡ making → IsBlank old → IsMade page old new
   pub taken : work ≡ making → (db : Database) → RestsAt db old → has_some_table db.schema ≡ true → IsTaken page old new
   pub elsewhere : (errand : Errand) → work ≡ running errand → (db : Database) → IsOurs db.schema → RestsAt db old → HoldsNoState db → IsForeign db page old new
+  pub anywhere : (port connections : ℕ) → work ≡ serving port connections → IsUnserved page old new
 
 -- ---- what is kept of an order
 
@@ -227,3 +232,9 @@ pub record IsKept (earlier : List Request) (work : Work) (file : File) (cut : Cu
   pub other : requests ≡ [] → TellsOther (after empty_office earlier) work file page
   pub leaves : LeavesState st (IsAfterBeginning earlier requests answered)
   pub all : ends ≡ 0 → answered ≡ length requests
+
+-- What comes of an order, and what is kept of it, of one page and so much of it told: what the connection rests at decides what comes of it,
+-- and at an office to which earlier requests led that is kept.
+pub record IsPerformedAndKept (cut : Cut) (work : Work) (file : File) (page : Page) (ends : ℕ) (old new : State) : Type 0 where
+  pub performed : IsPerformed cut work file page old new
+  pub headline : (db : Database) → RestsAt db old → (earlier : List Request) → IsLeftAt (after empty_office earlier) db → IsKept earlier work file cut page ends new

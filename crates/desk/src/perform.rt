@@ -1,15 +1,9 @@
 //! What the program does for an order.
 
-ghost use Rattle.std.specs.Prelude.{◌-◌, ◌^◌, ◌<◌, List, option_map};
-ghost use Rattle.sqlite.specs.Effect.{Database};
+ghost use Rattle.std.specs.Prelude.{◌-◌, ◌^◌, ◌<◌, option_map};
 ghost use Rattle.sqlite.specs.State.{HasCleanDisk};
 ghost use Rattle.sqlite.specs.Held.{state};
-ghost use Rattle.register.specs.Machine.{after};
-ghost use Rattle.register.specs.Offices.{empty_office};
-ghost use Rattle.register.specs.declared.command.Request.{Request};
-ghost use Rattle.tables.specs.Contents.{RestsAt};
-ghost use Rattle.store.specs.Openings.{IsLeftAt};
-ghost use Rattle.desk.specs.Errands.{File, IsKept, IsPerformed, IsRun, WhereOpen};
+ghost use Rattle.desk.specs.Errands.{File, IsPerformed, IsPerformedAndKept, IsRun, WhereOpen};
 ghost use Rattle.desk.specs.Pages.{Tells, outputs_of};
 ghost use Rattle.desk.specs.Requests.{errand_of, making, running, work_for};
 
@@ -125,11 +119,9 @@ pub fn perform<S: Alter, R: Read + Drop, O: Sink, E: Sink>(
 ) -> (u8, Connection<S>)
     requires out { O.failed out.old < 2 ^ 64 - 1 }
     requires err { E.failed err.old < 2 ^ 64 - 1 }
-    ensures performed { Tells (outputs_of O.taken O.failed E.taken E.failed out.old err.old) (outputs_of O.taken O.failed E.taken E.failed out.new err.new) result.0
-        (λ cut page. HasCleanDisk (state S.Store result.1) → IsPerformed cut (work_for order.now) (option_map R.remaining file) page (state S.Store conn) (state S.Store result.1)) }
     ensures headline { Tells (outputs_of O.taken O.failed E.taken E.failed out.old err.old) (outputs_of O.taken O.failed E.taken E.failed out.new err.new) result.0
-        (λ cut page. HasCleanDisk (state S.Store result.1) → (db : Database) → RestsAt db (state S.Store conn) → (earlier : List Request) → IsLeftAt (after empty_office earlier) db
-        → IsKept earlier (work_for order.now) (option_map R.remaining file) cut page result.0 (state S.Store result.1)) }
+        (λ cut page. HasCleanDisk (state S.Store result.1)
+        → IsPerformedAndKept cut (work_for order.now) (option_map R.remaining file) page result.0 (state S.Store conn) (state S.Store result.1)) }
 {
     match order {
         Order::Init => make_office(alloc, conn, out, err),

@@ -1,56 +1,140 @@
-//! Connections, answered one after the other.
+//! Clients, served one after the other.
 
-ghost use Rattle.std.specs.Prelude.{◌≡◌, ◌+◌, IfErr, false, true, ℕ};
+ghost use Rattle.std.specs.Prelude.{◌≡◌, ◌-◌, ◌^◌, ◌<◌, ◌≤◌, IfErr, IfOk, IfSome, List, OnOk, length, true, false};
+ghost use Rattle.std.specs.Duration.{as_nanos};
 ghost use Rattle.sqlite.specs.State.{HasCleanDisk};
 ghost use Rattle.sqlite.specs.Held.{state};
-ghost use Rattle.register.specs.Offices.{OfficeState};
+ghost use Rattle.register.specs.Machine.{after};
+ghost use Rattle.register.specs.Offices.{empty_office};
+ghost use Rattle.register.specs.declared.command.Request.{Request};
 ghost use Rattle.store.specs.Offices.{IsAt};
-ghost use Rattle.desk.specs.Serving.{IsLeftFrom};
+ghost use Rattle.desk.specs.Serving.{Admits, CountFailures, IsFresh, IsKeptOf, ServesClients, patience, streams_of};
 
 use crate::lines::Failure;
 use office::Office;
 use sqlite::Alter;
 use std::alloc::Global;
 use std::io;
-use std::net::{TcpListener, TcpStream};
+use std::io::{Read, Write};
+use std::net::{Incoming, TcpListener, TcpStream};
 use std::time::Duration;
-use votes::Counted;
+use votes::{Counted, Sink, Source};
 use wire::serve_one;
 
-/// How many seconds a connection may keep the office waiting for its bytes, or for taking ours, at one time.
-const PATIENCE: u64 = 30;
+/// How long a client may keep the office waiting for his bytes, or for taking ours, at one time.
+fn patience() -> Duration
+    ensures { as_nanos result ≡ patience }
+{
+    Duration::from_secs(30)
+}
 
-/// Limits how long the office waits for a connection, so that a silent one doesn't hold it for ever.
-fn limit_waiting(stream: &TcpStream) -> io::Result<()> {
-    let patience = Some(Duration::from_secs(PATIENCE));
+/// Limits how long the office waits for a client, so that a silent one doesn't hold it for ever.
+pub fn limit_waiting(stream: &TcpStream) -> io::Result<()> {
+    let patience = Some(patience());
     stream.set_read_timeout(patience)?;
     stream.set_write_timeout(patience)
 }
 
-/// Answers one connection. One that can't be limited is let go unanswered, as one that can't be read.
-fn serve_stream<S: Alter>(alloc: Global, stream: &TcpStream, office: &mut Office<S>)
-    ensures leaves { HasCleanDisk (state S.Store office.new.held) → (s : OfficeState) → (most : ℕ) → IsLeftFrom s most office.old.closed (state S.Store office.old.held)
-        → IsLeftFrom s (most + 1) office.new.closed (state S.Store office.new.held) }
+/// What a client sends. Where the waiting for him can't be limited, each read fails.
+#[derive(Drop)]
+pub struct Sending(io::Result<TcpStream>);
+
+impl Sending {
+    fn new(stream: &TcpStream) -> Sending {
+        match limit_waiting(stream) {
+            Ok(()) => Sending(stream.try_clone()),
+            Err(error) => Sending(Err(error)),
+        }
+    }
+}
+
+impl Read for Sending {
+    fn read(&mut self, room: &mut [u8]) -> io::Result<usize> {
+        match &mut self.0 {
+            Ok(stream) => stream.read(room),
+            Err(error) => Err(io::Error::from(error.kind())),
+        }
+    }
+}
+
+/// The clients of a listener: what each sends, and where his answer goes.
+#[derive(Drop)]
+pub struct Clients<'a>(Incoming<'a>);
+
+impl<'a> Clients<'a> {
+    /// Those who come to a listener.
+    pub fn new(listener: &'a TcpListener) -> Clients<'a> {
+        Clients(listener.incoming())
+    }
+}
+
+impl Iterator for Clients<'_> {
+    type Item = io::Result<(Counted<Sending>, Counted<TcpStream>)>;
+
+    ghost next_gives = { λ _ next _. IfSome next (λ found. IfOk found IsFresh) };
+
+    fn next(&mut self) -> Option<io::Result<(Counted<Sending>, Counted<TcpStream>)>> {
+        match self.0.next()? {
+            Ok(stream) => Some(Ok((Counted::new(Sending::new(&stream)), Counted::new(stream)))),
+            Err(error) => Some(Err(error)),
+        }
+    }
+}
+
+/// Lets the next client in. `Output` where none comes, or he can't be let in.
+fn admit<R: Source + Drop, W: Sink + Drop, I: Iterator<Item = io::Result<(R, W)>>>(
+    clients: &mut I,
+) -> Result<(R, W), Failure>
+    requires { I.can_next clients.old }
+    ensures admits { Admits I.next_gives clients.old clients.new result }
+    ensures can { OnOk result (I.can_next clients.new) }
+    ensures told { IfErr result (λ failure. failure ≡ Failure.Output) }
+{
+    match clients.next() {
+        Some(Ok(client)) => Ok(client),
+        Some(Err(_)) | None => Err(Failure::Output),
+    }
+}
+
+/// Serves so many clients, one after the other.
+///
+/// A client who can't be read or written to the end counts, and so does one who is told a fault: after a
+/// fault that closed the office, each further one is told that it is closed. `Output` where fewer clients
+/// come, or one can't be let in; what was answered before stands. No further one is let in.
+///
+/// Nothing changes an open office but clerks' keyings, at most one a client: whatever a stop leaves is the
+/// state after those that were answered, and at most one more. Each client is told what the office's
+/// machine says where his turn comes. A closed office stays as it is.
+pub fn serve_all<R, W, I, S>(
+    alloc: Global,
+    clients: &mut I,
+    connections: u32,
+    office: &mut Office<S>,
+) -> Result<(), Failure>
+where
+    R: Source + Drop,
+    W: Sink + Drop,
+    I: Iterator<Item = io::Result<(R, W)>>,
+    S: Alter,
+    requires can { I.can_next clients.old }
+    requires counts { CountFailures I.next_gives (streams_of R.held R.failed W.taken W.failed) }
+    ensures told { IfErr result (λ failure. failure ≡ Failure.Output) }
+    ensures served { ServesClients I.next_gives (streams_of R.held R.failed W.taken W.failed) (state S.Store) clients.old clients.new connections office.old office.new result }
     ensures closed { office.old.closed ≡ true → office.new ≡ office.old }
     ensures clean { HasCleanDisk (state S.Store office.new.held) → HasCleanDisk (state S.Store office.old.held) }
 {
-    if limit_waiting(stream).is_err() {
-        return;
+    for turn in 0..connections {
+        let (mut reader, mut writer) = admit(clients)?;
+        let _ = serve_one(alloc, &mut reader, &mut writer, office);
     }
-    let mut reader = Counted::new(stream);
-    let mut writer = Counted::new(stream);
-    let _ = serve_one(alloc, &mut reader, &mut writer, office);
+    Ok(())
 }
 
-/// Answers so many connections, one after the other.
+/// Serves so many clients of a listener, as `serve_all` does.
 ///
-/// A connection that can't be read or written to the end counts, and so does one that is answered with a
-/// fault: after a fault that closed the office, each further one is told that it is closed. `Output` where
-/// no connection can be accepted; what was answered before stands.
-///
-/// Of an open office nothing is changed but by clerks' keyings, at most one a connection: it is left open
-/// at a state that they lead to, or a fault closed it, and then whatever a stop leaves is such a state. A
-/// closed office stays as it is.
+/// What a real socket gives and takes no clause can tell. Of an open office, whatever a stop leaves is the state
+/// after the accepted requests of a beginning of all that were ever sent, of which those here are clerks'
+/// keyings, at most one a client.
 pub fn serve_on<S: Alter>(
     alloc: Global,
     listener: &TcpListener,
@@ -58,16 +142,12 @@ pub fn serve_on<S: Alter>(
     office: &mut Office<S>,
 ) -> Result<(), Failure>
     ensures told { IfErr result (λ failure. failure ≡ Failure.Output) }
-    ensures leaves { HasCleanDisk (state S.Store office.new.held) → office.old.closed ≡ false → (s : OfficeState) → IsAt s (state S.Store office.old.held)
-        → IsLeftFrom s connections office.new.closed (state S.Store office.new.held) }
+    ensures kept { HasCleanDisk (state S.Store office.new.held) → office.old.closed ≡ false → (earlier : List Request) → IsAt (after empty_office earlier) (state S.Store office.old.held)
+        → (clients : _) × (length clients ≤ connections)
+        × IsKeptOf (streams_of ⟦<Counted<Sending> as Source>⟧.held ⟦<Counted<Sending> as Source>⟧.failed ⟦<Counted<TcpStream> as Sink>⟧.taken ⟦<Counted<TcpStream> as Sink>⟧.failed)
+        earlier clients office.new.closed (state S.Store office.new.held) }
     ensures closed { office.old.closed ≡ true → office.new ≡ office.old }
     ensures clean { HasCleanDisk (state S.Store office.new.held) → HasCleanDisk (state S.Store office.old.held) }
 {
-    for (_, stream) in (0..connections).zip(listener.incoming()) {
-        match stream {
-            Ok(stream) => serve_stream(alloc, &stream, office),
-            Err(_) => return Err(Failure::Output),
-        }
-    }
-    Ok(())
+    serve_all(alloc, &mut Clients::new(listener), connections, office)
 }

@@ -1,10 +1,9 @@
 -- What an answer that is ready tells, and what it leaves.
-use Rattle.std.proofs.Common.{◌≡◌, ◌∙◌, ℕ, Bool, List, Result, Ok, Err, inl, inr, ap, refl, subst, sym}
+use Rattle.std.proofs.Common.{◌≡◌, ◌∙◌, ℕ, Bool, Result, Ok, Err, inl, inr, ap, refl, subst, sym}
 use Rattle.sqlite.specs.State.{State}
-use Rattle.register.specs.Machine.{state_after, step}
+use Rattle.register.specs.Machine.{state_after, step_of}
 use Rattle.register.specs.Offices.{OfficeState}
-use Rattle.register.specs.declared.command.Command.TheVariants as command
-use Rattle.register.specs.declared.keyings.KeyingCommand.{KeyingCommand}
+use Rattle.register.specs.declared.command.Request.{Request}
 use Rattle.register.specs.declared.refusal.Reason.{Reason}
 use Rattle.tables.specs.Faults.{fault_number}
 use Rattle.tables.specs.declared.fault.Fault.{Fault}
@@ -23,21 +22,20 @@ use Rattle.wire.specs.declared.response.Response.{Response}
 use Rattle.wire.specs.declared.target.Reading.{Reading}
 
 -- a keying that the office answered
-pub Readies-answered : (s : OfficeState) (clerk batch : ℕ) (entry : KeyingEntry) (id : List ℕ) (handed : KeyingCommand) (a : Answer) (response : Response) (closed : Bool) (st : State) → IsHandedOn batch entry handed → id ≡ entry.id
-    → Handled s (step s clerk id (command.Keying handed)) (Ok a) closed st → IsTold (told_response (told a)) response → Readies s (keying clerk batch entry) response closed st
-Readies-answered s clerk batch entry id handed a response closed st is own handled tells =
-    let outcome = step s clerk id (command.Keying handed) in (
+pub Readies-answered : (s : OfficeState) (clerk batch : ℕ) (entry : KeyingEntry) (request : Request) (a : Answer) (response : Response) (closed : Bool) (st : State) → IsHandedOn clerk batch entry request
+    → Handled s (step_of s request) (Ok a) closed st → IsTold (told_response (told a)) response → Readies s (keying clerk batch entry) response closed st
+Readies-answered s clerk batch entry request a response closed st is handled tells =
+    let outcome = step_of s request in (
       told_response (told_of outcome),
       subst (λ t. IsTold (told_response t) response) handled.0 tells,
-      inl (record { next = state_after s outcome; is = (outcome, IsOutcome-handed s clerk batch entry id handed is own, refl, refl); open_at = handled.1 }),
+      inl (record { next = state_after s outcome; is = (outcome, IsOutcome-handed s clerk batch entry request is, refl, refl); open_at = handled.1 }),
     )
 
 -- a keying at which it met a fault
-pub Readies-faulted : (s : OfficeState) (clerk batch : ℕ) (entry : KeyingEntry) (id : List ℕ) (handed : KeyingCommand) (f : Fault) (response : Response) (closed : Bool) (st : State) → IsHandedOn batch entry handed → id ≡ entry.id
-    → Handled s (step s clerk id (command.Keying handed)) (Err f) closed st → IsTold (fault_response (fault_number f)) response → Readies s (keying clerk batch entry) response closed st
-Readies-faulted s clerk batch entry id handed f response closed st is own handled tells =
-    let outcome = step s clerk id (command.Keying handed) in
-    (fault_response (fault_number f), tells, inr (f, refl, (outcome, IsOutcome-handed s clerk batch entry id handed is own, handled)))
+pub Readies-faulted : (s : OfficeState) (clerk batch : ℕ) (entry : KeyingEntry) (request : Request) (f : Fault) (response : Response) (closed : Bool) (st : State) → IsHandedOn clerk batch entry request
+    → Handled s (step_of s request) (Err f) closed st → IsTold (fault_response (fault_number f)) response → Readies s (keying clerk batch entry) response closed st
+Readies-faulted s clerk batch entry request f response closed st is handled tells =
+    (fault_response (fault_number f), tells, inr (f, refl, (step_of s request, IsOutcome-handed s clerk batch entry request is, handled)))
 
 -- what was read
 pub Readies-read : {X Y : Type 0} (s : OfficeState) (what : Reading) (entry : X → ResponseEntry) (view : Y → X) (reads : Result X Reason) (r : Result Y Stop) (response : Response) (closed : Bool) (st : State)

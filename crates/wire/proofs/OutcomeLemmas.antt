@@ -1,12 +1,13 @@
 -- A keying has one outcome: it rests on the batch, the round and the texts that the command is given, and on nothing else of it.
 use Rattle.std.proofs.Common.{◌≡◌, ◌∙◌, ℕ, List, Option, Some, None, ap, if◌then◌else◌, map, refl, string_bytes, sym}
 use Rattle.register.specs.Keyings.{objections, part_of, reply_to, subject_of}
-use Rattle.register.specs.Machine.{answered, decided, judged, outcome_at, refuses, step}
+use Rattle.register.specs.Machine.{answered, decided, judged, outcome_at, refuses, step, step_of}
 use Rattle.register.specs.Offices.{OfficeState, ReceiptEntry, receipt_at}
 use Rattle.register.specs.Parts.{PartEntries}
 use Rattle.register.specs.Ranges.{is_id}
 use Rattle.register.specs.Reasons.{first_reason}
 use Rattle.register.specs.declared.command.Command.TheVariants as command
+use Rattle.register.specs.declared.command.Request.{Request}
 use Rattle.register.specs.declared.keyings.KeyingCommand.{KeyingCommand}
 use Rattle.register.specs.declared.refusal.Reason.{Reason}
 use Rattle.register.specs.declared.refusal.Reason.TheVariants.{BadId}
@@ -46,13 +47,16 @@ step-same s clerk id one other same =
     (answered-same clerk id (part_of s clerk one) one other same (receipt_at s clerk id)
     ∙ ap (answered clerk id (command.Keying other) (receipt_at s clerk id)) (part-same s clerk one other same))
 
--- the command that a keying is handed on as has its outcome
-pub IsOutcome-handed : (s : OfficeState) (clerk batch : ℕ) (entry : KeyingEntry) (id : List ℕ) (handed : KeyingCommand) → IsHandedOn batch entry handed → id ≡ entry.id
-    → IsOutcome s clerk batch entry (step s clerk id (command.Keying handed))
-IsOutcome-handed s clerk batch entry id handed is own = record {
-  handed = handed;
+-- the request that a keying is handed on as has its outcome
+pub IsOutcome-handed : (s : OfficeState) (clerk batch : ℕ) (entry : KeyingEntry) (request : Request) → IsHandedOn clerk batch entry request → IsOutcome s clerk batch entry (step_of s request)
+IsOutcome-handed s clerk batch entry request is = record {
+  request = request;
   is = is;
   each = λ other is_too.
-      let same : IsSame handed other = record { batch = is.batch ∙ sym is_too.batch; round = is.round ∙ sym is_too.round; papers = is.papers ∙ sym is_too.papers } in
-      ap (λ i. step s clerk i (command.Keying handed)) own ∙ step-same s clerk entry.id handed other same;
+      let same : IsSame is.handed is_too.handed = record { batch = is.about ∙ sym is_too.about; round = is.round ∙ sym is_too.round; papers = is.papers ∙ sym is_too.papers } in
+      ap (λ actor. step s actor (string_bytes request.id) request.command) (is.actor ∙ sym is_too.actor)
+      ∙ ap (λ id. step s other.actor id request.command) (is.id ∙ sym is_too.id)
+      ∙ ap (step s other.actor (string_bytes other.id)) is.command
+      ∙ step-same s other.actor (string_bytes other.id) is.handed is_too.handed same
+      ∙ ap (step s other.actor (string_bytes other.id)) (sym is_too.command);
 }

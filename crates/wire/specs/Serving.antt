@@ -1,12 +1,13 @@
 -- What is answered at a state of the office, and what a connection leaves.
-use Rattle.std.specs.Prelude.{◌≡◌, ◌⊎◌, ⊤, Bool, List, Option, Result, Ok, Err, IfSome, map, string_bytes, ℕ}
+use Rattle.std.specs.Prelude.{◌≡◌, ◌⊎◌, ◌∷◌, ⊤, Bool, List, [], Option, Result, Ok, Err, IfSome, map, string_bytes, ℕ}
 use Rattle.std.specs.Io.KnownBytes.{Appends}
 use Rattle.sqlite.specs.State.{State}
 use Rattle.votes.specs.Streams.{AppendsBeginning}
-use Rattle.register.specs.Machine.{Outcome, state_after, step}
+use Rattle.register.specs.Machine.{Outcome, state_after, step_of}
 use Rattle.register.specs.Offices.{OfficeState}
 use Rattle.register.specs.Reasons.{reason_number, reason_text}
 use Rattle.register.specs.declared.command.Command.TheVariants as command
+use Rattle.register.specs.declared.command.Request.{Request}
 use Rattle.register.specs.declared.keyings.KeyingCommand.{KeyingCommand}
 use Rattle.register.specs.declared.refusal.Reason.{Reason}
 use Rattle.register.specs.Standings.{WorkEntry}
@@ -55,17 +56,21 @@ reading_response s (Work clerk) = read_response (work_response clerk) (work_told
 reading_response s (Sheet ward) = read_response text_response (text_told text.Sheet s ward)
 reading_response s (Declaration ward) = read_response text_response (text_told text.Declaration s ward)
 
--- the command that a clerk's keying is handed on as
-pub record IsHandedOn (number : ℕ) (entry : KeyingEntry) (command : KeyingCommand) : Type 0 where
-  pub batch : command.batch ≡ number
-  pub round : command.round ≡ entry.round
-  pub papers : map string_bytes command.papers.items ≡ entry.papers
-
--- the outcome of a clerk's keying at a state: that of each command which it can be handed on as
-pub record IsOutcome (s : OfficeState) (clerk batch : ℕ) (entry : KeyingEntry) (outcome : Outcome) : Type 0 where
+-- the request that a clerk's keying of a batch is handed on as
+pub record IsHandedOn (clerk batch : ℕ) (entry : KeyingEntry) (request : Request) : Type 0 where
+  pub actor : request.actor ≡ clerk
+  pub id : string_bytes request.id ≡ entry.id
   pub handed : KeyingCommand
-  pub is : IsHandedOn batch entry handed
-  pub each : (other : KeyingCommand) → IsHandedOn batch entry other → outcome ≡ step s clerk entry.id (command.Keying other)
+  pub command : request.command ≡ command.Keying handed
+  pub about : handed.batch ≡ batch
+  pub round : handed.round ≡ entry.round
+  pub papers : map string_bytes handed.papers.items ≡ entry.papers
+
+-- the outcome of a clerk's keying at a state: that of each request which it can be handed on as
+pub record IsOutcome (s : OfficeState) (clerk batch : ℕ) (entry : KeyingEntry) (outcome : Outcome) : Type 0 where
+  pub request : Request
+  pub is : IsHandedOn clerk batch entry request
+  pub each : (other : Request) → IsHandedOn clerk batch entry other → outcome ≡ step_of s other
 
 -- the answer to what is asked at a state, and the state after it
 abbrev pub IsAnswer : OfficeState → AskedEntry → OfficeState → ResponseEntry → Type 0
@@ -104,6 +109,23 @@ abbrev pub IsReadTold : {X Y : Type 0} → (X → ResponseEntry) → (Y → X) �
 IsReadTold entry view (Ok y) response = IsTold (entry (view y)) response
 IsReadTold entry view (Err (Refused why)) response = IsTold (refused_for why) response
 IsReadTold entry view (Err (Failed f)) response = IsTold (fault_response (fault_number f)) response
+
+-- ---- what is told, and what is handed on for it
+
+-- the requests that are handed on for what is asked at a state, and what is told: a clerk's keying is handed on, and what the office says to it is told
+abbrev pub TellsAsked : OfficeState → AskedEntry → Response → List Request → Type 0
+TellsAsked s (denied why) response sent = IsTold (denied_response why) response × (sent ≡ [])
+TellsAsked s (reading what) response sent = IsTold (reading_response s what) response × (sent ≡ [])
+TellsAsked s (keying clerk batch entry) response sent =
+    (request : Request) × IsHandedOn clerk batch entry request × IsTold (told_response (told_of (step_of s request))) response × (sent ≡ request ∷ [])
+
+-- a fault is told (503)
+abbrev pub TellsFault : Response → Type 0
+TellsFault response = (fault : Fault) × IsTold (fault_response (fault_number fault)) response
+
+-- what is asked is told; or a fault is, and nothing was handed on, or what was is as if it had never come
+abbrev pub TellsFor : Option (List ℕ) → OfficeState → List Request → Response → Type 0
+TellsFor bytes s sent response = ((asked : AskedEntry) × IfSome bytes (λ xs. Asks xs asked) × TellsAsked s asked response sent) ⊎ (TellsFault response × (sent ≡ []))
 
 -- ---- a closed office
 
@@ -147,17 +169,19 @@ pub record IsServed (IsReady : Response → Type 0) (old new : Option (List ℕ)
   pub ready : IsReady response
   pub put : IsPut old new response served
 
+-- how a connection ended: an answer that was ready was put; or the reader failed
+abbrev pub EndsWith : (Response → Type 0) → Type 0 → Option (List ℕ) → Option (List ℕ) → Served → Type 0
+EndsWith IsReady Unread old new (Answered status) = IsServed IsReady old new (Answered status)
+EndsWith IsReady Unread old new ReadFailed = Unread
+EndsWith IsReady Unread old new WriteFailed = IsServed IsReady old new WriteFailed
+
 -- what each end of a connection tells and leaves: where the reader failed, nothing was handed on
 abbrev pub Serves : Option (List ℕ) → Option (List ℕ) → Option (List ℕ) → OfficeState → Served → Bool → State → Type 0
-Serves bytes old new s (Answered status) closed st = IsServed (λ response. ReadiesFor bytes s response closed st) old new (Answered status)
-Serves bytes old new s ReadFailed closed st = IsOpenAt s closed st
-Serves bytes old new s WriteFailed closed st = IsServed (λ response. ReadiesFor bytes s response closed st) old new WriteFailed
+Serves bytes old new s served closed st = EndsWith (λ response. ReadiesFor bytes s response closed st) (IsOpenAt s closed st) old new served
 
 -- what each end of a connection tells where the office is closed: where the reader failed, nothing was written
 abbrev pub ServesClosed : Option (List ℕ) → Option (List ℕ) → Option (List ℕ) → Served → Type 0
-ServesClosed bytes old new (Answered status) = IsServed (ReadiesClosed bytes) old new (Answered status)
-ServesClosed bytes old new ReadFailed = new ≡ old
-ServesClosed bytes old new WriteFailed = IsServed (ReadiesClosed bytes) old new WriteFailed
+ServesClosed bytes old new served = EndsWith (ReadiesClosed bytes) (new ≡ old) old new served
 
 -- P, where an answer was written whole
 abbrev pub OnAnswered : Served → Type 0 → Type 0

@@ -5,6 +5,7 @@ ghost use Rattle.sqlite.specs.State.{HasCleanDisk};
 ghost use Rattle.sqlite.specs.Held.{state};
 ghost use Rattle.register.specs.Offices.{OfficeState};
 ghost use Rattle.store.specs.Offices.{IsAt};
+ghost use Rattle.wire.specs.Asking.{HasRead, IsWanting};
 ghost use Rattle.wire.specs.Serving.{IsPut, OnAnswered, OnReadFailed, OnWriteFailed, ReadiesClosed, ReadiesFor, Serves, ServesClosed};
 
 use crate::answering::answer;
@@ -38,6 +39,7 @@ fn response_to<R: Source, S: Alter>(
         → IfOk result (λ response. ReadiesFor (R.held reader.old) s response office.new.closed (state S.Store office.new.held)) }
     ensures read { OnOk result (R.failed reader.new ≡ R.failed reader.old) }
     ensures failed { OnErr result (R.failed reader.new ≡ R.failed reader.old + 1) }
+    ensures wanting { OnErr result (HasRead (R.held reader.old) (R.held reader.new) IsWanting) }
     ensures unasked { OnErr result (office.new ≡ office.old) }
     ensures closed { office.old.closed ≡ true → office.new ≡ office.old }
     ensures closed_told { office.old.closed ≡ true → IfOk result (λ response. ReadiesClosed (R.held reader.old) response) }
@@ -67,13 +69,17 @@ fn put<W: Sink>(writer: &mut W, response: &Response) -> Served
 ///
 /// `Answered`: the answer to what the reader's bytes ask was written whole, the office is at the state
 /// after it, and neither the reader nor the writer failed. After a fault of the office it tells that fault
-/// (503); where memory was wanting for the request or for the answer, it tells 101 (503), and the request
-/// wasn't handed on, or it was, and the office is at the state after it. `ReadFailed` comes only from the
-/// reader, which counts one failure more: a failed read isn't answered, nothing was written, and the office
-/// is as it was. `WriteFailed` comes only from the writer, which counts one failure more, where the reader
-/// counts none: a beginning of the answer was written, the write isn't tried again, and what the office
-/// answered stands. A closed office tells that it is closed, 104 (503), where it is asked anything, and
-/// stays as it is.
+/// (503): the office is as it was, or closed, and then a stop leaves the state before the request or, of an
+/// accepted one, the state after it. 101 (503) is told where memory was wanting: for the request, which then
+/// wasn't handed on; for the answer, and then the office is at the state after the request; or in the
+/// office, as any fault.
+///
+/// `ReadFailed` comes only from the reader, which counts one failure more, and only while what was read
+/// doesn't say yet what is asked: a failed read isn't answered, nothing was written, and the office is as it
+/// was. `WriteFailed` comes only from the writer, which counts one failure more, where the reader counts
+/// none: a beginning of the answer was written, the write isn't tried again, and what the office answered
+/// stands. A closed office tells that it is closed, 104 (503), where it is asked anything, and stays as it
+/// is.
 pub fn serve_one<R: Source, W: Sink, S: Alter>(
     alloc: Global,
     reader: &mut R,
@@ -85,6 +91,7 @@ pub fn serve_one<R: Source, W: Sink, S: Alter>(
     ensures served { HasCleanDisk (state S.Store office.new.held) → office.old.closed ≡ false → (s : OfficeState) → IsAt s (state S.Store office.old.held)
         → Serves (R.held reader.old) (W.taken writer.old) (W.taken writer.new) s result office.new.closed (state S.Store office.new.held) }
     ensures read_failed { OnReadFailed result ((R.failed reader.new ≡ R.failed reader.old + 1) × (writer.new ≡ writer.old) × (office.new ≡ office.old)) }
+    ensures wanting { OnReadFailed result (HasRead (R.held reader.old) (R.held reader.new) IsWanting) }
     ensures answered { OnAnswered result ((R.failed reader.new ≡ R.failed reader.old) × (W.failed writer.new ≡ W.failed writer.old)) }
     ensures write_failed { OnWriteFailed result ((R.failed reader.new ≡ R.failed reader.old) × (W.failed writer.new ≡ W.failed writer.old + 1)) }
     ensures closed { office.old.closed ≡ true → office.new ≡ office.old }

@@ -11,6 +11,9 @@ returns-in-Ok-clause-served g c = λ clean open_before s at.
 pub returns-in-Ok-clause-read_failed : goal.returns-in-Ok-clause-read_failed
 returns-in-Ok-clause-read_failed g c = put-read (g.W.Sink.taken c.args.writer.now) (g.W.Sink.taken c.put.new.writer) c.in-Ok.response c.put.result _ c.put.ensures.puts
 
+pub returns-in-Ok-clause-wanting : goal.returns-in-Ok-clause-wanting
+returns-in-Ok-clause-wanting g c = put-read (g.W.Sink.taken c.args.writer.now) (g.W.Sink.taken c.put.new.writer) c.in-Ok.response c.put.result _ c.put.ensures.puts
+
 pub returns-in-Ok-clause-answered : goal.returns-in-Ok-clause-answered
 returns-in-Ok-clause-answered g c = OnAnswered-both c.put.result _ _ c.in-Ok.ensures.read c.put.ensures.answered
 
