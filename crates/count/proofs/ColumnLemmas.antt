@@ -10,7 +10,7 @@ use Rattle.paper.specs.Columns.{max_candidates, IsColumnSet, IsColumn}
 use Rattle.std.proofs.lemmas.List.{get_or-take, length-take, take_all}
 use Rattle.std.proofs.lemmas.List.Elements.{filter_more}
 use Rattle.count.specs.Law.Contest.{In}
-use Rattle.count.specs.Holdings.{OnlyColumns}
+use Rattle.count.specs.Inside.Holdings.{OnlyColumns}
 use Rattle.count.proofs.Law.ActionLemmas.{in-filter, column-in}
 
 -- a test finds the same in either direction

@@ -6,7 +6,8 @@ use Rattle.votes.specs.Units.{max_units}
 use Rattle.count.specs.Law.Contest.{Contest, History, IsContest, In, newest_votes}
 use Rattle.count.specs.Law.Right.{IsRightByItself, candidate_of}
 use Rattle.count.specs.Advance.{IsDue}
-use Rattle.count.specs.Books.{AreRankings, HoldPapers, IsBook}
+use Rattle.count.specs.Books.{AreRankings}
+use Rattle.count.specs.Inside.Keeping.{HoldPapers, IsBook}
 use Rattle.count.specs.declared.parcel.Holding.{Holding}
 use Rattle.count.specs.declared.stages.Action.{Action}
 use Rattle.count.specs.declared.stages.Action.TheVariants.{First, Surplus, Exclude, ExcludeLast}

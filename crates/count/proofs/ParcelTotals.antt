@@ -5,7 +5,7 @@ use Rattle.std.proofs.lemmas.List.Sums.{sum_by_push, sum_by_more, sum_by-set}
 use Rattle.paper.specs.Standing.{from_first}
 use Rattle.paper.specs.Columns.{max_candidates}
 use Rattle.count.specs.Law.Places.{first_of}
-use Rattle.count.specs.Holdings.{total, total_of, total_passed, at_passed, new_value, OnlyColumns, AreNumbered}
+use Rattle.count.specs.Inside.Holdings.{total, total_of, total_passed, at_passed, new_value, OnlyColumns, AreNumbered}
 use Rattle.count.specs.declared.parcel.TransferRule.{TransferRule}
 use Rattle.count.proofs.SumLemmas.{sum_by-none, sum_by-same, at_equal, at_other}
 use Rattle.count.specs.declared.parcel.Parcel.{Parcel}

@@ -4,8 +4,9 @@ use Rattle.std.specs.List.{list_any, filter}
 use Rattle.std.proofs.Math.Seq.{set-append_seam}
 use Rattle.count.specs.Law.Contest.{Contest, History, numbers}
 use Rattle.count.specs.Law.Elected.{elected_after, is_elected}
-use Rattle.count.specs.Holdings.{votes_with, worth_to, newest_non_transferable, lost_with}
-use Rattle.count.specs.Books.{contest_of, with_newly, IsAdded, Records}
+use Rattle.count.specs.Inside.Holdings.{votes_with, worth_to, newest_non_transferable, lost_with}
+use Rattle.count.specs.Books.{contest_of}
+use Rattle.count.specs.Inside.Keeping.{with_newly, IsAdded, Records}
 use Rattle.count.specs.declared.terms.Terms.{Terms}
 use Rattle.count.specs.declared.parcel.Holding.{Holding}
 use Rattle.count.specs.declared.stages.Action.{Action}

@@ -5,7 +5,7 @@ use Rattle.std.proofs.lemmas.Bool.{eq-eqb}
 use Rattle.paper.specs.Ranking.{IsRanking}
 use Rattle.paper.specs.Standing.{from_first}
 use Rattle.count.specs.Law.Places.{first_of}
-use Rattle.count.specs.Holdings.{passed_to}
+use Rattle.count.specs.Inside.Holdings.{passed_to}
 use Rattle.count.proofs.SumLemmas.{at_equal, at_other}
 
 -- xs stands at the end of ys

@@ -12,8 +12,9 @@ use Rattle.count.specs.Law.Places.{Place, place, moved}
 use Rattle.count.specs.Law.Figures.{value_with, votes_after, non_transferable_after, value_passed_on, lost_after, lost_by}
 use Rattle.count.specs.Law.Right.{IsRightBy, candidate_of}
 use Rattle.count.specs.Advance.{IsDue, Adds}
-use Rattle.count.specs.Holdings.{total, passes_on, kept_by, worth, worth_to, votes_with, lost_with, newest_non_transferable, newest_lost, AreSmall}
-use Rattle.count.specs.Books.{contest_of, HoldPapers, IsMovedBy, AreHeld, AreRankings, IsBook, Records}
+use Rattle.count.specs.Inside.Holdings.{total, passes_on, kept_by, worth, worth_to, votes_with, lost_with, newest_non_transferable, newest_lost, AreSmall}
+use Rattle.count.specs.Books.{contest_of, AreRankings}
+use Rattle.count.specs.Inside.Keeping.{HoldPapers, IsMovedBy, AreHeld, IsBook, Records}
 use Rattle.count.specs.declared.terms.Terms.{Terms}
 use Rattle.count.specs.declared.parcel.Holding.{Holding}
 use Rattle.count.specs.declared.stages.Stage.{Stage}

@@ -2,7 +2,7 @@
 use Rattle.std.proofs.Common.{◌≡◌, ℕ, ◌+◌, ◌*◌, ◌<◌, ◌≤◌, cond, eqb, List, length, take, get_or, sym, ap, ◌∙◌, arith, Bor}
 use Rattle.std.specs.List.{sum_by}
 use Rattle.std.proofs.lemmas.List.Sums.{sum_by_more_le, sum_by_more_le_part, sum_by-le-sum_by}
-use Rattle.count.specs.Holdings.{total_of, worth, worth_to}
+use Rattle.count.specs.Inside.Holdings.{total_of, worth, worth_to}
 use Rattle.count.specs.declared.parcel.Parcel.{Parcel}
 use Rattle.count.specs.declared.parcel.Holding.{Holding}
 use Rattle.count.proofs.SumLemmas.{sum_by-constant, at_equal, at_other}

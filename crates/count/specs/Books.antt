@@ -1,78 +1,19 @@
--- What a book is, and how its papers stand to the places that the law gives them.
-use Rattle.std.specs.Prelude.{◌≡◌, ℕ, ◌+◌, ◌==◌, not, List, [], ◌∷◌, map, ⊤}
-use Rattle.std.specs.List.{filter, sum_by}
+-- What a book is to its callers.
+use Rattle.std.specs.Prelude.{ℕ, List, [], ◌∷◌, ⊤}
 use Rattle.paper.specs.Ranking.{IsRanking}
-use Rattle.count.specs.Law.Contest.{Contest, History, IsContest, numbers}
-use Rattle.paper.specs.Standing.{from_first}
-use Rattle.count.specs.Law.Places.{Place, place}
-use Rattle.count.specs.Law.Right.{IsRightByItself}
-use Rattle.count.specs.Law.Elected.{is_elected, elected_after}
-use Rattle.count.specs.Holdings.{total, kept_by, votes_with, worth_to, newest_non_transferable, lost_with}
-use Rattle.count.specs.declared.parcel.Holding.{Holding}
+use Rattle.count.specs.Law.Contest.{Contest, History}
 use Rattle.count.specs.declared.terms.Terms.{Terms}
-use Rattle.count.specs.declared.stages.Action.{Action}
-use Rattle.count.specs.declared.stages.Stage.{Stage}
 
 -- the contest of these terms and papers
 abbrev pub contest_of : Terms → List (List ℕ) → Contest
 contest_of terms papers = record { candidates = terms.candidates; seats = terms.seats; quota = terms.quota; papers = papers }
-
--- the preferences of a paper from its holder's on
-abbrev pub rest_at : List ℕ → Place → List ℕ
-rest_at paper at = from_first (λ d. d == at.holder) paper
-
--- a function of holder, preferences and value at the place of a paper
-abbrev pub at_place : (ℕ → List ℕ → ℕ → ℕ) → List ℕ → Place → ℕ
-at_place f paper at = f at.holder (rest_at paper at) at.value
-
--- whatever is added up over the papers of a contest at their places comes to the same over the holdings
-abbrev pub HoldPapers : Contest → History → List Holding → Type 0
-HoldPapers contest stages holdings =
-    (f : ℕ → List ℕ → ℕ → ℕ) → sum_by (λ paper. at_place f paper (place contest stages paper)) contest.papers ≡ total f holdings
-
--- the same once an action has come: the papers lie in what it moved and in what it left
-abbrev pub IsMovedBy : Contest → History → Action → List Holding → List Holding → Type 0
-IsMovedBy contest before action holdings moved =
-    (f : ℕ → List ℕ → ℕ → ℕ) (s : Stage) → s.action ≡ action →
-    sum_by (λ paper. at_place f paper (place contest (s ∷ before) paper)) contest.papers ≡ total f moved + total (kept_by f action) holdings
-
--- a stage with its newly elected
-abbrev pub with_newly : Stage → List ℕ → Stage
-with_newly s newly = record { action = s.action; votes = s.votes; elected = newly; non_transferable = s.non_transferable; lost = s.lost }
-
--- a history with one stage more, in which the newly elected are filled in
-pub record IsAdded (terms : Terms) (old : History) (bare : Stage) (new : History) : Type 0 where
-  pub newly : List ℕ
-  pub one_more : new ≡ with_newly bare newly ∷ old
-  pub newly_is : newly ≡ filter (λ c. not (is_elected (contest_of terms []) old c)) (elected_after (contest_of terms []) (with_newly bare newly ∷ old))
-
--- a history with one stage more, made of the papers that an action moved
-pub record Records (terms : Terms) (old : History) (action : Action) (moved : List Holding) (new : History) : Type 0 where
-  pub stage : Stage
-  pub one_more : new ≡ stage ∷ old
-  pub of_action : stage.action ≡ action
-  pub votes_are : stage.votes ≡ map (votes_with terms.quota old action moved) numbers
-  pub elected_are : stage.elected ≡ filter (λ c. not (is_elected (contest_of terms []) old c)) (elected_after (contest_of terms []) (stage ∷ old))
-  pub non_transferable_is : stage.non_transferable ≡ newest_non_transferable old + worth_to 0 moved
-  pub lost_is : stage.lost ≡ lost_with terms.quota old action moved
 
 -- each paper lists numbers of candidates, each once
 abbrev pub AreRankings : List (List ℕ) → Type 0
 AreRankings [] = ⊤
 AreRankings (paper ∷ papers) = IsRanking paper × AreRankings papers
 
--- how the holdings of a book stand to its contest: before the first stage there are none
-abbrev pub AreHeld : Contest → History → List Holding → Type 0
-AreHeld contest [] holdings = holdings ≡ []
-AreHeld contest (s ∷ before) holdings = HoldPapers contest (s ∷ before) holdings × AreRankings contest.papers
-
 -- a count that is under way, as a contract sees it
 pub record Book : Type 0 where
   pub contest : Contest
   pub history : History
-
--- what always holds of a book and its holdings
-pub record IsBook (contest : Contest) (history : History) (holdings : List Holding) : Type 0 where
-  pub fair : IsContest contest
-  pub right : IsRightByItself contest history
-  pub held : AreHeld contest history holdings

@@ -1,5 +1,5 @@
--- The law of the count, then how a book advances, and how it keeps its papers.
+-- The law of the count, then how a book advances; how it keeps its papers is for its own functions alone.
 pub mod Law
 pub mod Advance
-pub mod Holdings
 pub mod Books
+pub mod Inside

@@ -2,7 +2,8 @@
 
 ghost use Rattle.std.specs.Prelude.{◌≡◌, ℕ, reverse, OnOk, OnErr};
 ghost use Rattle.count.specs.Advance.{Adds, IsDue};
-ghost use Rattle.count.specs.Books.{contest_of, AreHeld, IsBook};
+ghost use Rattle.count.specs.Books.{contest_of};
+ghost use Rattle.count.specs.Inside.Keeping.{AreHeld, IsBook};
 
 use crate::moving::{moved_by, replace};
 use crate::parcel::Holding;

@@ -5,8 +5,10 @@ ghost use Rattle.paper.specs.Columns.{max_candidates, IsColumnSet};
 ghost use Rattle.paper.specs.Standing.{is_continuing as continues_of};
 ghost use Rattle.std.specs.List.{list_any, filter};
 ghost use Rattle.count.specs.Law.Contest.{Contest, votes_at, newest_votes as newest_votes_of};
-ghost use Rattle.count.specs.Law.Elected.{transfers as transfers_of, excludes as excludes_of, is_transferred as is_transferred_of, is_excluded as is_excluded_of, has_reached as has_reached_of, with_quota as with_quota_of, undecided as undecided_of, undecided_fill as fill_of, elected_after, continuing_after, is_continuing as is_continuing_of, vacancies_after};
-ghost use Rattle.count.specs.Holdings.{OnlyColumns};
+ghost use Rattle.count.specs.Law.Elected.{transfers as transfers_of, excludes as excludes_of, is_transferred as is_transferred_of, is_excluded as is_excluded_of};
+ghost use Rattle.count.specs.Law.Elected.{has_reached as has_reached_of, with_quota as with_quota_of, undecided as undecided_of, undecided_fill as fill_of};
+ghost use Rattle.count.specs.Law.Elected.{elected_after, continuing_after, is_continuing as is_continuing_of, vacancies_after};
+ghost use Rattle.count.specs.Inside.Holdings.{OnlyColumns};
 ghost use Rattle.count.specs.Books.{contest_of};
 
 use crate::stages::{Action, Stage};

@@ -4,8 +4,9 @@ ghost use Rattle.std.specs.Prelude.{◌≡◌, ℕ, ◌+◌, ◌-◌, ◌<◌, �
 ghost use Rattle.std.specs.List.{filter};
 ghost use Rattle.votes.specs.Units.{max_units};
 ghost use Rattle.count.specs.Advance.{IsDue};
-ghost use Rattle.count.specs.Holdings.{total, passes_on as passes_on_of, kept_by, IsTransferRule};
-ghost use Rattle.count.specs.Books.{contest_of, AreRankings, IsMovedBy, IsBook};
+ghost use Rattle.count.specs.Inside.Holdings.{total, passes_on as passes_on_of, kept_by, IsTransferRule};
+ghost use Rattle.count.specs.Books.{contest_of, AreRankings};
+ghost use Rattle.count.specs.Inside.Keeping.{IsMovedBy, IsBook};
 
 use crate::elected::{newest_votes, standing};
 use crate::parcel::{Holding, TransferRule};

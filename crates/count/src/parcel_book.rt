@@ -28,7 +28,8 @@ pub struct ParcelBook<'a> {
 
 impl<'a> Model for ParcelBook<'a> {
     ghost use Rattle.std.specs.Prelude.{reverse};
-    ghost use Rattle.count.specs.Books.{Book, IsBook, contest_of};
+    ghost use Rattle.count.specs.Books.{Book, contest_of};
+    ghost use Rattle.count.specs.Inside.Keeping.{IsBook};
 
     ghost Value = { Book };
 

@@ -1,7 +1,7 @@
 //! Adding a stage to those before it.
 
 ghost use Rattle.std.specs.Prelude.{◌<◌, reverse, vec_len, vec_capacity};
-ghost use Rattle.count.specs.Books.{IsAdded};
+ghost use Rattle.count.specs.Inside.Keeping.{IsAdded};
 
 use crate::elected::{elected, without};
 use crate::stages::Stage;

@@ -28,7 +28,7 @@ fn advance_by<B: CountBook>(book: &mut B, lots: &[(u8, u8)]) -> Result<(), Alloc
 /// A lot is a pair of a stage, counted from 1, and the candidate that it names; where two are for one
 /// stage, the first counts. These stages are right for the lots, and the only right ones. An error is want
 /// of memory; the book has the stages made so far then, no more than asked for, and they are right.
-#[tactic(auto, using(crate::proofs::Law::CountLemmas::stages_right, crate::proofs::Law::CountLemmas::stages_few, crate::proofs::Law::CountLemmas::stages_only), unfolding(crate::specs::Law::Count::stages_to))]
+#[tactic(auto, using(crate::proofs::Law::CountLemmas::stages_counted), unfolding(crate::specs::Law::Count::stages_to))]
 pub fn count_to<B: CountBook>(
     book: &mut B,
     lots: &[(u8, u8)],
@@ -67,7 +67,7 @@ pub fn due_by<B: CountBook>(book: &B, lots: &[(u8, u8)]) -> Due
 /// What is due before each of so many stages of the count, and after them, whatever lots are recorded; a
 /// new book has those stages then. An error is want of memory; the book has the stages made so far then, no
 /// more than asked for, and they are right.
-#[tactic(auto, using(crate::proofs::Law::CountLemmas::stages_right, crate::proofs::Law::CountLemmas::stages_few), unfolding(crate::specs::Law::Count::stages_to))]
+#[tactic(auto, using(crate::proofs::Law::CountLemmas::stages_counted), unfolding(crate::specs::Law::Count::stages_to))]
 pub fn dues_to<B: CountBook>(
     alloc: Global,
     book: &mut B,

@@ -6,8 +6,9 @@ ghost use Rattle.paper.specs.Columns.{max_candidates};
 ghost use Rattle.votes.specs.Units.{one_vote};
 ghost use Rattle.paper.specs.Standing.{is_continuing};
 ghost use Rattle.count.specs.Law.Places.{first_of};
-ghost use Rattle.count.specs.Holdings.{holder_count, total_of, total, AreNumbered, passed_to, OnlyColumns, IsTransferRule, new_value, at_passed, total_passed};
+ghost use Rattle.count.specs.Inside.Holdings.{holder_count, total_at, total_of, total, AreNumbered, OnlyColumns, IsTransferRule, new_value, at_passed, total_passed};
 ghost use Rattle.count.specs.Books.{AreRankings};
+ghost use Rattle.count.specs.declared.parcel.TransferRule.TheVariants.{AsReceived};
 
 use crate::parcel::{Holding, Parcel, TransferRule};
 use paper::{MAX_CANDIDATES, Prefs, Standing, available_from};
@@ -116,7 +117,7 @@ fn pass_papers<'a>(
     requires small { value ≤ one_vote }
     ensures len { OnOk result (vec_len holdings.new ≡ holder_count) }
     ensures numbered { OnOk result (AreNumbered 0 holdings.new.items) }
-    ensures passed { OnOk result ((f : ℕ → List ℕ → ℕ → ℕ) → total f holdings.new.items ≡ total f holdings.old.items + sum_by (λ rest. f (first_of (passed_to (is_continuing standing.now) rest.now)) (passed_to (is_continuing standing.now) rest.now) value) papers.now) }
+    ensures passed { OnOk result ((f : ℕ → List ℕ → ℕ → ℕ) → total f holdings.new.items ≡ total f holdings.old.items + total_at (at_passed f (is_continuing standing.now) AsReceived) value papers.now) }
 {
     for paper in papers {
         give(alloc, holdings, value, available_from(paper, 1, standing))?;

@@ -5,8 +5,9 @@ ghost use Rattle.paper.specs.Columns.{max_candidates};
 ghost use Rattle.votes.specs.Units.{max_units};
 ghost use Rattle.count.specs.Law.Contest.{numbers};
 ghost use Rattle.count.specs.Law.Elected.{is_transferred as is_transferred_of, transfers as transfers_of};
-ghost use Rattle.count.specs.Holdings.{total_of, total, worth as worth_of, worth_to as worth_to_of, votes_with as votes_with_of, lost_with as lost_with_of, newest_non_transferable, newest_lost as newest_lost_of, AreSmall};
-ghost use Rattle.count.specs.Books.{Records};
+ghost use Rattle.count.specs.Inside.Holdings.{total_of, total, worth as worth_of, worth_to as worth_to_of, votes_with as votes_with_of, AreSmall};
+ghost use Rattle.count.specs.Inside.Holdings.{lost_with as lost_with_of, newest_non_transferable, newest_lost as newest_lost_of};
+ghost use Rattle.count.specs.Inside.Keeping.{Records};
 
 use crate::elected::{is_transferred_with, newest_votes};
 use crate::moving::passes_on;

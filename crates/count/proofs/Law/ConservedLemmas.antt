@@ -6,7 +6,7 @@ use Rattle.std.proofs.lemmas.List.Sums.{sum_by-cons}
 use Rattle.votes.specs.Units.{one_vote}
 use Rattle.count.specs.Law.Contest.{Contest, History, IsContest, AreForCandidates, votes_at, In}
 use Rattle.count.specs.Law.Laws.{IsConserved}
-use Rattle.count.specs.Holdings.{passes_on}
+use Rattle.count.specs.Inside.Holdings.{passes_on}
 use Rattle.count.specs.Law.Places.{Place, place, moved, first_of, after, next_available}
 use Rattle.count.specs.Law.Right.{IsRightBy}
 use Rattle.count.specs.Law.Elected.{is_continuing, is_excluded, is_elected, is_transferred, transfers}

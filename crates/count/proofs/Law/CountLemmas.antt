@@ -52,6 +52,8 @@ stages_only contest lots (s ∷ before) right =
     ∙ ap (with_stage contest before) (sym right.1.was_due)
     ∙ ap (with_next contest lots) earlier
 
+pub ruleset stages_counted = (stages_right, stages_few, stages_only)
+
 -- where a count ends, no action comes next, and else one does
 ended_none : (contest : Contest) (stages : History) (lot : Option ℕ) (due : Due) (e : CountEnd) → end_of lot due ≡ Some e → drawn contest stages lot due ≡ None
 ended_none contest stages lot (Act action) e is = cc

@@ -3,7 +3,7 @@ use Rattle.std.proofs.Common.{◌≡◌, ℕ, ◌+◌, ◌-◌, ◌≤◌, ◌==
 use Rattle.std.specs.List.{list_any, filter, sum_by}
 use Rattle.std.proofs.lemmas.Bool.{eqb-true, eqb-false, eq-eqb}
 use Rattle.count.specs.Law.Contest.{Contest, History, IsContest, votes_at, In}
-use Rattle.count.specs.Holdings.{passes_on}
+use Rattle.count.specs.Inside.Holdings.{passes_on}
 use Rattle.count.specs.Law.Right.{IsRightBy, Tells}
 use Rattle.count.specs.Law.Places.{place, moved}
 use Rattle.count.specs.Law.Figures.{votes_after, value_with}

@@ -4,7 +4,7 @@ use Rattle.std.specs.List.{list_any}
 use Rattle.std.proofs.lemmas.Bool.{eqb-true, eqb-false, eq-eqb, le-leb}
 use Rattle.paper.specs.Ranking.{IsRanking}
 use Rattle.count.specs.Law.Contest.{Contest, History, newest_votes, votes_at}
-use Rattle.count.specs.Holdings.{passes_on}
+use Rattle.count.specs.Inside.Holdings.{passes_on}
 use Rattle.paper.specs.Standing.{from_first}
 use Rattle.count.specs.Law.Places.{Place, place, moved, first_of, after, next_available}
 use Rattle.count.specs.Law.Right.{IsRightBy}

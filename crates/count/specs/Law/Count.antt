@@ -10,7 +10,8 @@ use Rattle.count.specs.declared.stages.Action.{Action}
 use Rattle.count.specs.declared.stages.Due.{Due}
 use Rattle.count.specs.declared.stages.Due.TheVariants.{Act}
 
--- a stage of an action, at which these votes are recorded, and nothing else yet
+-- a stage of an action, at which these votes are recorded, and nothing else yet; where papers lie after it, and so what
+-- its votes and sums are, follows from its action and the stages before it alone, so these may be asked of one without votes
 abbrev pub begun : Action → List ℕ → Stage
 begun action votes = record { action = action; votes = votes; elected = []; non_transferable = 0; lost = 0 }
 

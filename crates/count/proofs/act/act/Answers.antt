@@ -2,8 +2,9 @@
 use Rattle.std.proofs.Common.{◌∙◌, ◌+◌, List, reverse, ap, sym, subst}
 use Rattle.count.specs.Law.Contest.{Contest, History}
 use Rattle.count.specs.Advance.{Adds}
-use Rattle.count.specs.Holdings.{total, kept_by, AreSmall}
-use Rattle.count.specs.Books.{contest_of, IsMovedBy, Records}
+use Rattle.count.specs.Inside.Holdings.{total, kept_by, AreSmall}
+use Rattle.count.specs.Books.{contest_of}
+use Rattle.count.specs.Inside.Keeping.{IsMovedBy, Records}
 use Rattle.count.specs.declared.parcel.Holding.{Holding}
 use Rattle.count.specs.declared.stages.Stage.{Stage}
 use Rattle.count.proofs.TallyLemmas.{moved-small, surplus-column, records-adds, held-next}

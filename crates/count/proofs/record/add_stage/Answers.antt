@@ -5,7 +5,8 @@ use Rattle.std.proofs.Math.ListN.{set}
 use Rattle.std.proofs.Math.Seq.{get_or-append_seam}
 use Rattle.count.specs.Law.Contest.{Contest}
 use Rattle.count.specs.Law.Elected.{elected_after}
-use Rattle.count.specs.Books.{contest_of, with_newly, IsAdded}
+use Rattle.count.specs.Books.{contest_of}
+use Rattle.count.specs.Inside.Keeping.{with_newly, IsAdded}
 use Rattle.count.specs.declared.stages.Stage.{Stage}
 use Rattle.count.proofs.RecordLemmas.{added}
 use Rattle.count.proofs.record.add_stage.Goals as goal

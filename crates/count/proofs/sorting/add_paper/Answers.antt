@@ -1,6 +1,6 @@
 -- Of the proof of `add_paper`: what is shown by hand.
 use Rattle.std.proofs.Common.{rules, ◌≡◌, ◌∙◌, ℕ, ◌+◌, ◌-◌, ◌<◌, length, ap, refl}
-use Rattle.count.specs.Holdings.{total_of}
+use Rattle.count.specs.Inside.Holdings.{total_of}
 use Rattle.count.proofs.ParcelTotals.{total_of-set}
 use Rattle.count.proofs.sorting.add_paper.Goals as goal
 

@@ -1,6 +1,6 @@
 -- Of the proof of `empty_holdings`: what holds at each round of its loop.
 use Rattle.std.proofs.Common.{◌≡◌, ℕ, List, vec_len}
-use Rattle.count.specs.Holdings.{total, AreNumbered}
+use Rattle.count.specs.Inside.Holdings.{total, AreNumbered}
 use Rattle.count.proofs.sorting.empty_holdings.Given as goal
 
 abbrev pub invariant-loop-holder : goal.invariant-loop-holder

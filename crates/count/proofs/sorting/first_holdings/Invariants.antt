@@ -3,7 +3,7 @@ use Rattle.std.proofs.Common.{◌≡◌, ℕ, List, take, vec_len}
 use Rattle.std.specs.List.{sum_by}
 use Rattle.votes.specs.Units.{one_vote}
 use Rattle.count.specs.Law.Places.{first_of}
-use Rattle.count.specs.Holdings.{holder_count, total, AreNumbered}
+use Rattle.count.specs.Inside.Holdings.{holder_count, total, AreNumbered}
 use Rattle.count.specs.Books.{AreRankings}
 use Rattle.count.proofs.sorting.first_holdings.Given as goal
 

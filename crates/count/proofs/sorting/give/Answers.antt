@@ -1,7 +1,7 @@
 -- Of the proof of `give`: what is shown by hand.
 use Rattle.std.proofs.Common.{rules, ◌≡◌, ◌∙◌, ℕ, ◌+◌, ◌<◌, length, ap, refl, arith}
 use Rattle.count.specs.Law.Places.{first_of}
-use Rattle.count.specs.Holdings.{total}
+use Rattle.count.specs.Inside.Holdings.{total}
 use Rattle.count.proofs.ParcelTotals.{total-set, numbered-at, numbered-set}
 use Rattle.count.proofs.sorting.give.Goals as goal
 

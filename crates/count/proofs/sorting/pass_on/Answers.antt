@@ -1,7 +1,7 @@
 -- Of the proof of `pass_on`: what is shown by hand.
 use Rattle.std.proofs.Common.{◌<◌, length, ap, arith}
 use Rattle.paper.specs.Standing.{is_continuing}
-use Rattle.count.specs.Holdings.{total_of, at_passed}
+use Rattle.count.specs.Inside.Holdings.{total_of, at_passed}
 use Rattle.count.proofs.ParcelTotals.{passed-more, passed-other}
 use Rattle.count.proofs.sorting.pass_on.Goals as goal
 use Rattle.count.proofs.sorting.pass_on.Goals.{then-holding-c+in_ok-pass_parcels, else-holding-c}

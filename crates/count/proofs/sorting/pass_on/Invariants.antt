@@ -1,7 +1,7 @@
 -- Of the proof of `pass_on`: what holds at each round of its loop.
 use Rattle.std.proofs.Common.{◌≡◌, ℕ, List, take, vec_len}
 use Rattle.paper.specs.Standing.{is_continuing}
-use Rattle.count.specs.Holdings.{holder_count, total, total_passed, AreNumbered}
+use Rattle.count.specs.Inside.Holdings.{holder_count, total, total_passed, AreNumbered}
 use Rattle.count.proofs.sorting.pass_on.Given as goal
 
 abbrev pub invariant-loop-holding : goal.invariant-loop-holding

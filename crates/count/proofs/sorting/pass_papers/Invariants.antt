@@ -3,7 +3,7 @@ use Rattle.std.proofs.Common.{◌≡◌, ℕ, ◌+◌, List, take, vec_len}
 use Rattle.std.specs.List.{sum_by}
 use Rattle.count.specs.Law.Places.{first_of}
 use Rattle.paper.specs.Standing.{is_continuing}
-use Rattle.count.specs.Holdings.{holder_count, total, AreNumbered, passed_to}
+use Rattle.count.specs.Inside.Holdings.{holder_count, total, AreNumbered, passed_to}
 use Rattle.count.proofs.sorting.pass_papers.Given as goal
 
 abbrev pub invariant-loop-paper : goal.invariant-loop-paper

@@ -3,7 +3,7 @@ use Rattle.std.proofs.Common.{◌≡◌, ℕ, ◌<◌, List, length, ap, arith, 
 use Rattle.std.specs.List.{sum_by}
 use Rattle.count.specs.Law.Places.{first_of}
 use Rattle.paper.specs.Standing.{is_continuing}
-use Rattle.count.specs.Holdings.{at_passed, passed_to, new_value}
+use Rattle.count.specs.Inside.Holdings.{at_passed, passed_to, new_value}
 use Rattle.count.proofs.ParcelTotals.{total_of-more}
 use Rattle.count.proofs.sorting.pass_parcels.Goals as goal
 

@@ -1,7 +1,7 @@
 -- Of the proof of `all_votes`: what is shown by hand.
 use Rattle.std.proofs.Common.{reverse, rules, arith}
 use Rattle.std.proofs.Math.ListN.{length-set}
-use Rattle.count.specs.Holdings.{votes_with}
+use Rattle.count.specs.Inside.Holdings.{votes_with}
 use Rattle.count.proofs.ArrayLemmas.{made-more, made-all}
 use Rattle.count.proofs.tally.all_votes.Goals as goal
 

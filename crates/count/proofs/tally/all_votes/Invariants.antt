@@ -2,7 +2,7 @@
 use Rattle.std.proofs.Common.{◌≡◌, map, take, length, reverse}
 use Rattle.std.specs.List.{range_with_len}
 use Rattle.paper.specs.Columns.{max_candidates}
-use Rattle.count.specs.Holdings.{votes_with}
+use Rattle.count.specs.Inside.Holdings.{votes_with}
 use Rattle.count.proofs.tally.all_votes.Given as goal
 
 abbrev pub invariant-loop-i : goal.invariant-loop-i

@@ -1,6 +1,6 @@
 -- Of the proof of `non_transferable_with`: what is shown by hand.
 use Rattle.std.proofs.Common.{◌≡◌, reverse, ap, arith}
-use Rattle.count.specs.Holdings.{newest_non_transferable}
+use Rattle.count.specs.Inside.Holdings.{newest_non_transferable}
 use Rattle.count.proofs.ColumnLemmas.{reverse-newest}
 use Rattle.count.proofs.WorthLemmas.{worth_to-within}
 use Rattle.count.proofs.tally.non_transferable_with.Goals as goal

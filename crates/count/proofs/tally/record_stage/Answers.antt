@@ -1,7 +1,7 @@
 -- Of the proof of `record_stage`: what is shown by hand.
 use Rattle.std.proofs.Common.{◌∙◌, refl, ℕ, ◌+◌, List, map, reverse, ap}
 use Rattle.count.specs.Law.Contest.{numbers}
-use Rattle.count.specs.Holdings.{votes_with, worth_to, newest_non_transferable, lost_with}
+use Rattle.count.specs.Inside.Holdings.{votes_with, worth_to, newest_non_transferable, lost_with}
 use Rattle.count.specs.declared.stages.Stage.{Stage}
 use Rattle.count.proofs.RecordLemmas.{recorded}
 use Rattle.count.proofs.tally.record_stage.Goals as goal

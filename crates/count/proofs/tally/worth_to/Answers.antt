@@ -1,6 +1,6 @@
 -- Of the proof of `worth_to`: what is shown by hand.
 use Rattle.std.proofs.Common.{◌≡◌, ◌<◌, length, ap, arith, ◌∙◌}
-use Rattle.count.specs.Holdings.{total_of}
+use Rattle.count.specs.Inside.Holdings.{total_of}
 use Rattle.count.proofs.WorthLemmas.{worth_to-more, worth_to-other, worth_to-within-more}
 use Rattle.count.proofs.tally.worth_to.Goals as goal
 use Rattle.count.proofs.tally.worth_to.Goals.{then-holding-holder, else-holding-holder}

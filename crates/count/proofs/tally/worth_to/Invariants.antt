@@ -1,6 +1,6 @@
 -- Of the proof of `worth_to`: what holds at each round of its loop.
 use Rattle.std.proofs.Common.{◌≡◌, take}
-use Rattle.count.specs.Holdings.{worth_to}
+use Rattle.count.specs.Inside.Holdings.{worth_to}
 use Rattle.count.proofs.tally.worth_to.Given as goal
 
 abbrev pub invariant-loop-holding : goal.invariant-loop-holding

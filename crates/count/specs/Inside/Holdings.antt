@@ -1,5 +1,6 @@
 -- Papers in parcels, what they are worth, and what becomes of them when they are passed on.
 use Rattle.std.specs.Prelude.{◌≡◌, ℕ, ◌+◌, ◌-◌, ◌<◌, ◌≤◌, ◌||◌, ◌==◌, Bool, true, false, if◌then◌else◌, List, [], ◌∷◌, drop, ⊤}
+use Rattle.std.specs.Borrow.{Bor}
 use Rattle.std.specs.List.{sum_by}
 use Rattle.votes.specs.Units.{max_units, cut}
 use Rattle.count.specs.Law.Contest.{History, newest_votes}
@@ -14,9 +15,13 @@ use Rattle.count.specs.declared.parcel.TransferRule.TheVariants.{AsReceived, Sha
 use Rattle.count.specs.declared.stages.Action.{Action}
 use Rattle.count.specs.declared.stages.Action.TheVariants.{First, Surplus, Exclude, ExcludeLast}
 
+-- what a function of preferences and value comes to on some papers of one value
+abbrev pub total_at : (List ℕ → ℕ → ℕ) → ℕ → List (Bor (List ℕ)) → ℕ
+total_at f v papers = sum_by (λ rest. f rest.now v) papers
+
 -- what a function of preferences and value comes to on the papers of some parcels
 abbrev pub total_of : (List ℕ → ℕ → ℕ) → List Parcel → ℕ
-total_of f parcels = sum_by (λ parcel. sum_by (λ rest. f rest.now parcel.value) parcel.papers.items) parcels
+total_of f parcels = sum_by (λ parcel. total_at f parcel.value parcel.papers.items) parcels
 
 -- what a function of holder, preferences and value comes to on the papers of some holdings
 abbrev pub total : (ℕ → List ℕ → ℕ → ℕ) → List Holding → ℕ
