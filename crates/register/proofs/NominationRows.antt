@@ -5,16 +5,19 @@ use Rattle.std.specs.declared.string.String.{String}
 use Rattle.std.specs.declared.alloc.Global.{Global}
 use Rattle.register.specs.declared.phase.Phase.{Phase}
 use Rattle.register.specs.declared.phase.Phase.TheVariants.{Nominations, Keying, Sealed, Declared}
-use Rattle.register.specs.declared.command.Command.TheVariants.{Ward, Candidate}
+use Rattle.register.specs.declared.command.Command.TheVariants.{Ward, Candidate, Count}
 use Rattle.register.specs.declared.wards.WardCommand.TheVariants.{Close}
 use Rattle.register.specs.declared.candidates.CandidateCommand.TheVariants.{Add, Withdraw}
-use Rattle.register.specs.declared.refusal.Reason.TheVariants.{NumberOutOfRange, BadName, NoSuchWard, WrongPhase, CandidateExists, NoSuchCandidate, NoCandidates}
+use Rattle.register.specs.declared.counts.CountCommand.TheVariants.{Advance, Declare}
+use Rattle.register.specs.declared.refusal.Reason.TheVariants.{CountFinished, NumberOutOfRange, BadName, NoSuchWard, WrongPhase, CandidateExists, NoSuchCandidate, NoCandidates}
 use Rattle.register.specs.Ranges.{is_name, is_id}
 use Rattle.register.specs.Offices.{CandidateEntry, ReceiptEntry, OfficeState, empty_office}
 use Rattle.register.specs.Items.{item2, item7}
 use Rattle.count.specs.Law.Count.{stages_to}
 use Rattle.register.specs.Wards as wards
 use Rattle.register.specs.Candidates as candidates
+use Rattle.register.specs.Counts as counts
+use Rattle.register.specs.Texts.{listed}
 use Rattle.register.specs.Machine.{accepted, kept, refused, step, decided}
 
 -- an office with the ward Quay of two seats, in this phase, with these candidates and receipts
@@ -52,6 +55,17 @@ polled : step (with_quay Nominations (dee ∷ eve ∷ fay ∷ []) []) 0 (codes "
     ≡ accepted (with_quay Keying (dee ∷ eve ∷ fay ∷ []) (office_receipt (codes "k1") (codes "close 8") (codes "ward 8 polled") ∷ [])) (codes "ward 8 polled")
 unfolding step decided is_id wards.subject_of wards.reply_to digits dee eve fay
 polled = refl
+
+-- ---- uncontested: the count is finished as it begins, and all are elected
+
+nothing_to_count : step (with_quay Sealed (dee ∷ eve ∷ []) []) 0 (codes "a1") (Count (Advance 8)) ≡ refused CountFinished
+unfolding step decided is_id counts.subject_of digits dee eve
+nothing_to_count = refl
+
+all_elected : step (with_quay Sealed (dee ∷ eve ∷ []) []) 0 (codes "d1") (Count (Declare 8))
+    ≡ accepted (with_quay Declared (dee ∷ eve ∷ []) (office_receipt (codes "d1") (codes "declare 8") (codes "ward 8 declared: 1, 2") ∷ [])) (codes "ward 8 declared: 1, 2")
+unfolding step decided is_id counts.subject_of counts.reply_to listed digits dee eve
+all_elected = refl
 
 -- ---- refusals, each once
 

@@ -116,9 +116,9 @@ judged_alike s actor id command other_actor = go command (kind_of command)
         ∙ ap (λ (os : List (Option Reason)). judged actor id (Key command) part (first_reason os)) (objections_alike actor command part (ward_for s (batch_at s command.batch)))
 
 -- what is decided for a clerk rests on what he sees alone
-pub ruling_seen : (s : OfficeState) (actor : ℕ) (id : List ℕ) (command : Command) → is_office actor ≡ false → ruling_at (seen_by actor s) actor id command ≡ ruling_at s actor id command
+pub ruling_on_seen : (s : OfficeState) (actor : ℕ) (id : List ℕ) (command : Command) → is_office actor ≡ false → ruling_at (seen_by actor s) actor id command ≡ ruling_at s actor id command
 unfolding decided
-ruling_seen s actor id command other_actor = ap (cond_on (is_id id)) (ap (λ (o : Option ReceiptEntry). answered actor id command o (part_of (seen_by actor s) actor command)) (receipt_seen s actor id) ∙ go (receipt_at s actor id))
+ruling_on_seen s actor id command other_actor = ap (cond_on (is_id id)) (ap (λ (o : Option ReceiptEntry). answered actor id command o (part_of (seen_by actor s) actor command)) (receipt_seen s actor id) ∙ go (receipt_at s actor id))
   where
     cond_on : Bool → Ruling → Ruling
     cond_on b ruling = cond b ruling (refuses BadId)
@@ -158,9 +158,9 @@ module _ (s : OfficeState) (actor : ℕ) (id : List ℕ) (other_actor : is_offic
       go None = keyed_unseen other apart command (receipt_for actor id (Key command) (keyings.part_of s actor command)) refl
 
   -- a clerk's request leaves what any other sees as it was
-  pub unseen : (command : Command) (other : ℕ) → (actor == other) ≡ false → seen_by other (state_after s (step s actor id command)) ≡ seen_by other s
+  pub unseen_by : (command : Command) (other : ℕ) → (actor == other) ≡ false → seen_by other (state_after s (step s actor id command)) ≡ seen_by other s
   unfolding step decided
-  unseen command other apart = go (is_id id) (receipt_at s actor id)
+  unseen_by command other apart = go (is_id id) (receipt_at s actor id)
     where
       go : (b : Bool) (o : Option ReceiptEntry) → seen_by other (state_after s (outcome_at s (cond b (answered actor id command o (part_of s actor command)) (refuses BadId)))) ≡ seen_by other s
       go false o = refl
@@ -198,9 +198,21 @@ module _ (s : OfficeState) (actor : ℕ) (id : List ℕ) (other_actor : is_offic
         go true None = judged_alone command (kind_of command)
 
     -- a clerk's request leaves of what he sees what it would make of that alone
-    pub seen_alone : (command : Command) → seen_by actor (state_after s (step s actor id command)) ≡ state_after (seen_by actor s) (step (seen_by actor s) actor id command)
+    pub stands_alone : (command : Command) → seen_by actor (state_after s (step s actor id command)) ≡ state_after (seen_by actor s) (step (seen_by actor s) actor id command)
     unfolding step
-    seen_alone command = ruled_alone command ∙ ap (λ (ruling : Ruling). state_after (seen_by actor s) (outcome_at (seen_by actor s) ruling)) (sym (ruling_seen s actor id command other_actor))
+    stands_alone command = ruled_alone command ∙ ap (λ (ruling : Ruling). state_after (seen_by actor s) (outcome_at (seen_by actor s) ruling)) (sym (ruling_on_seen s actor id command other_actor))
+
+-- ---- the same of a clerk
+
+pub ruling_seen : (s : OfficeState) (actor : ℕ) (id : List ℕ) (command : Command) → is_clerk actor ≡ true → ruling_at (seen_by actor s) actor id command ≡ ruling_at s actor id command
+ruling_seen s actor id command clerk = ruling_on_seen s actor id command (no_office actor clerk)
+
+pub unseen : (s : OfficeState) (actor : ℕ) (id : List ℕ) → is_clerk actor ≡ true → (command : Command) (other : ℕ) → (actor == other) ≡ false → seen_by other (state_after s (step s actor id command)) ≡ seen_by other s
+unseen s actor id clerk = unseen_by s actor id (no_office actor clerk)
+
+pub seen_alone : (s : OfficeState) (actor : ℕ) (id : List ℕ) → is_clerk actor ≡ true → IsState s → (command : Command)
+    → seen_by actor (state_after s (step s actor id command)) ≡ state_after (seen_by actor s) (step (seen_by actor s) actor id command)
+seen_alone s actor id clerk is = stands_alone s actor id (no_office actor clerk) is
 
 -- ---- his work
 

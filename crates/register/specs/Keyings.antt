@@ -1,5 +1,5 @@
 -- The command of a clerk: what it needs of the state, what stands against it, what it is about, replies and does.
-use Rattle.std.specs.Prelude.{ℕ, ◌+◌, Bool, not, ◌&&◌, ◌==◌, List, [], ◌∷◌, ◌++◌, length, map, codes, string_bytes, Option}
+use Rattle.std.specs.Prelude.{ℕ, ◌+◌, ◌^◌, ◌<◌, Bool, not, ◌&&◌, ◌==◌, List, [], ◌∷◌, ◌++◌, length, map, codes, string_bytes, Option}
 use Rattle.std.specs.Fmt.{decimal}
 use Rattle.register.specs.declared.refusal.Reason.{Reason}
 use Rattle.register.specs.declared.refusal.Reason.TheVariants.{NumberOutOfRange, NotItsClerk, NotThisRound, AlreadyKeyed, WrongPaperCount}
@@ -16,6 +16,10 @@ use Rattle.register.specs.Parts.{PartEntries, empty_part, batch_objections, pass
 -- the marks texts, in the order of the papers
 abbrev pub texts_of : KeyingCommand → List (List ℕ)
 texts_of command = map string_bytes command.papers.items
+
+-- so few papers that a number of 32 bits numbers each: as many as a batch has, where nothing stands against the command
+abbrev pub IsNumbered : KeyingCommand → Type 0
+IsNumbered command = length command.papers.items < 2 ^ 32
 
 -- the part of the state that it needs: of the keyings only the actor's own
 abbrev pub part_of : OfficeState → ℕ → KeyingCommand → PartEntries

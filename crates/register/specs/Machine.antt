@@ -38,6 +38,11 @@ objections actor (Keying command) part = keyings.objections actor command part
 objections actor (Verdict command) part = verdicts.objections actor command part
 objections actor (Count command) part = counts.objections actor command part
 
+-- the papers that it brings, if any, can be numbered
+abbrev pub IsNumbered : Command → Type 0
+IsNumbered (Keying command) = keyings.IsNumbered command
+IsNumbered command = ⊤
+
 -- what its receipt is about
 abbrev pub subject_of : Command → List ℕ
 subject_of (Ward command) = wards.subject_of command

@@ -1,12 +1,12 @@
 //! Keyed papers, and the command of the clerks.
 
-ghost use Rattle.std.specs.Prelude.{◌≡◌, IfOk, map, string_bytes};
+ghost use Rattle.std.specs.Prelude.{◌≡◌, IfOk, IfNone, map, string_bytes};
 ghost use Rattle.register.specs.Reasons.{first_reason};
 ghost use Rattle.register.specs.Offices.{batch_entry, keyed_entry};
 ghost use Rattle.register.specs.Papers.{is_its_clerk};
 ghost use Rattle.register.specs.Parts.{part_entries};
 ghost use Rattle.register.specs.Effects.{effect_entry};
-ghost use Rattle.register.specs.Keyings.{is_in_range, objections, subject_of, reply_to, effect_of, papers_from};
+ghost use Rattle.register.specs.Keyings.{is_in_range, IsNumbered, objections, subject_of, reply_to, effect_of, papers_from};
 
 use crate::batches::Batch;
 use crate::decision::Effect;
@@ -57,7 +57,8 @@ pub fn is_its_clerk(clerk: u32, batch: &Batch) -> bool
 
 /// What stands against the command: of several reasons the one with the lowest number.
 pub(crate) fn objection_to(actor: u32, command: &KeyingCommand, part: &Part) -> Option<Reason>
-    ensures { result ≡ first_reason (objections actor command.now (part_entries part.now)) }
+    ensures is { result ≡ first_reason (objections actor command.now (part_entries part.now)) }
+    ensures numbered { IfNone result (IsNumbered command.now) }
 {
     if !is_in_range(actor, command) {
         return Some(Reason::NumberOutOfRange);
@@ -108,18 +109,16 @@ fn keyed_papers(
     actor: u32,
     command: &KeyingCommand,
 ) -> Result<Vec<KeyedPaper>, AllocError>
+    requires { IsNumbered command.now }
     ensures { IfOk result (λ papers. map keyed_entry papers.items ≡ papers_from command.now.batch command.now.round actor 1 (map string_bytes command.now.papers.items)) }
 {
     let mut papers = Vec::with_capacity(alloc, command.papers.len())?;
-    let mut paper = 0;
-    for marks in &command.papers {
-        // No batch has so many papers that their numbers could run out.
-        paper = u32::checked_add(paper, 1).ok_or(AllocError)?;
+    for (place, marks) in command.papers.iter().enumerate() {
         papers.push(KeyedPaper {
             batch: command.batch,
             round: command.round,
             clerk: actor,
-            paper,
+            paper: place as u32 + 1,
             marks: marks.clone()?,
         })?;
     }
@@ -132,6 +131,7 @@ pub(crate) fn effect_of(
     actor: u32,
     command: &KeyingCommand,
 ) -> Result<Effect, AllocError>
+    requires { IsNumbered command.now }
     ensures { IfOk result (λ effect. effect_entry effect ≡ effect_of actor command.now) }
 {
     Ok(Effect::PapersKeyed(keyed_papers(alloc, actor, command)?))

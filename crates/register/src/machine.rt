@@ -1,6 +1,6 @@
 //! The step of the machine on a view.
 
-ghost use Rattle.std.specs.Prelude.{◌≡◌, ℕ, ◌==◌, true, false, List, None, IfOk, string_bytes};
+ghost use Rattle.std.specs.Prelude.{◌≡◌, ℕ, ◌==◌, true, false, List, None, IfOk, IfNone, string_bytes};
 ghost use Rattle.register.specs.Reasons.{first_reason};
 ghost use Rattle.register.specs.Ranges.{is_office};
 ghost use Rattle.register.specs.Offices.{OfficeState, empty_office};
@@ -10,7 +10,7 @@ ghost use Rattle.register.specs.Seen.{seen_by};
 ghost use Rattle.register.specs.Parts.{part_entries};
 ghost use Rattle.register.specs.declared.command.Request.{Request};
 ghost use Rattle.register.specs.Standings.{work_of};
-ghost use Rattle.register.specs.Machine.{objections, subject_of, reply_to, effect_of, judged, ruling_at, step, state_after, after, accepted_of, IsKeptAgain};
+ghost use Rattle.register.specs.Machine.{objections, IsNumbered, subject_of, reply_to, effect_of, judged, ruling_at, step, state_after, after, accepted_of, IsKeptAgain};
 ghost use Rattle.register.specs.Views.{IsViewOf, decided_on, ruling_of, outcome_of, IsToldAlike, IsAdvanced};
 
 use crate::command::Command;
@@ -24,7 +24,8 @@ use std::alloc::{AllocError, Global};
 
 /// What stands against a command: of several reasons the one with the lowest number.
 fn objection_to(actor: u32, command: &Command, part: &Part) -> Option<Reason>
-    ensures { result ≡ first_reason (objections actor command.now (part_entries part.now)) }
+    ensures is { result ≡ first_reason (objections actor command.now (part_entries part.now)) }
+    ensures numbered { IfNone result (IsNumbered command.now) }
 {
     match command {
         Command::Ward(command) => wards::objection_to(actor, command, part),
@@ -71,6 +72,7 @@ fn effect_of(
     command: &Command,
     part: &Part,
 ) -> Result<Effect, AllocError>
+    requires { IsNumbered command.now }
     ensures { IfOk result (λ effect. effect_entry effect ≡ effect_of actor command.now (part_entries part.now)) }
 {
     match command {
@@ -97,6 +99,7 @@ fn accepted(
     command: &Command,
     subject: String,
 ) -> Result<Decision, AllocError>
+    requires { IsNumbered command.now }
     ensures { IfOk result (λ decision. string_bytes subject ≡ subject_of command.now → ruling_of decision ≡ judged view.now.actor view.now.id.now command.now (part_entries view.now.part) None) }
 {
     let effect = effect_of(alloc, view.actor, command, &view.part)?;

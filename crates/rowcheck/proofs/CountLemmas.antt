@@ -14,7 +14,7 @@ use Rattle.count.specs.declared.stages.Action.{Action}
 use Rattle.count.specs.declared.stages.Due.{Due}
 use Rattle.count.specs.declared.stages.Due.TheVariants.{Finished}
 use Rattle.register.specs.Elections.{ElectionEntry, contest_of, is_finished, is_declared, is_drawn_for, is_right_so_far}
-use Rattle.rowcheck.specs.Counts.{is_drawn_by, is_finished_at}
+use Rattle.rowcheck.specs.Walks.Counts.{is_drawn_by, is_finished_at}
 use Rattle.rowcheck.proofs.RunLemmas.{less_differs}
 
 -- ---- how many stages there are

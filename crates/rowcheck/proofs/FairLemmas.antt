@@ -17,7 +17,7 @@ use Rattle.register.specs.Items.{is_ward, is_candidate, is_batch, is_keyed_paper
 use Rattle.register.proofs.MapLemmas.{each_weaker}
 use Rattle.rowcheck.specs.declared.rows.Rows.{Rows}
 use Rattle.rowcheck.specs.States.{state_of}
-use Rattle.rowcheck.specs.Counts.{IsFair}
+use Rattle.rowcheck.specs.Walks.Counts.{IsFair}
 use Rattle.rowcheck.proofs.RunLemmas.{below_from, more_differs}
 
 -- of rows in range the lots are

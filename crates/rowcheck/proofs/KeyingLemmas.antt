@@ -10,7 +10,7 @@ use Rattle.std.proofs.lemmas.Bool.Decides.{eqb_tells}
 use Rattle.register.specs.Offices.{BatchEntry, KeyedEntry, OfficeState, batch_cmp, entry_at, batch_at}
 use Rattle.register.specs.Keyed.{is_keyed_for, is_round_of, are_rounds_to}
 use Rattle.register.specs.Items.{item4}
-use Rattle.rowcheck.specs.Keyings.{are_keyed_for, is_rightly_keyed}
+use Rattle.rowcheck.specs.Walks.Keyings.{are_keyed_for, is_rightly_keyed}
 use Rattle.rowcheck.proofs.RunLemmas.{below_from, less_differs}
 
 -- ---- rows and owners

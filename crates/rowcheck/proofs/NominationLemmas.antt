@@ -8,7 +8,7 @@ use Rattle.register.specs.Nominations.{are_enough}
 use Rattle.register.specs.Items.{item2}
 use Rattle.rowcheck.specs.declared.rows.Rows.{Rows}
 use Rattle.rowcheck.specs.States.{state_of}
-use Rattle.rowcheck.specs.Nominations.{are_nominated}
+use Rattle.rowcheck.specs.Walks.Nominations.{are_nominated}
 use Rattle.rowcheck.proofs.RunLemmas.{by_run_map, below_from, equal_from, walk_tells}
 
 -- candidates in the order of their keys are in the order of their wards

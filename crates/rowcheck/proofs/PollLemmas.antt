@@ -5,7 +5,7 @@ use Rattle.register.specs.declared.batches.Batch.{Batch}
 use Rattle.register.specs.Offices.{BatchEntry, OfficeState, batch_entry}
 use Rattle.register.specs.Polls.{pile_of, is_settled}
 use Rattle.register.specs.Elections.{ElectionEntry, is_in_count, is_agreed}
-use Rattle.rowcheck.specs.Polls.{is_settled_for, piles_in}
+use Rattle.rowcheck.specs.Walks.Polls.{is_settled_for, piles_in}
 
 -- where a count has begun, each batch is to be settled
 pub agreed_in_count : (e : ElectionEntry) → is_in_count e ≡ true → is_agreed e ≡ e.ballots.settled

@@ -10,7 +10,7 @@ ghost use Rattle.register.specs.Offices.{MapsRise, ward_entry, ward_at};
 ghost use Rattle.register.specs.Elections.{election_of, contest_of, is_declared, is_right_so_far, is_uncounted, is_counted_right};
 ghost use Rattle.register.specs.Items.{is_lot, item1, item4, item7};
 ghost use Rattle.rowcheck.specs.States.{state_of};
-ghost use Rattle.rowcheck.specs.Counts.{election_with, IsFair, is_tied_at, is_drawn_by, is_finished_at};
+ghost use Rattle.rowcheck.specs.Walks.Counts.{election_with, IsFair, is_tied_at, is_drawn_by, is_finished_at};
 
 use crate::finding::{candidates_of, has_ward, lots_of};
 use crate::polls::{ballots_of, is_in_count};

@@ -4,7 +4,7 @@ ghost use Rattle.std.specs.Prelude.{◌≡◌, ◌==◌, map, find, is_some, opt
 ghost use Rattle.std.specs.Ordering.{nat_cmp, ordering_then};
 ghost use Rattle.register.specs.Offices.{MapsRise, ward_entry, candidate_entry, batch_entry, keyed_entry, judged_entry, lot_entry, ward_at, candidates_of, batch_at, keying_of, verdicts_of, lots_of};
 ghost use Rattle.rowcheck.specs.States.{state_of};
-ghost use Rattle.rowcheck.specs.Keyings.{papers_of};
+ghost use Rattle.rowcheck.specs.Walks.Keyings.{papers_of};
 
 use crate::rows::Rows;
 use crate::runs::{Row, run_of};

@@ -11,7 +11,7 @@ ghost use Rattle.register.specs.Papers.{is_its_clerk};
 ghost use Rattle.register.specs.Keyed.{is_whole, are_numbered, is_round_of, are_rounds_to};
 ghost use Rattle.register.specs.Items.{item4};
 ghost use Rattle.rowcheck.specs.States.{state_of};
-ghost use Rattle.rowcheck.specs.Keyings.{are_keyed_for, is_rightly_keyed};
+ghost use Rattle.rowcheck.specs.Walks.Keyings.{are_keyed_for, is_rightly_keyed};
 
 use crate::finding::{candidates_of, has_batch, keying_of, papers_of};
 use crate::rows::Rows;

@@ -9,8 +9,8 @@ ghost use Rattle.register.specs.Offices.{MapsRise, ward_entry, candidate_entry};
 ghost use Rattle.register.specs.Nominations.{are_enough};
 ghost use Rattle.register.specs.Items.{item2};
 ghost use Rattle.rowcheck.specs.States.{state_of};
-ghost use Rattle.rowcheck.specs.Runs.{skip_while};
-ghost use Rattle.rowcheck.specs.Nominations.{are_nominated};
+ghost use Rattle.rowcheck.specs.Walks.Runs.{skip_while};
+ghost use Rattle.rowcheck.specs.Walks.Nominations.{are_nominated};
 
 use crate::rows::Rows;
 use register::wards::is_contested;

@@ -7,7 +7,7 @@ ghost use Rattle.register.specs.Polls.{pile_of, piles_of, is_settled, ballots_in
 ghost use Rattle.register.specs.Elections.{election_of, is_counted, is_in_count, is_agreed};
 ghost use Rattle.register.specs.Items.{item6};
 ghost use Rattle.rowcheck.specs.States.{state_of};
-ghost use Rattle.rowcheck.specs.Polls.{is_settled_for, piles_in};
+ghost use Rattle.rowcheck.specs.Walks.Polls.{is_settled_for, piles_in};
 
 use crate::finding::{candidates_of, keying_of, verdicts_of};
 use crate::rows::Rows;

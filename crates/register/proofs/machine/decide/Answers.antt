@@ -6,7 +6,7 @@ use Rattle.register.specs.Machine.{outcome_at, ruling_at, step}
 use Rattle.register.specs.Seen.{seen_by}
 use Rattle.register.specs.Views.{IsViewOf, decided_on, ruling_of, outcome_of, IsToldAlike}
 use Rattle.register.proofs.MachineLemmas.{step_on, ruling_on, step_stays, accepted_is_kept, told_alike, advances}
-use Rattle.register.proofs.SeenLemmas.{ruling_seen, unseen, seen_alone}
+use Rattle.register.proofs.SeenLemmas.{ruling_on_seen, unseen_by, stands_alone}
 use Rattle.register.proofs.machine.decide.Goals as goal
 
 pub returns-clause-decides : goal.returns-clause-decides
@@ -39,11 +39,11 @@ returns-clause-blind c other_actor =
     let view = c.args.view.now in
     let command = c.args.command.now in
     IfOk-weaker c.decided.result (λ d. ruling_of d ≡ decided_on view command) (λ d. (s : OfficeState) → IsViewOf s command view → ruling_of d ≡ ruling_at (seen_by view.actor s) view.actor view.id.now command)
-    (λ d same s shows. same ∙ ruling_on s view.actor view.id.now command (option_map receipt_entry view.receipt) (part_entries view.part) shows.receipt shows.part ∙ sym (ruling_seen s view.actor view.id.now command other_actor))
+    (λ d same s shows. same ∙ ruling_on s view.actor view.id.now command (option_map receipt_entry view.receipt) (part_entries view.part) shows.receipt shows.part ∙ sym (ruling_on_seen s view.actor view.id.now command other_actor))
     c.decided.ensures
 
 pub returns-clause-unseen : goal.returns-clause-unseen
-returns-clause-unseen c other_actor s other apart = unseen s c.args.view.now.actor c.args.view.now.id.now other_actor c.args.command.now other apart
+returns-clause-unseen c other_actor s other apart = unseen_by s c.args.view.now.actor c.args.view.now.id.now other_actor c.args.command.now other apart
 
 pub returns-clause-seen_alone : goal.returns-clause-seen_alone
-returns-clause-seen_alone c other_actor s is = seen_alone s c.args.view.now.actor c.args.view.now.id.now other_actor is c.args.command.now
+returns-clause-seen_alone c other_actor s is = stands_alone s c.args.view.now.actor c.args.view.now.id.now other_actor is c.args.command.now

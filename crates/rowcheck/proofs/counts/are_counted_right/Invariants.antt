@@ -5,7 +5,7 @@ use Rattle.register.specs.declared.wards.Ward.{Ward}
 use Rattle.register.specs.Offices.{ward_entry}
 use Rattle.register.specs.Elections.{election_of, is_counted_right}
 use Rattle.rowcheck.specs.States.{state_of}
-use Rattle.rowcheck.specs.Counts.{IsFair}
+use Rattle.rowcheck.specs.Walks.Counts.{IsFair}
 use Rattle.rowcheck.proofs.counts.are_counted_right.Given as goal
 
 abbrev pub invariant-loop-ward : goal.invariant-loop-ward

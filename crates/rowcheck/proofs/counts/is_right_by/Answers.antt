@@ -7,7 +7,7 @@ use Rattle.count.specs.Law.Count.{stages_to}
 use Rattle.count.specs.Law.Laws.{IsShort}
 use Rattle.count.specs.Books.{Book}
 use Rattle.register.specs.Elections.{contest_of}
-use Rattle.rowcheck.specs.Counts.{election_with}
+use Rattle.rowcheck.specs.Walks.Counts.{election_with}
 use Rattle.rowcheck.proofs.CountLemmas.{told_right}
 use Rattle.rowcheck.proofs.counts.is_right_by.Goals as goal
 

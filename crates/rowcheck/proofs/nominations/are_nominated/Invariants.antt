@@ -1,5 +1,5 @@
 use Rattle.std.proofs.Common.{◌≡◌, drop}
-use Rattle.rowcheck.specs.Nominations.{are_nominated}
+use Rattle.rowcheck.specs.Walks.Nominations.{are_nominated}
 use Rattle.rowcheck.proofs.nominations.are_nominated.Given as goal
 
 abbrev pub invariant-loop-ward : goal.invariant-loop-ward

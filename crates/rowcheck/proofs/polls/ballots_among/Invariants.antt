@@ -3,7 +3,7 @@ use Rattle.std.proofs.Common.{◌≡◌, map, take}
 use Rattle.register.specs.Offices.{batch_entry}
 use Rattle.register.specs.Polls.{ballots_in, ballots_entry}
 use Rattle.rowcheck.specs.States.{state_of}
-use Rattle.rowcheck.specs.Polls.{piles_in}
+use Rattle.rowcheck.specs.Walks.Polls.{piles_in}
 use Rattle.rowcheck.proofs.polls.ballots_among.Given as goal
 
 abbrev pub invariant-loop-batch : goal.invariant-loop-batch
