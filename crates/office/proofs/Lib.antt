@@ -2,3 +2,4 @@ pub mod HandleLemmas
 pub mod RunLemmas
 mod ClerkLemmas
 pub mod SheetLemmas
+pub mod StopLemmas

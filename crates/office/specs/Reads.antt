@@ -1,5 +1,5 @@
 -- What is told of a state, and what a read leaves.
-use Rattle.std.specs.Prelude.{◌≡◌, ◌⊎◌, ℕ, Bool, true, if◌then◌else◌, List, Option, Some, None, Result, Ok, Err}
+use Rattle.std.specs.Prelude.{◌≡◌, ◌⊎◌, ⊤, ℕ, Bool, true, if◌then◌else◌, List, Option, Some, None, Result, Ok, Err}
 use Rattle.sqlite.specs.State.{State}
 use Rattle.register.specs.declared.refusal.Reason.{Reason}
 use Rattle.register.specs.declared.refusal.Reason.TheVariants.{NumberOutOfRange, NoSuchWard, NoSuchBatch}
@@ -8,6 +8,7 @@ use Rattle.register.specs.Offices.{OfficeState}
 use Rattle.register.specs.Standings.{StatusEntry, WorkEntry, status_at, columns_at, work_of}
 use Rattle.tables.specs.declared.fault.Fault.{Fault}
 use Rattle.tables.specs.declared.fault.Fault.TheVariants.{Memory, Store}
+use Rattle.tables.specs.Reading.{FailsBy}
 use Rattle.store.specs.Offices.{LeavesState}
 use Rattle.office.specs.declared.answers.Stop.{Stop}
 use Rattle.office.specs.declared.answers.Stop.TheVariants.{Refused, Fault as Failed}
@@ -42,6 +43,16 @@ abbrev pub Read : {X Y : Type 0} → (Y → X) → OfficeState → Result X Reas
 Read view s told (Ok y) closed st = (told ≡ Ok (view y)) × IsOpenAt s closed st
 Read view s told (Err (Refused why)) closed st = (told ≡ Err why) × IsOpenAt s closed st
 Read view s told (Err (Failed f)) closed st = IsKeptOpen s f closed st ⊎ IsClosedReading s f closed st
+
+-- a stop that is no refusal: memory was wanting, or the store failed
+abbrev pub StopsBy : State → State → Stop → Type 0
+StopsBy old new (Refused why) = ⊤
+StopsBy old new (Failed f) = FailsBy old new f
+
+-- any fault but want of memory closes the office
+abbrev pub ClosesAt : Bool → Stop → Type 0
+ClosesAt closed (Refused why) = ⊤
+ClosesAt closed (Failed f) = (f ≡ Memory) ⊎ (closed ≡ true)
 
 -- a refusal for this reason, or want of memory
 abbrev pub StopsFor : Reason → Stop → Type 0

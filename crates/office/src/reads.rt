@@ -1,6 +1,6 @@
 //! What the office tells of its state, which no read changes.
 
-ghost use Rattle.std.specs.Prelude.{◌≡◌, true, false, map, IfOk, IfErr, OnOk, Some, None, Ok, Err, string_bytes};
+ghost use Rattle.std.specs.Prelude.{◌≡◌, ◌⊎◌, Bool, true, false, map, IfOk, IfErr, OnOk, Some, None, Ok, Err, string_bytes};
 ghost use Rattle.sqlite.specs.State.{HasCleanDisk};
 ghost use Rattle.sqlite.specs.Held.{state};
 ghost use Rattle.register.specs.Offices.{OfficeState};
@@ -10,12 +10,12 @@ ghost use Rattle.register.specs.declared.refusal.Reason.{Reason};
 ghost use Rattle.tables.specs.Reading.{OnlyReads};
 ghost use Rattle.store.specs.Offices.{IsAt};
 ghost use Rattle.register.specs.Elections.{election_entry};
-ghost use Rattle.office.specs.Reads.{Read, status_told, columns_told, work_told, StopsFor};
+ghost use Rattle.office.specs.Reads.{Read, status_told, columns_told, work_told, StopsFor, StopsBy, ClosesAt};
 ghost use Rattle.office.specs.Sheets.{is_told_in, text_shown, text_told, StopsText, IsTextual, IsOfMemory};
 
 use crate::answers::Stop;
 use crate::offices::Office;
-use crate::sheets::{Text, text_of};
+use crate::sheets::{Text, text_of, texts_are_there};
 use paper::Columns;
 use register::ranges::{is_batch_number, is_clerk, is_ward_number};
 use register::{Election, Reason, Refusal, Status, Work};
@@ -25,7 +25,9 @@ use store::Fault;
 
 /// A refusal for a reason, or want of memory.
 fn refused(alloc: Global, reason: Reason) -> Stop
-    ensures { StopsFor reason result }
+    ensures reason { StopsFor reason result }
+    ensures closes { (closed : Bool) → ClosesAt closed result }
+    ensures memory { IsOfMemory result }
 {
     match Refusal::new(alloc, reason) {
         Ok(refusal) => Stop::Refused(refusal),
@@ -34,25 +36,28 @@ fn refused(alloc: Global, reason: Reason) -> Stop
 }
 
 impl<S: Alter> Office<S> {
-    /// Tells a fault that a read met. Any but want of memory closes the office.
-    fn failed(&mut self, fault: Fault) -> Stop
-        ensures told { result ≡ Stop.Fault fault }
+    /// Notes a fault that a read met. Any but want of memory closes the office.
+    fn note(&mut self, fault: Fault)
         ensures held { self.new.held ≡ self.old.held }
         ensures kept { fault ≡ Fault.Memory → self.new.closed ≡ false }
-        ensures closes { fault ≡ Fault.Store → self.new.closed ≡ true }
+        ensures closes { (fault ≡ Fault.Memory) ⊎ (self.new.closed ≡ true) }
+        ensures shuts { fault ≡ Fault.Store → self.new.closed ≡ true }
     {
         self.closed = fault != Fault::Memory;
-        Stop::Fault(fault)
     }
 
     /// How the election of a ward stands.
     ///
     /// Refused where the number is outside 1 to 99, or no ward has it. Nothing is changed. `Memory` leaves
     /// the office open; any other fault closes it. A closed office tells `Closed`.
+    #[tactic(auto, using(crate::proofs::StopLemmas::stops_of_memory))]
     pub fn status(&mut self, ward: u32) -> Result<Status, Stop>
         ensures reads { HasCleanDisk (state S.Store self.new.held) → self.old.closed ≡ false → (s : OfficeState) → IsAt s (state S.Store self.old.held)
             → Read status_entry s (status_told s ward) result self.new.closed (state S.Store self.new.held) }
         ensures same { OnlyReads (state S.Store self.old.held) (state S.Store self.new.held) }
+        ensures closes { IfErr result (ClosesAt self.new.closed) }
+        ensures cause { HasCleanDisk (state S.Store self.new.held) → self.old.closed ≡ false → (s : OfficeState) → IsAt s (state S.Store self.old.held)
+            → IfErr result (StopsBy (state S.Store self.old.held) (state S.Store self.new.held)) }
         ensures closed { self.old.closed ≡ true → (result ≡ Err (Stop.Fault Fault.Closed)) × (self.new ≡ self.old) }
     {
         if self.closed {
@@ -64,7 +69,10 @@ impl<S: Alter> Office<S> {
         match self.store.load_status(ward) {
             Ok(Some(status)) => Ok(status),
             Ok(None) => Err(refused(self.alloc, Reason::NoSuchWard)),
-            Err(fault) => Err(self.failed(fault)),
+            Err(fault) => {
+                self.note(fault);
+                Err(Stop::Fault(fault))
+            }
         }
     }
 
@@ -72,10 +80,14 @@ impl<S: Alter> Office<S> {
     ///
     /// Refused where the number is outside 1 to 9999, or no batch has it. Nothing is changed. `Memory` leaves
     /// the office open; any other fault closes it. A closed office tells `Closed`.
+    #[tactic(auto, using(crate::proofs::StopLemmas::stops_of_memory))]
     pub fn columns(&mut self, batch: u32) -> Result<Columns, Stop>
         ensures reads { HasCleanDisk (state S.Store self.new.held) → self.old.closed ≡ false → (s : OfficeState) → IsAt s (state S.Store self.old.held)
             → Read (λ columns. columns) s (columns_told s batch) result self.new.closed (state S.Store self.new.held) }
         ensures same { OnlyReads (state S.Store self.old.held) (state S.Store self.new.held) }
+        ensures closes { IfErr result (ClosesAt self.new.closed) }
+        ensures cause { HasCleanDisk (state S.Store self.new.held) → self.old.closed ≡ false → (s : OfficeState) → IsAt s (state S.Store self.old.held)
+            → IfErr result (StopsBy (state S.Store self.old.held) (state S.Store self.new.held)) }
         ensures closed { self.old.closed ≡ true → (result ≡ Err (Stop.Fault Fault.Closed)) × (self.new ≡ self.old) }
     {
         if self.closed {
@@ -87,7 +99,10 @@ impl<S: Alter> Office<S> {
         match self.store.load_columns(batch) {
             Ok(Some(columns)) => Ok(columns),
             Ok(None) => Err(refused(self.alloc, Reason::NoSuchBatch)),
-            Err(fault) => Err(self.failed(fault)),
+            Err(fault) => {
+                self.note(fault);
+                Err(Stop::Fault(fault))
+            }
         }
     }
 
@@ -97,12 +112,16 @@ impl<S: Alter> Office<S> {
     /// It rests on what the clerk sees of the state alone, whatever others keyed. Refused where the number is
     /// outside 1 to 999. Nothing is changed. `Memory` leaves the office open; any other fault closes it. A
     /// closed office tells `Closed`.
+    #[tactic(auto, using(crate::proofs::StopLemmas::stops_of_memory))]
     pub fn work(&mut self, clerk: u32) -> Result<Vec<Work>, Stop>
         ensures reads { HasCleanDisk (state S.Store self.new.held) → self.old.closed ≡ false → (s : OfficeState) → IsAt s (state S.Store self.old.held)
             → Read (λ work. map work_entry work.items) s (work_told s clerk) result self.new.closed (state S.Store self.new.held) }
         ensures blind { HasCleanDisk (state S.Store self.new.held) → self.old.closed ≡ false → (s : OfficeState) → IsAt s (state S.Store self.old.held)
             → IfOk result (λ work. map work_entry work.items ≡ work_of (seen_by clerk s) clerk) }
         ensures same { OnlyReads (state S.Store self.old.held) (state S.Store self.new.held) }
+        ensures closes { IfErr result (ClosesAt self.new.closed) }
+        ensures cause { HasCleanDisk (state S.Store self.new.held) → self.old.closed ≡ false → (s : OfficeState) → IsAt s (state S.Store self.old.held)
+            → IfErr result (StopsBy (state S.Store self.old.held) (state S.Store self.new.held)) }
         ensures closed { self.old.closed ≡ true → (result ≡ Err (Stop.Fault Fault.Closed)) × (self.new ≡ self.old) }
     {
         if self.closed {
@@ -113,7 +132,10 @@ impl<S: Alter> Office<S> {
         }
         match self.store.load_work(clerk) {
             Ok(work) => Ok(work),
-            Err(fault) => Err(self.failed(fault)),
+            Err(fault) => {
+                self.note(fault);
+                Err(Stop::Fault(fault))
+            }
         }
     }
 
@@ -126,6 +148,9 @@ impl<S: Alter> Office<S> {
         ensures reads { HasCleanDisk (state S.Store self.new.held) → self.old.closed ≡ false → (s : OfficeState) → IsAt s (state S.Store self.old.held)
             → Read string_bytes s (text_told Text.Sheet s ward) result self.new.closed (state S.Store self.new.held) }
         ensures same { OnlyReads (state S.Store self.old.held) (state S.Store self.new.held) }
+        ensures closes { IfErr result (ClosesAt self.new.closed) }
+        ensures cause { HasCleanDisk (state S.Store self.new.held) → self.old.closed ≡ false → (s : OfficeState) → IsAt s (state S.Store self.old.held)
+            → IfErr result (StopsBy (state S.Store self.old.held) (state S.Store self.new.held)) }
         ensures closed { self.old.closed ≡ true → (result ≡ Err (Stop.Fault Fault.Closed)) × (self.new ≡ self.old) }
     {
         self.text(ward, Text::Sheet)
@@ -140,16 +165,23 @@ impl<S: Alter> Office<S> {
         ensures reads { HasCleanDisk (state S.Store self.new.held) → self.old.closed ≡ false → (s : OfficeState) → IsAt s (state S.Store self.old.held)
             → Read string_bytes s (text_told Text.Declaration s ward) result self.new.closed (state S.Store self.new.held) }
         ensures same { OnlyReads (state S.Store self.old.held) (state S.Store self.new.held) }
+        ensures closes { IfErr result (ClosesAt self.new.closed) }
+        ensures cause { HasCleanDisk (state S.Store self.new.held) → self.old.closed ≡ false → (s : OfficeState) → IsAt s (state S.Store self.old.held)
+            → IfErr result (StopsBy (state S.Store self.old.held) (state S.Store self.new.held)) }
         ensures closed { self.old.closed ≡ true → (result ≡ Err (Stop.Fault Fault.Closed)) × (self.new ≡ self.old) }
     {
         self.text(ward, Text::Declaration)
     }
 
     /// A text of a ward: what `sheet` and `result` give.
+    #[tactic(auto, using(crate::proofs::StopLemmas::stops_of_memory))]
     fn text(&mut self, ward: u32, text: Text) -> Result<String, Stop>
         ensures reads { HasCleanDisk (state S.Store self.new.held) → self.old.closed ≡ false → (s : OfficeState) → IsAt s (state S.Store self.old.held)
             → Read string_bytes s (text_told text s ward) result self.new.closed (state S.Store self.new.held) }
         ensures same { OnlyReads (state S.Store self.old.held) (state S.Store self.new.held) }
+        ensures closes { IfErr result (ClosesAt self.new.closed) }
+        ensures cause { HasCleanDisk (state S.Store self.new.held) → self.old.closed ≡ false → (s : OfficeState) → IsAt s (state S.Store self.old.held)
+            → IfErr result (StopsBy (state S.Store self.old.held) (state S.Store self.new.held)) }
         ensures closed { self.old.closed ≡ true → (result ≡ Err (Stop.Fault Fault.Closed)) × (self.new ≡ self.old) }
     {
         if self.closed {
@@ -158,9 +190,13 @@ impl<S: Alter> Office<S> {
         if !is_ward_number(ward) {
             return Err(refused(self.alloc, Reason::NumberOutOfRange));
         }
+        texts_are_there();
         let found = match self.store.load_election(ward) {
             Ok(found) => found,
-            Err(fault) => return Err(self.failed(fault)),
+            Err(fault) => {
+                self.note(fault);
+                return Err(Stop::Fault(fault));
+            }
         };
         match found {
             Some(election) => self.text_of(&election, text),
@@ -173,6 +209,7 @@ impl<S: Alter> Office<S> {
     fn text_of(&mut self, election: &Election, text: Text) -> Result<String, Stop>
         ensures told { IfOk result (λ told. (is_told_in text election.now.ward.phase ≡ true) × (string_bytes told ≡ text_shown text (election_entry election.now))) }
         ensures stopped { self.old.closed ≡ false → IfErr result (λ stop. StopsText text election.now.ward.phase self.new.closed stop) }
+        ensures closes { IfErr result (ClosesAt self.new.closed) }
         ensures cause { IsTextual (election_entry election.now) → IfErr result IsOfMemory }
         ensures held { self.new.held ≡ self.old.held }
         ensures open_still { OnOk result (self.new.closed ≡ self.old.closed) }
@@ -182,8 +219,14 @@ impl<S: Alter> Office<S> {
         }
         match text_of(self.alloc, election, text) {
             Ok(Some(told)) => Ok(told),
-            Ok(None) => Err(self.failed(Fault::Store)),
-            Err(_) => Err(self.failed(Fault::Memory)),
+            Ok(None) => {
+                self.note(Fault::Store);
+                Err(Stop::Fault(Fault::Store))
+            }
+            Err(_) => {
+                self.note(Fault::Memory);
+                Err(Stop::Fault(Fault::Memory))
+            }
         }
     }
 }

@@ -31,7 +31,8 @@ returns-in-Ok-Accepted-clause-handled g c clean is_open s at =
     let same : accepted (with_change (change_entry c.in-Ok-Accepted.change) s) (string_bytes c.in-Ok-Accepted.reply) ≡ step s c.args.actor c.args.id.now c.args.command.now = rw c.in-Ok-Accepted.field-0-is at (c.in-Ok-Accepted.ensures.decides before s here) in
     let was_open = c.in-Ok-Accepted.ensures.opens before in
     let kept_at = c.decision_of.ensures.keeps before s here in
-    handled_err s (step s c.args.actor c.args.id.now c.args.command.now) (accepted (with_change (change_entry c.in-Ok-Accepted.change) s) (string_bytes c.in-Ok-Accepted.reply)) c.in-Err-commit.fault true (state g.S.Store c.commit.new.self) same refl c.in-Err-commit.ensures.cause (λ _. refl) (c.commit.ensures.stops clean was_open s kept_at)
+    let is : IsState (with_change (change_entry c.in-Ok-Accepted.change) s) = subst (λ (o : Outcome). IsState (state_after s o)) (sym same) (c.in-Ok-Accepted.ensures.stays s here.is) in
+    handled_err s (step s c.args.actor c.args.id.now c.args.command.now) (accepted (with_change (change_entry c.in-Ok-Accepted.change) s) (string_bytes c.in-Ok-Accepted.reply)) c.in-Err-commit.fault true (state g.S.Store c.commit.new.self) same refl c.in-Err-commit.ensures.cause (λ _. refl) (c.commit.ensures.leaves clean was_open s kept_at is)
 
 pub returns-in-Ok-clause-handled : goal.returns-in-Ok-clause-handled
 returns-in-Ok-clause-handled g c clean is_open s at =

@@ -4,6 +4,7 @@ use Rattle.sqlite.specs.Held.{state}
 use Rattle.register.specs.Offices.{OfficeState, empty_office}
 use Rattle.register.specs.Machine.{step, step_of, after}
 use Rattle.store.specs.Offices.{IsAt, LeavesState}
+use Rattle.store.proofs.KeepLemmas.{wears_then}
 use Rattle.office.specs.Answers.{IsOpenAt, Handled, told, told_of}
 use Rattle.office.specs.Runs.{outcomes, IsAfterBeginning, StopsAfter}
 use Rattle.office.proofs.RunLemmas.{answers_more, keeps_beginning, after_next, stops_after, stops_at_beginning}
@@ -63,6 +64,7 @@ loop-request-preserved g c =
       count = c.put_answer.ensures.count ∙ ap (λ n. n + 1) c.loop-request.invariant.count;
       room = omega arith;
       clean = λ clean. c.loop-request.invariant.clean (c.in-Ok-handle.ensures.clean clean);
+      wears = wears_then _ _ _ c.in-Ok-handle.ensures.clean c.loop-request.invariant.wears c.handle.ensures.wears;
       open_at = λ clean is_open s at. subst (λ x. IsOpenAt x c.handle.new.self.closed st) (after_next s rs i r within c.request-item.is) (handled clean is_open s at).1;
       answers = λ clean is_open s at.
           ap (map told) c.put_answer.ensures.items
@@ -77,6 +79,11 @@ returns-clause-headline g c clean is_open earlier at =
     let st = state g.S.Store c.loop-request.self.held in
     subst (λ n. LeavesState st (IsAfterBeginning earlier c.args.requests.now n)) (sym c.loop-request.invariant.count)
     (keeps_beginning earlier c.args.requests.now c.loop-request.request-index st c.loop-request.auto.request-index-end here.at)
+
+-- ---- the connection
+
+pub returns-in-Err-clause-wears : goal.returns-in-Err-clause-wears
+returns-in-Err-clause-wears g c = wears_then _ _ _ c.in-Err.ensures.clean c.loop-request.invariant.wears c.handle.ensures.wears
 
 -- ---- each clerk's answers
 
