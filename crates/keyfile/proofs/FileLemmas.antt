@@ -3,7 +3,7 @@ use Rattle.std.proofs.Common.{◌≡◌, ◌≢◌, ◌∙◌, ◌≤◌, ◌<�
 use Rattle.std.specs.Prelude.{IfErr, IfSome}
 use Rattle.std.proofs.lemmas.Bool.{eq-eqb, ne_eqb, le-ltb, lt-ltb}
 use Rattle.keyfile.specs.Files.{Format, and_rows, fault_at, file_rows, is_text_header, read_as_text, read_record, rows_from}
-use Rattle.keyfile.specs.Reading.{wanted}
+use Rattle.keyfile.specs.Inside.{wanted}
 use Rattle.keyfile.specs.Records.{Record}
 use Rattle.keyfile.specs.declared.fault.FileFault.{FileFault}
 use Rattle.keyfile.specs.declared.fault.Flaw.{Flaw}

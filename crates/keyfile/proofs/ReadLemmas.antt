@@ -10,7 +10,8 @@ use Rattle.csv.specs.declared.error.ErrorKind.{ErrorKind}
 use Rattle.csv.specs.declared.error.ErrorKind.TheVariants as kind
 use Rattle.csv.proofs.ReadFacts.{rows-more}
 use Rattle.keyfile.specs.Faults.{flaw_of}
-use Rattle.keyfile.specs.Reading.{Begins, EndsBefore, Follows, IsAfter, IsNext, IsUneven, Known, wanted}
+use Rattle.keyfile.specs.Inside.{Begins, EndsBefore, Follows, IsAfter, IsNext, IsUneven, wanted}
+use Rattle.keyfile.specs.Reading.{Known}
 use Rattle.keyfile.specs.Records.{Record, file_records}
 use Rattle.keyfile.proofs.RecordLemmas.{file-begins, file-whole}
 
@@ -73,38 +74,38 @@ module _ {R : Type 0} (rem : R → Option (List ℕ)) where
   -- a read that gave none
   pub read-end : (a b : Reader R) (bytes : Option (List ℕ)) (records : List Record) (fields : Record) → IsAfter rem bytes records a → ReadRecord rem a b false fields
       → Known bytes (λ xs. file_records xs ≡ records)
-  read-end a b bytes records fields after read = go bytes (source_of rem a) (pending_of (rem b.rdr) b) (rw after.config at read.0) after.follows
+  read-end a b bytes records fields after read = by_bytes bytes (source_of rem a) (pending_of (rem b.rdr) b) (rw after.config at read.0) after.follows
     where
       ended : (o : Option Read) (s : State) (rest : List ℕ) → NextIs o false fields s rest → o ≡ None
       ended None s rest h = refl
       ended (Some p) s rest h = cc h.0
 
-      go : (bytes left right : Option (List ℕ)) → ReadsNext default_config a.state left right false fields b.state → Follows bytes records a.state left
+      by_bytes : (bytes left right : Option (List ℕ)) → ReadsNext default_config a.state left right false fields b.state → Follows bytes records a.state left
           → Known bytes (λ xs. file_records xs ≡ records)
-      go None left right t h = tt
-      go (Some xs) None right t h = absurd h
-      go (Some xs) (Some ys) None t h = absurd t
-      go (Some xs) (Some ys) (Some zs) t h = file-whole xs records a.state ys h (ended _ _ _ t)
+      by_bytes None left right t h = tt
+      by_bytes (Some xs) None right t h = absurd h
+      by_bytes (Some xs) (Some ys) None t h = absurd t
+      by_bytes (Some xs) (Some ys) (Some zs) t h = file-whole xs records a.state ys h (ended _ _ _ t)
 
   -- the file's records begin with those that were read
   pub after-begins : (a : Reader R) (bytes : Option (List ℕ)) (records : List Record) → IsAfter rem bytes records a → Known bytes (λ xs. Begins xs records)
-  after-begins a bytes records after = go bytes (source_of rem a) after.follows
+  after-begins a bytes records after = by_bytes bytes (source_of rem a) after.follows
     where
-      go : (bytes left : Option (List ℕ)) → Follows bytes records a.state left → Known bytes (λ xs. Begins xs records)
-      go None left h = tt
-      go (Some xs) None h = absurd h
-      go (Some xs) (Some ys) h = file-begins xs records a.state ys h
+      by_bytes : (bytes left : Option (List ℕ)) → Follows bytes records a.state left → Known bytes (λ xs. Begins xs records)
+      by_bytes None left h = tt
+      by_bytes (Some xs) None h = absurd h
+      by_bytes (Some xs) (Some ys) h = file-begins xs records a.state ys h
 
   uneven : (a b : Reader R) (bytes : Option (List ℕ)) (records : List Record) (fields : Record) (n : ℕ) → IsAfter rem bytes records a
       → a.expected ≡ Some n → n ≢ length fields → TookRecord rem a b fields → Known bytes (λ xs. IsUneven xs records)
-  uneven a b bytes records fields n after expected differs took = go bytes (source_of rem a) (pending_of (rem b.rdr) b) (rw after.config at took) after.follows
+  uneven a b bytes records fields n after expected differs took = by_bytes bytes (source_of rem a) (pending_of (rem b.rdr) b) (rw after.config at took) after.follows
     where
-      go : (bytes left right : Option (List ℕ)) → ReadsNext default_config a.state left right true fields b.state → Follows bytes records a.state left
+      by_bytes : (bytes left right : Option (List ℕ)) → ReadsNext default_config a.state left right true fields b.state → Follows bytes records a.state left
           → Known bytes (λ xs. IsUneven xs records)
-      go None left right t h = tt
-      go (Some xs) None right t h = absurd h
-      go (Some xs) (Some ys) None t h = absurd t
-      go (Some xs) (Some ys) (Some zs) t h =
+      by_bytes None left right t h = tt
+      by_bytes (Some xs) None right t h = absurd h
+      by_bytes (Some xs) (Some ys) None t h = absurd t
+      by_bytes (Some xs) (Some ys) (Some zs) t h =
           (fields, n, file-begins xs (records ++ fields ∷ []) b.state zs (reached_next st.StartRecord a.state b.state (strip_bom xs) ys zs records fields h t), sym after.length ∙ expected, differs)
 
   -- a read that failed

@@ -8,7 +8,7 @@ use Rattle.csv.specs.declared.parser.Config.{Config}
 use Rattle.csv.specs.declared.parser.State.{State}
 use Rattle.csv.specs.declared.parser.State.TheVariants as st
 use Rattle.keyfile.specs.Records.{Record, file_records}
-use Rattle.keyfile.specs.Reading.{Begins}
+use Rattle.keyfile.specs.Inside.{Begins}
 
 -- a record takes a byte, where there is one
 takes : (cfg : Config) (s : State) (fields : Record) (field : List ℕ) (b : ℕ) (xs : List ℕ) (p : Read) → next_record cfg s fields field (b ∷ xs) ≡ Some p

@@ -5,7 +5,8 @@ use Rattle.std.specs.Result.{IsErrAnd}
 use Rattle.csv.specs.declared.reader.Reader.{Reader}
 use Rattle.keyfile.specs.Faults.{is_stop}
 use Rattle.keyfile.specs.Files.{Format, IsFaultOf, fault_at, file_rows, is_text_header, read_as_text}
-use Rattle.keyfile.specs.Reading.{Begins, EndsBefore, IsNext, IsUneven, Known, StandsAt}
+use Rattle.keyfile.specs.Inside.{Begins, EndsBefore, IsNext, IsUneven, StandsAt}
+use Rattle.keyfile.specs.Reading.{Known}
 use Rattle.keyfile.specs.Records.{Record, file_records}
 use Rattle.keyfile.specs.declared.fault.FileFault.{FileFault}
 use Rattle.keyfile.specs.declared.fault.Flaw.{Flaw}
@@ -148,9 +149,9 @@ module _ {Row : Type 0} (format : Format Row) (bytes : Option (List ℕ)) {T : T
 
   -- what is told of a result, where the bytes are known
   pub fault-known : (r : Result T FileFault) → IfErr r (Told format bytes) → Known bytes (λ xs. IfErr r (IsFaultOf format (file_records xs)))
-  fault-known (Ok x) h = go bytes
+  fault-known (Ok x) h = by_bytes bytes
     where
-      go : (bytes : Option (List ℕ)) → Known bytes (λ xs. ⊤)
-      go None = tt
-      go (Some xs) = tt
+      by_bytes : (bytes : Option (List ℕ)) → Known bytes (λ xs. ⊤)
+      by_bytes None = tt
+      by_bytes (Some xs) = tt
   fault-known (Err fault) h = h

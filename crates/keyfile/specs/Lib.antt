@@ -6,3 +6,4 @@ pub mod Files
 pub mod Candidates
 pub mod Keying
 pub mod Reading
+pub mod Inside

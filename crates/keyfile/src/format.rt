@@ -3,7 +3,8 @@
 ghost use Rattle.std.specs.Prelude.{◌≡◌, ◌∷◌, ◌++◌, ◌+◌, ◌-◌, ◌^◌, ◌<◌, ◌≤◌, ◌⊎◌, [], List, Option, ℕ, true, false, map, IfOk, IfErr, IfSome, IfNone, Ok, Err, OnOk};
 ghost use Rattle.csv.specs.Records.{fields_of};
 ghost use Rattle.keyfile.specs.Files.{Format, IsFaultOf, file_rows, is_text_header, read_as_text};
-ghost use Rattle.keyfile.specs.Reading.{IsAfter, Known, StandsAt};
+ghost use Rattle.keyfile.specs.Inside.{IsAfter, StandsAt};
+ghost use Rattle.keyfile.specs.Reading.{Known};
 ghost use Rattle.keyfile.specs.Records.{file_records};
 
 use crate::fault::{FileFault, Flaw, at_record};

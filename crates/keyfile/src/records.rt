@@ -4,7 +4,8 @@ ghost use Rattle.std.specs.Prelude.{◌≡◌, ◌∷◌, ◌++◌, [], List, Op
 ghost use Rattle.csv.specs.Reading.{error_kind};
 ghost use Rattle.csv.specs.Records.{fields_of};
 ghost use Rattle.keyfile.specs.Faults.{flaw_of};
-ghost use Rattle.keyfile.specs.Reading.{EndsBefore, IsAfter, IsNext, Known};
+ghost use Rattle.keyfile.specs.Inside.{EndsBefore, IsAfter, IsNext};
+ghost use Rattle.keyfile.specs.Reading.{Known};
 ghost use Rattle.keyfile.specs.Records.{Record, file_records};
 
 use crate::fault::{FileFault, Flaw};

@@ -1,7 +1,7 @@
 -- Why `read_file` keeps its promise.
 use Rattle.std.proofs.Common.{◌≡◌, ◌+◌, ℕ, map, refl, subst, arith}
 use Rattle.keyfile.specs.Files.{fault_at}
-use Rattle.keyfile.specs.Reading.{StandsAt}
+use Rattle.keyfile.specs.Inside.{StandsAt}
 use Rattle.keyfile.specs.declared.fault.Flaw.TheVariants.{Memory}
 use Rattle.keyfile.proofs.StandLemmas.{fault-known, passed-on, stands-stopped}
 use Rattle.keyfile.proofs.format.read_file.Goals as goal

@@ -1,6 +1,6 @@
 -- What holds each time round the loop of `read_file`.
 use Rattle.std.proofs.Common.{map}
-use Rattle.keyfile.specs.Reading.{StandsAt}
+use Rattle.keyfile.specs.Inside.{StandsAt}
 use Rattle.keyfile.proofs.format.read_file.Given as goal
 
 abbrev pub invariant-loop-number : goal.invariant-loop-number

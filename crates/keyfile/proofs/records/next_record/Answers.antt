@@ -1,7 +1,7 @@
 -- Why `next_record` keeps its promise.
 use Rattle.std.proofs.Common.{rules, refl, sym, subst}
 use Rattle.csv.specs.Records.{fields_of}
-use Rattle.keyfile.specs.Reading.{EndsBefore}
+use Rattle.keyfile.specs.Inside.{EndsBefore}
 use Rattle.keyfile.proofs.ReadLemmas.{read-more, read-end, read-failed}
 use Rattle.keyfile.proofs.records.next_record.Goals as goal
 

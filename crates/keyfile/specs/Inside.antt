@@ -1,0 +1,67 @@
+-- Where the reader of an import file stands, record by record: what private functions promise one another. No public promise
+-- rests on these words.
+use Rattle.std.specs.Prelude.{◌≡◌, ◌≢◌, ◌∷◌, ◌++◌, ℕ, false, List, [], Option, Some, None, length, IfSome, Ok, ⊤}
+use Rattle.csv.specs.Reading.{Reached, Ready, default_config, expected_len, has_failed, is_flexible, reader_config, reader_state, reader_trim, source_of, strip_bom}
+use Rattle.csv.specs.declared.reader.Reader.{Reader}
+use Rattle.csv.specs.declared.parser.State.{State}
+use Rattle.csv.specs.declared.parser.State.TheVariants as st
+use Rattle.csv.specs.declared.reader.Trim.TheVariants as trim
+use Rattle.keyfile.specs.Files.{Format, file_rows}
+use Rattle.keyfile.specs.Reading.{Known}
+use Rattle.keyfile.specs.Records.{Record, file_records}
+use Rattle.keyfile.specs.declared.fault.Flaw.{Flaw}
+use Rattle.keyfile.specs.declared.fault.Flaw.TheVariants.{Header, RecordLength, Number, PaperOrder, Marks, NotUtf8, TooManyRecords, ReadFailed, Memory}
+
+-- the length that the next record must have: that of the first
+abbrev pub wanted : List Record → Option ℕ
+wanted [] = None
+wanted (first ∷ others) = Some (length first)
+
+-- the bytes that are left follow these records, where they are known
+abbrev pub Follows : Option (List ℕ) → List Record → State → Option (List ℕ) → Type 0
+Follows None records s left = ⊤
+Follows (Some bytes) records s None = ⊥
+Follows (Some bytes) records s (Some rest) = Reached default_config st.StartRecord (strip_bom bytes) records s rest
+
+module _ {R : Type 0} (rem : R → Option (List ℕ)) where
+  -- a reader gave these records of a file, and goes on after them
+  pub record IsAfter (bytes : Option (List ℕ)) (records : List Record) (file : Reader R) : Type 0 where
+    pub config : reader_config file ≡ default_config
+    pub trim : reader_trim file ≡ trim.None
+    pub ready : Ready file
+    pub strict : is_flexible file ≡ false
+    pub goes : has_failed file ≡ false
+    pub length : expected_len file ≡ wanted records
+    pub follows : Follows bytes records (reader_state file) (source_of rem file)
+
+  -- it gave one record more, as long as the first
+  pub record IsNext (bytes : Option (List ℕ)) (records : List Record) (fields : Record) (file : Reader R) : Type 0 where
+    pub after : IsAfter bytes (records ++ fields ∷ []) file
+    pub even : IfSome (wanted records) (λ n. length fields ≡ n)
+
+  -- so many records were read, the header among them, and those behind it are read as these rows
+  pub record StandsAt {Row : Type 0} (bytes : Option (List ℕ)) (format : Format Row) (number : ℕ) (rows : List Row) (file : Reader R) : Type 0 where
+    pub records : List Record
+    pub count : length records ≡ number
+    pub after : IsAfter bytes records file
+    pub read : file_rows format records ≡ Ok rows
+
+-- the records of a file begin with these
+abbrev pub Begins : List ℕ → List Record → Type 0
+Begins bytes records = (others : List Record) × (file_records bytes ≡ records ++ others)
+
+-- the next record of a file has another length than the first
+abbrev pub IsUneven : List ℕ → List Record → Type 0
+IsUneven bytes records = (fields : Record) × (n : ℕ) × Begins bytes (records ++ fields ∷ []) × (wanted records ≡ Some n) × (n ≢ length fields)
+
+-- why no record was read after these
+abbrev pub EndsBefore : Option (List ℕ) → List Record → Flaw → Type 0
+EndsBefore bytes records RecordLength = Known bytes (λ xs. IsUneven xs records)
+EndsBefore bytes records ReadFailed = ⊤
+EndsBefore bytes records Memory = ⊤
+EndsBefore bytes records Header = ⊥
+EndsBefore bytes records Number = ⊥
+EndsBefore bytes records PaperOrder = ⊥
+EndsBefore bytes records Marks = ⊥
+EndsBefore bytes records NotUtf8 = ⊥
+EndsBefore bytes records TooManyRecords = ⊥
