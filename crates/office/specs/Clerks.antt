@@ -1,13 +1,13 @@
 -- The requests and answers of one clerk among those of many.
-use Rattle.std.specs.Prelude.{ℕ, Bool, ◌==◌, List, map}
+use Rattle.std.specs.Prelude.{ℕ, Bool, not, ◌==◌, List, map}
 use Rattle.std.specs.List.{filter, list_all, zip}
 use Rattle.register.specs.declared.command.Request.{Request}
-use Rattle.register.specs.Ranges.{is_clerk}
+use Rattle.register.specs.Ranges.{is_office}
 use Rattle.office.specs.declared.answers.Answer.{Answer}
 
--- each request is a clerk's
-abbrev pub are_clerks : List Request → Bool
-are_clerks requests = list_all (λ (r : Request). is_clerk r.actor) requests
+-- no request is the office's own: each is a clerk's, or of whoever else has a number
+abbrev pub none_is_the_office : List Request → Bool
+none_is_the_office requests = list_all (λ (r : Request). not (is_office r.actor)) requests
 
 -- the requests of one clerk
 abbrev pub own_requests : ℕ → List Request → List Request

@@ -7,7 +7,7 @@ ghost use Rattle.sqlite.specs.State.{HasCleanDisk};
 ghost use Rattle.sqlite.specs.Held.{state};
 ghost use Rattle.register.specs.Offices.{OfficeState, empty_office};
 ghost use Rattle.register.specs.Items.{IsState};
-ghost use Rattle.register.specs.Ranges.{is_clerk};
+ghost use Rattle.register.specs.Ranges.{is_office};
 ghost use Rattle.register.specs.Seen.{seen_by};
 ghost use Rattle.register.specs.Machine.{step, state_after, is_accepted, after, IsKeptAgain};
 ghost use Rattle.tables.specs.Contents.{RestsAt, SameContents, Stores};
@@ -17,7 +17,7 @@ ghost use Rattle.store.specs.Offices.{tables_of, HoldsState, IsAt, LeavesState, 
 ghost use Rattle.store.specs.Openings.{IsBlank, IsToldBy, IsLeftAt};
 ghost use Rattle.register.specs.declared.command.Request.{Request};
 ghost use Rattle.office.specs.Answers.{told, told_of, IsOpenAt, Handled, HandledAgain};
-ghost use Rattle.office.specs.Clerks.{are_clerks, own_requests, own_answers};
+ghost use Rattle.office.specs.Clerks.{none_is_the_office, own_requests, own_answers};
 ghost use Rattle.office.specs.Runs.{outcomes, AnswersFirst, IsAfterBeginning, StopsAfter};
 
 use crate::answers::{Answer, Run};
@@ -132,9 +132,9 @@ impl<S: Alter> Office<S> {
         ensures sent_again { HasCleanDisk (state S.Store self.new.held) → self.old.closed ≡ false → (s : OfficeState) → is_accepted (step s actor id.now command.now) ≡ true
             → IsAt (state_after s (step s actor id.now command.now)) (state S.Store self.old.held)
             → HandledAgain s (step s actor id.now command.now) result self.new.closed (state S.Store self.new.held) }
-        ensures blind { HasCleanDisk (state S.Store self.new.held) → self.old.closed ≡ false → (s : OfficeState) → IsAt s (state S.Store self.old.held) → is_clerk actor ≡ true
+        ensures blind { HasCleanDisk (state S.Store self.new.held) → self.old.closed ≡ false → (s : OfficeState) → IsAt s (state S.Store self.old.held) → is_office actor ≡ false
             → IfOk result (λ answer. told answer ≡ told_of (step (seen_by actor s) actor id.now command.now)) }
-        ensures unseen { HasCleanDisk (state S.Store self.new.held) → self.old.closed ≡ false → (s : OfficeState) → IsAt s (state S.Store self.old.held) → is_clerk actor ≡ true → (clerk : ℕ) → (actor == clerk) ≡ false
+        ensures unseen { HasCleanDisk (state S.Store self.new.held) → self.old.closed ≡ false → (s : OfficeState) → IsAt s (state S.Store self.old.held) → is_office actor ≡ false → (clerk : ℕ) → (actor == clerk) ≡ false
             → LeavesState (state S.Store self.new.held) (λ x. seen_by clerk x ≡ seen_by clerk s) }
         ensures closes { IfErr result (λ f. (f ≡ Fault.Memory) ⊎ (self.new.closed ≡ true)) }
         ensures cause { HasCleanDisk (state S.Store self.new.held) → self.old.closed ≡ false → (s : OfficeState) → IsAt s (state S.Store self.old.held)
@@ -195,7 +195,7 @@ impl<S: Alter> Office<S> {
             → IfSome result.fault (StopsAfter s requests.now (vec_len result.answers) self.new.closed (state S.Store self.new.held)) }
         ensures headline { HasCleanDisk (state S.Store self.new.held) → self.old.closed ≡ false → (earlier : List Request) → IsAt (after empty_office earlier) (state S.Store self.old.held)
             → LeavesState (state S.Store self.new.held) (IsAfterBeginning earlier requests.now (vec_len result.answers)) }
-        ensures blind { HasCleanDisk (state S.Store self.new.held) → self.old.closed ≡ false → (s : OfficeState) → IsAt s (state S.Store self.old.held) → are_clerks requests.now ≡ true → (clerk : ℕ)
+        ensures blind { HasCleanDisk (state S.Store self.new.held) → self.old.closed ≡ false → (s : OfficeState) → IsAt s (state S.Store self.old.held) → none_is_the_office requests.now ≡ true → (clerk : ℕ)
             → map told (own_answers clerk requests.now result.answers.items) ≡ map told_of (outcomes (seen_by clerk s) (own_requests clerk (take (vec_len result.answers) requests.now))) }
         ensures closes { IfSome result.fault (λ f. (f ≡ Fault.Memory) ⊎ (self.new.closed ≡ true)) }
         ensures wears { Wears (state S.Store self.old.held) (state S.Store self.new.held) }

@@ -5,7 +5,8 @@ use Rattle.std.proofs.lemmas.List.Concat.{flat_map-append}
 use Rattle.std.proofs.lemmas.List.Folds.{list_all-append}
 use Rattle.register.specs.declared.polls.Judgement.{Judgement}
 use Rattle.register.specs.Papers.{is_open}
-use Rattle.register.specs.Polls.{Pile, BallotsEntry, is_taken, is_settled, judgements_on, judgements_in, judgements, preferences_by, is_rejected, rejected_with, and_rejected, ballots_in}
+use Rattle.register.specs.Polls.{Pile, BallotsEntry, is_taken, is_settled, judgements_on, judgements_in, judgements, preferences_by, is_rejected, rejected_with, ballots_in}
+use Rattle.register.specs.Walks.{and_rejected}
 
 -- the codes of rejection
 abbrev five : List ℕ

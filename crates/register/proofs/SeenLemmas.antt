@@ -1,10 +1,10 @@
 -- A clerk is answered by what he sees alone, and his requests leave what any other clerk sees as it was.
-use Rattle.std.proofs.Common.{◌≡◌, ℕ, ◌+◌, Bool, true, false, cond, not, ◌&&◌, ◌==◌, List, [], ◌∷◌, map, filter, Option, Some, None, option_map, refl, sym, ap, ◌∙◌, arith}
+use Rattle.std.proofs.Common.{◌≡◌, ℕ, ◌+◌, Bool, true, false, cond, not, ◌&&◌, ◌==◌, List, [], ◌∷◌, map, filter, Option, Some, None, option_map, refl, sym, ap, ◌∙◌}
 use Rattle.std.specs.List.{list_all}
 use Rattle.std.specs.Ordering.{nat_cmp, is_eq, ordering_then}
 use Rattle.std.specs.Cmp.Lexicographic.{slice_cmp}
 use Rattle.std.specs.Str.{bytes_eq}
-use Rattle.std.proofs.lemmas.Bool.{and_parts, and_from, both_ways, eq-eqb, ne_eqb, leb-true}
+use Rattle.std.proofs.lemmas.Bool.{and_parts, and_from, both_ways, eq-eqb}
 use Rattle.register.specs.declared.phase.Phase.TheVariants.{Keying}
 use Rattle.register.specs.declared.refusal.Reason.{Reason}
 use Rattle.register.specs.declared.refusal.Reason.TheVariants.{BadId, IdUsed, NumberOutOfRange}
@@ -16,7 +16,7 @@ use Rattle.register.specs.declared.batches.BatchCommand.TheVariants.{Add as AddB
 use Rattle.register.specs.declared.counts.CountCommand.TheVariants.{Seal, Advance, Lot, Declare}
 use Rattle.register.specs.declared.keyings.KeyingCommand.{KeyingCommand}
 use Rattle.register.specs.Reasons.{first_reason}
-use Rattle.register.specs.Ranges.{is_id, is_office, is_clerk}
+use Rattle.register.specs.Ranges.{is_id, is_office}
 use Rattle.register.specs.Offices.{WardEntry, BatchEntry, KeyedEntry, ReceiptEntry, OfficeState, put, put_each, entry_at, keyed_cmp, receipt_cmp, ward_compared, ward_at, batch_at, keying_of, receipt_at}
 use Rattle.register.specs.Seen.{seen_by}
 use Rattle.register.specs.Items.{IsState}
@@ -33,10 +33,6 @@ use Rattle.register.proofs.ItemLemmas.{receipt_total}
 use Rattle.register.proofs.KeyingLemmas.{keyed_among}
 
 -- ---- what is not a clerk's to ask
-
--- a clerk is not the office
-pub no_office : (actor : ℕ) → is_clerk actor ≡ true → is_office actor ≡ false
-no_office actor clerk = ne_eqb actor 0 (λ same. let some = leb-true 1 actor (and_parts _ _ clerk).0 in omega (arith, some, same))
 
 -- commands other than a keying are refused to who isn't the office, whatever the state
 data IsOwn : Command → Type 0 where
@@ -201,18 +197,6 @@ module _ (s : OfficeState) (actor : ℕ) (id : List ℕ) (other_actor : is_offic
     pub stands_alone : (command : Command) → seen_by actor (state_after s (step s actor id command)) ≡ state_after (seen_by actor s) (step (seen_by actor s) actor id command)
     unfolding step
     stands_alone command = ruled_alone command ∙ ap (λ (ruling : Ruling). state_after (seen_by actor s) (outcome_at (seen_by actor s) ruling)) (sym (ruling_on_seen s actor id command other_actor))
-
--- ---- the same of a clerk
-
-pub ruling_seen : (s : OfficeState) (actor : ℕ) (id : List ℕ) (command : Command) → is_clerk actor ≡ true → ruling_at (seen_by actor s) actor id command ≡ ruling_at s actor id command
-ruling_seen s actor id command clerk = ruling_on_seen s actor id command (no_office actor clerk)
-
-pub unseen : (s : OfficeState) (actor : ℕ) (id : List ℕ) → is_clerk actor ≡ true → (command : Command) (other : ℕ) → (actor == other) ≡ false → seen_by other (state_after s (step s actor id command)) ≡ seen_by other s
-unseen s actor id clerk = unseen_by s actor id (no_office actor clerk)
-
-pub seen_alone : (s : OfficeState) (actor : ℕ) (id : List ℕ) → is_clerk actor ≡ true → IsState s → (command : Command)
-    → seen_by actor (state_after s (step s actor id command)) ≡ state_after (seen_by actor s) (step (seen_by actor s) actor id command)
-seen_alone s actor id clerk is = stands_alone s actor id (no_office actor clerk) is
 
 -- ---- his work
 

@@ -23,3 +23,4 @@ pub mod Verdicts
 pub mod Counts
 pub mod Machine
 pub mod Views
+pub mod Walks

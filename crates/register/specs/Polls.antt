@@ -1,5 +1,5 @@
 -- The ballot papers of a ward: which are valid, and why the others are rejected.
-use Rattle.std.specs.Prelude.{ℕ, ◌+◌, ◌-◌, Bool, false, ◌&&◌, ◌==◌, if◌then◌else◌, List, [], ◌∷◌, map, length, slice_index, find, Option, Some, None, Result, Ok, Err}
+use Rattle.std.specs.Prelude.{ℕ, ◌+◌, Bool, false, ◌&&◌, ◌==◌, if◌then◌else◌, List, [], ◌∷◌, map, length, slice_index, find, Option, Some, None, Result, Ok, Err}
 use Rattle.std.specs.List.{filter, flat_map, list_all}
 use Rattle.votes.specs.Units.{quota_of}
 use Rattle.paper.specs.declared.marks.MarkFault.{MarkFault}
@@ -91,15 +91,6 @@ is_rejected n Open = false
 -- how many papers are rejected with a code
 abbrev pub rejected_with : List Judgement → ℕ → ℕ
 rejected_with js n = length (filter (is_rejected n) js)
-
--- the numbers of papers rejected, by code 1 to 5, with one more by its judgement
-abbrev pub with_rejected : Judgement → List ℕ → List ℕ
-with_rejected judgement rejected =
-    map (λ n. slice_index rejected (n - 1) + (if is_rejected n judgement then 1 else 0)) (1 ∷ 2 ∷ 3 ∷ 4 ∷ 5 ∷ [])
-
--- the same, of a paper more
-abbrev pub and_rejected : List ℕ → Judgement → List ℕ
-and_rejected rejected judgement = with_rejected judgement rejected
 
 -- the preferences of each valid paper, in the order of batch and number; how many papers are rejected, by code 1 to 5; and
 -- whether each batch is settled

@@ -5,7 +5,8 @@ ghost use Rattle.std.specs.List.{flat_map};
 ghost use Rattle.paper.specs.MarksText.{reading};
 ghost use Rattle.paper.specs.Preferences.{rejection_of};
 ghost use Rattle.register.specs.Offices.{keyed_entry, judged_entry};
-ghost use Rattle.register.specs.Polls.{Pile, by_rejection, by_reading, by_verdict, judgement_on, judgements_on, preferences_by, with_rejected, and_rejected, ballots_in, ballots_entry};
+ghost use Rattle.register.specs.Walks.{and_rejected};
+ghost use Rattle.register.specs.Polls.{Pile, by_rejection, by_reading, by_verdict, judgement_on, judgements_on, preferences_by, ballots_in, ballots_entry};
 
 use crate::keyings::KeyedPaper;
 use crate::papers::{are_taken, count_open};
@@ -197,7 +198,7 @@ impl Ballots {
     /// batches, of 500 papers.
     fn reject(&mut self, code: u32) -> Result<(), AllocError>
         ensures papers { self.new.papers ≡ self.old.papers }
-        ensures rejected { IfOk result (λ _. self.new.rejected ≡ with_rejected (Judgement.Rejected code) self.old.rejected) }
+        ensures rejected { IfOk result (λ _. self.new.rejected ≡ and_rejected self.old.rejected (Judgement.Rejected code)) }
         ensures settled { self.new.settled ≡ self.old.settled }
     {
         if code < 1 || code as usize > REJECTIONS {

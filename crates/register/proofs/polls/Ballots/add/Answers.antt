@@ -5,7 +5,8 @@ use Rattle.register.specs.Offices.{keyed_entry, judged_entry}
 use Rattle.register.specs.Papers.{is_open}
 use Rattle.std.specs.declared.alloc.AllocError.{AllocError}
 use Rattle.register.specs.declared.polls.Judgement.{Judgement}
-use Rattle.register.specs.Polls.{Pile, is_taken, judgements_on, preferences_by, and_rejected, ballots_in, ballots_entry}
+use Rattle.register.specs.Polls.{Pile, is_taken, judgements_on, preferences_by, ballots_in, ballots_entry}
+use Rattle.register.specs.Walks.{and_rejected}
 use Rattle.register.proofs.PollLemmas.{added}
 use Rattle.register.proofs.polls.Ballots.add.Goals as goal
 

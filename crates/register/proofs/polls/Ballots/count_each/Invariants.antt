@@ -2,7 +2,8 @@
 use Rattle.std.proofs.Common.{◌≡◌, ◌++◌, map, drop, fold}
 use Rattle.std.specs.List.{flat_map}
 use Rattle.register.specs.Offices.{keyed_entry, judged_entry}
-use Rattle.register.specs.Polls.{judgements_on, preferences_by, and_rejected}
+use Rattle.register.specs.Polls.{judgements_on, preferences_by}
+use Rattle.register.specs.Walks.{and_rejected}
 use Rattle.register.proofs.polls.Ballots.count_each.Given as goal
 
 abbrev pub invariant-loop-keyed : goal.invariant-loop-keyed
