@@ -31,7 +31,7 @@ use Rattle.desk.proofs.PageLemmas.{broken_ends}
 pub rests_leaves : (s : OfficeState) (db : Database) (st : State) → ((trees : Trees) → IsTrue st.is_open → st.may_leave trees → trees ≡ st.committed.trees) → RestsAt db st → IsLeftAt s db → LeavesState st (λ x. x ≡ s)
 rests_leaves s db st settled rests left trees may =
     let same : db.trees ≡ trees = sym (settled trees rests.is_open may ∙ ap (λ (d : Database). d.trees) rests.committed) in
-    (s, refl, subst (Stores (tables_of s)) same left.stores)
+    (s, refl, record { is = left.is; stores = subst (Stores (tables_of s)) same left.stores })
 
 -- and so it does after reads
 pub read_leaves : (s : OfficeState) (db : Database) (old new : State) → ((trees : Trees) → IsTrue old.is_open → old.may_leave trees → trees ≡ old.committed.trees) → OnlyReads old new → HasCleanDisk new → RestsAt db old
