@@ -3,9 +3,19 @@
 source "$(dirname "$(readlink -f "${BASH_SOURCE[0]}")")/play.bash"
 
 echo 'Ann, Bob and Cy' >"$folder/names.txt"
+: >"$folder/empty.txt"
+
+# Tells which files there are.
+list_files() {
+    echo "files: $(ls -x "$folder" --ignore=output --ignore=errors --ignore=played)"
+}
 
 {
+    # an order on a file that isn't there, or that holds nothing, makes no office
     play town.db ward 7 2 Harbour --id w1
+    play missing/town.db status 7
+    play empty.txt status 7
+    list_files
     play town.db init
     play town.db ward 7 2 Harbour --id w1
     play town.db ward 7 2 Harbour --id w1
@@ -18,7 +28,10 @@ echo 'Ann, Bob and Cy' >"$folder/names.txt"
     play missing/town.db init
     # a file that is no database stays as it is
     play names.txt init
+    play names.txt status 7
     cat "$folder/names.txt"
+    list_files
+    wc -c <"$folder/empty.txt"
 } >"$folder/played"
 
 compare first-ward

@@ -9,15 +9,19 @@
 //! ```
 #![tactic(auto)]
 
-ghost use Rattle.std.specs.Prelude.{◌≡◌, ◌+◌, ◌-◌, ◌^◌, ◌<◌};
+ghost use Rattle.std.specs.Prelude.{◌≡◌, ◌+◌, ◌-◌, ◌^◌, ◌<◌, IfSome};
+ghost use Rattle.sqlite_wal.specs.Reads.{AreClean};
+ghost use Rattle.sqlite.specs.Closing.{IsCopied};
 
 #[cfg(test)]
 mod tests;
+mod traces;
 
 use desk::perform::perform;
 use desk::{Failure, Order, Progress, WordsFault, order, serve_on, tell_failure, tell_words};
 use office::Office;
-use sqlite::{Alter, Connection, Wary};
+use sqlite::{Alter, Connection, FileStore, Files, Wary};
+use sqlite_disk::Disk;
 use std::alloc::Global;
 use std::fs::File;
 use std::io::IsTerminal;
@@ -26,6 +30,7 @@ use std::process::ExitCode;
 use std::{env, io};
 use store::Fault;
 use store::fault::fault_of;
+use traces::Found;
 use votes::{Counted, Sink};
 
 /// The words from DB on.
@@ -106,10 +111,28 @@ fn serve<S: Alter, E: Sink>(
     (status, office.into_connection())
 }
 
-/// Does an order over the database at a path, which is made if it is missing: an empty file is no office
-/// yet, and `init` makes one of it.
-fn perform_at<O: Sink, E: Sink>(
+/// Copies the log into the database file, so that DB alone is the office, also after a stop, and gives both files
+/// back. Where that fails, what was answered still stands in the log.
+fn close<D: Disk + Drop>(conn: Connection<FileStore<D>>) -> Option<Files<D>>
+    ensures copied { IfSome result (λ files. AreClean D.Disk files.log files.db → IsCopied conn files) }
+{
+    match conn.close_files() {
+        Ok(files) => Some(files),
+        Err((_, store)) => {
+            drop(store.close());
+            None
+        }
+    }
+}
+
+/// Opens the database at a path, does an order over it, and closes it. Where the order failed, nothing is left
+/// that wasn't there.
+///
+/// Two stretches of writing rest on what `sqlite` states: `Connection::open_from` makes the files where they are
+/// missing and takes up what the log holds, and `close` copies the log; `perform` speaks of all between.
+fn perform_in<O: Sink, E: Sink>(
     rt: &HostRuntime,
+    found: &Found,
     path: &str,
     order: &Order<'_>,
     out: &mut O,
@@ -121,13 +144,40 @@ fn perform_at<O: Sink, E: Sink>(
     match Connection::open_from(rt, path, false, Wary) {
         Ok(conn) => {
             let (status, conn) = perform_on(rt, order, conn, out, err);
-            // The log is copied into the file, so that DB alone is the office. Where that fails, what was
-            // answered still stands in the log.
-            let _ = conn.close();
+            if status != 0 {
+                found.leave(rt);
+            }
+            let _ = close(conn);
             status
         }
-        Err((error, _)) => tell_failure(Failure::Office(fault_of(error)), err),
+        Err((error, left)) => {
+            if left.is_some() {
+                found.leave(rt);
+            }
+            tell_failure(Failure::Office(fault_of(error)), err)
+        }
     }
+}
+
+/// Does an order over the database at a path. `init` alone makes one where it is missing, or of an empty file:
+/// any other order finds no office there.
+fn perform_at<O: Sink, E: Sink>(
+    rt: &HostRuntime,
+    path: &str,
+    order: &Order<'_>,
+    out: &mut O,
+    err: &mut E,
+) -> u8
+    requires out { O.failed out.old < 2 ^ 64 - 1 }
+    requires err { E.failed err.old < 2 ^ 64 - 1 }
+{
+    let Ok(found) = Found::at(rt, path) else {
+        return tell_failure(Failure::Office(Fault::Memory), err);
+    };
+    if found.is_nothing() && !matches!(order, Order::Init) {
+        return tell_failure(Failure::Office(Fault::WrongDatabase), err);
+    }
+    perform_in(rt, &found, path, order, out, err)
 }
 
 /// Does what the words from DB on ask, and gives the status.

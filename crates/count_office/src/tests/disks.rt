@@ -3,7 +3,8 @@
 
 ghost use Rattle.std.specs.Prelude.{⊤};
 
-use super::steps::{Case, Said, Step, play};
+use super::steps::{Case, Said, Step, Told, play};
+use super::transcripts::{Typed, read};
 use sqlite::{Connection, Error, ErrorCode, FileStore, Files, Options};
 use sqlite_disk::{Crash, Disk, Fuse, Memory};
 use std::alloc::Global;
@@ -128,6 +129,13 @@ impl Disks {
         }
     }
 
+    /// Does what is asked in a transcript, which must be told so.
+    pub fn follow(self, rt: &(impl Abort + AllocGlobal), transcript: &str) -> Result<Disks, Fail> {
+        let asked = read(rt.alloc(), transcript)?;
+        let cases: Vec<Case<'_>> = asked.iter().map(|typed| typed.case()).collect(rt.alloc())?;
+        self.hear(rt, &cases)
+    }
+
     /// Does the steps, each of which must be told so, and none of which may change a row.
     pub fn hear_unchanged(
         self,
@@ -139,4 +147,91 @@ impl Disks {
         assert_eq!(rt; before.as_str(), after.as_str());
         Ok(disks)
     }
+
+    /// The same of what is asked in a transcript.
+    pub fn follow_unchanged(
+        self,
+        rt: &(impl Abort + AllocGlobal),
+        transcript: &str,
+    ) -> Result<Disks, Fail> {
+        let asked = read(rt.alloc(), transcript)?;
+        let cases: Vec<Case<'_>> = asked.iter().map(|typed| typed.case()).collect(rt.alloc())?;
+        self.hear_unchanged(rt, &cases)
+    }
+
+    /// Both clerks of batch 12 key these papers, a file's text.
+    fn key(self, rt: &(impl Abort + AllocGlobal), papers: &str) -> Result<Disks, Fail> {
+        let mut disks = self;
+        for clerk in ["4", "9"] {
+            let words = [
+                "DB",
+                "import-keying",
+                clerk,
+                "12",
+                "1",
+                "FILE",
+                "--id",
+                "k1",
+            ];
+            let keyed = (0, "batch 12 round 1 keyed\n", "");
+            disks = disks.hear(rt, &[(Step::FileOrder(&words, papers.as_bytes()), keyed)])?;
+        }
+        Ok(disks)
+    }
+
+    /// Makes a change in a copy, where the office must then tell this of another ward.
+    fn damage(&self, rt: &(impl Abort + AllocGlobal), typed: &Typed<'_>) -> Result<(), Fail> {
+        let (change, told) = typed.case();
+        let copy = self.copied(rt.alloc(), File::Log, u64::MAX)?;
+        copy.hear(rt, &[(change, CHANGED), (QUAY, told)])?;
+        Ok(())
+    }
+
+    fn act(self, rt: &(impl Abort + AllocGlobal), act: &Act) -> Result<Disks, Fail> {
+        match act {
+            Act::Typed(transcript) => self.follow(rt, transcript),
+            Act::Unchanged(transcript) => self.follow_unchanged(rt, transcript),
+            Act::Keyed(papers) => self.key(rt, papers),
+            Act::Damage(changes) => {
+                for typed in &read(rt.alloc(), changes)? {
+                    self.damage(rt, typed)?;
+                }
+                Ok(self)
+            }
+        }
+    }
+}
+
+/// A part of a play.
+#[derive(Clone, Copy, Debug)]
+pub enum Act {
+    /// What is asked and told, as a transcript.
+    Typed(&'static str),
+    /// The same, by which no row may change.
+    Unchanged(&'static str),
+    /// Both clerks of batch 12 key these papers alike.
+    Keyed(&'static str),
+    /// Changes, each made alone, and what the office then tells when ward 8 is to be added.
+    Damage(&'static str),
+}
+
+const CHANGED: Told<'static> = (0, "", "");
+
+const QUAY: Step<'static> = Step::Order(&["DB", "ward", "8", "2", "Quay", "--id", "w2"]);
+
+/// Plays acts over new files.
+pub fn play_acts(rt: &(impl Abort + AllocGlobal), acts: &[Act]) -> Result<Disks, Fail> {
+    let mut disks = Disks::lasting(rt.alloc());
+    for act in acts {
+        disks = disks.act(rt, act)?;
+    }
+    Ok(disks)
+}
+
+/// Plays each play over new files.
+pub fn play_all(rt: &(impl Abort + AllocGlobal), plays: &[&[Act]]) -> Result<(), Fail> {
+    for acts in plays {
+        play_acts(rt, acts)?;
+    }
+    Ok(())
 }

@@ -1,9 +1,7 @@
 //! Batches, two clerks' keyings of them, and verdicts, from words to rows and back.
 
-use super::disks::{Disks, File};
-use super::orders::{DAMAGED, QUAY, QUAY_ADDED};
-use super::steps::{Case, Step, Told};
-use std::process::Abort;
+use super::disks::{Act, play_acts, play_all};
+use super::steps::Step;
 use std::test::Fail;
 
 /// Ward 7 with three candidates and two seats.
@@ -22,7 +20,7 @@ candidate 3 of ward 7 added
 ";
 
 /// Its poll, and batch 12 of two papers for the clerks 4 and 9.
-const GIVEN_OUT: &str = "$ close 7 --id n1
+pub const GIVEN_OUT: &str = "$ close 7 --id n1
 ward 7 polled
 $ batch 12 7 2 4 9 --id b1
 batch 12 added
@@ -33,14 +31,7 @@ const BATCH_13: &str = "$ batch 13 7 1 9 5 --id b2
 batch 13 added
 ";
 
-/// The first paper is marked, and the second doubtful.
-const PAPERS: &[u8] = b"paper,1,2,3\n1,1,2,\n2,D,,\n";
-
-const ONE_PAPER: &[u8] = b"paper,1,2,3\n1,,1,\n";
-
-const BY_FOUR: &[&str] = &["DB", "import-keying", "4", "12", "1", "FILE", "--id", "k1"];
-
-/// Clerk 4 keys batch 12.
+/// Clerk 4 keys batch 12: the first paper is marked, and the second doubtful.
 const FOUR_KEYED: &str = "$ import-keying 4 12 1 FILE --id k1
 < paper,1,2,3
 < 1,1,2,
@@ -56,45 +47,32 @@ const NINE_KEYED: &str = "$ import-keying 9 12 1 FILE --id k1
 batch 12 round 1 keyed
 ";
 
-const OUT_OF_RANGE: Told<'static> = (1, "", "refused 3: number out of range\n");
-
-/// Ward 7 in keying, with batch 12.
-pub fn begun(rt: &(impl Abort + AllocGlobal)) -> Result<Disks, Fail> {
-    Disks::lasting(rt.alloc())
-        .follow(rt, NOMINATED)?
-        .follow(rt, GIVEN_OUT)
-}
-
-/// Files that keep no paper of the first keying.
-const FILES: [Case<'static>; 6] = [
-    (
-        Step::FileOrder(BY_FOUR, b""),
-        (1, "", "file fault 1 at record 0: header\n"),
-    ),
-    (
-        Step::FileOrder(BY_FOUR, b"paper,1,2,3\n1,1,2,\n2,D"),
-        (1, "", "file fault 2 at record 2: record length\n"),
-    ),
-    (
-        Step::FileOrder(BY_FOUR, b"paper,1,2,3\n1,1,2,\n3,D,,\n"),
-        (1, "", "file fault 4 at record 2: paper order\n"),
-    ),
-    (
-        Step::FileOrder(BY_FOUR, b"paper,1,2,3\n1,1,2,\n"),
-        (1, "", "refused 17: wrong number of papers\n"),
-    ),
-    (
-        Step::Order(BY_FOUR),
-        (3, "", "file fault 8 at record 0: read failed\n"),
-    ),
-    (
-        Step::FileOrder(
-            &["DB", "import-keying", "4", "99", "1", "FILE", "--id", "k1"],
-            PAPERS,
-        ),
-        (1, "", "refused 7: no such batch\n"),
-    ),
-];
+/// Files that keep no paper of the first keying, and a batch that isn't there.
+const FILES: &str = "$ import-keying 4 12 1 FILE --id k1
+<<
+1| file fault 1 at record 0: header
+$ import-keying 4 12 1 FILE --id k1
+< paper,1,2,3
+< 1,1,2,
+<< 2,D
+1| file fault 2 at record 2: record length
+$ import-keying 4 12 1 FILE --id k1
+< paper,1,2,3
+< 1,1,2,
+< 3,D,,
+1| file fault 4 at record 2: paper order
+$ import-keying 4 12 1 FILE --id k1
+< paper,1,2,3
+< 1,1,2,
+1| refused 17: wrong number of papers
+$ import-keying 4 12 1 FILE --id k1
+3| file fault 8 at record 0: read failed
+$ import-keying 4 99 1 FILE --id k1
+< paper,1,2,3
+< 1,1,2,
+< 2,D,,
+1| refused 7: no such batch
+";
 
 /// What comes again once clerk 4 has keyed batch 12, and what is refused of it.
 const AGAIN: &str = "$ import-keying 4 12 1 FILE --id k1
@@ -142,25 +120,35 @@ const TAKEN: &str = "$ status 7
 ward 7 keying: 3 candidates, 1 batches, 1 taken, 0 differing, 1 doubtful open, 0 stages
 ";
 
-#[test]
-fn two_clerks_agree(rt: HostRuntime) -> Result<(), Fail> {
-    begun(&rt)?
-        .follow(&rt, FOUR_KEYED)?
-        .follow(&rt, NINE_KEYED)?
-        .follow_unchanged(&rt, TAKEN)?;
-    begun(&rt)?
-        .follow(&rt, BATCH_13)?
-        .hear_unchanged(&rt, &FILES)?
-        .follow(&rt, FOUR_KEYED)?
-        .follow_unchanged(&rt, AGAIN)?
-        .follow(&rt, NINE_KEYED)?
-        .follow(&rt, AGREED)?;
-    Ok(())
-}
+/// Two clerks agree.
+const ALIKE: &[Act] = &[
+    Act::Typed(NOMINATED),
+    Act::Typed(GIVEN_OUT),
+    Act::Typed(FOUR_KEYED),
+    Act::Typed(NINE_KEYED),
+    Act::Unchanged(TAKEN),
+];
+
+/// The same with another batch, files that aren't taken, a keying that comes again, and verdicts.
+const JUDGED: &[Act] = &[
+    Act::Typed(NOMINATED),
+    Act::Typed(GIVEN_OUT),
+    Act::Typed(BATCH_13),
+    Act::Unchanged(FILES),
+    Act::Typed(FOUR_KEYED),
+    Act::Unchanged(AGAIN),
+    Act::Typed(NINE_KEYED),
+    Act::Typed(AGREED),
+];
 
 /// Where batch 12 is the only one, and clerk 4 has keyed it: clerk 9 keys it unlike, and is told the same; in the
 /// next round they agree.
-const DIFFERING: &str = "$ import-keying 9 12 1 FILE --id k1
+const UNLIKE: &[Act] = &[
+    Act::Typed(NOMINATED),
+    Act::Typed(GIVEN_OUT),
+    Act::Typed(FOUR_KEYED),
+    Act::Typed(
+        "$ import-keying 9 12 1 FILE --id k1
 < paper,1,2,3
 < 1,2,1,
 < 2,D,,
@@ -190,16 +178,23 @@ $ import-keying 9 12 2 FILE --id k2
 batch 12 round 2 keyed
 $ status 7
 ward 7 keying: 3 candidates, 1 batches, 1 taken, 0 differing, 1 doubtful open, 0 stages
-";
+",
+    ),
+];
 
-#[test]
-fn clerks_who_differ_key_again(rt: HostRuntime) -> Result<(), Fail> {
-    begun(&rt)?.follow(&rt, FOUR_KEYED)?.follow(&rt, DIFFERING)?;
-    Ok(())
-}
-
-/// What that office refuses before anything is keyed, each of the four commands' refusals.
-const REFUSED: &str = "$ batch 10000 7 2 4 9 --id x
+/// What is refused before anything is keyed, each of the four commands' refusals; and of the doubtful paper once
+/// batch 12 is taken.
+const REFUSED: &[Act] = &[
+    Act::Typed(NOMINATED),
+    Act::Typed(GIVEN_OUT),
+    Act::Typed(BATCH_13),
+    Act::Typed(
+        "$ ward 8 2 Quay --id w2
+ward 8 added
+",
+    ),
+    Act::Unchanged(
+        "$ batch 10000 7 2 4 9 --id x
 1| refused 3: number out of range
 $ batch 14 7 501 4 9 --id x
 1| refused 3: number out of range
@@ -265,10 +260,12 @@ $ status 8
 ward 8 nominations: 0 candidates, 0 batches, 0 taken, 0 differing, 0 doubtful open, 0 stages
 $ withdraw 7 1 --id x
 1| refused 9: wrong phase
-";
-
-/// What it refuses of its doubtful paper once batch 12 is taken.
-const VERDICTS: &str = "$ judge 12 2 accept:D --id x
+",
+    ),
+    Act::Typed(FOUR_KEYED),
+    Act::Typed(NINE_KEYED),
+    Act::Unchanged(
+        "$ judge 12 2 accept:D --id x
 1| refused 23: bad verdict
 $ judge 12 2 accept:1,1, --id x
 1| refused 23: bad verdict
@@ -276,22 +273,13 @@ $ judge 12 2 reject:2 --id x
 1| refused 23: bad verdict
 $ judge 12 3 reject:3 --id x
 1| refused 21: paper not doubtful
-";
-
-#[test]
-fn keying_is_refused(rt: HostRuntime) -> Result<(), Fail> {
-    begun(&rt)?
-        .follow(&rt, BATCH_13)?
-        .hear(&rt, &[(QUAY, QUAY_ADDED)])?
-        .follow_unchanged(&rt, REFUSED)?
-        .follow(&rt, FOUR_KEYED)?
-        .follow(&rt, NINE_KEYED)?
-        .follow_unchanged(&rt, VERDICTS)?;
-    Ok(())
-}
+",
+    ),
+];
 
 /// The highest numbers: ward 99 with candidate 30, clerk 999, batch 9999, paper 500.
-const LIMITS: &str = "$ init
+const LIMITS: &[Act] = &[Act::Typed(
+    "$ init
 office ready
 $ ward 99 1 Moor --id w1
 ward 99 added
@@ -303,48 +291,19 @@ $ close 99 --id n1
 ward 99 polled
 $ batch 9999 99 500 1 999 --id b1
 batch 9999 added
-";
+",
+)];
 
-/// Rounds 1 to 98 of a batch of one paper, in which its clerks differed.
-const ROUNDS: &str = "UPDATE batch SET round = 99 WHERE batch = 13";
-
-#[test]
-fn the_last_numbers_are_taken(rt: HostRuntime) -> Result<(), Fail> {
-    Disks::lasting(rt.alloc()).follow(&rt, LIMITS)?;
-    let mut rounds = String::from_str(rt.alloc(), ROUNDS)?;
-    for round in 1..=98 {
-        write!(
-            rounds,
-            "; INSERT INTO keying VALUES (13, {round}, 9, 1, '1,,'); INSERT INTO keying VALUES (13, {round}, 5, 1, ',1,')"
-        )?;
-    }
-    let cases = [
-        (Step::Change(rounds.as_str()), (0, "", "")),
-        (
-            Step::FileOrder(
-                &["DB", "import-keying", "9", "13", "99", "FILE", "--id", "k1"],
-                ONE_PAPER,
-            ),
-            (0, "batch 13 round 99 keyed\n", ""),
-        ),
-        (
-            Step::FileOrder(
-                &["DB", "import-keying", "5", "13", "99", "FILE", "--id", "k1"],
-                b"paper,1,2,3\n1,1,,\n",
-            ),
-            (0, "batch 13 round 99 keyed\n", ""),
-        ),
-        (
-            Step::Order(&["DB", "again", "13", "--id", "x"]),
-            OUT_OF_RANGE,
-        ),
-    ];
-    begun(&rt)?.follow(&rt, BATCH_13)?.hear(&rt, &cases)?;
-    Ok(())
-}
-
-/// Once batch 12 is taken: its doubtful paper is judged, and batch 13 comes to its second round.
-const STOOD: &str = "$ judge 12 2 accept:1,,2 --id j1
+/// Once batch 12 is taken: its doubtful paper is judged, and batch 13 comes to its second round. What is changed in
+/// that office.
+const CHANGED: &[Act] = &[
+    Act::Typed(NOMINATED),
+    Act::Typed(GIVEN_OUT),
+    Act::Typed(BATCH_13),
+    Act::Typed(FOUR_KEYED),
+    Act::Typed(NINE_KEYED),
+    Act::Typed(
+        "$ judge 12 2 accept:1,,2 --id j1
 batch 12 paper 2 accepted
 $ import-keying 9 13 1 FILE --id k3
 < paper,1,2,3
@@ -360,75 +319,107 @@ $ import-keying 9 13 2 FILE --id k4
 < paper,1,2,3
 < 1,,1,
 batch 13 round 2 keyed
-";
-
-/// What is done to that office, and what it then says to another ward.
-const CHANGES: [(&str, Told<'static>); 30] = [
-    ("UPDATE ward SET name = 'Pier'", QUAY_ADDED),
-    (
-        "UPDATE keying SET marks = ',,1' WHERE round = 2",
-        QUAY_ADDED,
+",
     ),
-    ("DELETE FROM keying WHERE round = 2", QUAY_ADDED),
-    ("DELETE FROM verdict", QUAY_ADDED),
-    ("UPDATE verdict SET code = 5, marks = ''", QUAY_ADDED),
-    // batches
-    ("UPDATE batch SET ward = 8", DAMAGED),
-    ("UPDATE batch SET clerk_b = clerk_a", DAMAGED),
-    ("UPDATE ward SET phase = 1", DAMAGED),
-    ("INSERT INTO batch VALUES (14, 8, 2, 4, 9, 1)", DAMAGED),
-    ("UPDATE batch SET size = 3 WHERE batch = 12", DAMAGED),
-    ("UPDATE batch SET round = 3 WHERE batch = 13", DAMAGED),
-    ("UPDATE batch SET round = 1 WHERE batch = 13", DAMAGED),
-    ("DELETE FROM batch WHERE batch = 12", DAMAGED),
-    // keyings
-    ("INSERT INTO keying VALUES (14, 1, 4, 1, '1,,')", DAMAGED),
-    ("INSERT INTO keying VALUES (12, 1, 4, 3, '1,,')", DAMAGED),
-    ("INSERT INTO keying VALUES (12, 2, 4, 1, '1,,')", DAMAGED),
-    ("INSERT INTO keying VALUES (13, 1, 4, 1, '1,,')", DAMAGED),
-    (
-        "DELETE FROM keying WHERE batch = 12 AND clerk = 4 AND paper = 1",
-        DAMAGED,
+    Act::Damage(
+        "# UPDATE ward SET name = 'Pier'
+ward 8 added
+# UPDATE keying SET marks = ',,1' WHERE round = 2
+ward 8 added
+# DELETE FROM keying WHERE round = 2
+ward 8 added
+# DELETE FROM verdict
+ward 8 added
+# UPDATE verdict SET code = 5, marks = ''
+ward 8 added
+# UPDATE batch SET ward = 8
+3| fault 103: damaged
+# UPDATE batch SET clerk_b = clerk_a
+3| fault 103: damaged
+# UPDATE ward SET phase = 1
+3| fault 103: damaged
+# INSERT INTO batch VALUES (14, 8, 2, 4, 9, 1)
+3| fault 103: damaged
+# UPDATE batch SET size = 3 WHERE batch = 12
+3| fault 103: damaged
+# UPDATE batch SET round = 3 WHERE batch = 13
+3| fault 103: damaged
+# UPDATE batch SET round = 1 WHERE batch = 13
+3| fault 103: damaged
+# DELETE FROM batch WHERE batch = 12
+3| fault 103: damaged
+# INSERT INTO keying VALUES (14, 1, 4, 1, '1,,')
+3| fault 103: damaged
+# INSERT INTO keying VALUES (12, 1, 4, 3, '1,,')
+3| fault 103: damaged
+# INSERT INTO keying VALUES (12, 2, 4, 1, '1,,')
+3| fault 103: damaged
+# INSERT INTO keying VALUES (13, 1, 4, 1, '1,,')
+3| fault 103: damaged
+# DELETE FROM keying WHERE batch = 12 AND clerk = 4 AND paper = 1
+3| fault 103: damaged
+# DELETE FROM keying WHERE batch = 12 AND clerk = 4 AND paper = 2
+3| fault 103: damaged
+# DELETE FROM keying WHERE batch = 13 AND round = 1 AND clerk = 5
+3| fault 103: damaged
+# UPDATE keying SET marks = ',1,' WHERE batch = 13
+3| fault 103: damaged
+# UPDATE keying SET marks = '1,' WHERE batch = 12 AND paper = 1
+3| fault 103: damaged
+# UPDATE keying SET marks = '1,02,' WHERE batch = 12 AND paper = 1
+3| fault 103: damaged
+# UPDATE verdict SET paper = 1
+3| fault 103: damaged
+# UPDATE verdict SET batch = 13, paper = 1
+3| fault 103: damaged
+# UPDATE verdict SET code = 2, marks = ''
+3| fault 103: damaged
+# UPDATE verdict SET code = 3
+3| fault 103: damaged
+# UPDATE verdict SET marks = '1,1,'
+3| fault 103: damaged
+# UPDATE verdict SET marks = 'D'
+3| fault 103: damaged
+# DELETE FROM keying WHERE batch = 12 AND clerk = 9
+3| fault 103: damaged
+",
     ),
-    (
-        "DELETE FROM keying WHERE batch = 12 AND clerk = 4 AND paper = 2",
-        DAMAGED,
-    ),
-    (
-        "DELETE FROM keying WHERE batch = 13 AND round = 1 AND clerk = 5",
-        DAMAGED,
-    ),
-    ("UPDATE keying SET marks = ',1,' WHERE batch = 13", DAMAGED),
-    (
-        "UPDATE keying SET marks = '1,' WHERE batch = 12 AND paper = 1",
-        DAMAGED,
-    ),
-    (
-        "UPDATE keying SET marks = '1,02,' WHERE batch = 12 AND paper = 1",
-        DAMAGED,
-    ),
-    // verdicts
-    ("UPDATE verdict SET paper = 1", DAMAGED),
-    ("UPDATE verdict SET batch = 13, paper = 1", DAMAGED),
-    ("UPDATE verdict SET code = 2, marks = ''", DAMAGED),
-    ("UPDATE verdict SET code = 3", DAMAGED),
-    ("UPDATE verdict SET marks = '1,1,'", DAMAGED),
-    ("UPDATE verdict SET marks = 'D'", DAMAGED),
-    ("DELETE FROM keying WHERE batch = 12 AND clerk = 9", DAMAGED),
 ];
 
 #[test]
-fn damaged_keyings_are_found(rt: HostRuntime) -> Result<(), Fail> {
-    let disks = begun(&rt)?
-        .follow(&rt, BATCH_13)?
-        .follow(&rt, FOUR_KEYED)?
-        .follow(&rt, NINE_KEYED)?
-        .follow(&rt, STOOD)?;
-    for (change, wanted) in CHANGES {
-        let cases = [(Step::Change(change), (0, "", "")), (QUAY, wanted)];
-        disks
-            .copied(rt.alloc(), File::Log, u64::MAX)?
-            .hear(&rt, &cases)?;
+fn batches_are_keyed_and_judged(rt: HostRuntime) -> Result<(), Fail> {
+    play_all(&rt, &[ALIKE, JUDGED, UNLIKE, REFUSED, LIMITS, CHANGED])
+}
+
+/// Batch 13 in its last round, which its clerks key unlike.
+const LAST_ROUND: &str = "$ import-keying 9 13 99 FILE --id k1
+< paper,1,2,3
+< 1,,1,
+batch 13 round 99 keyed
+$ import-keying 5 13 99 FILE --id k1
+< paper,1,2,3
+< 1,1,,
+batch 13 round 99 keyed
+$ again 13 --id x
+1| refused 3: number out of range
+";
+
+#[test]
+fn a_batch_has_at_most_99_rounds(rt: HostRuntime) -> Result<(), Fail> {
+    let mut rounds = String::from_str(rt.alloc(), "UPDATE batch SET round = 99 WHERE batch = 13")?;
+    for round in 1..=98 {
+        write!(
+            rounds,
+            "; INSERT INTO keying VALUES (13, {round}, 9, 1, '1,,'); INSERT INTO keying VALUES (13, {round}, 5, 1, ',1,')"
+        )?;
     }
+    let acts = [
+        Act::Typed(NOMINATED),
+        Act::Typed(GIVEN_OUT),
+        Act::Typed(BATCH_13),
+    ];
+    play_acts(&rt, &acts)?
+        .hear(&rt, &[(Step::Change(rounds.as_str()), (0, "", ""))])?
+        .follow(&rt, LAST_ROUND)?;
     Ok(())
 }

@@ -77,24 +77,6 @@ refused 16: already keyed
 done: batch 12 round 1 keyed
 ";
 
-#[test]
-fn a_list_of_keyings_is_answered(rt: HostRuntime) -> Result<(), Fail> {
-    let alloc = rt.alloc();
-    let mut requests = begun(alloc)?;
-    requests.push(keying(alloc, 4, "k1", "1,2,")?)?;
-    requests.push(keying(alloc, 4, "k1", "2,1,")?)?;
-    requests.push(keying(alloc, 4, "k2", "1,2,")?)?;
-    requests.push(keying(alloc, 9, "k1", "1,2,")?)?;
-    let taken =
-        "ward 7 keying: 3 candidates, 1 batches, 1 taken, 0 differing, 1 doubtful open, 0 stages\n";
-    let cases = [
-        (Step::List(requests.as_slice()), (0, ANSWERS, "")),
-        (Step::Order(&["DB", "status", "7"]), (0, taken, "")),
-    ];
-    Disks::lasting(alloc).hear(&rt, &cases)?;
-    Ok(())
-}
-
 /// The second paper of batch 12 is accepted with marks.
 fn verdict(alloc: Global) -> Result<Request, AllocError> {
     let judged = VerdictCommand {

@@ -1,10 +1,7 @@
-//! A lot that the count waits for, what each order of a count is refused, and rows of a count that no office
-//! has.
+//! A lot that the count waits for, what each order of a count is refused, rows of a count that no office has, and
+//! wards that are sealed without papers, or not counted at all.
 
-use super::disks::{Disks, File};
-use super::orders::{DAMAGED, QUAY, QUAY_ADDED};
-use super::steps::{Step, Told};
-use std::process::Abort;
+use super::disks::{Act, play_all};
 use std::test::Fail;
 
 /// Ward 7, of one seat, in keying.
@@ -24,13 +21,18 @@ $ close 7 --id n1
 ward 7 polled
 ";
 
-/// Its batch is given out.
-const GIVEN_OUT: &str = "$ batch 12 7 8 4 9 --id b1
+/// The ward sealed, with four papers for Ann, two for Bob and two for Cy; its first stage, the lot that the count then
+/// waits for, and the count to its end; what is refused on the way is refused. What is changed in the rows of the
+/// finished count. Then the declaration, and what is told and refused after it.
+const WAITING: &[Act] = &[
+    Act::Typed(POLLING),
+    Act::Typed(
+        "$ batch 12 7 8 4 9 --id b1
 batch 12 added
-";
-
-/// What is refused while the ward is keyed.
-const TOO_EARLY: &str = "$ seal 0 --id x
+",
+    ),
+    Act::Unchanged(
+        "$ seal 0 --id x
 1| refused 3: number out of range
 $ seal 9 --id x
 1| refused 5: no such ward
@@ -54,39 +56,24 @@ $ sheet 0
 1| refused 3: number out of range
 $ result 7
 1| refused 9: wrong phase
-";
-
-/// Both clerks key the batch alike, four papers for Ann, two for Bob, two for Cy, and the ward is sealed.
-const SEALED: &str = "$ import-keying 4 12 1 FILE --id k1
-< paper,1,2,3
-< 1,1,,
-< 2,1,,
-< 3,1,,
-< 4,1,,
-< 5,,1,
-< 6,,1,
-< 7,,,1
-< 8,,,1
-batch 12 round 1 keyed
-$ import-keying 9 12 1 FILE --id k1
-< paper,1,2,3
-< 1,1,,
-< 2,1,,
-< 3,1,,
-< 4,1,,
-< 5,,1,
-< 6,,1,
-< 7,,,1
-< 8,,,1
-batch 12 round 1 keyed
-$ seal 7 --id s1
-ward 7 sealed: 8 valid, 0 rejected, quota 5.00000
-$ seal 7 --id s1
-ward 7 sealed: 8 valid, 0 rejected, quota 5.00000
-";
-
-/// What is refused before the first stage.
-const BEFORE_THE_COUNT: &str = "$ seal 7 --id x
+",
+    ),
+    Act::Keyed(
+        "paper,1,2,3
+1,1,,
+2,1,,
+3,1,,
+4,1,,
+5,,1,
+6,,1,
+7,,,1
+8,,,1
+",
+    ),
+    Act::Typed(SEALED),
+    Act::Unchanged(SEALED),
+    Act::Unchanged(
+        "$ seal 7 --id x
 1| refused 9: wrong phase
 $ lot 7 1 1 --id x
 1| refused 3: number out of range
@@ -110,10 +97,10 @@ $ result 7
 1| refused 9: wrong phase
 $ result 9
 1| refused 5: no such ward
-";
-
-/// The first stage; then the count waits for a lot.
-const FIRST_STAGE: &str = "$ advance 7 --id v1
+",
+    ),
+    Act::Typed(
+        "$ advance 7 --id v1
 ward 7 stage 1 first preferences
 $ advance 7 --id v1
 ward 7 stage 1 first preferences
@@ -127,10 +114,10 @@ Stage 1: first preferences
  3       2.00000 - Cy
          0.00000 non-transferable
          0.00000 lost by fractions
-";
-
-/// What is refused while the count waits for the lot.
-const WAITING: &str = "$ advance 7 --id v2
+",
+    ),
+    Act::Unchanged(
+        "$ advance 7 --id v2
 1| refused 26: lot needed at stage 2 among 2, 3
 $ lot 7 2 1 --id x
 1| refused 28: not among the tied
@@ -148,10 +135,10 @@ Stage 1: first preferences
  3       2.00000 - Cy
          0.00000 non-transferable
          0.00000 lost by fractions
-";
-
-/// The lot, and the count to its end.
-const DRAWN: &str = "$ lot 7 2 3 --id l1
+",
+    ),
+    Act::Typed(
+        "$ lot 7 2 3 --id l1
 lot at ward 7 stage 2: candidate 3
 $ lot 7 2 3 --id l1
 lot at ward 7 stage 2: candidate 3
@@ -211,10 +198,49 @@ Stage 3: exclusion of 2, last vacancies
          0.00000 lost by fractions
 $ advance 7 --id v4
 1| refused 25: count finished
-";
-
-/// The declaration, and what is told and refused after it.
-const DECLARED: &str = "$ declare 7 --id d1
+",
+    ),
+    Act::Damage(
+        "# UPDATE ward SET done = 4
+3| fault 103: damaged
+# UPDATE ward SET done = 32
+3| fault 103: damaged
+# UPDATE ward SET done = 4000000000
+3| fault 103: damaged
+# UPDATE ward SET done = 1
+ward 8 added
+# UPDATE ward SET done = 0
+3| fault 103: damaged
+# UPDATE ward SET phase = 2
+3| fault 103: damaged
+# UPDATE ward SET phase = 4
+ward 8 added
+# UPDATE ward SET phase = 4, done = 2
+3| fault 103: damaged
+# UPDATE lot SET candidate = 1
+3| fault 103: damaged
+# UPDATE lot SET candidate = 2
+ward 8 added
+# UPDATE lot SET stage = 3
+3| fault 103: damaged
+# INSERT INTO lot VALUES (7, 3, 2)
+3| fault 103: damaged
+# INSERT INTO lot VALUES (7, 5, 2)
+3| fault 103: damaged
+# INSERT INTO lot VALUES (9, 2, 1)
+3| fault 103: damaged
+# DELETE FROM lot
+3| fault 103: damaged
+# UPDATE keying SET marks = 'D' WHERE paper = 1
+3| fault 103: damaged
+# UPDATE keying SET marks = ',1,' WHERE paper = 1 AND clerk = 9
+3| fault 103: damaged
+# DELETE FROM keying WHERE clerk = 9
+3| fault 103: damaged
+",
+    ),
+    Act::Typed(
+        "$ declare 7 --id d1
 ward 7 declared: 1
 $ declare 7 --id d1
 ward 7 declared: 1
@@ -252,77 +278,21 @@ Elected
  1 Ann
 $ status 7
 ward 7 declared: 3 candidates, 1 batches, 1 taken, 0 differing, 0 doubtful open, 3 stages
-";
-
-/// The ward sealed, before its first stage; what is refused before is refused.
-fn sealed(rt: &(impl Abort + AllocGlobal)) -> Result<Disks, Fail> {
-    Disks::lasting(rt.alloc())
-        .follow(rt, POLLING)?
-        .follow(rt, GIVEN_OUT)?
-        .follow_unchanged(rt, TOO_EARLY)?
-        .follow(rt, SEALED)
-}
-
-/// The ward while its count waits for the lot; what is refused then is refused.
-fn waiting(rt: &(impl Abort + AllocGlobal)) -> Result<Disks, Fail> {
-    sealed(rt)?
-        .follow_unchanged(rt, BEFORE_THE_COUNT)?
-        .follow(rt, FIRST_STAGE)?
-        .follow_unchanged(rt, WAITING)
-}
-
-/// The ward after its last stage.
-fn counted(rt: &(impl Abort + AllocGlobal)) -> Result<Disks, Fail> {
-    waiting(rt)?.follow(rt, DRAWN)
-}
-
-#[test]
-fn a_count_waits_for_its_lot(rt: HostRuntime) -> Result<(), Fail> {
-    counted(&rt)?.follow(&rt, DECLARED)?;
-    Ok(())
-}
-
-/// What is changed in the rows of the finished count, and what the office then tells: that they are no
-/// office's, or of another ward that it was added.
-const CHANGES: [(&str, Told<'static>); 18] = [
-    ("UPDATE ward SET done = 4", DAMAGED),
-    ("UPDATE ward SET done = 32", DAMAGED),
-    ("UPDATE ward SET done = 4000000000", DAMAGED),
-    ("UPDATE ward SET done = 1", QUAY_ADDED),
-    ("UPDATE ward SET done = 0", DAMAGED),
-    ("UPDATE ward SET phase = 2", DAMAGED),
-    ("UPDATE ward SET phase = 4", QUAY_ADDED),
-    ("UPDATE ward SET phase = 4, done = 2", DAMAGED),
-    ("UPDATE lot SET candidate = 1", DAMAGED),
-    ("UPDATE lot SET candidate = 2", QUAY_ADDED),
-    ("UPDATE lot SET stage = 3", DAMAGED),
-    ("INSERT INTO lot VALUES (7, 3, 2)", DAMAGED),
-    ("INSERT INTO lot VALUES (7, 5, 2)", DAMAGED),
-    ("INSERT INTO lot VALUES (9, 2, 1)", DAMAGED),
-    ("DELETE FROM lot", DAMAGED),
-    ("UPDATE keying SET marks = 'D' WHERE paper = 1", DAMAGED),
-    (
-        "UPDATE keying SET marks = ',1,' WHERE paper = 1 AND clerk = 9",
-        DAMAGED,
+",
     ),
-    ("DELETE FROM keying WHERE clerk = 9", DAMAGED),
 ];
 
-#[test]
-fn damaged_counts_are_found(rt: HostRuntime) -> Result<(), Fail> {
-    let disks = counted(&rt)?;
-    for (change, wanted) in CHANGES {
-        let cases = [(Step::Change(change), (0, "", "")), (QUAY, wanted)];
-        disks
-            .copied(rt.alloc(), File::Log, u64::MAX)?
-            .hear(&rt, &cases)?;
-    }
-    Ok(())
-}
+/// The ward is sealed.
+const SEALED: &str = "$ seal 7 --id s1
+ward 7 sealed: 8 valid, 0 rejected, quota 5.00000
+";
 
 /// A batch with one paper of each kind, valid, without a first preference, with two, and four doubtful ones.
 /// It is keyed unlike and then again, its doubtful papers are judged, and the ward is sealed.
-const JUDGED: &str = "$ batch 12 7 7 4 9 --id b1
+const JUDGED: &[Act] = &[
+    Act::Typed(POLLING),
+    Act::Typed(
+        "$ batch 12 7 7 4 9 --id b1
 batch 12 added
 $ import-keying 4 12 1 FILE --id k1
 < paper,1,2,3
@@ -396,18 +366,13 @@ Stage 1: first preferences
          0.00000 lost by fractions
 $ declare 7 --id d1
 ward 7 declared: 1
-";
-
-#[test]
-fn papers_are_valid_or_rejected(rt: HostRuntime) -> Result<(), Fail> {
-    Disks::lasting(rt.alloc())
-        .follow(&rt, POLLING)?
-        .follow(&rt, JUDGED)?;
-    Ok(())
-}
+",
+    ),
+];
 
 /// A ward without papers: nobody has a vote, and a lot decides.
-const WITHOUT_PAPERS: &str = "$ init
+const WITHOUT_PAPERS: &[Act] = &[Act::Typed(
+    "$ init
 office ready
 $ ward 7 1 Harbour --id w1
 ward 7 added
@@ -447,10 +412,12 @@ $ result 7
 Ward 7 Harbour
 Elected
  2 Bob
-";
+",
+)];
 
 /// A ward with as many candidates as seats: nothing is counted.
-const UNCONTESTED: &str = "$ init
+const UNCONTESTED: &[Act] = &[Act::Typed(
+    "$ init
 office ready
 $ ward 8 2 Quay --id w2
 ward 8 added
@@ -483,11 +450,10 @@ Ward 8 Quay
 Elected
  1 Dee
  2 Eve
-";
+",
+)];
 
 #[test]
-fn wards_without_papers_are_counted(rt: HostRuntime) -> Result<(), Fail> {
-    Disks::lasting(rt.alloc()).follow(&rt, WITHOUT_PAPERS)?;
-    Disks::lasting(rt.alloc()).follow(&rt, UNCONTESTED)?;
-    Ok(())
+fn counts_wait_for_their_lots(rt: HostRuntime) -> Result<(), Fail> {
+    play_all(&rt, &[WAITING, JUDGED, WITHOUT_PAPERS, UNCONTESTED])
 }

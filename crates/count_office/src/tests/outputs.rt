@@ -1,9 +1,8 @@
 //! Outputs that fail at each of their bytes in turn: a beginning is taken, what was answered stands, and
 //! the same order given again is told whole.
 
-use super::disks::{Disks, File};
-use super::orders::{ADDED, HARBOUR, INIT, READY};
-use super::steps::{Case, Rooms, Step, Told};
+use super::disks::{Act, Disks, File, play_acts};
+use super::steps::{Rooms, Step, Told};
 use std::ops::Range;
 use std::process::Abort;
 use std::test::Fail;
@@ -15,7 +14,7 @@ const BROKEN: &str = "fault 107: socket or output\n";
 #[derive(Drop)]
 struct Heard<'a> {
     words: &'a [&'a str],
-    file: &'a [u8],
+    file: &'a str,
     told: Told<'a>,
     rows: String,
 }
@@ -26,10 +25,10 @@ impl<'a> Heard<'a> {
         rt: &(impl Abort + AllocGlobal),
         disks: &Disks,
         words: &'a [&'a str],
-        file: &'a [u8],
+        file: &'a str,
         told: Told<'a>,
     ) -> Result<Heard<'a>, Fail> {
-        let case = (Step::FileOrder(words, file), told);
+        let case = (Step::FileOrder(words, file.as_bytes()), told);
         let copy = disks.copied(rt.alloc(), File::Log, u64::MAX)?;
         let (rows, _) = copy.hear(rt, &[case])?.rows(rt.alloc())?;
         Ok(Heard {
@@ -50,9 +49,12 @@ impl<'a> Heard<'a> {
         rows: &'a str,
     ) -> Result<(), Fail> {
         let cases = [
-            (Step::BreakingOrder(self.words, self.file, rooms), told),
+            (
+                Step::BreakingOrder(self.words, self.file.as_bytes(), rooms),
+                told,
+            ),
             (Step::Contents, (0, rows, "")),
-            (Step::FileOrder(self.words, self.file), self.told),
+            (Step::FileOrder(self.words, self.file.as_bytes()), self.told),
             (Step::Contents, (0, self.rows.as_str(), "")),
         ];
         let copy = disks.copied(rt.alloc(), File::Log, u64::MAX)?;
@@ -97,43 +99,52 @@ impl<'a> Heard<'a> {
 }
 
 /// An office with Harbour.
-const BEGUN: [Case<'static>; 2] = [(INIT, READY), (HARBOUR, ADDED)];
+const BEGUN: &[Act] = &[Act::Typed("$ init\noffice ready\n"), Act::Typed(HARBOUR)];
 
-#[test]
-fn a_reply_that_breaks_stands(rt: HostRuntime) -> Result<(), Fail> {
-    let disks = Disks::lasting(rt.alloc()).hear(&rt, &BEGUN[..1])?;
+const HARBOUR: &str = "$ ward 7 2 Harbour --id w1\nward 7 added\n";
+
+/// A reply stands, whichever of its bytes breaks; so does one whose fault breaks on the error output.
+fn break_a_reply(rt: &(impl Abort + AllocGlobal)) -> Result<(), Fail> {
+    let disks = play_acts(rt, &BEGUN[..1])?;
     let words = ["DB", "ward", "7", "2", "Harbour", "--id", "w1"];
-    let ward = Heard::new(&rt, &disks, &words, b"", ADDED)?;
-    ward.break_output(&rt, &disks, 0..ADDED.1.len(), ward.rows.as_str())?;
-    ward.break_error_output(&rt, &disks, 0, BROKEN)
+    let added = "ward 7 added\n";
+    let ward = Heard::new(rt, &disks, &words, "", (0, added, ""))?;
+    ward.break_output(rt, &disks, 0..added.len(), ward.rows.as_str())?;
+    ward.break_error_output(rt, &disks, 0, BROKEN)
 }
 
-#[test]
-fn a_refusal_that_breaks_changes_nothing(rt: HostRuntime) -> Result<(), Fail> {
-    let disks = Disks::lasting(rt.alloc()).hear(&rt, &BEGUN)?;
+/// A refusal that breaks changes nothing.
+fn break_a_refusal(rt: &(impl Abort + AllocGlobal), disks: &Disks) -> Result<(), Fail> {
     let words = ["DB", "ward", "7", "3", "Pier", "--id", "w2"];
     let refusal = "refused 6: ward exists\n";
-    let pier = Heard::new(&rt, &disks, &words, b"", (1, "", refusal))?;
-    pier.break_error_output(&rt, &disks, usize::MAX, refusal)
+    let pier = Heard::new(rt, disks, &words, "", (1, "", refusal))?;
+    pier.break_error_output(rt, disks, usize::MAX, refusal)
 }
 
 /// The candidates of an import, and what each is told. Where the first line breaks, the second candidate
 /// is not yet added.
-const FIRST: &[u8] = b"ward,candidate,name\n7,1,Ann\n";
+const FIRST: &str = "ward,candidate,name\n7,1,Ann\n";
 
 const FIRST_ADDED: &str = "candidate 1 of ward 7 added\n";
 
-const BOTH: &[u8] = b"ward,candidate,name\n7,1,Ann\n7,2,Bob\n";
+const BOTH: &str = "ward,candidate,name\n7,1,Ann\n7,2,Bob\n";
 
 const BOTH_ADDED: &str = "candidate 1 of ward 7 added\ncandidate 2 of ward 7 added\n";
 
-#[test]
-fn an_import_that_breaks_goes_on(rt: HostRuntime) -> Result<(), Fail> {
-    let disks = Disks::lasting(rt.alloc()).hear(&rt, &BEGUN)?;
+/// An import that breaks goes on where it broke.
+fn break_an_import(rt: &(impl Abort + AllocGlobal), disks: &Disks) -> Result<(), Fail> {
     let words = ["DB", "import-candidates", "FILE", "--id", "c"];
-    let first = Heard::new(&rt, &disks, &words, FIRST, (0, FIRST_ADDED, ""))?;
-    let both = Heard::new(&rt, &disks, &words, BOTH, (0, BOTH_ADDED, ""))?;
+    let first = Heard::new(rt, disks, &words, FIRST, (0, FIRST_ADDED, ""))?;
+    let both = Heard::new(rt, disks, &words, BOTH, (0, BOTH_ADDED, ""))?;
     let (middle, end) = (FIRST_ADDED.len(), BOTH_ADDED.len());
-    both.break_output(&rt, &disks, 0..middle, first.rows.as_str())?;
-    both.break_output(&rt, &disks, middle..end, both.rows.as_str())
+    both.break_output(rt, disks, 0..middle, first.rows.as_str())?;
+    both.break_output(rt, disks, middle..end, both.rows.as_str())
+}
+
+#[test]
+fn an_output_breaks_at_each_byte(rt: HostRuntime) -> Result<(), Fail> {
+    break_a_reply(&rt)?;
+    let disks = play_acts(&rt, BEGUN)?;
+    break_a_refusal(&rt, &disks)?;
+    break_an_import(&rt, &disks)
 }

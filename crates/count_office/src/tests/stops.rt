@@ -1,133 +1,277 @@
-//! A store that stops at each of its calls in turn, while an office is made and a ward is added.
+//! A store that stops at each of its calls in turn, while one order is done: what was there before is found
+//! again, or all that the order makes, and the same order given again ends as if nothing had happened. A client
+//! behind one who met the stop is told that the office is closed.
 
-use super::disks::{Disks, File};
-use super::orders::{ADDED, FOREIGN, HARBOUR, INIT, READY};
-use super::steps::{STOPPED, Said, Step};
-use std::alloc::Global;
+use super::clients::Client;
+use super::disks::{Act, Disks, File, play_acts};
+use super::http::{BEGUN, KEYED, KEYING};
+use super::keyings::{GIVEN_OUT, NOMINATED};
+use super::lots::POLLING;
+use super::steps::{Case, STOPPED, STOPPED_ANSWER, Step, Told};
+use super::transcripts::read;
 use std::process::Abort;
 use std::test::Fail;
 
-/// What a database holds before `init`, after it, and after `ward`.
-#[derive(Debug, Drop)]
-struct Contents {
-    nothing: String,
-    office: String,
-    ward: String,
-}
+/// More calls than an order makes of either file.
+const CALLS: u64 = 400;
 
-fn text_of(alloc: Global, said: Option<&Said>) -> Result<String, Fail> {
-    match said {
-        Some(said) => Ok(String::from_str(alloc, said.told().1)?),
-        None => Err(Fail::from("a step is missing")),
+/// How many papers the largest batch has.
+const PAPERS: u32 = 500;
+
+/// What `init` is told where the office is there already.
+const MADE: Told<'static> = (3, "", "fault 105: wrong database\n");
+
+/// What an order is told that is given again, where all that it makes was found.
+fn told_again<'a>(case: Case<'a>, whole: bool) -> Told<'a> {
+    match case {
+        (Step::Order(["DB", "init"]), _) if whole => MADE,
+        (_, told) => told,
     }
 }
 
-fn unstopped(alloc: Global) -> Result<Contents, Fail> {
-    let script = [
-        Step::Contents,
-        INIT,
-        Step::Contents,
-        HARBOUR,
-        Step::Contents,
-    ];
-    let (said, _) = Disks::lasting(alloc).play(alloc, &script)?;
-    Ok(Contents {
-        nothing: text_of(alloc, said.first())?,
-        office: text_of(alloc, said.get(2))?,
-        ward: text_of(alloc, said.get(4))?,
-    })
-}
-
-/// How far a run came before the store stopped.
-#[derive(Clone, Copy, Debug, PartialEq, Eq)]
-enum Reached {
-    Opening,
-    Init,
-    Ward,
-    End,
-}
-
-/// None where an order was told anything but its answer or the stop.
-fn how_far(said: &[Said]) -> Option<Reached> {
-    match said {
-        [] => Some(Reached::Opening),
-        [init] if init.told() == STOPPED => Some(Reached::Init),
-        [init, ward] if init.told() == READY && ward.told() == STOPPED => Some(Reached::Ward),
-        [init, ward] if init.told() == READY && ward.told() == ADDED => Some(Reached::End),
-        _ => None,
-    }
-}
-
-/// What was answered stands, and of what was not answered there is all or nothing.
-fn stands(reached: Reached, found: &str, contents: &Contents) -> bool {
-    match reached {
-        Reached::Opening => found == contents.nothing.as_str(),
-        Reached::Init => found == contents.nothing.as_str() || found == contents.office.as_str(),
-        Reached::Ward => found == contents.office.as_str() || found == contents.ward.as_str(),
-        Reached::End => found == contents.ward.as_str(),
-    }
-}
-
-/// What is found stands, and the same orders, given again, end with the same reply and tables.
-fn stood(reached: Reached, said: &[Said], contents: &Contents) -> bool {
-    match said {
-        [found, init, ward, end] => {
-            let found = found.told().1;
-            let wanted = if found == contents.nothing.as_str() {
-                READY
-            } else {
-                FOREIGN
-            };
-            stands(reached, found, contents)
-                && init.told() == wanted
-                && ward.told() == ADDED
-                && end.told().1 == contents.ward.as_str()
-        }
-        _ => false,
-    }
-}
-
-/// Runs over disks that stop, restarts, and judges what is found.
-fn stop(
+/// Does an order over disks of which one stops after so many calls, restarts them, and judges what is
+/// found: the rows before it, or those after it if it was answered or may have been. Tells whether the
+/// order was answered.
+fn stop_once(
     rt: &(impl Abort + AllocGlobal),
     disks: Disks,
-    contents: &Contents,
-) -> Result<Reached, Fail> {
-    let (said, left) = disks.play(rt.alloc(), &[INIT, HARBOUR])?;
-    let Some(reached) = how_far(said.as_slice()) else {
-        return Err(Fail::from("an order was told something else"));
+    case: Case<'_>,
+    before: &str,
+    after: &str,
+) -> Result<bool, Fail> {
+    let (order, reply) = case;
+    let (said, left) = disks.play(rt.alloc(), &[order])?;
+    let answered = match said.as_slice() {
+        [] => false,
+        [said] if said.is_stopped() => false,
+        [said] => {
+            assert_eq!(rt; said.told(), reply, "{order:?}");
+            true
+        }
+        _ => return Err(Fail::from("more was said than was asked")),
     };
-    let again = [Step::Contents, INIT, HARBOUR, Step::Contents];
-    let (said, _) = left.restarted().play(rt.alloc(), &again)?;
+    let (found, left) = left.restarted().rows(rt.alloc())?;
+    let whole = found.as_str() == after;
     assert!(rt;
-        stood(reached, said.as_slice(), contents),
-        "{reached:?} left {said:?}"
+        whole || (!answered && found.as_str() == before),
+        "{order:?} left {found}"
     );
-    Ok(reached)
+    let again = [(order, told_again(case, whole))];
+    let (end, _) = left.hear(rt, &again)?.rows(rt.alloc())?;
+    assert_eq!(rt; end.as_str(), after, "{order:?} given again");
+    Ok(answered)
 }
 
-/// More calls than a run makes of either file.
-const CALLS: u64 = 200;
-
-fn stopping(alloc: Global, file: File, calls: u64) -> Disks {
-    match file {
-        File::Log => Disks::stopping(alloc, calls, u64::MAX),
-        File::Database => Disks::stopping(alloc, u64::MAX, calls),
+/// Stops an order at each call of one file, until a run meets no stop. Gives the disks after the order.
+fn stop_each(
+    rt: &(impl Abort + AllocGlobal),
+    disks: Disks,
+    case: Case<'_>,
+    file: File,
+) -> Result<Disks, Fail> {
+    let (before, _) = disks.copied(rt.alloc(), file, u64::MAX)?.rows(rt.alloc())?;
+    let lasting = disks.copied(rt.alloc(), file, u64::MAX)?;
+    let (after, done) = lasting.hear(rt, &[case])?.rows(rt.alloc())?;
+    for calls in 0..CALLS {
+        let stopping = disks.copied(rt.alloc(), file, calls)?;
+        if stop_once(rt, stopping, case, before.as_str(), after.as_str())? {
+            return Ok(done);
+        }
     }
+    Err(Fail::from("no run was long enough"))
+}
+
+/// The first orders of an office, over new files.
+const FIRST: &str = "$ init
+office ready
+$ ward 7 2 Harbour --id w1
+ward 7 added
+";
+
+/// The orders of one request each from nominations to verdicts. (An import of candidates is a request a
+/// record, so a stop may leave some of them.)
+const TO_VERDICTS: &str = "$ withdraw 7 3 --id x1
+candidate 3 of ward 7 withdrawn
+$ candidate 7 3 Cy --id c4
+candidate 3 of ward 7 added
+$ close 7 --id n1
+ward 7 polled
+$ batch 12 7 1 4 9 --id b1
+batch 12 added
+$ import-keying 4 12 1 FILE --id k1
+< paper,1,2,3
+< 1,D,,
+batch 12 round 1 keyed
+$ import-keying 9 12 1 FILE --id k1
+< paper,1,2,3
+< 1,D,,
+batch 12 round 1 keyed
+$ judge 12 1 reject:3 --id j1
+batch 12 paper 1 rejected 3
+";
+
+/// The orders of a ward without a batch, from its seal to its declaration.
+const TO_DECLARATION: &str = "$ seal 7 --id s1
+ward 7 sealed: 0 valid, 0 rejected, quota 1.00000
+$ advance 7 --id a1
+ward 7 stage 1 first preferences
+$ lot 7 2 1 --id l1
+lot at ward 7 stage 2: candidate 1
+$ advance 7 --id a2
+ward 7 stage 2 exclusion of 1
+$ lot 7 3 2 --id l2
+lot at ward 7 stage 3: candidate 2
+$ advance 7 --id a3
+ward 7 stage 3 exclusion of 2, last vacancies
+$ declare 7 --id d1
+ward 7 declared: 3
+";
+
+/// A batch whose two keyings differ.
+const DIFFERING: &str = "$ close 7 --id n1
+ward 7 polled
+$ batch 12 7 1 4 9 --id b1
+batch 12 added
+$ import-keying 4 12 1 FILE --id k1
+< paper,1,2,3
+< 1,1,2,
+batch 12 round 1 keyed
+$ import-keying 9 12 1 FILE --id k1
+< paper,1,2,3
+< 1,2,1,
+batch 12 round 1 keyed
+";
+
+/// It is keyed again.
+const NEW_ROUND: &str = "$ again 12 --id g1
+batch 12 round 2 open
+";
+
+/// A keying over HTTP.
+const CLIENT: &str = r#"> POST /clerks/4/batches/12/keying HTTP/1.1
+> Content-Length: 43
+>
+> {"id":"h1","round":1,"papers":["1,2,","D"]}
+200 OK
+{"reply":"batch 12 round 1 keyed"}
+"#;
+
+/// What was done before, and the orders that are stopped then, one after the other, each at each call.
+const STOPS: [(&[Act], &str); 5] = [
+    (&[], FIRST),
+    (&[Act::Typed(NOMINATED)], TO_VERDICTS),
+    (&[Act::Typed(POLLING)], TO_DECLARATION),
+    (&[Act::Typed(NOMINATED), Act::Typed(DIFFERING)], NEW_ROUND),
+    (&[Act::Typed(NOMINATED), Act::Typed(GIVEN_OUT)], CLIENT),
+];
+
+/// Stops orders, each at each call of one file.
+fn stop_orders(
+    rt: &(impl Abort + AllocGlobal),
+    before: &[Act],
+    orders: &str,
+    file: File,
+) -> Result<(), Fail> {
+    let mut disks = play_acts(rt, before)?;
+    for order in &read(rt.alloc(), orders)? {
+        disks = stop_each(rt, disks, order.case(), file)?;
+    }
+    Ok(())
 }
 
 #[test]
-fn a_stop_leaves_old_or_new(rt: HostRuntime) -> Result<(), Fail> {
-    let contents = unstopped(rt.alloc())?;
-    for file in [File::Log, File::Database] {
-        let mut last = Reached::Opening;
-        for calls in 0..CALLS {
-            last = stop(&rt, stopping(rt.alloc(), file, calls), &contents)?;
-            if last == Reached::End {
-                break;
-            }
-        }
-        assert!(&rt; last == Reached::End, "no run was long enough");
+fn an_order_stops_whole_at_its_log(rt: HostRuntime) -> Result<(), Fail> {
+    for (before, orders) in STOPS {
+        stop_orders(&rt, before, orders, File::Log)?;
     }
     Ok(())
+}
+
+#[test]
+fn an_order_stops_whole_at_its_database(rt: HostRuntime) -> Result<(), Fail> {
+    for (before, orders) in STOPS {
+        stop_orders(&rt, before, orders, File::Database)?;
+    }
+    Ok(())
+}
+
+/// A batch of as many papers as one may have.
+const GIVEN_OUT_WHOLE: &str = "$ close 7 --id n1
+ward 7 polled
+$ batch 12 7 500 4 9 --id b1
+batch 12 added
+";
+
+#[test]
+fn a_large_keying_stops_whole(rt: HostRuntime) -> Result<(), Fail> {
+    let mut keying = String::from_str(
+        rt.alloc(),
+        "$ import-keying 4 12 1 FILE --id k1\n< paper,1,2,3\n",
+    )?;
+    for paper in 1..=PAPERS {
+        writeln!(keying, "< {paper},1,2,")?;
+    }
+    keying.push_str("batch 12 round 1 keyed\n")?;
+    let before = [Act::Typed(NOMINATED), Act::Typed(GIVEN_OUT_WHOLE)];
+    for file in [File::Log, File::Database] {
+        stop_orders(&rt, &before, keying.as_str(), file)?;
+    }
+    Ok(())
+}
+
+/// What a client of a closed office is told.
+pub const CLOSED_ANSWER: &str =
+    "HTTP/1.1 503 Service Unavailable\r\nContent-Type: application/json\r\nContent-Length: 13\r\nConnection: close\r\n\r\n{\"fault\":104}";
+
+/// Where a store stopped under two clients who key in turn.
+enum Stop {
+    AtTheOpening,
+    AtTheFirst,
+    BehindTheFirst,
+}
+
+/// Two clients key over disks whose log stops after so many calls. Where the first is told of the stop, the
+/// second is told that the office is closed.
+fn stop_twice(rt: &(impl Abort + AllocGlobal), disks: &Disks, calls: u64) -> Result<Stop, Fail> {
+    let keying = Client::whole(KEYING.as_bytes());
+    let stopping = disks.copied(rt.alloc(), File::Log, calls)?;
+    let (said, _) = stopping.play(rt.alloc(), &[Step::Serve(&[keying, keying])])?;
+    let Some(said) = said.first() else {
+        return Ok(Stop::AtTheOpening);
+    };
+    let (_, out, _) = said.told();
+    if out.starts_with(KEYED) {
+        return Ok(Stop::BehindTheFirst);
+    }
+    let Some(second) = out.strip_prefix(STOPPED_ANSWER) else {
+        assert_eq!(rt; said.told(), STOPPED);
+        return Ok(Stop::AtTheOpening);
+    };
+    assert_eq!(rt; second, CLOSED_ANSWER);
+    Ok(Stop::AtTheFirst)
+}
+
+#[test]
+fn a_closed_office_says_so(rt: HostRuntime) -> Result<(), Fail> {
+    let disks = play_acts(&rt, BEGUN)?;
+    for calls in calls_to_a_client(&rt, &disks)?..CALLS {
+        match stop_twice(&rt, &disks, calls)? {
+            Stop::AtTheOpening => return Err(Fail::from("a longer run stopped before")),
+            Stop::AtTheFirst => {}
+            Stop::BehindTheFirst => return Ok(()),
+        }
+    }
+    Err(Fail::from("no run was long enough"))
+}
+
+/// After how many calls the log first stops under a client, and no more at the opening.
+pub fn calls_to_a_client(rt: &(impl Abort + AllocGlobal), disks: &Disks) -> Result<u64, Fail> {
+    for calls in 0..CALLS {
+        match stop_twice(rt, disks, calls)? {
+            Stop::AtTheOpening => {}
+            Stop::AtTheFirst => return Ok(calls),
+            Stop::BehindTheFirst => break,
+        }
+    }
+    Err(Fail::from("the store never stopped under a client"))
 }

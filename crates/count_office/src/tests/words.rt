@@ -1,5 +1,6 @@
 //! Words that are an order, and words that are none.
 
+use super::transcripts;
 use desk::{WordsFault, order};
 use std::alloc::{AllocError, Global};
 use std::process::Abort;
@@ -16,86 +17,59 @@ fn read(alloc: Global, words: &[&str]) -> Result<String, AllocError> {
 }
 
 /// Each order once, and what else its words may look like.
-const TAKEN: [(&[&str], &str); 23] = [
-    (&["DB", "init"], "Init"),
-    (
-        &["DB", "ward", "7", "2", "Harbour", "--id", "w1"],
-        "Ward(NewWard { ward: 7, seats: 2, name: \"Harbour\", id: \"w1\" })",
-    ),
+const TAKEN: &str = r#"$ init
+Init
+$ ward 7 2 Harbour --id w1
+Run(Send(Request { actor: 0, id: "w1", command: Ward(Add { ward: 7, seats: 2, name: "Harbour" }) }))
+$ ward --id w1 -- 7 2 -Harbour
+Run(Send(Request { actor: 0, id: "w1", command: Ward(Add { ward: 7, seats: 2, name: "-Harbour" }) }))
+$ candidate 7 1 Ann --id c1
+Run(Send(Request { actor: 0, id: "c1", command: Candidate(Add { ward: 7, candidate: 1, name: "Ann" }) }))
+$ import-candidates harbour.csv --id c
+Run(ImportCandidates { file: "harbour.csv", id: "c" })
+$ withdraw 7 1 --id c3
+Run(Send(Request { actor: 0, id: "c3", command: Candidate(Withdraw { ward: 7, candidate: 1 }) }))
+$ close 7 --id w2
+Run(Send(Request { actor: 0, id: "w2", command: Ward(Close { ward: 7 }) }))
+$ batch 12 7 2 4 9 --id b1
+Run(Send(Request { actor: 0, id: "b1", command: Batch(Add { batch: 12, ward: 7, size: 2, first_clerk: 4, second_clerk: 9 }) }))
+$ import-keying 4 12 1 k.csv --id k1
+Run(ImportKeying(KeyingFile { clerk: 4, batch: 12, round: 1, file: "k.csv", id: "k1" }))
+$ again 12 --id a1
+Run(Send(Request { actor: 0, id: "a1", command: Batch(Again { batch: 12 }) }))
+$ judge 12 2 accept:1,,2 --id v1
+Run(Send(Request { actor: 0, id: "v1", command: Verdict(VerdictCommand { batch: 12, paper: 2, verdict: Accept("1,,2") }) }))
+$ judge 12 2 accept: --id v1
+Run(Send(Request { actor: 0, id: "v1", command: Verdict(VerdictCommand { batch: 12, paper: 2, verdict: Accept("") }) }))
+$ judge 12 2 reject:4294967295 --id v1
+Run(Send(Request { actor: 0, id: "v1", command: Verdict(VerdictCommand { batch: 12, paper: 2, verdict: Reject(4294967295) }) }))
+$ seal 7 --id s1
+Run(Send(Request { actor: 0, id: "s1", command: Count(Seal { ward: 7 }) }))
+$ advance 7 --id v1
+Run(Send(Request { actor: 0, id: "v1", command: Count(Advance { ward: 7 }) }))
+$ lot 7 2 3 --id l1
+Run(Send(Request { actor: 0, id: "l1", command: Count(Lot { ward: 7, stage: 2, candidate: 3 }) }))
+$ declare 7 --id d1
+Run(Send(Request { actor: 0, id: "d1", command: Count(Declare { ward: 7 }) }))
+$ status 7
+Run(TellStatus { ward: 7 })
+$ sheet 7
+Run(Print { ward: 7, text: Sheet })
+$ result 7
+Run(Print { ward: 7, text: Declaration })
+$ serve 8080 1000000
+Serve { port: 8080, connections: 1000000 }
+"#;
+
+/// Words with spaces, and without a letter.
+const TAKEN_AS_ONE: [(&[&str], &str); 2] = [
     (
         &["DB", "ward", "--id=w1", "007", "+2", "Old Harbour"],
-        "Ward(NewWard { ward: 7, seats: 2, name: \"Old Harbour\", id: \"w1\" })",
+        "Run(Send(Request { actor: 0, id: \"w1\", command: Ward(Add { ward: 7, seats: 2, name: \"Old Harbour\" }) }))",
     ),
     (
         &["DB", "ward", "4294967295", "0", "", "--id", ""],
-        "Ward(NewWard { ward: 4294967295, seats: 0, name: \"\", id: \"\" })",
-    ),
-    (
-        &["DB", "ward", "--id", "w1", "--", "7", "2", "-Harbour"],
-        "Ward(NewWard { ward: 7, seats: 2, name: \"-Harbour\", id: \"w1\" })",
-    ),
-    (
-        &["DB", "candidate", "7", "1", "Ann", "--id", "c1"],
-        "Candidate(NewCandidate { ward: 7, candidate: 1, name: \"Ann\", id: \"c1\" })",
-    ),
-    (
-        &["DB", "import-candidates", "harbour.csv", "--id", "c"],
-        "ImportCandidates { file: \"harbour.csv\", id: \"c\" }",
-    ),
-    (
-        &["DB", "withdraw", "7", "1", "--id", "c3"],
-        "Withdraw(Withdrawal { ward: 7, candidate: 1, id: \"c3\" })",
-    ),
-    (
-        &["DB", "close", "7", "--id", "w2"],
-        "Close { ward: 7, id: \"w2\" }",
-    ),
-    (
-        &["DB", "batch", "12", "7", "2", "4", "9", "--id", "b1"],
-        "Batch(NewBatch { batch: 12, ward: 7, size: 2, first_clerk: 4, second_clerk: 9, id: \"b1\" })",
-    ),
-    (
-        &["DB", "import-keying", "4", "12", "1", "k.csv", "--id", "k1"],
-        "ImportKeying(KeyingFile { clerk: 4, batch: 12, round: 1, file: \"k.csv\", id: \"k1\" })",
-    ),
-    (
-        &["DB", "again", "12", "--id", "a1"],
-        "Again { batch: 12, id: \"a1\" }",
-    ),
-    (
-        &["DB", "judge", "12", "2", "accept:1,,2", "--id", "v1"],
-        "Judge(Judging { batch: 12, paper: 2, verdict: Accept(\"1,,2\"), id: \"v1\" })",
-    ),
-    (
-        &["DB", "judge", "12", "2", "accept:", "--id", "v1"],
-        "Judge(Judging { batch: 12, paper: 2, verdict: Accept(\"\"), id: \"v1\" })",
-    ),
-    (
-        &["DB", "judge", "12", "2", "reject:4294967295", "--id", "v1"],
-        "Judge(Judging { batch: 12, paper: 2, verdict: Reject(4294967295), id: \"v1\" })",
-    ),
-    (
-        &["DB", "seal", "7", "--id", "s1"],
-        "Seal { ward: 7, id: \"s1\" }",
-    ),
-    (
-        &["DB", "advance", "7", "--id", "v1"],
-        "Advance { ward: 7, id: \"v1\" }",
-    ),
-    (
-        &["DB", "lot", "7", "2", "3", "--id", "l1"],
-        "Lot(Drawing { ward: 7, stage: 2, candidate: 3, id: \"l1\" })",
-    ),
-    (
-        &["DB", "declare", "7", "--id", "d1"],
-        "Declare { ward: 7, id: \"d1\" }",
-    ),
-    (&["DB", "status", "7"], "Status { ward: 7 }"),
-    (&["DB", "sheet", "7"], "Sheet { ward: 7 }"),
-    (&["DB", "result", "7"], "Result { ward: 7 }"),
-    (
-        &["DB", "serve", "8080", "1000000"],
-        "Serve { port: 8080, connections: 1000000 }",
+        "Run(Send(Request { actor: 0, id: \"\", command: Ward(Add { ward: 4294967295, seats: 0, name: \"\" }) }))",
     ),
 ];
 
@@ -112,7 +86,11 @@ const NO_VERDICTS: [&str; 6] = [
 #[test]
 fn words_are_read_to_orders(rt: HostRuntime) -> Result<(), Fail> {
     let alloc = rt.alloc();
-    for (words, wanted) in TAKEN {
+    for typed in &transcripts::read(alloc, TAKEN)? {
+        let told = read(alloc, typed.words())?;
+        assert_eq!(rt; told.as_str(), typed.out().trim_end());
+    }
+    for (words, wanted) in TAKEN_AS_ONE {
         assert_eq!(rt; read(alloc, words)?.as_str(), wanted);
     }
     for word in NO_VERDICTS {
@@ -122,32 +100,24 @@ fn words_are_read_to_orders(rt: HostRuntime) -> Result<(), Fail> {
     Ok(())
 }
 
-/// Right words of each order that takes any, and the places of the numbers of any size among them.
-const RIGHT: [(&[&str], &[usize]); 17] = [
-    (&["DB", "ward", "--id=a", "7", "2", "Harbour"], &[3, 4]),
-    (&["DB", "candidate", "--id=a", "7", "1", "Ann"], &[3, 4]),
-    (&["DB", "import-candidates", "--id=a", "harbour.csv"], &[]),
-    (&["DB", "withdraw", "--id=a", "7", "1"], &[3, 4]),
-    (&["DB", "close", "--id=a", "7"], &[3]),
-    (
-        &["DB", "batch", "--id=a", "12", "7", "2", "4", "9"],
-        &[3, 4, 5, 6, 7],
-    ),
-    (
-        &["DB", "import-keying", "--id=a", "4", "12", "1", "k.csv"],
-        &[3, 4, 5],
-    ),
-    (&["DB", "again", "--id=a", "12"], &[3]),
-    (&["DB", "judge", "--id=a", "12", "2", "reject:3"], &[3, 4]),
-    (&["DB", "seal", "--id=a", "7"], &[3]),
-    (&["DB", "advance", "--id=a", "7"], &[3]),
-    (&["DB", "lot", "--id=a", "7", "2", "3"], &[3, 4, 5]),
-    (&["DB", "declare", "--id=a", "7"], &[3]),
-    (&["DB", "status", "7"], &[2]),
-    (&["DB", "sheet", "7"], &[2]),
-    (&["DB", "result", "7"], &[2]),
-    (&["DB", "serve", "8080", "2"], &[]),
-];
+/// Right words of each order that takes any; those in digits are numbers of any size.
+const RIGHT: &str = "$ ward --id=a 7 2 Harbour
+$ candidate --id=a 7 1 Ann
+$ import-candidates --id=a harbour.csv
+$ withdraw --id=a 7 1
+$ close --id=a 7
+$ batch --id=a 12 7 2 4 9
+$ import-keying --id=a 4 12 1 k.csv
+$ again --id=a 12
+$ judge --id=a 12 2 reject:3
+$ seal --id=a 7
+$ advance --id=a 7
+$ lot --id=a 7 2 3
+$ declare --id=a 7
+$ status 7
+$ sheet 7
+$ result 7
+";
 
 /// Words that are no order are told with a text that holds this, and status 2.
 fn is_told(alloc: Global, words: &[&str], within: &str) -> Result<bool, AllocError> {
@@ -176,11 +146,7 @@ fn hear_wrong(rt: &(impl Abort + AllocGlobal), right: &[&str], place: usize) -> 
 }
 
 /// A word more than the right ones, one fewer, or a wrong number among them is told.
-fn hear_near(
-    rt: &(impl Abort + AllocGlobal),
-    right: &[&str],
-    places: &[usize],
-) -> Result<(), Fail> {
+fn hear_near(rt: &(impl Abort + AllocGlobal), right: &[&str]) -> Result<(), Fail> {
     let mut more = Vec::from_slice(rt.alloc(), right)?;
     more.push("more")?;
     let within = "unexpected argument 'more' found";
@@ -190,22 +156,34 @@ fn hear_near(
     };
     let within = "required arguments were not provided";
     assert!(rt; is_told(rt.alloc(), fewer, within)?, "{fewer:?}");
-    for place in places {
-        hear_wrong(rt, right, *place)?;
+    for (place, word) in right.iter().enumerate() {
+        if word.parse::<u32>().is_ok() {
+            hear_wrong(rt, right, place)?;
+        }
     }
     Ok(())
 }
 
 #[test]
 fn a_word_too_few_too_many_or_wrong_is_told(rt: HostRuntime) -> Result<(), Fail> {
-    for (right, places) in RIGHT {
-        hear_near(&rt, right, places)?;
+    for typed in &transcripts::read(rt.alloc(), RIGHT)? {
+        hear_near(&rt, typed.words())?;
     }
     Ok(())
 }
 
 /// Words that are no order, parted by spaces; how what is told of them begins, and what stands in it.
-const NO_ORDERS: [(&str, &str, &str); 18] = [
+const NO_ORDERS: [(&str, &str, &str); 20] = [
+    (
+        "DB serve 8080",
+        "2 error: ",
+        "required arguments were not provided",
+    ),
+    (
+        "DB serve 8080 2 more",
+        "2 error: ",
+        "unexpected argument 'more' found",
+    ),
     (
         "DB",
         "2 Runs the office",

@@ -1,18 +1,15 @@
 //! The work of a clerk, as an opened office tells it.
 
-use super::disks::Disks;
-use super::steps::{Case, Step, Told};
+use super::disks::{Act, play_all};
 use std::test::Fail;
 
-/// What a clerk without work is told.
-const NONE: Told<'static> = (0, "", "");
-
-/// What is told where no clerk has the number.
-const NO_CLERK: Told<'static> = (0, "refused 3: number out of range\n", "");
-
 /// The wards 7 and 8 in keying, each with three candidates; batch 12 of ward 7 for the clerks 4 and 9, and
-/// batch 11 of ward 8 for the clerks 9 and 5.
-const GIVEN_OUT: &str = "$ init
+/// batch 11 of ward 8 for the clerks 9 and 5. Before anything is keyed each clerk is told his own batches, in the
+/// order of their numbers; there are no clerks 0 and 1000. Clerk 4 keys batch 12, and clerk 9 keys it unlike, so that
+/// it has a second round. Batch 11 is keyed by both, and its ward is sealed: it is nobody's work any more.
+const WORK: &[Act] = &[
+    Act::Typed(
+        "$ init
 office ready
 $ ward 7 2 Harbour --id w1
 ward 7 added
@@ -40,129 +37,71 @@ $ batch 12 7 2 4 9 --id b1
 batch 12 added
 $ batch 11 8 1 9 5 --id b2
 batch 11 added
-";
-
-/// Before anything is keyed: each clerk's own batches, in the order of their numbers.
-const BEFORE: [Case<'static>; 7] = [
-    (
-        Step::Work(4),
-        (0, "batch 12 ward 7 [1, 2, 3] size 2 round 1: to key\n", ""),
+",
     ),
-    (
-        Step::Work(5),
-        (0, "batch 11 ward 8 [1, 2, 5] size 1 round 1: to key\n", ""),
+    Act::Unchanged(
+        "@ 4
+batch 12 ward 7 [1, 2, 3] size 2 round 1: to key
+@ 5
+batch 11 ward 8 [1, 2, 5] size 1 round 1: to key
+@ 9
+batch 11 ward 8 [1, 2, 5] size 1 round 1: to key
+batch 12 ward 7 [1, 2, 3] size 2 round 1: to key
+@ 999
+@ 0
+refused 3: number out of range
+@ 1000
+refused 3: number out of range
+@ 4294967295
+refused 3: number out of range
+",
     ),
-    (
-        Step::Work(9),
-        (
-            0,
-            "batch 11 ward 8 [1, 2, 5] size 1 round 1: to key\nbatch 12 ward 7 [1, 2, 3] size 2 round 1: to key\n",
-            "",
-        ),
-    ),
-    (Step::Work(999), NONE),
-    (Step::Work(0), NO_CLERK),
-    (Step::Work(1000), NO_CLERK),
-    (Step::Work(u32::MAX), NO_CLERK),
-];
-
-const PAPERS: &[u8] = b"paper,1,2,3\n1,1,2,\n2,,1,\n";
-
-const OTHER_PAPERS: &[u8] = b"paper,1,2,3\n1,2,1,\n2,,1,\n";
-
-const ONE_PAPER: &[u8] = b"paper,1,2,5\n1,,1,\n";
-
-/// Clerk 4 keys batch 12, and clerk 9 keys it unlike, so that it has a second round.
-const KEYED: [Case<'static>; 8] = [
-    (
-        Step::FileOrder(
-            &["DB", "import-keying", "4", "12", "1", "FILE", "--id", "k1"],
-            PAPERS,
-        ),
-        (0, "batch 12 round 1 keyed\n", ""),
-    ),
-    (
-        Step::Work(4),
-        (0, "batch 12 ward 7 [1, 2, 3] size 2 round 1: keyed\n", ""),
-    ),
-    (
-        Step::Work(9),
-        (
-            0,
-            "batch 11 ward 8 [1, 2, 5] size 1 round 1: to key\nbatch 12 ward 7 [1, 2, 3] size 2 round 1: to key\n",
-            "",
-        ),
-    ),
-    (
-        Step::FileOrder(
-            &["DB", "import-keying", "9", "12", "1", "FILE", "--id", "k1"],
-            OTHER_PAPERS,
-        ),
-        (0, "batch 12 round 1 keyed\n", ""),
-    ),
-    (
-        Step::Work(9),
-        (
-            0,
-            "batch 11 ward 8 [1, 2, 5] size 1 round 1: to key\nbatch 12 ward 7 [1, 2, 3] size 2 round 1: keyed\n",
-            "",
-        ),
-    ),
-    (
-        Step::Order(&["DB", "again", "12", "--id", "a1"]),
-        (0, "batch 12 round 2 open\n", ""),
-    ),
-    (
-        Step::Work(4),
-        (0, "batch 12 ward 7 [1, 2, 3] size 2 round 2: to key\n", ""),
-    ),
-    (
-        Step::Work(9),
-        (
-            0,
-            "batch 11 ward 8 [1, 2, 5] size 1 round 1: to key\nbatch 12 ward 7 [1, 2, 3] size 2 round 2: to key\n",
-            "",
-        ),
-    ),
-];
-
-/// Batch 11 is keyed by both, and its ward is sealed: it is nobody's work any more.
-const SEALED: [Case<'static>; 6] = [
-    (
-        Step::FileOrder(
-            &["DB", "import-keying", "9", "11", "1", "FILE", "--id", "k2"],
-            ONE_PAPER,
-        ),
-        (0, "batch 11 round 1 keyed\n", ""),
-    ),
-    (
-        Step::FileOrder(
-            &["DB", "import-keying", "5", "11", "1", "FILE", "--id", "k2"],
-            ONE_PAPER,
-        ),
-        (0, "batch 11 round 1 keyed\n", ""),
-    ),
-    (
-        Step::Work(5),
-        (0, "batch 11 ward 8 [1, 2, 5] size 1 round 1: keyed\n", ""),
-    ),
-    (
-        Step::Order(&["DB", "seal", "8", "--id", "s1"]),
-        (0, "ward 8 sealed: 1 valid, 0 rejected, quota 1.00000\n", ""),
-    ),
-    (Step::Work(5), NONE),
-    (
-        Step::Work(9),
-        (0, "batch 12 ward 7 [1, 2, 3] size 2 round 2: to key\n", ""),
+    Act::Typed(
+        "$ import-keying 4 12 1 FILE --id k1
+< paper,1,2,3
+< 1,1,2,
+< 2,,1,
+batch 12 round 1 keyed
+@ 4
+batch 12 ward 7 [1, 2, 3] size 2 round 1: keyed
+@ 9
+batch 11 ward 8 [1, 2, 5] size 1 round 1: to key
+batch 12 ward 7 [1, 2, 3] size 2 round 1: to key
+$ import-keying 9 12 1 FILE --id k1
+< paper,1,2,3
+< 1,2,1,
+< 2,,1,
+batch 12 round 1 keyed
+@ 9
+batch 11 ward 8 [1, 2, 5] size 1 round 1: to key
+batch 12 ward 7 [1, 2, 3] size 2 round 1: keyed
+$ again 12 --id a1
+batch 12 round 2 open
+@ 4
+batch 12 ward 7 [1, 2, 3] size 2 round 2: to key
+@ 9
+batch 11 ward 8 [1, 2, 5] size 1 round 1: to key
+batch 12 ward 7 [1, 2, 3] size 2 round 2: to key
+$ import-keying 9 11 1 FILE --id k2
+< paper,1,2,5
+< 1,,1,
+batch 11 round 1 keyed
+$ import-keying 5 11 1 FILE --id k2
+< paper,1,2,5
+< 1,,1,
+batch 11 round 1 keyed
+@ 5
+batch 11 ward 8 [1, 2, 5] size 1 round 1: keyed
+$ seal 8 --id s1
+ward 8 sealed: 1 valid, 0 rejected, quota 1.00000
+@ 5
+@ 9
+batch 12 ward 7 [1, 2, 3] size 2 round 2: to key
+",
     ),
 ];
 
 #[test]
 fn the_work_of_a_clerk_is_told(rt: HostRuntime) -> Result<(), Fail> {
-    Disks::lasting(rt.alloc())
-        .follow(&rt, GIVEN_OUT)?
-        .hear_unchanged(&rt, &BEFORE)?
-        .hear(&rt, &KEYED)?
-        .hear(&rt, &SEALED)?;
-    Ok(())
+    play_all(&rt, &[WORK])
 }
