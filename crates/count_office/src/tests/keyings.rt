@@ -296,7 +296,7 @@ batch 9999 added
 
 /// Once batch 12 is taken: its doubtful paper is judged, and batch 13 comes to its second round. What is changed in
 /// that office.
-const CHANGED: &[Act] = &[
+pub const CHANGED: &[Act] = &[
     Act::Typed(NOMINATED),
     Act::Typed(GIVEN_OUT),
     Act::Typed(BATCH_13),

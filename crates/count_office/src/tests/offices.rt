@@ -1,7 +1,9 @@
 //! The first run of an office, what it refuses, and databases that are no office, or the office of a
 //! later program, or hold what no office holds.
 
-use super::disks::{Act, play_all};
+use super::disks::{Act, File, play_acts, play_all};
+use super::keyings::CHANGED as KEYED;
+use super::steps::Step;
 use std::test::Fail;
 
 /// Without an office, and beside another table.
@@ -185,4 +187,39 @@ ward 8 added
 #[test]
 fn offices_are_made_and_opened(rt: HostRuntime) -> Result<(), Fail> {
     play_all(&rt, &[MADE, MADE_BESIDE, NOT_MADE, REFUSED, CHANGED])
+}
+
+/// A column of each kind of text, how the text begins that is written there, behind which a million zeros stand, and
+/// in which rows.
+const TEXTS: [(&str, &str, &str); 8] = [
+    ("ward SET name", "A", ""),
+    ("candidate SET name", "A", ""),
+    ("keying SET marks", "", ""),
+    ("verdict SET marks", "", ""),
+    ("receipt SET id", "", " WHERE id = 'w1'"),
+    ("receipt SET subject", "", ""),
+    ("receipt SET subject", "ward ", ""),
+    ("receipt SET reply", "ward ", ""),
+];
+
+const ZEROS: usize = 1_000_000;
+
+#[test]
+fn a_text_of_a_million_bytes_is_damage(rt: HostRuntime) -> Result<(), Fail> {
+    let mut zeros = String::new(rt.alloc());
+    for _ in 0..ZEROS {
+        zeros.push('0')?;
+    }
+    let disks = play_acts(&rt, &KEYED[..6])?;
+    for (column, begins, rows) in TEXTS {
+        let change = format!(in rt.alloc(); "UPDATE {column} = '{begins}{zeros}'{rows}")?;
+        let words = ["DB", "status", "7"];
+        let cases = [
+            (Step::Change(change.as_str()), (0, "", "")),
+            (Step::Order(&words), (3, "", "fault 103: damaged\n")),
+        ];
+        let copy = disks.copied(rt.alloc(), File::Log, u64::MAX)?;
+        copy.hear(&rt, &cases)?;
+    }
+    Ok(())
 }
