@@ -5,7 +5,7 @@
 use super::clients::Client;
 use super::disks::{Act, Disks, File, play_acts};
 use super::http::{BEGUN, KEYED, KEYING};
-use super::keyings::{GIVEN_OUT, NOMINATED};
+use super::keyings::NOMINATED;
 use super::lots::POLLING;
 use super::steps::{Case, STOPPED, STOPPED_ANSWER, Step, Told};
 use super::transcripts::read;
@@ -157,12 +157,10 @@ const CLIENT: &str = r#"> POST /clerks/4/batches/12/keying HTTP/1.1
 "#;
 
 /// What was done before, and the orders that are stopped then, one after the other, each at each call.
-const STOPS: [(&[Act], &str); 5] = [
+const STOPS: [(&[Act], &str); 3] = [
     (&[], FIRST),
-    (&[Act::Typed(NOMINATED)], TO_VERDICTS),
-    (&[Act::Typed(POLLING)], TO_DECLARATION),
     (&[Act::Typed(NOMINATED), Act::Typed(DIFFERING)], NEW_ROUND),
-    (&[Act::Typed(NOMINATED), Act::Typed(GIVEN_OUT)], CLIENT),
+    (BEGUN, CLIENT),
 ];
 
 /// Stops orders, each at each call of one file.
@@ -179,6 +177,7 @@ fn stop_orders(
     Ok(())
 }
 
+// Each test has a minute: the many calls of the log are parted.
 #[test]
 fn an_order_stops_whole_at_its_log(rt: HostRuntime) -> Result<(), Fail> {
     for (before, orders) in STOPS {
@@ -188,11 +187,22 @@ fn an_order_stops_whole_at_its_log(rt: HostRuntime) -> Result<(), Fail> {
 }
 
 #[test]
+fn orders_to_verdicts_stop_whole_at_their_log(rt: HostRuntime) -> Result<(), Fail> {
+    stop_orders(&rt, &[Act::Typed(NOMINATED)], TO_VERDICTS, File::Log)
+}
+
+#[test]
+fn a_count_stops_whole_at_its_log(rt: HostRuntime) -> Result<(), Fail> {
+    stop_orders(&rt, &[Act::Typed(POLLING)], TO_DECLARATION, File::Log)
+}
+
+#[test]
 fn an_order_stops_whole_at_its_database(rt: HostRuntime) -> Result<(), Fail> {
     for (before, orders) in STOPS {
         stop_orders(&rt, before, orders, File::Database)?;
     }
-    Ok(())
+    stop_orders(&rt, &[Act::Typed(NOMINATED)], TO_VERDICTS, File::Database)?;
+    stop_orders(&rt, &[Act::Typed(POLLING)], TO_DECLARATION, File::Database)
 }
 
 /// A batch of as many papers as one may have.
