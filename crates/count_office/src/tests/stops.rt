@@ -50,15 +50,23 @@ fn stop_once(
         }
         _ => return Err(Fail::from("more was said than was asked")),
     };
-    let (found, left) = left.restarted().rows(rt.alloc())?;
-    let whole = found.as_str() == after;
+    let again = [Step::Contents, order, Step::Contents];
+    let (said, _) = left.restarted().play(rt.alloc(), &again)?;
+    let [found, told, end] = said.as_slice() else {
+        return Err(Fail::from("a step is missing"));
+    };
+    let (_, found, _) = found.told();
+    let whole = found == after;
     assert!(rt;
-        whole || (!answered && found.as_str() == before),
+        whole || (!answered && found == before),
         "{order:?} left {found}"
     );
-    let again = [(order, told_again(case, whole))];
-    let (end, _) = left.hear(rt, &again)?.rows(rt.alloc())?;
-    assert_eq!(rt; end.as_str(), after, "{order:?} given again");
+    assert_eq!(rt;
+        told.told(),
+        told_again(case, whole),
+        "{order:?} given again"
+    );
+    assert_eq!(rt; end.told(), (0, after, ""), "{order:?} given again");
     Ok(answered)
 }
 
