@@ -61,9 +61,11 @@ fn stop_once(
         whole || (!answered && found == before),
         "{order:?} left {found}"
     );
-    assert_eq!(rt;
-        told.told(),
-        told_again(case, whole),
+    let (status, out, err) = told.told();
+    let (wanted, page, fault) = told_again(case, whole);
+    assert!(rt; status == wanted, "{order:?} given again");
+    assert!(rt;
+        out.as_bytes() == page.as_bytes() && err.as_bytes() == fault.as_bytes(),
         "{order:?} given again"
     );
     assert_eq!(rt; end.told(), (0, after, ""), "{order:?} given again");
