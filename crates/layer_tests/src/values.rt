@@ -157,10 +157,11 @@ fn a_sink_that_takes_nothing_is_broken(rt: HostRuntime) {
 fn a_source_gives_what_it_holds(rt: HostRuntime) {
     let mut source = Counted::new("ballot".as_bytes());
     let mut room = [0; 4];
-    for (count, held) in [(4, "ball"), (2, "otll"), (0, "otll")] {
-        assert!(&rt; source.fetch(&mut room) == Ok(count), "{held}");
-        assert!(&rt; room.as_slice() == held.as_bytes(), "{held}");
-    }
+    assert!(&rt; source.fetch(&mut room) == Ok(4));
+    assert!(&rt; room.as_slice() == b"ball".as_slice());
+    assert!(&rt; source.fetch(&mut room) == Ok(2));
+    assert!(&rt; room.as_slice() == b"otll".as_slice());
+    assert!(&rt; source.fetch(&mut room) == Ok(0));
     assert_eq!(&rt; source.failures(), 0);
 }
 
