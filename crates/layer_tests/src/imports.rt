@@ -78,39 +78,50 @@ fn fault_text(alloc: Global, fault: FileFault) -> Result<String, AllocError> {
     format!(in alloc; "{fault}")
 }
 
+/// Files of a keying of the candidates 1, 2 and 3, and what each gives: its papers, or its fault. `~` stands
+/// for a byte that is no UTF-8.
+const KEYINGS: [(&str, &str); 9] = [
+    ("paper,1,2,3\n1,1,2,\n2,D,,\n", "|1,2,|D"),
+    (
+        "paper,1,2,3\n1,1,2,\n2,D",
+        "file fault 2 at record 2: record length",
+    ),
+    ("paper,1,2,3\n1,1,2,\n", "|1,2,"),
+    ("", "file fault 1 at record 0: header"),
+    ("paper,1,3,2\n", "file fault 1 at record 0: header"),
+    ("paper,1,2,3\n01,1,2,\n", "file fault 3 at record 1: number"),
+    (
+        "paper,1,2,3\n2,1,2,\n",
+        "file fault 4 at record 1: paper order",
+    ),
+    (
+        "paper,1,2,3\n1,\"1,2\",,\n",
+        "file fault 5 at record 1: marks",
+    ),
+    (
+        "paper,1,2,3\n1,~,,\n",
+        "file fault 6 at record 1: not UTF-8",
+    ),
+];
+
+/// The bytes of a text in which `~` stands for one that is no UTF-8.
+fn bytes_of(alloc: Global, text: &str) -> Result<Vec<u8>, AllocError> {
+    let mut bytes = Vec::new(alloc);
+    for byte in text.as_bytes() {
+        bytes.push(if *byte == b'~' { 0xff } else { *byte })?;
+    }
+    Ok(bytes)
+}
+
 #[test]
 fn files_are_read_whole_or_refused(rt: HostRuntime) -> Result<(), Fail> {
-    let keyings: [(&[u8], &str); 9] = [
-        (b"paper,1,2,3\n1,1,2,\n2,D,,\n", "|1,2,|D"),
-        (
-            b"paper,1,2,3\n1,1,2,\n2,D",
-            "file fault 2 at record 2: record length",
-        ),
-        (b"paper,1,2,3\n1,1,2,\n", "|1,2,"),
-        (b"", "file fault 1 at record 0: header"),
-        (b"paper,1,3,2\n", "file fault 1 at record 0: header"),
-        (
-            b"paper,1,2,3\n01,1,2,\n",
-            "file fault 3 at record 1: number",
-        ),
-        (
-            b"paper,1,2,3\n2,1,2,\n",
-            "file fault 4 at record 1: paper order",
-        ),
-        (
-            b"paper,1,2,3\n1,\"1,2\",,\n",
-            "file fault 5 at record 1: marks",
-        ),
-        (
-            b"paper,1,2,3\n1,\xff,,\n",
-            "file fault 6 at record 1: not UTF-8",
-        ),
-    ];
-    for (file, wanted) in keyings {
-        assert_eq!(&rt; keying_text(rt.alloc(), file)?.as_str(), wanted);
+    for (file, wanted) in KEYINGS {
+        let bytes = bytes_of(rt.alloc(), file)?;
+        let text = keying_text(rt.alloc(), bytes.as_slice())?;
+        assert_eq!(&rt; text.as_str(), wanted);
     }
-    let candidates = b"ward,candidate,name\n7,1,Ann\n7,2,\"Bob, jr\"\n".as_slice();
-    let text = candidates_text(rt.alloc(), candidates)?;
+    let candidates = "ward,candidate,name\n7,1,Ann\n7,2,\"Bob, jr\"\n";
+    let text = candidates_text(rt.alloc(), candidates.as_bytes())?;
     assert_eq!(&rt; text.as_str(), "|7 1 Ann|7 2 Bob, jr");
     Ok(())
 }
@@ -131,7 +142,7 @@ fn a_keying_has_at_most_500_papers(rt: HostRuntime) -> Result<(), Fail> {
 
 #[test]
 fn a_failed_read_is_told_at_its_record(rt: HostRuntime) -> Result<(), Fail> {
-    let left = b"paper,1,2,3\n1,,,\n2,,".as_slice();
+    let left = "paper,1,2,3\n1,,,\n2,,".as_bytes();
     let text = keying_text(rt.alloc(), Torn { left })?;
     assert_eq!(&rt; text.as_str(), "file fault 8 at record 2: read failed");
     let fault = FileFault {

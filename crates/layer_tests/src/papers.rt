@@ -25,28 +25,24 @@ fn marked(rt: &(impl Abort + AllocGlobal), text: &str) -> Result<Marked, Fail> {
     }
 }
 
-#[test]
-fn papers_with_preferences(rt: HostRuntime) -> Result<(), Fail> {
-    assert_eq!(&rt; judge(&marked(&rt, "1,3,")?)?.as_slice(), [1].as_slice());
-    assert_eq!(&rt; judge(&marked(&rt, "1,2,2")?)?.as_slice(), [1].as_slice());
-    assert_eq!(&rt;
-        judge(&marked(&rt, "2,1,3")?)?.as_slice(),
-        [2, 1, 3].as_slice()
-    );
-    assert_eq!(&rt; judge(&marked(&rt, "99,1,10")?)?.as_slice(), [2].as_slice());
-    Ok(())
-}
+/// What is judged of each text: the preferences, or the code of the rejection.
+const JUDGED: [(&str, &[u8], u32); 6] = [
+    ("1,3,", &[1], 0),
+    ("1,2,2", &[1], 0),
+    ("2,1,3", &[2, 1, 3], 0),
+    ("99,1,10", &[2], 0),
+    ("1,1,", &[], 2),
+    (",2,", &[], 1),
+];
 
 #[test]
-fn papers_without(rt: HostRuntime) -> Result<(), Fail> {
-    assert_eq!(&rt;
-        judge(&marked(&rt, "1,1,")?),
-        Err(Rejection::SeveralFirstPreferences)
-    );
-    assert_eq!(&rt;
-        judge(&marked(&rt, ",2,")?),
-        Err(Rejection::NoFirstPreference)
-    );
+fn papers_are_judged(rt: HostRuntime) -> Result<(), Fail> {
+    for (text, wanted, code) in JUDGED {
+        match judge(&marked(&rt, text)?) {
+            Ok(prefs) => assert_eq!(&rt; prefs.as_slice(), wanted, "{text}"),
+            Err(why) => assert_eq!(&rt; why.number(), code, "{text}"),
+        }
+    }
     assert_eq!(&rt; keyed(&rt, "D")?, Keyed::Doubtful);
     Ok(())
 }
@@ -94,14 +90,24 @@ fn rejections_have_codes(rt: HostRuntime) {
     }
 }
 
+/// Lists of candidates, and whether each is one of preferences.
+const LISTS: [(&[u8], bool); 5] = [
+    (&[30, 1, 7], true),
+    (&[], false),
+    (&[1, 0], false),
+    (&[31], false),
+    (&[4, 2, 4], false),
+];
+
 #[test]
 fn lists_of_preferences(rt: HostRuntime) {
-    let prefs = Prefs::from_slice([30, 1, 7].as_slice()).expect(&rt, "a list of preferences");
-    assert_eq!(&rt; prefs.as_slice(), [30, 1, 7].as_slice());
-    assert_eq!(&rt; Prefs::from_slice([].as_slice()), None);
-    assert_eq!(&rt; Prefs::from_slice([1, 0].as_slice()), None);
-    assert_eq!(&rt; Prefs::from_slice([31].as_slice()), None);
-    assert_eq!(&rt; Prefs::from_slice([4, 2, 4].as_slice()), None);
+    for (list, is_ranking) in LISTS {
+        let prefs = Prefs::from_slice(list);
+        assert_eq!(&rt; prefs.is_some(), is_ranking);
+        if let Some(prefs) = &prefs {
+            assert_eq!(&rt; prefs.as_slice(), list);
+        }
+    }
 }
 
 #[test]
@@ -122,29 +128,33 @@ fn standing() -> Standing {
     )
 }
 
+/// Where the walk over the preferences 1, 3, 4, 5, 2 starts, and the next that is available; 0 for none.
+const NEXT: [(usize, u8); 5] = [(0, 4), (2, 4), (3, 2), (5, 0), (9, 0)];
+
+/// How some candidates stand.
+const STANDING: [(u8, Status); 5] = [
+    (1, Status::Elected),
+    (2, Status::Continuing),
+    (3, Status::Excluded),
+    (5, Status::Absent),
+    (200, Status::Absent),
+];
+
 #[test]
 fn next_available_preferences(rt: HostRuntime) {
     let standing = standing();
-    let prefs = [1, 3, 4, 5, 2].as_slice();
-    for (from, next) in [
-        (0, Some(4)),
-        (2, Some(4)),
-        (3, Some(2)),
-        (5, None),
-        (9, None),
-    ] {
-        assert_eq!(&rt; next_available(prefs, from, &standing), next, "from {from}");
+    let prefs: &[u8] = &[1, 3, 4, 5, 2];
+    for (from, wanted) in NEXT {
+        let next = next_available(prefs, from, &standing).unwrap_or(0);
+        assert_eq!(&rt; next, wanted, "from {from}");
     }
-    assert_eq!(&rt; available_from(prefs, 1, &standing), [4, 5, 2].as_slice());
-    for (c, status) in [
-        (1, Status::Elected),
-        (2, Status::Continuing),
-        (3, Status::Excluded),
-        (5, Status::Absent),
-        (200, Status::Absent),
-    ] {
-        assert_eq!(&rt; standing.status(c), status, "at {c}");
+    assert_eq!(&rt; available_from(prefs, 1, &standing).len(), 3);
+    for (c, status) in STANDING {
+        assert!(&rt; standing.status(c) == status, "at {c}");
+        assert_eq!(&rt;
+            standing.continues(c),
+            status == Status::Continuing,
+            "at {c}"
+        );
     }
-    assert!(&rt; standing.continues(4));
-    assert!(&rt; !standing.continues(0));
 }

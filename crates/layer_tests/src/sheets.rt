@@ -62,7 +62,17 @@ fn stage_of(action: Action, units: [u64; 3], elected: Columns, lost: u64) -> Sta
     }
 }
 
-/// Prints the sheet of a ward: as a text, to a sink, and to a sink of 20 bytes.
+/// Prints the sheet of a ward to a sink of 20 bytes.
+fn breaks_sheet(rt: &(impl Abort + AllocGlobal), ward: &Ward, stages: &[Stage], sheet: &str) {
+    assert!(rt; can_be_printed(ward));
+    let mut room = [0; 20];
+    let mut sink = Counted::new(room.as_mut_slice());
+    assert!(rt; write_sheet(&mut sink, ward, stages).is_err());
+    assert_eq!(rt; sink.failures(), 1);
+    assert!(rt; sheet.as_bytes().starts_with(&room));
+}
+
+/// Prints the sheet of a ward: as a text, and to a sink.
 fn prints_sheet(
     rt: &(impl Abort + AllocGlobal),
     ward: &Ward,
@@ -70,15 +80,11 @@ fn prints_sheet(
     sheet: &str,
 ) -> Result<(), Fail> {
     assert!(rt; can_be_printed(ward));
-    assert_eq!(rt; sheet_text(rt.alloc(), ward, stages)?.as_str(), sheet);
+    let text = sheet_text(rt.alloc(), ward, stages)?;
+    assert_eq!(rt; text.as_str(), sheet);
     let mut page = Vec::new(rt.alloc());
     write_sheet(&mut Counted::new(&mut page), ward, stages)?;
-    assert_eq!(rt; page.as_slice(), sheet.as_bytes());
-    let mut room = [0; 20];
-    let mut sink = Counted::new(room.as_mut_slice());
-    assert!(rt; write_sheet(&mut sink, ward, stages).is_err());
-    assert_eq!(rt; sink.failures(), 1);
-    assert!(rt; sheet.as_bytes().starts_with(&room));
+    assert!(rt; page.as_slice() == sheet.as_bytes());
     Ok(())
 }
 
@@ -90,13 +96,11 @@ fn prints_declaration(
     declaration: &str,
 ) -> Result<(), Fail> {
     assert!(rt; can_be_printed(ward));
-    assert_eq!(rt;
-        declaration_text(rt.alloc(), ward, elected)?.as_str(),
-        declaration
-    );
+    let text = declaration_text(rt.alloc(), ward, elected)?;
+    assert_eq!(rt; text.as_str(), declaration);
     let mut page = Vec::new(rt.alloc());
     write_declaration(&mut Counted::new(&mut page), ward, elected)?;
-    assert_eq!(rt; page.as_slice(), declaration.as_bytes());
+    assert!(rt; page.as_slice() == declaration.as_bytes());
     Ok(())
 }
 
@@ -125,6 +129,7 @@ fn sheets_and_declarations(rt: HostRuntime) -> Result<(), Fail> {
         }),
     };
     prints_sheet(&rt, &ward, &stages, HARBOUR)?;
+    breaks_sheet(&rt, &ward, &stages, HARBOUR);
     let declaration = "Ward 7 Harbour\nElected\n 1 Ann\n 3 Cy\n";
     prints_declaration(&rt, &ward, nobody.with(3).with(1), declaration)?;
     ward.poll = Some(Poll {

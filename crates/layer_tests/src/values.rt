@@ -85,7 +85,7 @@ fn prints(rt: &(impl Abort + AllocGlobal), votes: Votes, text: &str) -> Result<(
     assert_eq!(rt; printed.as_str(), text);
     let mut page = Vec::new(rt.alloc());
     votes.write(&mut Counted::new(&mut page))?;
-    assert_eq!(rt; page.as_slice(), text.as_bytes());
+    assert!(rt; page.as_slice() == text.as_bytes(), "{text}");
     Ok(())
 }
 
@@ -120,7 +120,7 @@ fn text_goes_out_in_pieces(rt: HostRuntime) -> Result<(), Fail> {
     let mut sink = Counted::new(&mut narrow);
     assert!(&rt; quota(4999500, 1).write(&mut sink).is_ok());
     assert_eq!(&rt; sink.failures(), 0);
-    assert_eq!(&rt; narrow.page.as_slice(), b"2499751.00000".as_slice());
+    assert!(&rt; narrow.page.as_slice() == "2499751.00000".as_bytes());
     Ok(())
 }
 
@@ -135,7 +135,9 @@ fn a_sink_that_fails_keeps_a_beginning(rt: HostRuntime) -> Result<(), Fail> {
         assert!(&rt; quota(4999500, 1).write(&mut sink).is_err(), "room {room}");
         assert_eq!(&rt; sink.failures(), 1, "room {room}");
         assert!(&rt;
-            b"2499751.00000".starts_with(narrow.page.as_slice()),
+            "2499751.00000"
+                .as_bytes()
+                .starts_with(narrow.page.as_slice()),
             "room {room}"
         );
     }
@@ -145,21 +147,21 @@ fn a_sink_that_fails_keeps_a_beginning(rt: HostRuntime) -> Result<(), Fail> {
 #[test]
 fn a_sink_that_takes_nothing_is_broken(rt: HostRuntime) {
     let mut sink = Counted::new(Full);
-    assert!(&rt; put_all(&mut sink, b"").is_ok());
+    assert!(&rt; put_all(&mut sink, "".as_bytes()).is_ok());
     assert_eq!(&rt; sink.failures(), 0);
-    assert!(&rt; put_all(&mut sink, b"x").is_err());
+    assert!(&rt; put_all(&mut sink, "x".as_bytes()).is_err());
     assert_eq!(&rt; sink.failures(), 1);
 }
 
 #[test]
 fn a_source_gives_what_it_holds(rt: HostRuntime) {
-    let mut source = Counted::new(b"ballot".as_slice());
+    let mut source = Counted::new("ballot".as_bytes());
     let mut room = [0; 4];
-    assert_eq!(&rt; source.fetch(&mut room), Ok(4));
-    assert_eq!(&rt; room.as_slice(), b"ball".as_slice());
-    assert_eq!(&rt; source.fetch(&mut room), Ok(2));
-    assert_eq!(&rt; room.as_slice(), b"otll".as_slice());
-    assert_eq!(&rt; source.fetch(&mut room), Ok(0));
+    assert!(&rt; source.fetch(&mut room) == Ok(4));
+    assert!(&rt; room.as_slice() == b"ball".as_slice());
+    assert!(&rt; source.fetch(&mut room) == Ok(2));
+    assert!(&rt; room.as_slice() == b"otll".as_slice());
+    assert!(&rt; source.fetch(&mut room) == Ok(0));
     assert_eq!(&rt; source.failures(), 0);
 }
 
@@ -173,8 +175,8 @@ fn a_failure_is_of_one_call(rt: HostRuntime) {
     let mut room = [0; 5000];
     assert!(&rt; torn.put(&long).is_err());
     assert_eq!(&rt; Sink::failures(&torn), 1);
-    assert_eq!(&rt; torn.put(&long), Ok(5000));
+    assert!(&rt; torn.put(&long) == Ok(5000));
     assert!(&rt; torn.fetch(&mut room).is_err());
-    assert_eq!(&rt; torn.fetch(&mut room), Ok(1));
+    assert!(&rt; torn.fetch(&mut room) == Ok(1));
     assert_eq!(&rt; Source::failures(&torn), 2);
 }
