@@ -59,7 +59,7 @@ fn stop_once(
     let whole = found == after;
     assert!(rt;
         whole || (!answered && found == before),
-        "{order:?} left {found}"
+        "{order:?} left rows of neither side"
     );
     let (status, out, err) = told.told();
     let (wanted, page, fault) = told_again(case, whole);
