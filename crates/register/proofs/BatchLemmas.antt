@@ -31,7 +31,7 @@ use Rattle.register.proofs.ObjectionLemmas.{none_objects, asked, unasked, absent
 use Rattle.register.proofs.MapLemmas.{Keeps, list_all_weaker, filter_none, filter_put, put_all, put_is_map, found_put_too, found_put_still, changed_is_map, changed_at, found_changed, found_key, found_passes, found_number, same_number, all_but_number}
 use Rattle.register.proofs.ElectionLemmas.{lots_placed_of, same_election}
 use Rattle.register.proofs.ElsewhereLemmas.{sound_elsewhere, batches_elsewhere, changed_elsewhere}
-use Rattle.register.proofs.KeyedLemmas.{rounds_from, found_given_out, no_verdicts}
+use Rattle.register.proofs.KeyedLemmas.{rounds_from, rounds_more, found_given_out, no_verdicts}
 use Rattle.register.proofs.ItemLemmas.{MapName, batch_map, Holds, maps_of, state_from, rounds_still, batch_total, are_placed, are_all, has_enough, IsFit, office_about}
 
 -- ---- numbers in range
@@ -178,11 +178,11 @@ module _ (s : OfficeState) (n : ℕ) (b : BatchEntry) (is : IsState s) (found : 
         ]
 
     next_rounds : are_rounds_to (record s { batches = bs }) (in_round (suc b.round) b) (suc b.round) ≡ true
-    unfolding are_rounds_to
     next_rounds =
         let own : are_rounds_to s b b.round ≡ true = found_passes (batch_compared n) (λ (x : BatchEntry). are_rounds_to s x x.round) b s.batches (and_parts _ _ is.keyed).1 found in
         let reached = le-leb (suc b.round) (suc b.round) (le_refl (suc b.round)) in
-        and_from _ _ (rw (unopened b.first_clerk) (rw (unopened b.second_clerk) (rw reached refl))) (rounds_from s (record s { batches = bs }) b (in_round (suc b.round) b) b.round earlier_round own)
+        rounds_more (record s { batches = bs }) (in_round (suc b.round) b) b.round
+        ∙ and_from _ _ (rw (unopened b.first_clerk) (rw (unopened b.second_clerk) (rw reached refl))) (rounds_from s (record s { batches = bs }) b (in_round (suc b.round) b) b.round earlier_round own)
 
   -- the batch isn't taken, so none of its papers is judged
   untaken : is_taken s b ≡ false

@@ -1,4 +1,4 @@
--- Batches, computed: two clerks key a batch, which is taken or keyed again, and a doubtful paper is judged.
+-- Batches, computed: what is refused of a batch, of a keying and of a verdict, how its ward stands, and which are states.
 use Rattle.std.proofs.Common.{ℕ, true, false, ◌≡◌, List, [], ◌∷◌, map, codes, refl, string_bytes, Some, ◌++◌}
 use Rattle.std.specs.Fmt.{digits}
 use Rattle.std.specs.declared.string.String.{String}
@@ -11,7 +11,7 @@ use Rattle.register.specs.declared.command.Command.TheVariants as commands
 use Rattle.register.specs.declared.batches.BatchCommand.TheVariants.{Add, Again}
 use Rattle.register.specs.declared.verdicts.Verdict.{Verdict}
 use Rattle.register.specs.declared.verdicts.Verdict.TheVariants.{Accept, Reject}
-use Rattle.register.specs.declared.refusal.Reason.TheVariants.{IdUsed, NumberOutOfRange, NoSuchWard, NoSuchBatch, BatchExists, WrongPhase, SameClerk, NotItsClerk, NotThisRound, AlreadyKeyed, WrongPaperCount, BadMarks, NoDifference, NotTaken, NotDoubtful, AlreadyJudged, BadVerdict}
+use Rattle.register.specs.declared.refusal.Reason.TheVariants.{NumberOutOfRange, NoSuchWard, NoSuchBatch, BatchExists, WrongPhase, SameClerk, NotItsClerk, NotThisRound, WrongPaperCount, BadMarks, NoDifference, NotTaken, AlreadyJudged, BadVerdict}
 use Rattle.register.specs.Ranges.{is_id}
 use Rattle.register.specs.Offices.{BatchEntry, KeyedEntry, JudgedEntry, ReceiptEntry, OfficeState}
 use Rattle.register.specs.Papers.{same_marks}
@@ -21,7 +21,7 @@ use Rattle.register.specs.Marks.{first_bad_marks}
 use Rattle.register.specs.Batches as batches
 use Rattle.register.specs.Keyings as keyings
 use Rattle.register.specs.Verdicts as verdicts
-use Rattle.register.specs.Machine.{accepted, kept, refused, step, decided}
+use Rattle.register.specs.Machine.{accepted, refused, step, decided}
 use Rattle.register.specs.Standings.{status_at}
 
 -- the batch of two papers of the ward Harbour, which the clerks 4 and 9 key, in this round; and another one
@@ -97,29 +97,6 @@ module _ (papers : Vec (String Global) Global) where
   abbrev keys : ℕ → ℕ → Command
   keys batch round = commands.Keying (record { batch = batch; round = round; papers = papers })
 
-  module _ (are : map string_bytes papers.items ≡ codes "1,2," ∷ codes "D" ∷ []) where
-    first_keyed : step (with_batch Keying 1 [] [] []) 4 (codes "k1") (keys 12 1) ≡ accepted once (codes "batch 12 round 1 keyed")
-    unfolding step decided is_id keyings.subject_of keyings.reply_to keyings.papers_from first_bad_marks digits
-    first_keyed = simp are refl
-
-    second_keyed : step once 9 (codes "k1") (keys 12 1) ≡ accepted (twice (codes "1,2,") []) (codes "batch 12 round 1 keyed")
-    unfolding step decided is_id keyings.subject_of keyings.reply_to keyings.papers_from first_bad_marks digits
-    second_keyed = simp are refl
-
-  -- the second clerk is told the same where the keyings differ
-  keyed_otherwise : map string_bytes papers.items ≡ codes "2,1," ∷ codes "D" ∷ [] → step once 9 (codes "k1") (keys 12 1) ≡ accepted (twice (codes "2,1,") []) (codes "batch 12 round 1 keyed")
-  unfolding step decided is_id keyings.subject_of keyings.reply_to keyings.papers_from first_bad_marks digits
-  keyed_otherwise are = simp are refl
-
-  -- the id was used, whatever papers come with it now
-  kept_whatever : step once 4 (codes "k1") (keys 12 1) ≡ kept (codes "batch 12 round 1 keyed")
-  unfolding step decided is_id keyings.subject_of keyings.reply_to digits
-  kept_whatever = refl
-
-  for_another : step once 4 (codes "k1") (keys 13 1) ≡ refused IdUsed
-  unfolding step decided is_id keyings.subject_of keyings.reply_to digits
-  for_another = refl
-
   no_batch : step once 4 (codes "k2") (keys 14 1) ≡ refused NoSuchBatch
   unfolding step decided is_id keyings.subject_of digits
   no_batch = refl
@@ -131,10 +108,6 @@ module _ (papers : Vec (String Global) Global) where
   not_this_round : step once 4 (codes "k2") (keys 12 2) ≡ refused NotThisRound
   unfolding step decided is_id keyings.subject_of digits
   not_this_round = refl
-
-  keyed_already : step once 4 (codes "k2") (keys 12 1) ≡ refused AlreadyKeyed
-  unfolding step decided is_id keyings.subject_of digits
-  keyed_already = refl
 
   one_paper : map string_bytes papers.items ≡ codes "x" ∷ [] → step once 9 (codes "k1") (keys 12 1) ≡ refused WrongPaperCount
   unfolding step decided is_id keyings.subject_of digits
@@ -155,13 +128,6 @@ unfolding same_marks
 differing = refl
 
 -- ---- another round
-
-reopened : step (twice (codes "2,1,") []) 0 (codes "a1") (commands.Batch (Again 12))
-    ≡ accepted
-    (with_batch Keying 2 (keyed 4 (codes "1,2,") ++ keyed 9 (codes "2,1,")) [] (record { actor = 0; id = codes "a1"; subject = codes "again 12"; reply = codes "batch 12 round 2 open" } ∷ key_receipt 4 ∷ key_receipt 9 ∷ []))
-    (codes "batch 12 round 2 open")
-unfolding step decided is_id batches.subject_of batches.reply_to same_marks digits
-reopened = refl
 
 agreed : step (twice (codes "1,2,") []) 0 (codes "a1") (commands.Batch (Again 12)) ≡ refused NoDifference
 unfolding step decided is_id batches.subject_of same_marks digits
@@ -185,12 +151,6 @@ abbrev judged_receipt : List ℕ → ReceiptEntry
 judged_receipt reply = record { actor = 0; id = codes "j1"; subject = codes "judge 12 2"; reply = reply }
 
 module _ (marks : String Global) where
-  accepted_as : string_bytes marks ≡ codes "1,,2"
-      → step (twice (codes "1,2,") []) 0 (codes "j1") (judge 2 (Accept marks))
-      ≡ accepted (record (twice (codes "1,2,") (record { batch = 12; paper = 2; code = 0; marks = codes "1,,2" } ∷ [])) { receipts = judged_receipt (codes "batch 12 paper 2 accepted") ∷ key_receipt 4 ∷ key_receipt 9 ∷ [] }) (codes "batch 12 paper 2 accepted")
-  unfolding step decided is_id verdicts.subject_of verdicts.reply_to same_marks digits
-  accepted_as is = simp is refl
-
   unreadable : string_bytes marks ≡ codes "1,2" → step once 0 (codes "j1") (judge 2 (Accept marks)) ≡ refused (BadMarks 2 1)
   unfolding step decided is_id verdicts.subject_of same_marks digits
   unreadable is = simp is refl
@@ -207,10 +167,6 @@ rejected : step (twice (codes "1,2,") []) 0 (codes "j1") (judge 2 (Reject 5))
     ≡ accepted (record (twice (codes "1,2,") (record { batch = 12; paper = 2; code = 5; marks = [] } ∷ [])) { receipts = judged_receipt (codes "batch 12 paper 2 rejected 5") ∷ key_receipt 4 ∷ key_receipt 9 ∷ [] }) (codes "batch 12 paper 2 rejected 5")
 unfolding step decided is_id verdicts.subject_of verdicts.reply_to same_marks digits
 rejected = refl
-
-not_doubtful : step (twice (codes "1,2,") []) 0 (codes "j1") (judge 1 (Reject 3)) ≡ refused NotDoubtful
-unfolding step decided is_id verdicts.subject_of same_marks digits
-not_doubtful = refl
 
 not_taken : step (twice (codes "2,1,") []) 0 (codes "j1") (judge 2 (Reject 3)) ≡ refused NotTaken
 unfolding step decided is_id verdicts.subject_of same_marks digits

@@ -1,5 +1,5 @@
 -- The contest of a ward is one that the rules of the count speak of.
-use Rattle.std.proofs.Common.{◌≡◌, ℕ, zero, suc, ◌+◌, ◌*◌, ◌<◌, ◌≤◌, ◌==◌, ◌&&◌, ◌||◌, nat_eq, nat_le, Bool, true, false, cond, List, [], ◌∷◌, ◌++◌, length, map, filter, find, fold, Option, Some, None, Result, Ok, Err, codes, refl, sym, ap, arith, length-append}
+use Rattle.std.proofs.Common.{◌≡◌, ℕ, zero, suc, ◌+◌, ◌*◌, ◌<◌, ◌≤◌, ◌==◌, ◌&&◌, ◌||◌, nat_eq, nat_le, Bool, true, false, cond, List, [], ◌∷◌, ◌++◌, length, map, filter, find, fold, Option, Some, None, Result, Ok, Err, codes, refl, sym, ap, ◌∙◌, arith, length-append}
 use Rattle.std.specs.List.{AllByRecursion, list_all, list_any, flat_map, zip}
 use Rattle.std.specs.Str.{bytes_eq}
 use Rattle.std.specs.List.Sorted.{IsStrictlySortedBy}
@@ -35,6 +35,7 @@ use Rattle.register.specs.Items.{is_ward, is_candidate, is_batch, item1, item3, 
 use Rattle.register.specs.Polls.{Pile, pile_of, piles_of, is_taken, by_rejection, by_reading, by_verdict, judgement_on, judgements_in, judgements, preferences_by, ballots_in}
 use Rattle.register.specs.Elections.{election_of, contest_of}
 use Rattle.register.proofs.MapLemmas.{kept_all, found_passes}
+use Rattle.register.proofs.KeyedLemmas.{rounds_more}
 use Rattle.register.proofs.ColumnLemmas.{columns_at}
 
 -- ---- the candidates
@@ -197,12 +198,11 @@ in_range b fine =
 
 -- its keyings of the current round are whole
 pub round_now : (s : OfficeState) (b : BatchEntry) → is_batch b ≡ true → are_rounds_to s b b.round ≡ true → is_round_of s b b.round ≡ true
-unfolding are_rounds_to
 round_now s b fine rounds = go b.round (and_parts (nat_le 1 b.round) (nat_le b.round 99) (in_range b fine).round).0 rounds
   where
     go : (n : ℕ) → nat_le 1 n ≡ true → are_rounds_to s b n ≡ true → is_round_of s b n ≡ true
     go zero some all = absurd (cc)
-    go (suc n) some all = (and_parts (is_round_of s b (suc n)) (are_rounds_to s b n) all).0
+    go (suc n) some all = (and_parts (is_round_of s b (suc n)) (are_rounds_to s b n) (sym (rounds_more s b n) ∙ all)).0
 
 size_few : (b : BatchEntry) → is_batch b ≡ true → b.size ≤ 500
 size_few b fine = leb-true b.size 500 (and_parts (nat_le 1 b.size) (nat_le b.size 500) (in_range b fine).size).1

@@ -29,11 +29,11 @@ use Rattle.register.specs.Offices.{WardEntry, LotEntry, ReceiptEntry, OfficeStat
 use Rattle.register.specs.Nominations.{are_enough}
 use Rattle.register.specs.Marks.{columns_of}
 use Rattle.register.specs.Polls.{piles_of}
-use Rattle.register.specs.Elections.{election_of, has_count, contest_of, stages_of, due_of, is_finished}
+use Rattle.register.specs.Elections.{election_of, has_count, contest_of, stages_of, due_of, is_finished, has_finished, is_among}
 use Rattle.register.specs.Items.{is_lot, IsState}
 use Rattle.register.specs.Effects.{in_phase, at_stage, stage_counted, lot_drawn, with_effect, with_receipt}
 use Rattle.register.specs.Views.{HasStageMore, HasSameStages}
-use Rattle.register.specs.Counts.{poll_for, due_for, elected_for, part_of, is_in_range, is_ready, has_finished, lot_objection, waits_at, is_among, objections, subject_of, next_stage, poll_told, action_told, reply_to, effect_of}
+use Rattle.register.specs.Counts.{poll_for, due_for, elected_for, part_of, is_in_range, is_ready, lot_objection, waits_at, objections, subject_of, next_stage, poll_told, action_told, reply_to, effect_of}
 use Rattle.register.proofs.LineLemmas.{upper, is_plain-decimal, are_plain-from, IsLine, given, line_append, line_decimal, line_number, line_within, line_reply, line_text}
 use Rattle.register.proofs.ObjectionLemmas.{none_objects, asked, unasked, there}
 use Rattle.register.proofs.MapLemmas.{put_all, put_is_map, filter_put, filter_put_in, found_filter, found_key, found_passes, found_number, changed_at, same_number, both_equal, kept_all, all_but_number}

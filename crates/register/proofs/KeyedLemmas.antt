@@ -1,6 +1,7 @@
 -- What batches, keyings and verdicts rest on, and that they are those of a state still where this is as it was.
-use Rattle.std.proofs.Common.{◌≡◌, ℕ, zero, suc, true, false, ◌&&◌, nat_le, List, [], ◌∷◌, Option, Some, None, refl, ap, ◌∙◌}
-use Rattle.std.specs.List.{list_all}
+use Rattle.std.proofs.Common.{◌≡◌, ℕ, ◌+◌, zero, suc, Bool, true, false, ◌&&◌, nat_le, List, [], ◌∷◌, ◌++◌, arith, Option, Some, None, refl, ap, ◌∙◌}
+use Rattle.std.specs.List.{list_all, range_with_len}
+use Rattle.std.proofs.lemmas.List.Folds.{list_all-append}
 use Rattle.std.proofs.lemmas.Bool.{and_parts, and_from, both_ways}
 use Rattle.register.specs.Offices.{WardEntry, CandidateEntry, BatchEntry, KeyedEntry, JudgedEntry, OfficeState, batch_compared, candidates_of, batch_at, verdicts_of}
 use Rattle.register.specs.Marks.{columns_of, is_readable}
@@ -12,8 +13,31 @@ use Rattle.register.proofs.MapLemmas.{list_all_weaker, list_all_both, found_pass
 -- rounds that are those of a batch one by one are so together
 pub rounds_from : (s t : OfficeState) (b c : BatchEntry) (n : ℕ) → ((m : ℕ) → is_round_of s b m ≡ true → is_round_of t c m ≡ true) → are_rounds_to s b n ≡ true → are_rounds_to t c n ≡ true
 unfolding are_rounds_to
-rounds_from s t b c zero each all = refl
-rounds_from s t b c (suc n) each all = and_from _ _ (each (suc n) (and_parts _ _ all).0) (rounds_from s t b c n each (and_parts _ _ all).1)
+rounds_from s t b c n each all = list_all_weaker (is_round_of s b) (is_round_of t c) (range_with_len 1 n) each all
+
+last_of : (a n : ℕ) → range_with_len a (suc n) ≡ range_with_len a n ++ (a + n) ∷ []
+last_of a zero = let e : a + 0 ≡ a = omega arith in rw e refl
+last_of a (suc n) = let e : a + suc n ≡ (a + 1) + n = omega arith in rw e (ap (λ (l : List ℕ). a ∷ l) (last_of (a + 1) n))
+
+last_first : (p q : Bool) → (p && (q && true)) ≡ (q && p)
+last_first true true = refl
+last_first true false = refl
+last_first false true = refl
+last_first false false = refl
+
+-- the last of some rounds, and those before it
+pub rounds_more : (s : OfficeState) (b : BatchEntry) (n : ℕ) → are_rounds_to s b (suc n) ≡ (is_round_of s b (suc n) && are_rounds_to s b n)
+unfolding are_rounds_to
+rounds_more s b n =
+    let e : 1 + n ≡ suc n = omega arith in
+    ap (list_all (is_round_of s b)) (last_of 1 n)
+    ∙ list_all-append (is_round_of s b) (range_with_len 1 n) ((1 + n) ∷ [])
+    ∙ last_first (list_all (is_round_of s b) (range_with_len 1 n)) (is_round_of s b (1 + n))
+    ∙ ap (λ (k : ℕ). is_round_of s b k && list_all (is_round_of s b) (range_with_len 1 n)) e
+
+pub no_rounds : (s : OfficeState) (b : BatchEntry) → are_rounds_to s b 0 ≡ true
+unfolding are_rounds_to
+no_rounds s b = refl
 
 -- a batch that is found is given out
 pub found_given_out : {s : OfficeState} → IsState s → (n : ℕ) (b : BatchEntry) → batch_at s n ≡ Some b → is_given_out s b ≡ true
@@ -22,7 +46,7 @@ found_given_out {s} is n b found = found_passes (batch_compared n) (is_given_out
 -- a batch that isn't taken has no verdicts
 pub no_verdicts : (s : OfficeState) (b : BatchEntry) → is_taken s b ≡ false → (vs : List JudgedEntry) → is_judged s b vs ≡ true → vs ≡ []
 no_verdicts s b untaken [] judged = refl
-no_verdicts s b untaken (v ∷ vs) judged = absurd (both_ways (is_taken s b) untaken (and_parts _ _ judged).0)
+no_verdicts s b untaken (v ∷ vs) judged = absurd (both_ways (is_taken s b) untaken (and_parts _ _ (and_parts _ _ judged).0).0)
 
 -- ---- other wards and candidates
 
@@ -59,9 +83,7 @@ module _ (s : OfficeState) (wards : List WardEntry) (candidates : List Candidate
       (list_all_weaker _ _ s.batches (λ b rounds. rounds_from s (with_nominations wards candidates s) b b b.round (λ m round. round) rounds) parts.1)
 
   verdicts_still : (b : BatchEntry) → is_given_out s b ≡ true → (vs : List JudgedEntry) → is_judged s b vs ≡ true → is_judged (with_nominations wards candidates s) b vs ≡ true
-  verdicts_still b out [] judged = refl
-  verdicts_still b out (v ∷ vs) judged =
-      ap (λ (cs : List CandidateEntry). is_taken s b && list_all (is_verdict_on (columns_of cs) (first_keying s b)) (v ∷ vs)) (past b out).candidates ∙ judged
+  verdicts_still b out vs judged = ap (λ (cs : List CandidateEntry). list_all (λ v. is_taken s b && is_verdict_on (columns_of cs) (first_keying s b) v) vs) (past b out).candidates ∙ judged
 
   pub judged_still : item5 (with_nominations wards candidates s) ≡ true
   judged_still =

@@ -180,14 +180,12 @@ is_round_by b round first second = is_whole b.size first && (is_whole b.size sec
 
 -- verdicts by the two keyings of the current round
 abbrev is_judged_by : OfficeState → BatchEntry → List KeyedEntry → List KeyedEntry → List JudgedEntry → Bool
-is_judged_by s b first second [] = true
-is_judged_by s b first second (v ∷ vs) = are_taken first second && list_all (is_verdict_on (columns_for s b) first) (v ∷ vs)
+is_judged_by s b first second vs = list_all (λ v. are_taken first second && is_verdict_on (columns_for s b) first v) vs
 
 judged_by : (s t : OfficeState) (b : BatchEntry) (vs : List JudgedEntry) → first_keying t b ≡ first_keying s b → second_keying t b ≡ second_keying s b → is_judged s b vs ≡ true
     → is_judged_by s b (first_keying t b) (second_keying t b) vs ≡ true
-judged_by s t b [] first second judged = refl
-judged_by s t b (v ∷ vs) first second judged =
-    ap (λ (ks : List KeyedEntry). is_judged_by s b ks (second_keying t b) (v ∷ vs)) first ∙ ap (λ (ks : List KeyedEntry). is_judged_by s b (first_keying s b) ks (v ∷ vs)) second ∙ judged
+judged_by s t b vs first second judged =
+    ap (λ (ks : List KeyedEntry). is_judged_by s b ks (second_keying t b) vs) first ∙ ap (λ (ks : List KeyedEntry). is_judged_by s b (first_keying s b) ks vs) second ∙ judged
 
 module _ (s : OfficeState) (b : BatchEntry) (actor : ℕ) (texts : List (List ℕ)) (is : IsState s) (found : batch_at s b.number ≡ Some b) (its : is_its_clerk actor b ≡ true)
     (unkeyed : keying_of s b.number b.round actor ≡ []) (size : b.size ≡ length texts) where

@@ -4,7 +4,7 @@ mod ObjectionLemmas
 mod ElectionLemmas
 mod StageLemmas
 mod ProgressLemmas
-mod KeyedLemmas
+pub mod KeyedLemmas
 mod ElsewhereLemmas
 mod ItemLemmas
 mod NominationLemmas
@@ -23,7 +23,7 @@ mod TotalLemmas
 pub mod MachineLemmas
 pub mod SeenLemmas
 pub mod ListLaws
-mod Rows
+mod WorkedRows
 mod NominationRows
 mod BatchRows
 mod CountRows

@@ -1,24 +1,22 @@
--- Nominations, computed: candidates stand and withdraw, and a ward is closed, contested or not.
+-- Nominations, computed: candidates stand and withdraw, and what is refused.
 use Rattle.std.proofs.Common.{ℕ, true, false, ◌≡◌, List, [], ◌∷◌, codes, refl, string_bytes}
 use Rattle.std.specs.Fmt.{digits}
 use Rattle.std.specs.declared.string.String.{String}
 use Rattle.std.specs.declared.alloc.Global.{Global}
 use Rattle.register.specs.declared.phase.Phase.{Phase}
 use Rattle.register.specs.declared.phase.Phase.TheVariants.{Nominations, Keying, Sealed, Declared}
-use Rattle.register.specs.declared.command.Command.TheVariants.{Ward, Candidate, Count}
+use Rattle.register.specs.declared.command.Command.TheVariants.{Ward, Candidate}
 use Rattle.register.specs.declared.wards.WardCommand.TheVariants.{Close}
 use Rattle.register.specs.declared.candidates.CandidateCommand.TheVariants.{Add, Withdraw}
-use Rattle.register.specs.declared.counts.CountCommand.TheVariants.{Advance, Declare}
-use Rattle.register.specs.declared.refusal.Reason.TheVariants.{CountFinished, NumberOutOfRange, BadName, NoSuchWard, WrongPhase, CandidateExists, NoSuchCandidate, NoCandidates}
-use Rattle.register.specs.Ranges.{is_name, is_id}
+use Rattle.register.specs.declared.refusal.Reason.TheVariants.{NumberOutOfRange, BadName, NoSuchWard, WrongPhase, CandidateExists, NoSuchCandidate, NoCandidates}
+use Rattle.register.specs.Ranges.{is_id}
 use Rattle.register.specs.Offices.{CandidateEntry, ReceiptEntry, OfficeState, empty_office}
 use Rattle.register.specs.Items.{item2, item7}
 use Rattle.count.specs.Law.Count.{stages_to}
 use Rattle.register.specs.Wards as wards
 use Rattle.register.specs.Candidates as candidates
-use Rattle.register.specs.Counts as counts
-use Rattle.register.specs.Texts.{listed}
 use Rattle.register.specs.Machine.{accepted, kept, refused, step, decided}
+use Rattle.register.proofs.WorkedRows.{name_eve, nameless}
 
 -- an office with the ward Quay of two seats, in this phase, with these candidates and receipts
 abbrev with_quay : Phase → List CandidateEntry → List ReceiptEntry → OfficeState
@@ -43,29 +41,6 @@ eve_stands = office_receipt (codes "c2") (codes "candidate 8 2") (codes "candida
 
 eve_withdrew : ReceiptEntry
 eve_withdrew = office_receipt (codes "x1") (codes "withdraw 8 2") (codes "candidate 2 of ward 8 withdrawn")
-
--- ---- closing
-
-uncontested : step (with_quay Nominations (dee ∷ eve ∷ []) []) 0 (codes "k1") (Ward (Close 8))
-    ≡ accepted (with_quay Sealed (dee ∷ eve ∷ []) (office_receipt (codes "k1") (codes "close 8") (codes "ward 8 uncontested") ∷ [])) (codes "ward 8 uncontested")
-unfolding step decided is_id wards.subject_of wards.reply_to digits dee eve
-uncontested = refl
-
-polled : step (with_quay Nominations (dee ∷ eve ∷ fay ∷ []) []) 0 (codes "k1") (Ward (Close 8))
-    ≡ accepted (with_quay Keying (dee ∷ eve ∷ fay ∷ []) (office_receipt (codes "k1") (codes "close 8") (codes "ward 8 polled") ∷ [])) (codes "ward 8 polled")
-unfolding step decided is_id wards.subject_of wards.reply_to digits dee eve fay
-polled = refl
-
--- ---- uncontested: the count is finished as it begins, and all are elected
-
-nothing_to_count : step (with_quay Sealed (dee ∷ eve ∷ []) []) 0 (codes "a1") (Count (Advance 8)) ≡ refused CountFinished
-unfolding step decided is_id counts.subject_of digits dee eve
-nothing_to_count = refl
-
-all_elected : step (with_quay Sealed (dee ∷ eve ∷ []) []) 0 (codes "d1") (Count (Declare 8))
-    ≡ accepted (with_quay Declared (dee ∷ eve ∷ []) (office_receipt (codes "d1") (codes "declare 8") (codes "ward 8 declared: 1, 2") ∷ [])) (codes "ward 8 declared: 1, 2")
-unfolding step decided is_id counts.subject_of counts.reply_to listed digits dee eve
-all_elected = refl
 
 -- ---- refusals, each once
 
@@ -136,26 +111,26 @@ declared_uncontested = refl
 
 -- ---- names, each good or not
 
-module _ (name : String Global) (is : string_bytes name ≡ codes "Eve") (good : is_name (codes "Eve") ≡ true) where
+module _ (name : String Global) (is : string_bytes name ≡ codes "Eve") where
   past_thirty : step (with_quay Nominations (dee ∷ []) []) 0 (codes "c2") (Candidate (Add 8 31 name)) ≡ refused NumberOutOfRange
   unfolding step decided is_id candidates.subject_of candidates.reply_to digits dee
   past_thirty = refl
 
   no_ward_to_stand_in : step (with_quay Nominations (dee ∷ []) []) 0 (codes "c2") (Candidate (Add 7 2 name)) ≡ refused NoSuchWard
   unfolding step decided is_id candidates.subject_of candidates.reply_to digits dee
-  no_ward_to_stand_in = simp (is, good) refl
+  no_ward_to_stand_in = simp (is, name_eve) refl
 
   too_late_to_stand : step (with_quay Keying (dee ∷ []) []) 0 (codes "c2") (Candidate (Add 8 2 name)) ≡ refused WrongPhase
   unfolding step decided is_id candidates.subject_of candidates.reply_to digits dee
-  too_late_to_stand = simp (is, good) refl
+  too_late_to_stand = simp (is, name_eve) refl
 
   stands_already : step (with_quay Nominations (dee ∷ []) []) 0 (codes "c2") (Candidate (Add 8 1 name)) ≡ refused CandidateExists
   unfolding step decided is_id candidates.subject_of candidates.reply_to digits dee
-  stands_already = simp (is, good) refl
+  stands_already = simp (is, name_eve) refl
 
   stands : step (with_quay Nominations (dee ∷ []) []) 0 (codes "c2") (Candidate (Add 8 2 name)) ≡ accepted (with_quay Nominations (dee ∷ eve ∷ []) (eve_stands ∷ [])) (codes "candidate 2 of ward 8 added")
   unfolding step decided is_id candidates.subject_of candidates.reply_to digits dee eve eve_stands
-  stands = simp (is, good) refl
+  stands = simp (is, name_eve) refl
 
   -- Eve withdraws, and her number is free; but her old id gets its old reply for ever, and only a new one makes her stand again
   withdraws : step (with_quay Nominations (dee ∷ eve ∷ []) (eve_stands ∷ [])) 0 (codes "x1") (Candidate (Withdraw 8 2))
@@ -170,8 +145,8 @@ module _ (name : String Global) (is : string_bytes name ≡ codes "Eve") (good :
   stands_again : step (with_quay Nominations (dee ∷ []) (eve_stands ∷ eve_withdrew ∷ [])) 0 (codes "c9") (Candidate (Add 8 2 name))
       ≡ accepted (with_quay Nominations (dee ∷ eve ∷ []) (eve_stands ∷ office_receipt (codes "c9") (codes "candidate 8 2") (codes "candidate 2 of ward 8 added") ∷ eve_withdrew ∷ [])) (codes "candidate 2 of ward 8 added")
   unfolding step decided is_id candidates.subject_of candidates.reply_to digits dee eve eve_stands eve_withdrew
-  stands_again = simp (is, good) refl
+  stands_again = simp (is, name_eve) refl
 
-  nameless : is_name (codes "") ≡ false → (empty : String Global) → string_bytes empty ≡ codes "" → step (with_quay Nominations [] []) 0 (codes "c2") (Candidate (Add 7 2 empty)) ≡ refused BadName
+  no_name : (empty : String Global) → string_bytes empty ≡ codes "" → step (with_quay Nominations [] []) 0 (codes "c2") (Candidate (Add 7 2 empty)) ≡ refused BadName
   unfolding step decided is_id candidates.subject_of candidates.reply_to digits
-  nameless bad empty written = simp (written, bad) refl
+  no_name empty written = simp (written, nameless) refl

@@ -26,11 +26,12 @@ use Rattle.register.specs.Marks.{columns_of, is_read, is_readable, is_judged_val
 use Rattle.register.specs.Verdicts.{is_rejection_code}
 use Rattle.register.specs.Papers.{is_keyed, is_doubtful, has_verdict, is_open, is_its_clerk, has_doubtful, first_keying, batches_of}
 use Rattle.register.specs.Papers as papers
-use Rattle.register.specs.Keyed.{columns_for, is_keyed_for, is_whole, are_rounds_to, is_verdict_on, is_judged}
+use Rattle.register.specs.Keyed.{columns_for, is_keyed_for, is_whole, are_rounds_to, is_verdict_on, is_verdict_for, is_judged}
 use Rattle.register.specs.Items.{is_batch, IsState}
 use Rattle.register.specs.Polls.{Pile, pile_of, piles_of, is_taken, is_settled, by_rejection, by_reading, by_verdict, judgement_on, judgements_on, judgements_in, judgements, preferences_by, is_rejected, rejected_with, all_rejected}
 use Rattle.register.specs.Elections.{election_of}
 use Rattle.register.proofs.ItemLemmas.{batch_map, maps_of}
+use Rattle.register.proofs.MapLemmas.{list_all_weaker}
 use Rattle.register.proofs.ContestLemmas.{round_now, length_map}
 
 -- ---- judgements
@@ -256,8 +257,8 @@ all_readable s b (k ∷ ks) there keyed = go ((k.batch == b.number) && ((k.round
     go false is later = later
 
 all_verdicts : (s : OfficeState) (b : BatchEntry) (vs : List JudgedEntry) → is_judged s b vs ≡ true → list_all (is_verdict_on (columns_for s b) (first_keying s b)) vs ≡ true
-all_verdicts s b [] judged = refl
-all_verdicts s b (v ∷ vs) judged = (and_parts (papers.is_taken s b) (list_all (is_verdict_on (columns_for s b) (first_keying s b)) (v ∷ vs)) judged).1
+all_verdicts s b vs judged =
+    list_all_weaker (is_verdict_for s b) (is_verdict_on (columns_for s b) (first_keying s b)) vs (λ v each. (and_parts (papers.is_taken s b) (is_verdict_on (columns_for s b) (first_keying s b) v) each).1) judged
 
 batch_counts : (s : OfficeState) → IsState s → (b : BatchEntry) → batch_at s b.number ≡ Some b → is_batch b ≡ true → are_rounds_to s b b.round ≡ true → is_judged s b (verdicts_of s b.number) ≡ true → Counts s (columns_for s b) b
 batch_counts s is b there fine rounds judged = record {

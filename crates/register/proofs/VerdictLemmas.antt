@@ -20,14 +20,14 @@ use Rattle.register.specs.Polls.{Pile, pile_of}
 use Rattle.register.specs.Elections.{is_counted}
 use Rattle.register.specs.Marks.{columns_of, is_valid}
 use Rattle.register.specs.Papers.{are_taken, has_doubtful, is_taken, first_keying, second_keying}
-use Rattle.register.specs.Keyed.{columns_for, is_verdict_on, is_judged}
+use Rattle.register.specs.Keyed.{columns_for, is_verdict_on, is_verdict_for, is_judged}
 use Rattle.register.specs.Items.{is_judged_paper, IsState}
 use Rattle.register.specs.Effects.{paper_judged, with_effect}
 use Rattle.register.specs.Batches.{ward_for, candidates_for, first_for, second_for}
 use Rattle.register.specs.Verdicts.{part_of, is_in_range, is_verdict, objections, subject_of, verdict_word, reply_to, judged_as, effect_of}
 use Rattle.register.proofs.LineLemmas.{lower, upper, are_plain-decimals, IsLine, words, line_append, line_number, line_reply, line_text}
 use Rattle.register.proofs.ObjectionLemmas.{none_objects, asked, absent, present, there}
-use Rattle.register.proofs.MapLemmas.{put_all, put_is_map, filter_put, found_passes, all_but_number}
+use Rattle.register.proofs.MapLemmas.{list_all_weaker, put_all, put_is_map, filter_put, found_passes, all_but_number}
 use Rattle.register.proofs.ElectionLemmas.{lots_placed_of, same_election}
 use Rattle.register.proofs.ElsewhereLemmas.{sound_elsewhere, batches_elsewhere, piles_elsewhere}
 use Rattle.register.proofs.ItemLemmas.{MapName, judged_map, Holds, maps_of, state_from, rounds_still, judged_total, IsFit, office_about}
@@ -47,12 +47,10 @@ put_kept {X} cmp p q x (y ∷ ys) good all = elim (is_lt (cmp x y)) as (λ b. li
 
 -- verdicts on doubtful papers of a taken batch
 judged_from : (s : OfficeState) (b : BatchEntry) (vs : List JudgedEntry) → is_taken s b ≡ true → list_all (is_verdict_on (columns_for s b) (first_keying s b)) vs ≡ true → is_judged s b vs ≡ true
-judged_from s b [] taken all = refl
-judged_from s b (v ∷ vs) taken all = and_from _ _ taken all
+judged_from s b vs taken all = list_all_weaker (is_verdict_on (columns_for s b) (first_keying s b)) (is_verdict_for s b) vs (λ v each. and_from _ _ taken each) all
 
 all_judged : (s : OfficeState) (b : BatchEntry) (vs : List JudgedEntry) → is_judged s b vs ≡ true → list_all (is_verdict_on (columns_for s b) (first_keying s b)) vs ≡ true
-all_judged s b [] judged = refl
-all_judged s b (v ∷ vs) judged = (and_parts _ _ judged).1
+all_judged s b vs judged = list_all_weaker (is_verdict_for s b) (is_verdict_on (columns_for s b) (first_keying s b)) vs (λ v each. (and_parts _ _ each).1) judged
 
 -- a verdict in range on a doubtful paper of a taken batch, which has none
 judged_stays : (s : OfficeState) (v : JudgedEntry) (b : BatchEntry) → is_judged_paper v ≡ true → batch_at s v.batch ≡ Some b → is_taken s b ≡ true → is_verdict_on (columns_for s b) (first_keying s b) v ≡ true

@@ -15,7 +15,7 @@ use Rattle.register.specs.Ranges.{last_lot_stage, is_office, is_ward_number, is_
 use Rattle.register.specs.Texts.{listed, action_text}
 use Rattle.register.specs.Offices.{WardEntry, OfficeState, ward_at, candidate_at}
 use Rattle.register.specs.Polls.{PollEntry, poll_of, all_rejected}
-use Rattle.register.specs.Elections.{election_of, due_of, elected_of, is_finished, is_tied}
+use Rattle.register.specs.Elections.{election_of, due_of, elected_of, has_finished, is_among}
 use Rattle.register.specs.Effects.{EffectEntry, ward_moved, stage_counted, lot_drawn}
 use Rattle.register.specs.Parts.{PartEntries, empty_part, phase_objections}
 
@@ -56,11 +56,6 @@ abbrev pub is_ready : Option PollEntry → Bool
 is_ready None = false
 is_ready (Some poll) = poll.settled
 
--- nothing is due any more
-abbrev pub has_finished : Option Due → Bool
-has_finished None = false
-has_finished (Some due) = is_finished due
-
 -- the reason that a lot gives which the count waits for: its stage, and those who are tied
 abbrev pub lot_objection : Option Due → Option Reason
 lot_objection (Some (lot_due stage kind tied)) = Some (LotNeeded stage tied)
@@ -74,11 +69,6 @@ waits_at stage (Some (lot_due k kind tied)) = k == stage
 waits_at stage (Some (Act action)) = false
 waits_at stage (Some Finished) = false
 waits_at stage None = false
-
--- the candidate is one of those who are tied
-abbrev pub is_among : ℕ → Option Due → Bool
-is_among c None = false
-is_among c (Some due) = is_tied due c
 
 -- the phase in which the ward has to be
 abbrev pub phase_for : CountCommand → Phase

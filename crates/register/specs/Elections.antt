@@ -1,5 +1,5 @@
 -- The election in a ward, and its count: what rests on the ward, its candidates, its papers and its lots, and on nothing else.
-use Rattle.std.specs.Prelude.{ℕ, ◌+◌, ◌-◌, Bool, true, false, not, ◌&&◌, ◌||◌, ◌==◌, nat_le, nat_eq, if◌then◌else◌, List, map, length}
+use Rattle.std.specs.Prelude.{ℕ, ◌+◌, ◌-◌, Bool, true, false, not, ◌&&◌, ◌||◌, ◌==◌, nat_le, nat_eq, if◌then◌else◌, List, map, length, Option, Some, None}
 use Rattle.std.specs.List.{list_all, list_any}
 use Rattle.count.specs.Law.Contest.{Contest, History, contest_for}
 use Rattle.count.specs.Law.Elected.{elected_after}
@@ -79,6 +79,15 @@ abbrev pub is_tied : Due → ℕ → Bool
 is_tied (Act action) c = false
 is_tied (Lot stage kind tied) c = list_any (nat_eq c) tied
 is_tied Finished c = false
+
+-- the same of what may be due: where it isn't known, neither is told
+abbrev pub has_finished : Option Due → Bool
+has_finished None = false
+has_finished (Some due) = is_finished due
+
+abbrev pub is_among : ℕ → Option Due → Bool
+is_among c None = false
+is_among c (Some due) = is_tied due c
 
 -- a lot for a stage up to the next one, at which a lot was or is needed, and for one of the tied
 abbrev pub is_drawn_for : ElectionEntry → (ℕ × ℕ) → Bool

@@ -1,6 +1,6 @@
 -- What the batches of a state, their keyings and their verdicts have to be.
-use Rattle.std.specs.Prelude.{ℕ, zero, suc, ◌+◌, Bool, true, false, not, ◌&&◌, ◌||◌, ◌==◌, nat_le, List, [], ◌∷◌, length, Option, Some, None}
-use Rattle.std.specs.List.{list_all}
+use Rattle.std.specs.Prelude.{ℕ, ◌+◌, Bool, true, false, not, ◌&&◌, ◌||◌, ◌==◌, nat_le, List, [], ◌∷◌, length, Option, Some, None}
+use Rattle.std.specs.List.{list_all, range_with_len}
 use Rattle.register.specs.Phases.{phase_number}
 use Rattle.register.specs.declared.phase.Phase.TheVariants.{Nominations}
 use Rattle.register.specs.Offices.{WardEntry, CandidateEntry, BatchEntry, KeyedEntry, JudgedEntry, OfficeState, ward_at, candidates_of, keying_of}
@@ -47,10 +47,9 @@ is_round_of s b round =
     && (is_whole b.size (keying_of s b.number round b.second_clerk)
     && (nat_le b.round round || differ (keying_of s b.number round b.first_clerk) (keying_of s b.number round b.second_clerk)))
 
--- each of the rounds of a batch from the first to one of them
+-- each of so many rounds of a batch, from the first on
 unfoldable pub are_rounds_to : OfficeState → BatchEntry → ℕ → Bool
-are_rounds_to s b zero = true
-are_rounds_to s b (suc round) = is_round_of s b (suc round) && are_rounds_to s b round
+are_rounds_to s b rounds = list_all (is_round_of s b) (range_with_len 1 rounds)
 
 -- ---- verdicts
 
@@ -58,7 +57,10 @@ are_rounds_to s b (suc round) = is_round_of s b (suc round) && are_rounds_to s b
 abbrev pub is_verdict_on : List ℕ → List KeyedEntry → JudgedEntry → Bool
 is_verdict_on columns keying v = has_doubtful keying v.paper && (((v.code == 0) && is_valid columns v.marks) || (is_rejection_code v.code && (length v.marks == 0)))
 
--- a batch without verdicts, or one that is taken, with verdicts on its doubtful papers
+-- a verdict on a doubtful paper of a batch that is taken
+abbrev pub is_verdict_for : OfficeState → BatchEntry → JudgedEntry → Bool
+is_verdict_for s b v = is_taken s b && is_verdict_on (columns_for s b) (first_keying s b) v
+
+-- each verdict on a paper of a batch is such a one
 abbrev pub is_judged : OfficeState → BatchEntry → List JudgedEntry → Bool
-is_judged s b [] = true
-is_judged s b (v ∷ vs) = is_taken s b && list_all (is_verdict_on (columns_for s b) (first_keying s b)) (v ∷ vs)
+is_judged s b verdicts = list_all (is_verdict_for s b) verdicts

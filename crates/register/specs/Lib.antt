@@ -23,4 +23,5 @@ pub mod Verdicts
 pub mod Counts
 pub mod Machine
 pub mod Views
+pub mod WorkedOffice
 pub mod Walks

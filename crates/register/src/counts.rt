@@ -7,7 +7,8 @@ ghost use Rattle.register.specs.Offices.{ward_entry};
 ghost use Rattle.register.specs.Polls.{poll_entry, all_rejected};
 ghost use Rattle.register.specs.Parts.{part_entries};
 ghost use Rattle.register.specs.Effects.{effect_entry};
-ghost use Rattle.register.specs.Counts.{is_in_range, is_ready, has_finished, lot_objection, waits_at, is_among, phase_for, own_objections, objections, subject_of, next_stage, poll_told, action_told, reply_to, effect_of};
+ghost use Rattle.register.specs.Elections.{has_finished, is_among};
+ghost use Rattle.register.specs.Counts.{is_in_range, is_ready, lot_objection, waits_at, phase_for, own_objections, objections, subject_of, next_stage, poll_told, action_told, reply_to, effect_of};
 
 use crate::decision::Effect;
 use crate::phase::Phase;

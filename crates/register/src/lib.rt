@@ -51,7 +51,7 @@ pub use counts::{CountCommand, DrawnLot};
 pub use decision::{Change, Decision, Effect, Reply};
 pub use elections::Election;
 pub use keyings::{KeyedPaper, KeyingCommand};
-pub use machine::{decide, lists_make_states, work_is_seen};
+pub use machine::{decide, lists_make_states, rows_are_worked, work_is_seen};
 pub use phase::Phase;
 pub use polls::{Ballots, Judgement, Poll};
 pub use receipt::Receipt;

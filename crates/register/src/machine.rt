@@ -11,6 +11,7 @@ ghost use Rattle.register.specs.Parts.{part_entries};
 ghost use Rattle.register.specs.declared.command.Request.{Request};
 ghost use Rattle.register.specs.Standings.{work_of};
 ghost use Rattle.register.specs.Machine.{objections, IsNumbered, subject_of, reply_to, effect_of, judged, ruling_at, step, state_after, after, accepted_of, IsKeptAgain};
+ghost use Rattle.register.specs.WorkedOffice.{WardRows, NominationRows, KeyedRows, UncontestedRows};
 ghost use Rattle.register.specs.Views.{IsViewOf, decided_on, ruling_of, outcome_of, IsToldAlike, IsAdvanced};
 
 use crate::command::Command;
@@ -171,4 +172,15 @@ pub fn lists_make_states()
 /// A clerk's work is told by what he sees alone: of the keyings by his own.
 pub fn work_is_seen()
     ensures { (s : OfficeState) (clerk : ℕ) → work_of (seen_by clerk s) clerk ≡ work_of s clerk }
+{}
+
+/// An office worked by hand, request by request from the empty one on: what each is answered, and the state
+/// that it leads to. A ward is added once. Three stand for its two seats, and its batches are given out. Two
+/// clerks key a batch alike, and its doubtful paper is judged; or they key it unequally, and it is keyed again.
+/// In a ward where as many stand as there are seats, all are elected.
+pub fn rows_are_worked()
+    ensures wards { WardRows }
+    ensures nominations { NominationRows }
+    ensures keyings { KeyedRows }
+    ensures uncontested { UncontestedRows }
 {}

@@ -13,8 +13,8 @@ use Rattle.count.specs.Law.Laws.{IsShort}
 use Rattle.count.specs.declared.stages.Action.{Action}
 use Rattle.count.specs.declared.stages.Due.{Due}
 use Rattle.count.specs.declared.stages.Due.TheVariants.{Finished}
-use Rattle.register.specs.Elections.{ElectionEntry, contest_of, is_finished, is_declared, is_drawn_for, is_right_so_far}
-use Rattle.rowcheck.specs.Walks.Counts.{is_drawn_by, is_finished_at}
+use Rattle.register.specs.Elections.{ElectionEntry, contest_of, is_finished, has_finished, is_declared, is_drawn_for, is_right_so_far}
+use Rattle.rowcheck.specs.Walks.Counts.{is_drawn_by}
 use Rattle.rowcheck.proofs.RunLemmas.{less_differs}
 
 -- ---- how many stages there are
@@ -64,13 +64,13 @@ module _ (e : ElectionEntry) where
   ]
 
   -- where all stages done are counted
-  told : (is_finished_at (slice_get dues_of e.ward.done) ≡ is_finished (due_at e.ward.done)) × (list_all (is_drawn_by dues_of) e.lots ≡ list_all (is_drawn_for e) e.lots)
-  told = (ap is_finished_at (due_within due_at (e.ward.done + 1) e.ward.done (omega arith)), all_same (is_drawn_by dues_of) (is_drawn_for e) e.lots drawn_one)
+  told : (has_finished (slice_get dues_of e.ward.done) ≡ is_finished (due_at e.ward.done)) × (list_all (is_drawn_by dues_of) e.lots ≡ list_all (is_drawn_for e) e.lots)
+  told = (ap has_finished (due_within due_at (e.ward.done + 1) e.ward.done (omega arith)), all_same (is_drawn_by dues_of) (is_drawn_for e) e.lots drawn_one)
 
   module _ (asked : ℕ) (stages : History) (dues : List Due) (fair : IsContest (contest_of e)) (is : stages ≡ stages_to (contest_of e) e.lots asked) where
     -- what they tell of the stages done and the lots
     abbrev pub is_told : Bool
-    is_told = (length stages == e.ward.done) && (list_all (is_drawn_by dues) e.lots && (not (is_declared e.ward.phase) || is_finished_at (slice_get dues e.ward.done)))
+    is_told = (length stages == e.ward.done) && (list_all (is_drawn_by dues) e.lots && (not (is_declared e.ward.phase) || has_finished (slice_get dues e.ward.done)))
 
     told_few : asked ≡ e.ward.done → dues ≡ map due_at (range_with_len 0 (asked + 1)) → is_told ≡ is_right_so_far e
     told_few all each = rw (each, is, all, told.0, told.1) refl

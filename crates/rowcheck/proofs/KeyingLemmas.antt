@@ -10,6 +10,7 @@ use Rattle.std.proofs.lemmas.Bool.Decides.{eqb_tells}
 use Rattle.register.specs.Offices.{BatchEntry, KeyedEntry, OfficeState, batch_cmp, entry_at, batch_at}
 use Rattle.register.specs.Keyed.{is_keyed_for, is_round_of, are_rounds_to}
 use Rattle.register.specs.Items.{item4}
+use Rattle.register.proofs.KeyedLemmas.{rounds_more, no_rounds}
 use Rattle.rowcheck.specs.Walks.Keyings.{are_keyed_for, is_rightly_keyed}
 use Rattle.rowcheck.proofs.RunLemmas.{below_from, less_differs}
 
@@ -117,10 +118,8 @@ module _ (s : OfficeState) (rise : IsStrictlySortedBy batch_cmp s.batches) where
 module _ (s : OfficeState) (b : BatchEntry) where
   -- a round, and those before it
   pub round_first : (left : ℕ) → 0 < left → are_rounds_to s b left ≡ (is_round_of s b left && are_rounds_to s b (left - 1))
-  unfolding are_rounds_to
   round_first zero some = absurd (omega arith)
-  round_first (suc left) some = let e : suc left - 1 ≡ left = omega arith in rw e refl
+  round_first (suc left) some = let e : suc left - 1 ≡ left = omega arith in rw e (rounds_more s b left)
 
   pub no_round : are_rounds_to s b 0 ≡ true
-  unfolding are_rounds_to
-  no_round = refl
+  no_round = no_rounds s b

@@ -7,10 +7,10 @@ ghost use Rattle.std.specs.Prelude.{◌≡◌, ◌≤◌, ◌<◌, true, slice_g
 ghost use Rattle.std.specs.List.{list_all, AllByRecursion};
 ghost use Rattle.count.specs.Law.Contest.{IsContest};
 ghost use Rattle.register.specs.Offices.{MapsRise, ward_entry, ward_at};
-ghost use Rattle.register.specs.Elections.{election_of, contest_of, is_declared, is_right_so_far, is_uncounted, is_counted_right};
+ghost use Rattle.register.specs.Elections.{election_of, contest_of, is_declared, has_finished, is_among, is_right_so_far, is_uncounted, is_counted_right};
 ghost use Rattle.register.specs.Items.{is_lot, item1, item4, item7};
 ghost use Rattle.rowcheck.specs.States.{state_of};
-ghost use Rattle.rowcheck.specs.Walks.Counts.{election_with, IsFair, is_tied_at, is_drawn_by, is_finished_at};
+ghost use Rattle.rowcheck.specs.Walks.Counts.{election_with, IsFair, is_drawn_by};
 
 use crate::finding::{candidates_of, has_ward, lots_of};
 use crate::polls::{ballots_of, is_in_count};
@@ -37,8 +37,8 @@ fn stages_asked(done: u32) -> u32
 }
 
 /// Whether a lot is due, if anything is, and a candidate is one of the tied.
-fn is_tied_at(due: Option<&Due>, candidate: u8) -> bool
-    ensures { result ≡ is_tied_at (option_copied due.entry) candidate }
+fn is_among(candidate: u8, due: Option<&Due>) -> bool
+    ensures { result ≡ is_among candidate (option_copied due.entry) }
 {
     match due {
         Some(Due::Lot { among, .. }) => among.as_slice().contains(&candidate),
@@ -52,7 +52,7 @@ fn is_drawn_by(dues: &[Due], lot: (u8, u8)) -> bool
 {
     let (stage, candidate) = lot;
     let place = (stage as usize).saturating_sub(1);
-    is_tied_at(dues.get(place), candidate)
+    is_among(candidate, dues.get(place))
 }
 
 fn are_drawn_by(dues: &[Due], lots: &[(u8, u8)]) -> bool
@@ -63,7 +63,7 @@ fn are_drawn_by(dues: &[Due], lots: &[(u8, u8)]) -> bool
 
 /// Whether nothing is due any more after so many stages.
 fn is_finished_at(dues: &[Due], done: u32) -> bool
-    ensures { result ≡ is_finished_at (slice_get dues.now done) }
+    ensures { result ≡ has_finished (slice_get dues.now done) }
 {
     match dues.get(done as usize) {
         Some(Due::Finished) => true,

@@ -8,6 +8,7 @@ use Rattle.register.specs.Offices.{BatchEntry, KeyedEntry, OfficeState, batch_co
 use Rattle.register.specs.Papers.{is_keyed, is_its_clerk}
 use Rattle.register.specs.Keyed.{is_keyed_for, are_numbered, is_whole, is_round_of, are_rounds_to}
 use Rattle.register.specs.Items.{is_keyed_paper, IsState}
+use Rattle.register.proofs.KeyedLemmas.{rounds_more}
 use Rattle.register.proofs.MapLemmas.{kept_all, found_passes, found_number, found_filter}
 use Rattle.store.proofs.FitLemmas.{keyings_in_range}
 use Rattle.store.proofs.FindLemmas.{keyed_compared}
@@ -30,11 +31,10 @@ head_has p q x xs ys all is = (and_parts _ _ (subst (λ zs. list_all q zs ≡ tr
 
 -- each round up to the last of some rounds is one of them
 round_among : (s : OfficeState) (b : BatchEntry) (n m : ℕ) → are_rounds_to s b n ≡ true → 1 ≤ m → m ≤ n → is_round_of s b m ≡ true
-unfolding are_rounds_to
 round_among s b zero m rounds low high = absurd (omega (arith, low, high))
 round_among s b (suc n) m rounds low high = elim (cases_eq m (suc n)) [
-  | inl last ↦ subst (λ k. is_round_of s b k ≡ true) (sym last) (and_parts _ _ rounds).0
-  | inr other ↦ round_among s b n m (and_parts _ _ rounds).1 low (omega (arith, high, other))
+  | inl last ↦ subst (λ k. is_round_of s b k ≡ true) (sym last) (and_parts _ _ (sym (rounds_more s b n) ∙ rounds)).0
+  | inr other ↦ round_among s b n m (and_parts _ _ (sym (rounds_more s b n) ∙ rounds)).1 low (omega (arith, high, other))
 ]
 
 -- the keying of a round by one of the batch's clerks is whole

@@ -1,5 +1,5 @@
 -- Why a query of a table fails: memory is wanting, or the store failed.
-use Rattle.std.proofs.Common.{◌≡◌, ◌≢◌, ◌⊎◌, inl, inr, ℕ, ◌+◌, ◌≤◌, List, [], ◌∷◌, ◌++◌, length, append-nil, Bool, true, false, None, Ok, Err, Result, IfErr, IsTrue, zero, suc, ℤ, ◌&&◌, refl, sym, ap, subst, ◌∙◌, arith, true≢false}
+use Rattle.std.proofs.Common.{◌≡◌, ◌≢◌, ◌⊎◌, inl, inr, ℕ, ◌+◌, ◌≤◌, List, [], ◌∷◌, length, append-nil, Bool, true, false, Ok, Err, Result, IfErr, IsTrue, zero, suc, ℤ, ◌&&◌, refl, sym, ap, subst, ◌∙◌, arith, true≢false}
 use Rattle.sqlite_trees.specs.declared.error.StoreError.{StoreError}
 use Rattle.sqlite_trees.specs.declared.error.StoreError.TheVariants.{OutOfMemory, Io, Corrupt, Full, Broken, Unstorable}
 use Rattle.sqlite_resolve.specs.declared.compiled.Compiled.{Compiled}
@@ -26,7 +26,6 @@ use Rattle.sqlite.specs.State.{State, HasCleanDisk, HasCause, IsNotRun, IsNoStat
 use Rattle.sqlite.proofs.Callers.{IsPlain, command_of}
 use Rattle.sqlite_value.specs.declared.keys.Key.{Key}
 use Rattle.tables.specs.declared.fault.Fault.{Fault}
-use Rattle.tables.specs.declared.fault.Fault.TheVariants.{Memory, Store}
 use Rattle.tables.specs.Faults.{fault_of, TellsQuery}
 use Rattle.tables.specs.Reading.{OnlyReads, HasFailed, FailsBy}
 use Rattle.tables.specs.declared.table.Table.{Table}

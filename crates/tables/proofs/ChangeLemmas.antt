@@ -17,7 +17,7 @@ use Rattle.tables.specs.declared.table.Table.{Table}
 use Rattle.tables.specs.declared.table.Setting.{Setting}
 use Rattle.tables.specs.Texts.{set_text, delete_text}
 use Rattle.tables.specs.Schema.{schema_from, shape, columns_of, places_from, changes_rows, table_set, place_set}
-use Rattle.tables.specs.Rows.{tuples, at, has_key, is_of, are_of, is_row_of, takes_from, value_set, is_setting, with_value}
+use Rattle.tables.specs.Rows.{tuples, has_key, is_of, are_of, is_row_of, takes_from, value_set, is_setting, with_value}
 use Rattle.tables.specs.Contents.{Contents, SameContents, added, added_all, value_put, removed, Sees}
 use Rattle.tables.proofs.ListLemmas.{filtered_same, has_mapped, permuted_all}
 use Rattle.tables.proofs.SameLemmas.{sees_same}

@@ -1,5 +1,5 @@
 -- What each UPDATE and each DELETE is, under a schema that begins with the tables.
-use Rattle.std.proofs.Common.{◌≡◌, ℕ, suc, map, cond, ◌==◌, ◌-◌, List, [], ◌∷◌, ◌++◌, length, true, refl, sym, true≢false, slice_get, Some}
+use Rattle.std.proofs.Common.{◌≡◌, suc, map, cond, ◌==◌, List, [], ◌∷◌, length, true, refl, sym, true≢false, slice_get, Some}
 use Rattle.sqlite.specs.Order.{Row}
 use Rattle.sqlite.specs.Tree.{Trees}
 use Rattle.sqlite.specs.Term.{Term, col}

@@ -15,7 +15,7 @@ use Rattle.tables.specs.declared.fault.Fault.TheVariants.{Memory, Damaged}
 use Rattle.tables.specs.Schema.{columns_of}
 use Rattle.tables.specs.Rows.{at, column_places, is_row_of}
 use Rattle.tables.specs.Contents.{Contents, Rests}
-use Rattle.tables.specs.Reading.{FailsBy, Finds, HasOther}
+use Rattle.tables.specs.Reading.{Finds, HasOther}
 use Rattle.tables.proofs.ListLemmas.{mapped_same, mapped_itself, permuted_has, has_at}
 use Rattle.tables.proofs.PlaceLemmas.{typed_at}
 use Rattle.tables.proofs.ListingLemmas.{office_of}
@@ -32,9 +32,9 @@ found_as t test c rows shown finds is s rests =
     subst (Finds t test c) (sym whole ∙ is) finds
 
 -- where all rows are entries', only want of memory is told
-pub found_cause : (t : Table) (test : Row → Bool) (c : Contents) (IsRow : Row → Type 0) (rows : List Row) (f : Fault) → Finds t test c rows → AllByRecursion IsRow (c t) → (f ≡ Memory) ⊎ ((f ≡ Damaged) × HasOther IsRow rows) → (old new : State) → FailsBy old new f
-found_cause t test c IsRow rows f finds all (inl memory) old new = inl memory
-found_cause t test c IsRow rows f finds all (inr wrong) old new =
+pub found_cause : (t : Table) (test : Row → Bool) (c : Contents) (IsRow : Row → Type 0) (rows : List Row) (f : Fault) → Finds t test c rows → AllByRecursion IsRow (c t) → (f ≡ Memory) ⊎ ((f ≡ Damaged) × HasOther IsRow rows) → f ≡ Memory
+found_cause t test c IsRow rows f finds all (inl memory) = memory
+found_cause t test c IsRow rows f finds all (inr wrong) =
     let k = wrong.1 in
     let there = has_filtered test (c t) _ (permuted_has _ rows (filter test (c t)) (IsPermutation-sym _ _ finds.same) (has_at rows k.0 [] k.1)) in
     absurd (k.2 (all_has IsRow (c t) _ all there.0))

@@ -13,7 +13,7 @@ use Rattle.sqlite_rules.proofs.ListLemmas.{test_has}
 use Rattle.sqlite_rules.proofs.TableLemmas.{int_is}
 use Rattle.sqlite.specs.declared.types.Value.TheVariants.{Null}
 use Rattle.sqlite.specs.Order.{Row}
-use Rattle.sqlite.specs.Term.{Term, col, eval_all}
+use Rattle.sqlite.specs.Term.{Term, eval_all}
 use Rattle.sqlite.specs.Schema.{Schema}
 use Rattle.sqlite.specs.Command.TheVariants.{Update}
 use Rattle.sqlite.specs.Cast.{cast_row}
@@ -30,8 +30,8 @@ use Rattle.sqlite.proofs.Callers.{IsPlain, command_of, statement_of, runs_as, on
 use Rattle.sqlite_schema.specs.declared.program.Program.{Program}
 use Rattle.sqlite_schema.specs.declared.schema.Keys.TheVariants.{Enforced}
 use Rattle.tables.specs.declared.table.Table.{Table}
-use Rattle.tables.specs.Schema.{Definition, definition, place_of, places_from, tree_of, shape, columns_of}
-use Rattle.tables.specs.Rows.{tuples, at, has_key, is_row_of, Keyed}
+use Rattle.tables.specs.Schema.{Definition, definition, place_of, tree_of, shape, columns_of}
+use Rattle.tables.specs.Rows.{tuples, has_key, is_row_of, Keyed}
 use Rattle.tables.proofs.InsertLemmas.{Changes, put_fresh, cast_int, cast_all_of}
 use Rattle.tables.proofs.KeyedLemmas.{keyed_put_all}
 use Rattle.tables.proofs.ListLemmas.{mapped_has, mapped_same, mapped_twice, mapped_itself}

@@ -36,6 +36,8 @@ pub fn entries_beginning<E: Entries, S: Alter>(
         → IfOk result (λ found. Finds E.TABLE (begins_with (bound key.now)) c (map E.row_of found.items)) }
     ensures cause { HasCleanDisk (state S.Store conn.new) → (c : Contents) → RestsIfOpen c (state S.Store conn.old)
         → begins_key E.TABLE (bound key.now) ≡ true → AllByRecursion E.is_row (c E.TABLE) → IfErr result (FailsBy (state S.Store conn.old) (state S.Store conn.new)) }
+    ensures cause_alone { HasCleanDisk (state S.Store conn.new) → (c : Contents) → RestsIfOpen c (state S.Store conn.old) → AllByRecursion E.is_row (c E.TABLE)
+        → IfErr result (λ f. (f ≡ Fault.Memory) ⊎ (f ≡ Fault.Store)) }
     ensures opens { HasCleanDisk (state S.Store conn.new) → OnOk result (IsTrue (state S.Store conn.new).is_open) }
     ensures reads { OnlyReads (state S.Store conn.old) (state S.Store conn.new) }
     ensures outside { conn.new.in_transaction ≡ false }
@@ -59,6 +61,8 @@ pub fn entries_referring<E: Entries, S: Alter>(
         → IfOk result (λ found. Finds E.TABLE (refers_to reference (bound_value (owned value.entry))) c (map E.row_of found.items)) }
     ensures cause { HasCleanDisk (state S.Store conn.new) → (c : Contents) → RestsIfOpen c (state S.Store conn.old)
         → is_of Integer (bound_value (owned value.entry)) ≡ true → AllByRecursion E.is_row (c E.TABLE) → IfErr result (FailsBy (state S.Store conn.old) (state S.Store conn.new)) }
+    ensures cause_alone { HasCleanDisk (state S.Store conn.new) → (c : Contents) → RestsIfOpen c (state S.Store conn.old) → AllByRecursion E.is_row (c E.TABLE)
+        → IfErr result (λ f. (f ≡ Fault.Memory) ⊎ (f ≡ Fault.Store)) }
     ensures opens { HasCleanDisk (state S.Store conn.new) → OnOk result (IsTrue (state S.Store conn.new).is_open) }
     ensures reads { OnlyReads (state S.Store conn.old) (state S.Store conn.new) }
     ensures outside { conn.new.in_transaction ≡ false }
@@ -86,11 +90,15 @@ pub fn find_entry<E: Entries, S: Alter>(
 ) -> Result<Option<E::Entry>, Fault>
     requires outside { conn.old.in_transaction ≡ false }
     requires key { length key.now ≤ (shape E.TABLE).key }
-    ensures found { HasCleanDisk (state S.Store conn.new) → (c : Contents) → RestsIfOpen c (state S.Store conn.old) → (row : Option Row) → filter (begins_with (bound key.now)) (c E.TABLE) ≡ option_to_list row
-        → IfOk result (λ entry. option_map E.row_of entry ≡ row) }
-    ensures cause { HasCleanDisk (state S.Store conn.new) → (c : Contents) → RestsIfOpen c (state S.Store conn.old) → (row : Option Row) → filter (begins_with (bound key.now)) (c E.TABLE) ≡ option_to_list row
+    ensures found { HasCleanDisk (state S.Store conn.new) → (c : Contents) → RestsIfOpen c (state S.Store conn.old)
+        → (row : Option Row) → filter (begins_with (bound key.now)) (c E.TABLE) ≡ option_to_list row → IfOk result (λ entry. option_map E.row_of entry ≡ row) }
+    ensures cause { HasCleanDisk (state S.Store conn.new) → (c : Contents) → RestsIfOpen c (state S.Store conn.old)
+        → (row : Option Row) → filter (begins_with (bound key.now)) (c E.TABLE) ≡ option_to_list row
         → begins_key E.TABLE (bound key.now) ≡ true → IfSome row E.is_row → IfErr result (FailsBy (state S.Store conn.old) (state S.Store conn.new)) }
-    ensures told { HasCleanDisk (state S.Store conn.new) → (c : Contents) → RestsIfOpen c (state S.Store conn.old) → (row : Option Row) → filter (begins_with (bound key.now)) (c E.TABLE) ≡ option_to_list row
+    ensures cause_alone { HasCleanDisk (state S.Store conn.new) → (c : Contents) → RestsIfOpen c (state S.Store conn.old)
+        → (row : Option Row) → filter (begins_with (bound key.now)) (c E.TABLE) ≡ option_to_list row → IfSome row E.is_row → IfErr result (λ f. (f ≡ Fault.Memory) ⊎ (f ≡ Fault.Store)) }
+    ensures told { HasCleanDisk (state S.Store conn.new) → (c : Contents) → RestsIfOpen c (state S.Store conn.old)
+        → (row : Option Row) → filter (begins_with (bound key.now)) (c E.TABLE) ≡ option_to_list row
         → begins_key E.TABLE (bound key.now) ≡ true → IfErr result (λ f. FailsBy (state S.Store conn.old) (state S.Store conn.new) f ⊎ ((f ≡ Fault.Damaged) × ¬ IfSome row E.is_row)) }
     ensures opens { HasCleanDisk (state S.Store conn.new) → OnOk result (IsTrue (state S.Store conn.new).is_open) }
     ensures reads { OnlyReads (state S.Store conn.old) (state S.Store conn.new) }

@@ -10,8 +10,7 @@ use Rattle.count.specs.declared.stages.Action.{Action}
 use Rattle.count.specs.declared.stages.Due.{Due}
 use Rattle.count.specs.declared.stages.Due.TheVariants.{Act}
 
--- a stage of an action, at which these votes are recorded, and nothing else yet; where papers lie after it, and so what
--- its votes and sums are, follows from its action and the stages before it alone, so these may be asked of one without votes
+-- a stage of an action, at which these votes are recorded, and nothing else yet
 abbrev pub begun : Action → List ℕ → Stage
 begun action votes = record { action = action; votes = votes; elected = []; non_transferable = 0; lost = 0 }
 
@@ -19,7 +18,8 @@ begun action votes = record { action = action; votes = votes; elected = []; non_
 abbrev pub votes_by : Contest → History → Action → List ℕ
 votes_by contest before action = map (votes_after contest (begun action [] ∷ before)) numbers
 
--- the stage of an action that comes after some stages, with all that it records: it is made of the action and those stages
+-- the stage of an action that comes after some stages, with all that it records: it is made of the action and those stages;
+-- its own votes may be empty where figures are asked, since `place` reads the action and the votes of the stages before alone
 abbrev pub stage_of : Contest → History → Action → Stage
 stage_of contest before action =
     record {

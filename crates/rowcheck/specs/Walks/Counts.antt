@@ -1,5 +1,5 @@
 -- What is done of the count of a ward, told by what is due before each of its stages.
-use Rattle.std.specs.Prelude.{◌≡◌, ℕ, ◌-◌, Bool, true, false, List, map, slice_get, Option, Some, None}
+use Rattle.std.specs.Prelude.{◌≡◌, ℕ, ◌-◌, Bool, true, List, map, slice_get}
 use Rattle.count.specs.Law.Contest.{IsContest}
 use Rattle.count.specs.declared.stages.Due.{Due}
 use Rattle.register.specs.declared.wards.Ward.{Ward}
@@ -8,7 +8,7 @@ use Rattle.register.specs.declared.polls.Ballots.{Ballots}
 use Rattle.register.specs.Offices.{WardEntry, OfficeState, candidates_of, ward_entry, candidate_entry}
 use Rattle.register.specs.Nominations.{is_contested}
 use Rattle.register.specs.Polls.{ballots_entry}
-use Rattle.register.specs.Elections.{ElectionEntry, election_of, contest_of, is_tied, is_finished}
+use Rattle.register.specs.Elections.{ElectionEntry, election_of, contest_of, is_among}
 
 -- the election of a ward with these candidates, ballot papers and lots
 abbrev pub election_with : Ward → List Candidate → Ballots → List (ℕ × ℕ) → ElectionEntry
@@ -18,16 +18,6 @@ election_with ward candidates ballots lots = record { ward = ward_entry ward; ca
 abbrev pub IsFair : OfficeState → WardEntry → Type 0
 IsFair s w = is_contested w (candidates_of s w.number) ≡ true → IsContest (contest_of (election_of s w))
 
--- a lot is due, if anything is, and the candidate is one of the tied
-abbrev pub is_tied_at : Option Due → ℕ → Bool
-is_tied_at None c = false
-is_tied_at (Some due) c = is_tied due c
-
 -- a lot is for a stage before which one is due, and for one of the tied, by what is due before each stage from the first on
 abbrev pub is_drawn_by : List Due → (ℕ × ℕ) → Bool
-is_drawn_by dues lot = is_tied_at (slice_get dues (lot.0 - 1)) lot.1
-
--- after so many stages nothing is due any more
-abbrev pub is_finished_at : Option Due → Bool
-is_finished_at None = false
-is_finished_at (Some due) = is_finished due
+is_drawn_by dues lot = is_among lot.1 (slice_get dues (lot.0 - 1))

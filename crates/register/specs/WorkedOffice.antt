@@ -1,0 +1,226 @@
+-- An office worked by hand, request by request from the empty office on: what each request is answered, and the state that it
+-- leads to. Where a row follows another, it stands on the state which that leads to.
+use Rattle.std.specs.Prelude.{◌≡◌, ℕ, true, List, [], ◌∷◌, ◌++◌, map, codes, string_bytes}
+use Rattle.std.specs.declared.string.String.{String}
+use Rattle.std.specs.declared.vec.Vec.{Vec}
+use Rattle.std.specs.declared.alloc.Global.{Global}
+use Rattle.register.specs.declared.phase.Phase.{Phase}
+use Rattle.register.specs.declared.phase.Phase.TheVariants.{Nominations, Keying, Sealed, Declared}
+use Rattle.register.specs.declared.command.Command.{Command}
+use Rattle.register.specs.declared.command.Command.TheVariants as commands
+use Rattle.register.specs.declared.wards.WardCommand.TheVariants as wards
+use Rattle.register.specs.declared.candidates.CandidateCommand.TheVariants as candidates
+use Rattle.register.specs.declared.batches.BatchCommand.TheVariants as batches
+use Rattle.register.specs.declared.counts.CountCommand.TheVariants as counts
+use Rattle.register.specs.declared.verdicts.Verdict.{Verdict}
+use Rattle.register.specs.declared.verdicts.Verdict.TheVariants.{Accept, Reject}
+use Rattle.register.specs.declared.refusal.Reason.TheVariants.{BadId, IdUsed, NumberOutOfRange, WardExists, AlreadyKeyed, NotDoubtful, NotReady, CountFinished}
+use Rattle.register.specs.Offices.{WardEntry, CandidateEntry, BatchEntry, KeyedEntry, JudgedEntry, ReceiptEntry, OfficeState, empty_office}
+use Rattle.register.specs.Papers.{is_taken, is_differing}
+use Rattle.register.specs.Machine.{accepted, kept, refused, step}
+
+-- ---- requests
+
+-- what is said of any text of these letters
+abbrev pub Written : List ℕ → (String Global → Type 0) → Type 0
+Written letters P = (text : String Global) → string_bytes text ≡ letters → P text
+
+-- what is said of any papers with these marks
+abbrev pub Marked : List (List ℕ) → (Vec (String Global) Global → Type 0) → Type 0
+Marked marks P = (papers : Vec (String Global) Global) → map string_bytes papers.items ≡ marks → P papers
+
+-- a ward is added
+abbrev pub adds_ward : ℕ → ℕ → String Global → Command
+adds_ward ward seats name = commands.Ward (wards.Add ward seats name)
+
+-- a ward's nominations are closed
+abbrev pub closes : ℕ → Command
+closes ward = commands.Ward (wards.Close ward)
+
+-- a candidate stands in a ward
+abbrev pub adds_candidate : ℕ → ℕ → String Global → Command
+adds_candidate ward number name = commands.Candidate (candidates.Add ward number name)
+
+-- a batch of a ward is given to two clerks
+abbrev pub adds_batch : ℕ → ℕ → ℕ → ℕ → ℕ → Command
+adds_batch batch ward size first_clerk second_clerk = commands.Batch (batches.Add batch ward size first_clerk second_clerk)
+
+-- a batch is keyed again
+abbrev pub opens_again : ℕ → Command
+opens_again batch = commands.Batch (batches.Again batch)
+
+-- a batch is keyed in a round
+abbrev pub keys : ℕ → ℕ → Vec (String Global) Global → Command
+keys batch round papers = commands.Keying (record { batch = batch; round = round; papers = papers })
+
+-- a paper is judged
+abbrev pub judges : ℕ → ℕ → Verdict → Command
+judges batch paper verdict = commands.Verdict (record { batch = batch; paper = paper; verdict = verdict })
+
+-- ---- entries
+
+-- the wards Harbour and Quay, of two seats each
+abbrev pub harbour : Phase → WardEntry
+harbour phase = record { number = 7; seats = 2; phase = phase; done = 0; name = codes "Harbour" }
+
+abbrev pub quay : Phase → WardEntry
+quay phase = record { number = 8; seats = 2; phase = phase; done = 0; name = codes "Quay" }
+
+-- those who stand in a ward
+abbrev pub dee : ℕ → CandidateEntry
+dee ward = record { ward = ward; number = 1; name = codes "Dee" }
+
+abbrev pub eve : ℕ → CandidateEntry
+eve ward = record { ward = ward; number = 2; name = codes "Eve" }
+
+abbrev pub fay : ℕ → CandidateEntry
+fay ward = record { ward = ward; number = 3; name = codes "Fay" }
+
+-- the batch of two papers of Harbour, which the clerks 4 and 9 key, in a round; and one of a single paper
+abbrev pub batch_in : ℕ → BatchEntry
+batch_in round = record { number = 12; ward = 7; size = 2; first_clerk = 4; second_clerk = 9; round = round }
+
+abbrev pub other_batch : BatchEntry
+other_batch = record { number = 13; ward = 7; size = 1; first_clerk = 9; second_clerk = 4; round = 1 }
+
+-- the two papers of the batch as a clerk keyed them in the first round, the second one as doubtful
+abbrev pub keyed : ℕ → List ℕ → List KeyedEntry
+keyed clerk marks = record { batch = 12; round = 1; clerk = clerk; paper = 1; marks = marks } ∷ record { batch = 12; round = 1; clerk = clerk; paper = 2; marks = codes "D" } ∷ []
+
+-- what the office asked under an id, and was told; and what a clerk was told of his keying
+abbrev pub told : List ℕ → List ℕ → List ℕ → ReceiptEntry
+told id subject reply = record { actor = 0; id = id; subject = subject; reply = reply }
+
+abbrev pub told_keyed : ℕ → ReceiptEntry
+told_keyed clerk = record { actor = clerk; id = codes "k1"; subject = codes "key 12 1"; reply = codes "batch 12 round 1 keyed" }
+
+-- ---- states
+
+-- Harbour in nominations, with these candidates, and receipts behind that of the ward
+abbrev pub in_nominations : List CandidateEntry → List ReceiptEntry → OfficeState
+in_nominations stand behind = record empty_office { wards = harbour Nominations ∷ []; candidates = stand; receipts = told (codes "w1") (codes "ward 7") (codes "ward 7 added") ∷ behind }
+
+-- what was told of the candidates of Harbour
+abbrev pub told_of_dee : ReceiptEntry
+told_of_dee = told (codes "x1") (codes "candidate 7 1") (codes "candidate 1 of ward 7 added")
+
+abbrev pub told_of_eve : ReceiptEntry
+told_of_eve = told (codes "x2") (codes "candidate 7 2") (codes "candidate 2 of ward 7 added")
+
+abbrev pub told_of_fay : ReceiptEntry
+told_of_fay = told (codes "x3") (codes "candidate 7 3") (codes "candidate 3 of ward 7 added")
+
+-- all three stand
+abbrev pub three_stand : OfficeState
+three_stand = in_nominations (dee 7 ∷ eve 7 ∷ fay 7 ∷ []) (told_of_dee ∷ told_of_eve ∷ told_of_fay ∷ [])
+
+-- Harbour in keying, with its three candidates, these batches, keyed papers and verdicts, and receipts behind those of the
+-- nominations
+abbrev pub in_keying : List BatchEntry → List KeyedEntry → List JudgedEntry → List ReceiptEntry → OfficeState
+in_keying given papers verdicts behind =
+    record {
+      wards = harbour Keying ∷ [];
+      candidates = dee 7 ∷ eve 7 ∷ fay 7 ∷ [];
+      batches = given;
+      keyings = papers;
+      verdicts = verdicts;
+      lots = [];
+      receipts = told (codes "w1") (codes "ward 7") (codes "ward 7 added") ∷ told_of_dee ∷ told_of_eve ∷ told_of_fay ∷ told (codes "y1") (codes "close 7") (codes "ward 7 polled") ∷ behind;
+    }
+
+abbrev pub told_of_batch : ReceiptEntry
+told_of_batch = told (codes "z1") (codes "batch 12") (codes "batch 12 added")
+
+abbrev pub told_of_other : ReceiptEntry
+told_of_other = told (codes "z2") (codes "batch 13") (codes "batch 13 added")
+
+-- both batches are given out; clerk 4 has keyed the first; clerk 9 too, with these marks on its first paper
+abbrev pub given_out : OfficeState
+given_out = in_keying (batch_in 1 ∷ other_batch ∷ []) [] [] (told_of_batch ∷ told_of_other ∷ [])
+
+abbrev pub keyed_once : OfficeState
+keyed_once = in_keying (batch_in 1 ∷ other_batch ∷ []) (keyed 4 (codes "1,2,")) [] (told_of_batch ∷ told_of_other ∷ told_keyed 4 ∷ [])
+
+abbrev pub keyed_twice : List ℕ → OfficeState
+keyed_twice marks = in_keying (batch_in 1 ∷ other_batch ∷ []) (keyed 4 (codes "1,2,") ++ keyed 9 marks) [] (told_of_batch ∷ told_of_other ∷ told_keyed 4 ∷ told_keyed 9 ∷ [])
+
+-- the doubtful paper of the batch, keyed alike, is accepted with the first preference for 1 and the second for 3
+abbrev pub judged : OfficeState
+judged =
+    in_keying (batch_in 1 ∷ other_batch ∷ []) (keyed 4 (codes "1,2,") ++ keyed 9 (codes "1,2,")) (record { batch = 12; paper = 2; code = 0; marks = codes "1,,2" } ∷ [])
+    (told_of_batch ∷ told_of_other ∷ told (codes "z3") (codes "judge 12 2") (codes "batch 12 paper 2 accepted") ∷ told_keyed 4 ∷ told_keyed 9 ∷ [])
+
+-- the batch, keyed unequally, is in its second round
+abbrev pub reopened : OfficeState
+reopened =
+    in_keying (batch_in 2 ∷ other_batch ∷ []) (keyed 4 (codes "1,2,") ++ keyed 9 (codes "2,1,")) []
+    (told_of_batch ∷ told_of_other ∷ told (codes "z3") (codes "again 12") (codes "batch 12 round 2 open") ∷ told_keyed 4 ∷ told_keyed 9 ∷ [])
+
+-- Quay alone in a phase, with these candidates and receipts
+abbrev pub with_quay : Phase → List CandidateEntry → List ReceiptEntry → OfficeState
+with_quay phase stand behind = record empty_office { wards = quay phase ∷ []; candidates = stand; receipts = told (codes "w1") (codes "ward 8") (codes "ward 8 added") ∷ behind }
+
+-- its two candidates, what was told of them, and of its nominations closed
+abbrev pub both_there : List CandidateEntry
+both_there = dee 8 ∷ eve 8 ∷ []
+
+abbrev pub told_of_dee_there : ReceiptEntry
+told_of_dee_there = told (codes "x1") (codes "candidate 8 1") (codes "candidate 1 of ward 8 added")
+
+abbrev pub told_of_both : List ReceiptEntry
+told_of_both = told_of_dee_there ∷ told (codes "x2") (codes "candidate 8 2") (codes "candidate 2 of ward 8 added") ∷ []
+
+abbrev pub told_closed : ReceiptEntry
+told_closed = told (codes "y1") (codes "close 8") (codes "ward 8 uncontested")
+
+-- ---- the rows
+
+-- The first ward: it is added once, whoever repeats the order; an id stands for one subject, and is of small letters.
+pub record WardRows : Type 0 where
+  pub added : Written (codes "Harbour") (λ name. step empty_office 0 (codes "w1") (adds_ward 7 2 name) ≡ accepted (in_nominations [] []) (codes "ward 7 added"))
+  pub again : Written (codes "Harbour") (λ name. step (in_nominations [] []) 0 (codes "w1") (adds_ward 7 2 name) ≡ kept (codes "ward 7 added"))
+  pub id_used : Written (codes "Quay") (λ name. step (in_nominations [] []) 0 (codes "w1") (adds_ward 8 2 name) ≡ refused IdUsed)
+  pub id_of_capitals : Written (codes "Quay") (λ name. step (in_nominations [] []) 0 (codes "W1") (adds_ward 8 2 name) ≡ refused BadId)
+  pub no_ward_zero : Written (codes "Quay") (λ name. step (in_nominations [] []) 0 (codes "w2") (adds_ward 0 2 name) ≡ refused NumberOutOfRange)
+  pub there_already : Written (codes "Pier") (λ name. step (in_nominations [] []) 0 (codes "w2") (adds_ward 7 3 name) ≡ refused WardExists)
+
+-- Three stand for its two seats, so it is polled, and its batches are given out.
+pub record NominationRows : Type 0 where
+  pub dee_stands : Written (codes "Dee") (λ name. step (in_nominations [] []) 0 (codes "x1") (adds_candidate 7 1 name)
+      ≡ accepted (in_nominations (dee 7 ∷ []) (told_of_dee ∷ [])) (codes "candidate 1 of ward 7 added"))
+  pub eve_stands : Written (codes "Eve") (λ name. step (in_nominations (dee 7 ∷ []) (told_of_dee ∷ [])) 0 (codes "x2") (adds_candidate 7 2 name)
+      ≡ accepted (in_nominations (dee 7 ∷ eve 7 ∷ []) (told_of_dee ∷ told_of_eve ∷ [])) (codes "candidate 2 of ward 7 added"))
+  pub fay_stands : Written (codes "Fay") (λ name. step (in_nominations (dee 7 ∷ eve 7 ∷ []) (told_of_dee ∷ told_of_eve ∷ [])) 0 (codes "x3") (adds_candidate 7 3 name)
+      ≡ accepted three_stand (codes "candidate 3 of ward 7 added"))
+  pub polled : step three_stand 0 (codes "y1") (closes 7) ≡ accepted (in_keying [] [] [] []) (codes "ward 7 polled")
+  pub batch_given_out : step (in_keying [] [] [] []) 0 (codes "z1") (adds_batch 12 7 2 4 9) ≡ accepted (in_keying (batch_in 1 ∷ []) [] [] (told_of_batch ∷ [])) (codes "batch 12 added")
+  pub other_given_out : step (in_keying (batch_in 1 ∷ []) [] [] (told_of_batch ∷ [])) 0 (codes "z2") (adds_batch 13 7 1 9 4) ≡ accepted given_out (codes "batch 13 added")
+
+-- Two clerks key a batch, each told the same whatever the other keyed. Equal keyings take it, and its doubtful paper is judged; where
+-- they differ the ward isn't ready to be sealed, and the batch is keyed again.
+pub record KeyedRows : Type 0 where
+  pub first_clerk : Marked (codes "1,2," ∷ codes "D" ∷ []) (λ papers. step given_out 4 (codes "k1") (keys 12 1 papers) ≡ accepted keyed_once (codes "batch 12 round 1 keyed"))
+  pub kept_whatever : (papers : Vec (String Global) Global) → step keyed_once 4 (codes "k1") (keys 12 1 papers) ≡ kept (codes "batch 12 round 1 keyed")
+  pub id_used : (papers : Vec (String Global) Global) → step keyed_once 4 (codes "k1") (keys 13 1 papers) ≡ refused IdUsed
+  pub keyed_already : (papers : Vec (String Global) Global) → step keyed_once 4 (codes "k2") (keys 12 1 papers) ≡ refused AlreadyKeyed
+  pub second_clerk : Marked (codes "1,2," ∷ codes "D" ∷ []) (λ papers. step keyed_once 9 (codes "k1") (keys 12 1 papers) ≡ accepted (keyed_twice (codes "1,2,")) (codes "batch 12 round 1 keyed"))
+  pub taken : is_taken (keyed_twice (codes "1,2,")) (batch_in 1) ≡ true
+  pub paper_accepted : Written (codes "1,,2") (λ marks. step (keyed_twice (codes "1,2,")) 0 (codes "z3") (judges 12 2 (Accept marks)) ≡ accepted judged (codes "batch 12 paper 2 accepted"))
+  pub not_doubtful : step (keyed_twice (codes "1,2,")) 0 (codes "z3") (judges 12 1 (Reject 3)) ≡ refused NotDoubtful
+  pub second_otherwise : Marked (codes "2,1," ∷ codes "D" ∷ []) (λ papers. step keyed_once 9 (codes "k1") (keys 12 1 papers) ≡ accepted (keyed_twice (codes "2,1,")) (codes "batch 12 round 1 keyed"))
+  pub differs : is_differing (keyed_twice (codes "2,1,")) (batch_in 1) ≡ true
+  pub not_ready : step (keyed_twice (codes "2,1,")) 0 (codes "z3") (commands.Count (counts.Seal 7)) ≡ refused NotReady
+  pub open_again : step (keyed_twice (codes "2,1,")) 0 (codes "z3") (opens_again 12) ≡ accepted reopened (codes "batch 12 round 2 open")
+
+-- As many stand as there are seats: there is no poll and nothing to count, and all are elected.
+pub record UncontestedRows : Type 0 where
+  pub added : Written (codes "Quay") (λ name. step empty_office 0 (codes "w1") (adds_ward 8 2 name) ≡ accepted (with_quay Nominations [] []) (codes "ward 8 added"))
+  pub dee_stands : Written (codes "Dee") (λ name. step (with_quay Nominations [] []) 0 (codes "x1") (adds_candidate 8 1 name)
+      ≡ accepted (with_quay Nominations (dee 8 ∷ []) (told_of_dee_there ∷ [])) (codes "candidate 1 of ward 8 added"))
+  pub eve_stands : Written (codes "Eve") (λ name. step (with_quay Nominations (dee 8 ∷ []) (told_of_dee_there ∷ [])) 0 (codes "x2") (adds_candidate 8 2 name)
+      ≡ accepted (with_quay Nominations both_there told_of_both) (codes "candidate 2 of ward 8 added"))
+  pub uncontested : step (with_quay Nominations both_there told_of_both) 0 (codes "y1") (closes 8)
+      ≡ accepted (with_quay Sealed both_there (told_of_both ++ told_closed ∷ [])) (codes "ward 8 uncontested")
+  pub nothing_to_count : step (with_quay Sealed both_there (told_of_both ++ told_closed ∷ [])) 0 (codes "z1") (commands.Count (counts.Advance 8)) ≡ refused CountFinished
+  pub all_elected : step (with_quay Sealed both_there (told_of_both ++ told_closed ∷ [])) 0 (codes "z1") (commands.Count (counts.Declare 8))
+      ≡ accepted (with_quay Declared both_there (told_of_both ++ told_closed ∷ told (codes "z1") (codes "declare 8") (codes "ward 8 declared: 1, 2") ∷ [])) (codes "ward 8 declared: 1, 2")
