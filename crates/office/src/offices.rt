@@ -12,7 +12,7 @@ ghost use Rattle.register.specs.Seen.{seen_by};
 ghost use Rattle.register.specs.Machine.{step, state_after, is_accepted, after, IsKeptAgain};
 ghost use Rattle.tables.specs.Contents.{RestsAt, SameContents, Stores};
 ghost use Rattle.tables.specs.Presence.{has_some_table, has_every_table, IsOurs};
-ghost use Rattle.tables.specs.Reading.{OnlyReads, FailsBy};
+ghost use Rattle.tables.specs.Reading.{OnlyReads, FailsToList, FailsBy};
 ghost use Rattle.store.specs.Offices.{tables_of, HoldsState, IsAt, LeavesState, Wears};
 ghost use Rattle.store.specs.Openings.{IsBlank, IsToldBy, IsLeftAt};
 ghost use Rattle.register.specs.declared.command.Request.{Request};
@@ -85,6 +85,10 @@ impl<S: Alter> Office<S> {
         ensures told { IfErr result (λ e. HasCleanDisk (state S.Store e.1) → (db : Database) → IsOurs db.schema → RestsAt db (state S.Store conn) → IsToldBy db e.0) }
         ensures reopens { IfOk result (λ o. HasCleanDisk (state S.Store o.held) → (db : Database) → RestsAt db (state S.Store conn) → (s : OfficeState) → IsLeftAt s db → IsOpenAt s o.closed (state S.Store o.held)) }
         ensures refuses { IfErr result (λ e. HasCleanDisk (state S.Store e.1) → (db : Database) → RestsAt db (state S.Store conn) → (s : OfficeState) → IsLeftAt s db → (e.0 ≡ Fault.Memory) ⊎ (e.0 ≡ Fault.Store)) }
+        ensures fails { IfErr result (λ e. HasCleanDisk (state S.Store e.1) → (db : Database) → IsOurs db.schema → RestsAt db (state S.Store conn)
+            → FailsToList db (state S.Store conn) (state S.Store e.1) e.0) }
+        ensures cause { IfErr result (λ e. HasCleanDisk (state S.Store e.1) → (db : Database) → RestsAt db (state S.Store conn) → (s : OfficeState) → IsLeftAt s db
+            → FailsBy (state S.Store conn) (state S.Store e.1) e.0) }
         ensures reads { IfOk result (λ o. OnlyReads (state S.Store conn) (state S.Store o.held)) }
         ensures reads_too { IfErr result (λ e. OnlyReads (state S.Store conn) (state S.Store e.1)) }
         ensures is_open { IfOk result (λ o. o.closed ≡ false) }
