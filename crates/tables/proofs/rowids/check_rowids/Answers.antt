@@ -23,7 +23,7 @@ pub returns-in_err-rows-clause-fails : goal.returns-in_err-rows-clause-fails
 returns-in_err-rows-clause-fails g c clean db begins rests =
     let p = err_from_is_err_and c.from_residual.result c.from_residual.ensures.1 in
     let fails = rowids_fail c.args.table c.requires.changes db begins (state g.S.Store c.args.conn.now) (state g.S.Store c.all_rowids.new.conn) _ clean rests c.in_err-rows.ensures.cause in
-    rw (p.1, p.2) (λ store. inl (failed_by _ _ _ fails store))
+    rw (p.1, p.2) (λ store. inl (failed_by (state g.S.Store c.args.conn.now) (state g.S.Store c.all_rowids.new.conn) _ fails store))
 
 pub returns-in_err-check_each-clause-fails : goal.returns-in_err-check_each-clause-fails
 returns-in_err-check_each-clause-fails g c clean db begins rests =
