@@ -16,7 +16,7 @@ ghost use Rattle.tables.specs.Reading.{OnlyReads, FailsToList, FailsBy};
 ghost use Rattle.store.specs.Offices.{tables_of, HoldsState, IsAt, LeavesState, Wears};
 ghost use Rattle.store.specs.Openings.{IsBlank, IsToldBy, IsLeftAt};
 ghost use Rattle.register.specs.declared.command.Request.{Request};
-ghost use Rattle.office.specs.Answers.{told, told_of, IsOpenAt, Handled, HandledAgain};
+ghost use Rattle.office.specs.Answers.{WhenOpenAt, told, told_of, IsOpenAt, Handled, HandledAgain};
 ghost use Rattle.office.specs.Clerks.{none_is_the_office, own_requests, own_answers};
 ghost use Rattle.office.specs.Runs.{outcomes, AnswersFirst, IsAfterBeginning, StopsAfter};
 
@@ -131,18 +131,18 @@ impl<S: Alter> Office<S> {
     /// the batches, his own keyings and receipts. Whatever his request leaves, another clerk sees of it
     /// what he saw before.
     pub fn handle(&mut self, actor: u32, id: &str, command: &Command) -> Result<Answer, Fault>
-        ensures handled { HasCleanDisk (state S.Store self.new.held) → self.old.closed ≡ false → (s : OfficeState) → IsAt s (state S.Store self.old.held)
-            → Handled s (step s actor id.now command.now) result self.new.closed (state S.Store self.new.held) }
+        ensures handled { WhenOpenAt (state S.Store) self.old self.new
+            (λ s. Handled s (step s actor id.now command.now) result self.new.closed (state S.Store self.new.held)) }
         ensures sent_again { HasCleanDisk (state S.Store self.new.held) → self.old.closed ≡ false → (s : OfficeState) → is_accepted (step s actor id.now command.now) ≡ true
             → IsAt (state_after s (step s actor id.now command.now)) (state S.Store self.old.held)
             → HandledAgain s (step s actor id.now command.now) result self.new.closed (state S.Store self.new.held) }
-        ensures blind { HasCleanDisk (state S.Store self.new.held) → self.old.closed ≡ false → (s : OfficeState) → IsAt s (state S.Store self.old.held) → is_office actor ≡ false
-            → IfOk result (λ answer. told answer ≡ told_of (step (seen_by actor s) actor id.now command.now)) }
-        ensures unseen { HasCleanDisk (state S.Store self.new.held) → self.old.closed ≡ false → (s : OfficeState) → IsAt s (state S.Store self.old.held) → is_office actor ≡ false → (clerk : ℕ) → (actor == clerk) ≡ false
-            → LeavesState (state S.Store self.new.held) (λ x. seen_by clerk x ≡ seen_by clerk s) }
+        ensures blind { WhenOpenAt (state S.Store) self.old self.new
+            (λ s. is_office actor ≡ false → IfOk result (λ answer. told answer ≡ told_of (step (seen_by actor s) actor id.now command.now))) }
+        ensures unseen { WhenOpenAt (state S.Store) self.old self.new
+            (λ s. is_office actor ≡ false → (clerk : ℕ) → (actor == clerk) ≡ false → LeavesState (state S.Store self.new.held) (λ x. seen_by clerk x ≡ seen_by clerk s)) }
         ensures closes { IfErr result (λ f. (f ≡ Fault.Memory) ⊎ (self.new.closed ≡ true)) }
-        ensures cause { HasCleanDisk (state S.Store self.new.held) → self.old.closed ≡ false → (s : OfficeState) → IsAt s (state S.Store self.old.held)
-            → IfErr result (λ f. FailsBy (state S.Store self.old.held) (state S.Store self.new.held) f ⊎ (is_accepted (step s actor id.now command.now) ≡ true)) }
+        ensures cause { WhenOpenAt (state S.Store) self.old self.new
+            (λ s. IfErr result (λ f. FailsBy (state S.Store self.old.held) (state S.Store self.new.held) f ⊎ (is_accepted (step s actor id.now command.now) ≡ true))) }
         ensures wears { Wears (state S.Store self.old.held) (state S.Store self.new.held) }
         ensures closed { self.old.closed ≡ true → (result ≡ Err Fault.Closed) × (self.new ≡ self.old) }
         ensures clean { HasCleanDisk (state S.Store self.new.held) → HasCleanDisk (state S.Store self.old.held) }
@@ -152,12 +152,12 @@ impl<S: Alter> Office<S> {
 
     /// The answer to one request, from the decision on what the store holds and the commit of its change.
     fn answered(&mut self, actor: u32, id: &str, command: &Command) -> Result<Answer, Fault>
-        ensures handled { HasCleanDisk (state S.Store self.new.held) → self.old.closed ≡ false → (s : OfficeState) → IsAt s (state S.Store self.old.held)
-            → Handled s (step s actor id.now command.now) result self.new.closed (state S.Store self.new.held) }
+        ensures handled { WhenOpenAt (state S.Store) self.old self.new
+            (λ s. Handled s (step s actor id.now command.now) result self.new.closed (state S.Store self.new.held)) }
         ensures again { OnOk result ((s : OfficeState) → IsKeptAgain actor id.now command.now (step s actor id.now command.now)) }
         ensures closes { IfErr result (λ f. (f ≡ Fault.Memory) ⊎ (self.new.closed ≡ true)) }
-        ensures cause { HasCleanDisk (state S.Store self.new.held) → self.old.closed ≡ false → (s : OfficeState) → IsAt s (state S.Store self.old.held)
-            → IfErr result (λ f. FailsBy (state S.Store self.old.held) (state S.Store self.new.held) f ⊎ (is_accepted (step s actor id.now command.now) ≡ true)) }
+        ensures cause { WhenOpenAt (state S.Store) self.old self.new
+            (λ s. IfErr result (λ f. FailsBy (state S.Store self.old.held) (state S.Store self.new.held) f ⊎ (is_accepted (step s actor id.now command.now) ≡ true))) }
         ensures wears { Wears (state S.Store self.old.held) (state S.Store self.new.held) }
         ensures closed { self.old.closed ≡ true → (result ≡ Err Fault.Closed) × (self.new ≡ self.old) }
         ensures clean { HasCleanDisk (state S.Store self.new.held) → HasCleanDisk (state S.Store self.old.held) }
@@ -191,16 +191,16 @@ impl<S: Alter> Office<S> {
     /// In a list of clerks' requests each clerk's answers are those that his requests alone get from what
     /// he sees, whatever others keyed before or between.
     pub fn run(&mut self, requests: &[Request]) -> Run
-        ensures answers { HasCleanDisk (state S.Store self.new.held) → self.old.closed ≡ false → (s : OfficeState) → IsAt s (state S.Store self.old.held)
-            → AnswersFirst s requests.now result.answers.items }
-        ensures all { HasCleanDisk (state S.Store self.new.held) → self.old.closed ≡ false → (s : OfficeState) → IsAt s (state S.Store self.old.held)
-            → IfNone result.fault ((vec_len result.answers ≡ length requests.now) × IsOpenAt (after s requests.now) self.new.closed (state S.Store self.new.held)) }
-        ensures fault { HasCleanDisk (state S.Store self.new.held) → self.old.closed ≡ false → (s : OfficeState) → IsAt s (state S.Store self.old.held)
-            → IfSome result.fault (StopsAfter s requests.now (vec_len result.answers) self.new.closed (state S.Store self.new.held)) }
+        ensures answers { WhenOpenAt (state S.Store) self.old self.new (λ s. AnswersFirst s requests.now result.answers.items) }
+        ensures all { WhenOpenAt (state S.Store) self.old self.new
+            (λ s. IfNone result.fault ((vec_len result.answers ≡ length requests.now) × IsOpenAt (after s requests.now) self.new.closed (state S.Store self.new.held))) }
+        ensures fault { WhenOpenAt (state S.Store) self.old self.new
+            (λ s. IfSome result.fault (StopsAfter s requests.now (vec_len result.answers) self.new.closed (state S.Store self.new.held))) }
         ensures headline { HasCleanDisk (state S.Store self.new.held) → self.old.closed ≡ false → (earlier : List Request) → IsAt (after empty_office earlier) (state S.Store self.old.held)
             → LeavesState (state S.Store self.new.held) (IsAfterBeginning earlier requests.now (vec_len result.answers)) }
-        ensures blind { HasCleanDisk (state S.Store self.new.held) → self.old.closed ≡ false → (s : OfficeState) → IsAt s (state S.Store self.old.held) → none_is_the_office requests.now ≡ true → (clerk : ℕ)
-            → map told (own_answers clerk requests.now result.answers.items) ≡ map told_of (outcomes (seen_by clerk s) (own_requests clerk (take (vec_len result.answers) requests.now))) }
+        ensures blind { WhenOpenAt (state S.Store) self.old self.new
+            (λ s. none_is_the_office requests.now ≡ true → (clerk : ℕ)
+            → map told (own_answers clerk requests.now result.answers.items) ≡ map told_of (outcomes (seen_by clerk s) (own_requests clerk (take (vec_len result.answers) requests.now)))) }
         ensures closes { IfSome result.fault (λ f. (f ≡ Fault.Memory) ⊎ (self.new.closed ≡ true)) }
         ensures wears { Wears (state S.Store self.old.held) (state S.Store self.new.held) }
         ensures closed { self.old.closed ≡ true → (result.fault ≡ Some Fault.Closed) × (vec_len result.answers ≡ 0) × (self.new ≡ self.old) }

@@ -155,7 +155,8 @@ impl<S: Alter> Store<S> {
     }
 
     /// Writes a change in one transaction, whole or not at all. After a fault the old tables or the new
-    /// ones may be found.
+    /// ones may be found. Each fault comes inside the transaction: what begins it is the first call, which
+    /// takes no memory and can't fail.
     pub fn commit(&mut self, change: &Change) -> Result<(), Fault>
         ensures done { HasCleanDisk (state S.Store self.new) → IsTrue (state S.Store self.old).is_open → (s : OfficeState) → IsAt s (state S.Store self.old)
             → IsState (with_change (change_entry change.now) s) → OnOk result (IsAt (with_change (change_entry change.now) s) (state S.Store self.new)) }
