@@ -1,14 +1,11 @@
 //! What the office tells of its state, which no read changes.
 
 ghost use Rattle.std.specs.Prelude.{◌≡◌, ◌⊎◌, Bool, true, false, map, IfOk, IfErr, IfSome, IfNone, OnOk, Some, None, Ok, Err, string_bytes};
-ghost use Rattle.sqlite.specs.State.{HasCleanDisk};
 ghost use Rattle.sqlite.specs.Held.{state};
-ghost use Rattle.register.specs.Offices.{OfficeState};
 ghost use Rattle.register.specs.Standings.{status_entry, work_entry, work_of};
 ghost use Rattle.register.specs.Seen.{seen_by};
 ghost use Rattle.register.specs.declared.refusal.Reason.{Reason};
 ghost use Rattle.tables.specs.Reading.{OnlyReads};
-ghost use Rattle.store.specs.Offices.{IsAt};
 ghost use Rattle.register.specs.Elections.{election_entry};
 ghost use Rattle.office.specs.Answers.{WhenOpenAt};
 ghost use Rattle.office.specs.Reads.{Read, status_told, columns_told, work_told, StopsFor, StopsBy, ClosesAt};

@@ -1,9 +1,8 @@
-use Rattle.std.proofs.Common.{◌≡◌, ◌≤◌, false, length, map, take, vec_len, vec_capacity}
+use Rattle.std.proofs.Common.{◌≡◌, ◌≤◌, length, map, take, vec_len, vec_capacity}
 use Rattle.sqlite.specs.State.{HasCleanDisk}
 use Rattle.sqlite.specs.Held.{state}
-use Rattle.register.specs.Offices.{OfficeState}
 use Rattle.register.specs.Machine.{after}
-use Rattle.store.specs.Offices.{IsAt, Wears}
+use Rattle.store.specs.Offices.{Wears}
 use Rattle.office.specs.Answers.{WhenOpenAt, IsOpenAt, told, told_of}
 use Rattle.office.specs.Runs.{outcomes}
 use Rattle.office.proofs.offices.Office.run.Given as goal
