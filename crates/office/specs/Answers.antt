@@ -1,6 +1,7 @@
 -- What an answer tells, and what it says of the office.
 use Rattle.std.specs.Prelude.{◌≡◌, ◌⊎◌, ℕ, Bool, true, false, List, [], string_bytes, Result, Ok, Err}
-use Rattle.sqlite.specs.State.{State}
+use Rattle.sqlite.specs.Held.{Held}
+use Rattle.sqlite.specs.State.{State, HasCleanDisk}
 use Rattle.register.specs.declared.refusal.Reason.{Reason}
 use Rattle.register.specs.Offices.{OfficeState}
 use Rattle.register.specs.Machine.{Outcome, accepted, kept, refused, state_after, is_accepted}
@@ -9,6 +10,7 @@ use Rattle.tables.specs.declared.fault.Fault.TheVariants.{Memory, Store}
 use Rattle.store.specs.Offices.{IsAt, LeavesState}
 use Rattle.office.specs.declared.answers.Answer.{Answer}
 use Rattle.office.specs.declared.answers.Answer.TheVariants.{Done, Kept, Refused}
+use Rattle.office.specs.Values.{OfficeValue}
 
 -- what is told of an outcome: the reply of an accepted or a kept request, or the reason of a refusal
 pub data Told : Type 0 where
@@ -33,6 +35,10 @@ abbrev pub reply_of : Outcome → List ℕ
 reply_of (accepted next reply) = reply
 reply_of (kept reply) = reply
 reply_of (refused why) = []
+
+-- Of an office that was open at the state s, over a clean disk: this. The disk is judged as the call ends.
+abbrev pub WhenOpenAt : {S : Type 0} → (Held S → State) → OfficeValue S → OfficeValue S → (OfficeState → Type 0) → Type 0
+WhenOpenAt state_of old new P = HasCleanDisk (state_of new.held) → old.closed ≡ false → (s : OfficeState) → IsAt s (state_of old.held) → P s
 
 -- an open office that keeps this state
 pub record IsOpenAt (s : OfficeState) (closed : Bool) (st : State) : Type 0 where

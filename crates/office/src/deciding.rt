@@ -36,7 +36,8 @@ pub(crate) fn decision_of<S: Alter>(
     id: &str,
     command: &Command,
 ) -> Result<Decision, Fault>
-    ensures decides { HasCleanDisk (state S.Store store.new) → (s : OfficeState) → IsAt s (state S.Store store.old) → IfOk result (λ decision. outcome_of s decision ≡ step s actor id.now command.now) }
+    ensures decides { HasCleanDisk (state S.Store store.new) → (s : OfficeState) → IsAt s (state S.Store store.old)
+        → IfOk result (λ decision. outcome_of s decision ≡ step s actor id.now command.now) }
     ensures stays { OnOk result ((s : OfficeState) → IsState s → IsState (state_after s (step s actor id.now command.now))) }
     ensures again { OnOk result ((s : OfficeState) → IsKeptAgain actor id.now command.now (step s actor id.now command.now)) }
     ensures cause { HasCleanDisk (state S.Store store.new) → (s : OfficeState) → IsAt s (state S.Store store.old) → IfErr result (FailsBy (state S.Store store.old) (state S.Store store.new)) }

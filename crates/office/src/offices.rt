@@ -12,11 +12,11 @@ ghost use Rattle.register.specs.Seen.{seen_by};
 ghost use Rattle.register.specs.Machine.{step, state_after, is_accepted, after, IsKeptAgain};
 ghost use Rattle.tables.specs.Contents.{RestsAt, SameContents, Stores};
 ghost use Rattle.tables.specs.Presence.{has_some_table, has_every_table, IsOurs};
-ghost use Rattle.tables.specs.Reading.{OnlyReads, FailsBy};
+ghost use Rattle.tables.specs.Reading.{OnlyReads, FailsToList, FailsBy};
 ghost use Rattle.store.specs.Offices.{tables_of, HoldsState, IsAt, LeavesState, Wears};
 ghost use Rattle.store.specs.Openings.{IsBlank, IsToldBy, IsLeftAt};
 ghost use Rattle.register.specs.declared.command.Request.{Request};
-ghost use Rattle.office.specs.Answers.{told, told_of, IsOpenAt, Handled, HandledAgain};
+ghost use Rattle.office.specs.Answers.{WhenOpenAt, told, told_of, IsOpenAt, Handled, HandledAgain};
 ghost use Rattle.office.specs.Clerks.{none_is_the_office, own_requests, own_answers};
 ghost use Rattle.office.specs.Runs.{outcomes, AnswersFirst, IsAfterBeginning, StopsAfter};
 
@@ -77,14 +77,19 @@ impl<S: Alter> Office<S> {
     /// Opens the office that the connection's database holds, and changes nothing.
     ///
     /// `WrongDatabase` where there is no office table or no row in it, `NewerSchema` where a later program
-    /// made it, `Damaged` where the rows are the tables of no state. The connection is handed back with a
-    /// fault, its database as it was.
+    /// made it, `Damaged` where the rows are the tables of no state. `Store` where the store failed, where
+    /// rowids aren't the rows' own, or where the connection is inside a transaction. The connection is
+    /// handed back with a fault, its database as it was.
     pub fn open_from(alloc: Global, conn: Connection<S>) -> Result<Self, (Fault, Connection<S>)>
         ensures opened { IfOk result (λ o. HasCleanDisk (state S.Store o.held) → (db : Database) → IsOurs db.schema → RestsAt db (state S.Store conn)
             → (s : OfficeState) × HoldsState db s × IsOpenAt s o.closed (state S.Store o.held)) }
         ensures told { IfErr result (λ e. HasCleanDisk (state S.Store e.1) → (db : Database) → IsOurs db.schema → RestsAt db (state S.Store conn) → IsToldBy db e.0) }
         ensures reopens { IfOk result (λ o. HasCleanDisk (state S.Store o.held) → (db : Database) → RestsAt db (state S.Store conn) → (s : OfficeState) → IsLeftAt s db → IsOpenAt s o.closed (state S.Store o.held)) }
         ensures refuses { IfErr result (λ e. HasCleanDisk (state S.Store e.1) → (db : Database) → RestsAt db (state S.Store conn) → (s : OfficeState) → IsLeftAt s db → (e.0 ≡ Fault.Memory) ⊎ (e.0 ≡ Fault.Store)) }
+        ensures fails { IfErr result (λ e. HasCleanDisk (state S.Store e.1) → (db : Database) → IsOurs db.schema → RestsAt db (state S.Store conn)
+            → FailsToList db (state S.Store conn) (state S.Store e.1) e.0) }
+        ensures cause { IfErr result (λ e. HasCleanDisk (state S.Store e.1) → (db : Database) → RestsAt db (state S.Store conn) → (s : OfficeState) → IsLeftAt s db
+            → FailsBy (state S.Store conn) (state S.Store e.1) e.0) }
         ensures reads { IfOk result (λ o. OnlyReads (state S.Store conn) (state S.Store o.held)) }
         ensures reads_too { IfErr result (λ e. OnlyReads (state S.Store conn) (state S.Store e.1)) }
         ensures is_open { IfOk result (λ o. o.closed ≡ false) }
@@ -127,18 +132,18 @@ impl<S: Alter> Office<S> {
     /// the batches, his own keyings and receipts. Whatever his request leaves, another clerk sees of it
     /// what he saw before.
     pub fn handle(&mut self, actor: u32, id: &str, command: &Command) -> Result<Answer, Fault>
-        ensures handled { HasCleanDisk (state S.Store self.new.held) → self.old.closed ≡ false → (s : OfficeState) → IsAt s (state S.Store self.old.held)
-            → Handled s (step s actor id.now command.now) result self.new.closed (state S.Store self.new.held) }
+        ensures handled { WhenOpenAt (state S.Store) self.old self.new
+            (λ s. Handled s (step s actor id.now command.now) result self.new.closed (state S.Store self.new.held)) }
         ensures sent_again { HasCleanDisk (state S.Store self.new.held) → self.old.closed ≡ false → (s : OfficeState) → is_accepted (step s actor id.now command.now) ≡ true
             → IsAt (state_after s (step s actor id.now command.now)) (state S.Store self.old.held)
             → HandledAgain s (step s actor id.now command.now) result self.new.closed (state S.Store self.new.held) }
-        ensures blind { HasCleanDisk (state S.Store self.new.held) → self.old.closed ≡ false → (s : OfficeState) → IsAt s (state S.Store self.old.held) → is_office actor ≡ false
-            → IfOk result (λ answer. told answer ≡ told_of (step (seen_by actor s) actor id.now command.now)) }
-        ensures unseen { HasCleanDisk (state S.Store self.new.held) → self.old.closed ≡ false → (s : OfficeState) → IsAt s (state S.Store self.old.held) → is_office actor ≡ false → (clerk : ℕ) → (actor == clerk) ≡ false
-            → LeavesState (state S.Store self.new.held) (λ x. seen_by clerk x ≡ seen_by clerk s) }
+        ensures blind { WhenOpenAt (state S.Store) self.old self.new
+            (λ s. is_office actor ≡ false → IfOk result (λ answer. told answer ≡ told_of (step (seen_by actor s) actor id.now command.now))) }
+        ensures unseen { WhenOpenAt (state S.Store) self.old self.new
+            (λ s. is_office actor ≡ false → (clerk : ℕ) → (actor == clerk) ≡ false → LeavesState (state S.Store self.new.held) (λ x. seen_by clerk x ≡ seen_by clerk s)) }
         ensures closes { IfErr result (λ f. (f ≡ Fault.Memory) ⊎ (self.new.closed ≡ true)) }
-        ensures cause { HasCleanDisk (state S.Store self.new.held) → self.old.closed ≡ false → (s : OfficeState) → IsAt s (state S.Store self.old.held)
-            → IfErr result (λ f. FailsBy (state S.Store self.old.held) (state S.Store self.new.held) f ⊎ (is_accepted (step s actor id.now command.now) ≡ true)) }
+        ensures cause { WhenOpenAt (state S.Store) self.old self.new
+            (λ s. IfErr result (λ f. FailsBy (state S.Store self.old.held) (state S.Store self.new.held) f ⊎ (is_accepted (step s actor id.now command.now) ≡ true))) }
         ensures wears { Wears (state S.Store self.old.held) (state S.Store self.new.held) }
         ensures closed { self.old.closed ≡ true → (result ≡ Err Fault.Closed) × (self.new ≡ self.old) }
         ensures clean { HasCleanDisk (state S.Store self.new.held) → HasCleanDisk (state S.Store self.old.held) }
@@ -148,12 +153,12 @@ impl<S: Alter> Office<S> {
 
     /// The answer to one request, from the decision on what the store holds and the commit of its change.
     fn answered(&mut self, actor: u32, id: &str, command: &Command) -> Result<Answer, Fault>
-        ensures handled { HasCleanDisk (state S.Store self.new.held) → self.old.closed ≡ false → (s : OfficeState) → IsAt s (state S.Store self.old.held)
-            → Handled s (step s actor id.now command.now) result self.new.closed (state S.Store self.new.held) }
+        ensures handled { WhenOpenAt (state S.Store) self.old self.new
+            (λ s. Handled s (step s actor id.now command.now) result self.new.closed (state S.Store self.new.held)) }
         ensures again { OnOk result ((s : OfficeState) → IsKeptAgain actor id.now command.now (step s actor id.now command.now)) }
         ensures closes { IfErr result (λ f. (f ≡ Fault.Memory) ⊎ (self.new.closed ≡ true)) }
-        ensures cause { HasCleanDisk (state S.Store self.new.held) → self.old.closed ≡ false → (s : OfficeState) → IsAt s (state S.Store self.old.held)
-            → IfErr result (λ f. FailsBy (state S.Store self.old.held) (state S.Store self.new.held) f ⊎ (is_accepted (step s actor id.now command.now) ≡ true)) }
+        ensures cause { WhenOpenAt (state S.Store) self.old self.new
+            (λ s. IfErr result (λ f. FailsBy (state S.Store self.old.held) (state S.Store self.new.held) f ⊎ (is_accepted (step s actor id.now command.now) ≡ true))) }
         ensures wears { Wears (state S.Store self.old.held) (state S.Store self.new.held) }
         ensures closed { self.old.closed ≡ true → (result ≡ Err Fault.Closed) × (self.new ≡ self.old) }
         ensures clean { HasCleanDisk (state S.Store self.new.held) → HasCleanDisk (state S.Store self.old.held) }
@@ -187,16 +192,16 @@ impl<S: Alter> Office<S> {
     /// In a list of clerks' requests each clerk's answers are those that his requests alone get from what
     /// he sees, whatever others keyed before or between.
     pub fn run(&mut self, requests: &[Request]) -> Run
-        ensures answers { HasCleanDisk (state S.Store self.new.held) → self.old.closed ≡ false → (s : OfficeState) → IsAt s (state S.Store self.old.held)
-            → AnswersFirst s requests.now result.answers.items }
-        ensures all { HasCleanDisk (state S.Store self.new.held) → self.old.closed ≡ false → (s : OfficeState) → IsAt s (state S.Store self.old.held)
-            → IfNone result.fault ((vec_len result.answers ≡ length requests.now) × IsOpenAt (after s requests.now) self.new.closed (state S.Store self.new.held)) }
-        ensures fault { HasCleanDisk (state S.Store self.new.held) → self.old.closed ≡ false → (s : OfficeState) → IsAt s (state S.Store self.old.held)
-            → IfSome result.fault (StopsAfter s requests.now (vec_len result.answers) self.new.closed (state S.Store self.new.held)) }
+        ensures answers { WhenOpenAt (state S.Store) self.old self.new (λ s. AnswersFirst s requests.now result.answers.items) }
+        ensures all { WhenOpenAt (state S.Store) self.old self.new
+            (λ s. IfNone result.fault ((vec_len result.answers ≡ length requests.now) × IsOpenAt (after s requests.now) self.new.closed (state S.Store self.new.held))) }
+        ensures fault { WhenOpenAt (state S.Store) self.old self.new
+            (λ s. IfSome result.fault (StopsAfter s requests.now (vec_len result.answers) self.new.closed (state S.Store self.new.held))) }
         ensures headline { HasCleanDisk (state S.Store self.new.held) → self.old.closed ≡ false → (earlier : List Request) → IsAt (after empty_office earlier) (state S.Store self.old.held)
             → LeavesState (state S.Store self.new.held) (IsAfterBeginning earlier requests.now (vec_len result.answers)) }
-        ensures blind { HasCleanDisk (state S.Store self.new.held) → self.old.closed ≡ false → (s : OfficeState) → IsAt s (state S.Store self.old.held) → none_is_the_office requests.now ≡ true → (clerk : ℕ)
-            → map told (own_answers clerk requests.now result.answers.items) ≡ map told_of (outcomes (seen_by clerk s) (own_requests clerk (take (vec_len result.answers) requests.now))) }
+        ensures blind { WhenOpenAt (state S.Store) self.old self.new
+            (λ s. none_is_the_office requests.now ≡ true → (clerk : ℕ)
+            → map told (own_answers clerk requests.now result.answers.items) ≡ map told_of (outcomes (seen_by clerk s) (own_requests clerk (take (vec_len result.answers) requests.now)))) }
         ensures closes { IfSome result.fault (λ f. (f ≡ Fault.Memory) ⊎ (self.new.closed ≡ true)) }
         ensures wears { Wears (state S.Store self.old.held) (state S.Store self.new.held) }
         ensures closed { self.old.closed ≡ true → (result.fault ≡ Some Fault.Closed) × (vec_len result.answers ≡ 0) × (self.new ≡ self.old) }

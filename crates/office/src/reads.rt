@@ -1,15 +1,13 @@
 //! What the office tells of its state, which no read changes.
 
-ghost use Rattle.std.specs.Prelude.{◌≡◌, ◌⊎◌, Bool, true, false, map, IfOk, IfErr, OnOk, Some, None, Ok, Err, string_bytes};
-ghost use Rattle.sqlite.specs.State.{HasCleanDisk};
+ghost use Rattle.std.specs.Prelude.{◌≡◌, ◌⊎◌, Bool, true, false, map, IfOk, IfErr, IfSome, IfNone, OnOk, Some, None, Ok, Err, string_bytes};
 ghost use Rattle.sqlite.specs.Held.{state};
-ghost use Rattle.register.specs.Offices.{OfficeState};
 ghost use Rattle.register.specs.Standings.{status_entry, work_entry, work_of};
 ghost use Rattle.register.specs.Seen.{seen_by};
 ghost use Rattle.register.specs.declared.refusal.Reason.{Reason};
 ghost use Rattle.tables.specs.Reading.{OnlyReads};
-ghost use Rattle.store.specs.Offices.{IsAt};
 ghost use Rattle.register.specs.Elections.{election_entry};
+ghost use Rattle.office.specs.Answers.{WhenOpenAt};
 ghost use Rattle.office.specs.Reads.{Read, status_told, columns_told, work_told, StopsFor, StopsBy, ClosesAt};
 ghost use Rattle.office.specs.Sheets.{is_told_in, text_shown, text_told, StopsText, IsTextual, IsOfMemory};
 
@@ -36,14 +34,32 @@ fn refused(alloc: Global, reason: Reason) -> Stop
 }
 
 impl<S: Alter> Office<S> {
-    /// Notes a fault that a read met. Any but want of memory closes the office.
-    fn note(&mut self, fault: Fault)
+    /// What stops a read before it asks the store: the office is closed, or the number is out of its range.
+    fn stop_before(&self, is_in_range: bool) -> Option<Stop>
+        ensures closed { self.now.closed ≡ true → result ≡ Some (Stop.Fault Fault.Closed) }
+        ensures range { self.now.closed ≡ false → IfSome result (λ stop. (is_in_range ≡ false) × StopsFor Reason.NumberOutOfRange stop × IsOfMemory stop) }
+        ensures none { IfNone result ((self.now.closed ≡ false) × (is_in_range ≡ true)) }
+        ensures closes { IfSome result (ClosesAt self.now.closed) }
+    {
+        if self.closed {
+            return Some(Stop::Fault(Fault::Closed));
+        }
+        if !is_in_range {
+            return Some(refused(self.alloc, Reason::NumberOutOfRange));
+        }
+        None
+    }
+
+    /// Tells a fault that a read met. Any but want of memory closes the office.
+    fn stopped_by(&mut self, fault: Fault) -> Stop
+        ensures told { result ≡ Stop.Fault fault }
         ensures held { self.new.held ≡ self.old.held }
         ensures kept { fault ≡ Fault.Memory → self.new.closed ≡ false }
         ensures closes { (fault ≡ Fault.Memory) ⊎ (self.new.closed ≡ true) }
         ensures shuts { fault ≡ Fault.Store → self.new.closed ≡ true }
     {
         self.closed = fault != Fault::Memory;
+        Stop::Fault(fault)
     }
 
     /// How the election of a ward stands.
@@ -52,27 +68,20 @@ impl<S: Alter> Office<S> {
     /// the office open; any other fault closes it. A closed office tells `Closed`.
     #[tactic(auto, using(crate::proofs::StopLemmas::stops_of_memory))]
     pub fn status(&mut self, ward: u32) -> Result<Status, Stop>
-        ensures reads { HasCleanDisk (state S.Store self.new.held) → self.old.closed ≡ false → (s : OfficeState) → IsAt s (state S.Store self.old.held)
-            → Read status_entry s (status_told s ward) result self.new.closed (state S.Store self.new.held) }
+        ensures reads { WhenOpenAt (state S.Store) self.old self.new
+            (λ s. Read status_entry s (status_told s ward) result self.new.closed (state S.Store self.new.held)) }
         ensures same { OnlyReads (state S.Store self.old.held) (state S.Store self.new.held) }
         ensures closes { IfErr result (ClosesAt self.new.closed) }
-        ensures cause { HasCleanDisk (state S.Store self.new.held) → self.old.closed ≡ false → (s : OfficeState) → IsAt s (state S.Store self.old.held)
-            → IfErr result (StopsBy (state S.Store self.old.held) (state S.Store self.new.held)) }
+        ensures cause { WhenOpenAt (state S.Store) self.old self.new (λ s. IfErr result (StopsBy (state S.Store self.old.held) (state S.Store self.new.held))) }
         ensures closed { self.old.closed ≡ true → (result ≡ Err (Stop.Fault Fault.Closed)) × (self.new ≡ self.old) }
     {
-        if self.closed {
-            return Err(Stop::Fault(Fault::Closed));
-        }
-        if !is_ward_number(ward) {
-            return Err(refused(self.alloc, Reason::NumberOutOfRange));
+        if let Some(stop) = self.stop_before(is_ward_number(ward)) {
+            return Err(stop);
         }
         match self.store.load_status(ward) {
             Ok(Some(status)) => Ok(status),
             Ok(None) => Err(refused(self.alloc, Reason::NoSuchWard)),
-            Err(fault) => {
-                self.note(fault);
-                Err(Stop::Fault(fault))
-            }
+            Err(fault) => Err(self.stopped_by(fault)),
         }
     }
 
@@ -82,27 +91,20 @@ impl<S: Alter> Office<S> {
     /// the office open; any other fault closes it. A closed office tells `Closed`.
     #[tactic(auto, using(crate::proofs::StopLemmas::stops_of_memory))]
     pub fn columns(&mut self, batch: u32) -> Result<Columns, Stop>
-        ensures reads { HasCleanDisk (state S.Store self.new.held) → self.old.closed ≡ false → (s : OfficeState) → IsAt s (state S.Store self.old.held)
-            → Read (λ columns. columns) s (columns_told s batch) result self.new.closed (state S.Store self.new.held) }
+        ensures reads { WhenOpenAt (state S.Store) self.old self.new
+            (λ s. Read (λ columns. columns) s (columns_told s batch) result self.new.closed (state S.Store self.new.held)) }
         ensures same { OnlyReads (state S.Store self.old.held) (state S.Store self.new.held) }
         ensures closes { IfErr result (ClosesAt self.new.closed) }
-        ensures cause { HasCleanDisk (state S.Store self.new.held) → self.old.closed ≡ false → (s : OfficeState) → IsAt s (state S.Store self.old.held)
-            → IfErr result (StopsBy (state S.Store self.old.held) (state S.Store self.new.held)) }
+        ensures cause { WhenOpenAt (state S.Store) self.old self.new (λ s. IfErr result (StopsBy (state S.Store self.old.held) (state S.Store self.new.held))) }
         ensures closed { self.old.closed ≡ true → (result ≡ Err (Stop.Fault Fault.Closed)) × (self.new ≡ self.old) }
     {
-        if self.closed {
-            return Err(Stop::Fault(Fault::Closed));
-        }
-        if !is_batch_number(batch) {
-            return Err(refused(self.alloc, Reason::NumberOutOfRange));
+        if let Some(stop) = self.stop_before(is_batch_number(batch)) {
+            return Err(stop);
         }
         match self.store.load_columns(batch) {
             Ok(Some(columns)) => Ok(columns),
             Ok(None) => Err(refused(self.alloc, Reason::NoSuchBatch)),
-            Err(fault) => {
-                self.note(fault);
-                Err(Stop::Fault(fault))
-            }
+            Err(fault) => Err(self.stopped_by(fault)),
         }
     }
 
@@ -114,28 +116,20 @@ impl<S: Alter> Office<S> {
     /// closed office tells `Closed`.
     #[tactic(auto, using(crate::proofs::StopLemmas::stops_of_memory))]
     pub fn work(&mut self, clerk: u32) -> Result<Vec<Work>, Stop>
-        ensures reads { HasCleanDisk (state S.Store self.new.held) → self.old.closed ≡ false → (s : OfficeState) → IsAt s (state S.Store self.old.held)
-            → Read (λ work. map work_entry work.items) s (work_told s clerk) result self.new.closed (state S.Store self.new.held) }
-        ensures blind { HasCleanDisk (state S.Store self.new.held) → self.old.closed ≡ false → (s : OfficeState) → IsAt s (state S.Store self.old.held)
-            → IfOk result (λ work. map work_entry work.items ≡ work_of (seen_by clerk s) clerk) }
+        ensures reads { WhenOpenAt (state S.Store) self.old self.new
+            (λ s. Read (λ work. map work_entry work.items) s (work_told s clerk) result self.new.closed (state S.Store self.new.held)) }
+        ensures blind { WhenOpenAt (state S.Store) self.old self.new (λ s. IfOk result (λ work. map work_entry work.items ≡ work_of (seen_by clerk s) clerk)) }
         ensures same { OnlyReads (state S.Store self.old.held) (state S.Store self.new.held) }
         ensures closes { IfErr result (ClosesAt self.new.closed) }
-        ensures cause { HasCleanDisk (state S.Store self.new.held) → self.old.closed ≡ false → (s : OfficeState) → IsAt s (state S.Store self.old.held)
-            → IfErr result (StopsBy (state S.Store self.old.held) (state S.Store self.new.held)) }
+        ensures cause { WhenOpenAt (state S.Store) self.old self.new (λ s. IfErr result (StopsBy (state S.Store self.old.held) (state S.Store self.new.held))) }
         ensures closed { self.old.closed ≡ true → (result ≡ Err (Stop.Fault Fault.Closed)) × (self.new ≡ self.old) }
     {
-        if self.closed {
-            return Err(Stop::Fault(Fault::Closed));
-        }
-        if !is_clerk(clerk) {
-            return Err(refused(self.alloc, Reason::NumberOutOfRange));
+        if let Some(stop) = self.stop_before(is_clerk(clerk)) {
+            return Err(stop);
         }
         match self.store.load_work(clerk) {
             Ok(work) => Ok(work),
-            Err(fault) => {
-                self.note(fault);
-                Err(Stop::Fault(fault))
-            }
+            Err(fault) => Err(self.stopped_by(fault)),
         }
     }
 
@@ -145,12 +139,11 @@ impl<S: Alter> Office<S> {
     /// Refused where the number is outside 1 to 99, no ward has it, or the ward isn't sealed yet. Nothing is
     /// changed. `Memory` leaves the office open; any other fault closes it. A closed office tells `Closed`.
     pub fn sheet(&mut self, ward: u32) -> Result<String, Stop>
-        ensures reads { HasCleanDisk (state S.Store self.new.held) → self.old.closed ≡ false → (s : OfficeState) → IsAt s (state S.Store self.old.held)
-            → Read string_bytes s (text_told Text.Sheet s ward) result self.new.closed (state S.Store self.new.held) }
+        ensures reads { WhenOpenAt (state S.Store) self.old self.new
+            (λ s. Read string_bytes s (text_told Text.Sheet s ward) result self.new.closed (state S.Store self.new.held)) }
         ensures same { OnlyReads (state S.Store self.old.held) (state S.Store self.new.held) }
         ensures closes { IfErr result (ClosesAt self.new.closed) }
-        ensures cause { HasCleanDisk (state S.Store self.new.held) → self.old.closed ≡ false → (s : OfficeState) → IsAt s (state S.Store self.old.held)
-            → IfErr result (StopsBy (state S.Store self.old.held) (state S.Store self.new.held)) }
+        ensures cause { WhenOpenAt (state S.Store) self.old self.new (λ s. IfErr result (StopsBy (state S.Store self.old.held) (state S.Store self.new.held))) }
         ensures closed { self.old.closed ≡ true → (result ≡ Err (Stop.Fault Fault.Closed)) × (self.new ≡ self.old) }
     {
         self.text(ward, Text::Sheet)
@@ -162,12 +155,11 @@ impl<S: Alter> Office<S> {
     /// is changed. `Memory` leaves the office open; any other fault closes it. A closed office tells
     /// `Closed`.
     pub fn result(&mut self, ward: u32) -> Result<String, Stop>
-        ensures reads { HasCleanDisk (state S.Store self.new.held) → self.old.closed ≡ false → (s : OfficeState) → IsAt s (state S.Store self.old.held)
-            → Read string_bytes s (text_told Text.Declaration s ward) result self.new.closed (state S.Store self.new.held) }
+        ensures reads { WhenOpenAt (state S.Store) self.old self.new
+            (λ s. Read string_bytes s (text_told Text.Declaration s ward) result self.new.closed (state S.Store self.new.held)) }
         ensures same { OnlyReads (state S.Store self.old.held) (state S.Store self.new.held) }
         ensures closes { IfErr result (ClosesAt self.new.closed) }
-        ensures cause { HasCleanDisk (state S.Store self.new.held) → self.old.closed ≡ false → (s : OfficeState) → IsAt s (state S.Store self.old.held)
-            → IfErr result (StopsBy (state S.Store self.old.held) (state S.Store self.new.held)) }
+        ensures cause { WhenOpenAt (state S.Store) self.old self.new (λ s. IfErr result (StopsBy (state S.Store self.old.held) (state S.Store self.new.held))) }
         ensures closed { self.old.closed ≡ true → (result ≡ Err (Stop.Fault Fault.Closed)) × (self.new ≡ self.old) }
     {
         self.text(ward, Text::Declaration)
@@ -176,31 +168,21 @@ impl<S: Alter> Office<S> {
     /// A text of a ward: what `sheet` and `result` give.
     #[tactic(auto, using(crate::proofs::StopLemmas::stops_of_memory))]
     fn text(&mut self, ward: u32, text: Text) -> Result<String, Stop>
-        ensures reads { HasCleanDisk (state S.Store self.new.held) → self.old.closed ≡ false → (s : OfficeState) → IsAt s (state S.Store self.old.held)
-            → Read string_bytes s (text_told text s ward) result self.new.closed (state S.Store self.new.held) }
+        ensures reads { WhenOpenAt (state S.Store) self.old self.new
+            (λ s. Read string_bytes s (text_told text s ward) result self.new.closed (state S.Store self.new.held)) }
         ensures same { OnlyReads (state S.Store self.old.held) (state S.Store self.new.held) }
         ensures closes { IfErr result (ClosesAt self.new.closed) }
-        ensures cause { HasCleanDisk (state S.Store self.new.held) → self.old.closed ≡ false → (s : OfficeState) → IsAt s (state S.Store self.old.held)
-            → IfErr result (StopsBy (state S.Store self.old.held) (state S.Store self.new.held)) }
+        ensures cause { WhenOpenAt (state S.Store) self.old self.new (λ s. IfErr result (StopsBy (state S.Store self.old.held) (state S.Store self.new.held))) }
         ensures closed { self.old.closed ≡ true → (result ≡ Err (Stop.Fault Fault.Closed)) × (self.new ≡ self.old) }
     {
-        if self.closed {
-            return Err(Stop::Fault(Fault::Closed));
-        }
-        if !is_ward_number(ward) {
-            return Err(refused(self.alloc, Reason::NumberOutOfRange));
+        if let Some(stop) = self.stop_before(is_ward_number(ward)) {
+            return Err(stop);
         }
         texts_are_there();
-        let found = match self.store.load_election(ward) {
-            Ok(found) => found,
-            Err(fault) => {
-                self.note(fault);
-                return Err(Stop::Fault(fault));
-            }
-        };
-        match found {
-            Some(election) => self.text_of(&election, text),
-            None => Err(refused(self.alloc, Reason::NoSuchWard)),
+        match self.store.load_election(ward) {
+            Ok(Some(election)) => self.text_of(&election, text),
+            Ok(None) => Err(refused(self.alloc, Reason::NoSuchWard)),
+            Err(fault) => Err(self.stopped_by(fault)),
         }
     }
 
@@ -219,14 +201,8 @@ impl<S: Alter> Office<S> {
         }
         match text_of(self.alloc, election, text) {
             Ok(Some(told)) => Ok(told),
-            Ok(None) => {
-                self.note(Fault::Store);
-                Err(Stop::Fault(Fault::Store))
-            }
-            Err(_) => {
-                self.note(Fault::Memory);
-                Err(Stop::Fault(Fault::Memory))
-            }
+            Ok(None) => Err(self.stopped_by(Fault::Store)),
+            Err(_) => Err(self.stopped_by(Fault::Memory)),
         }
     }
 }

@@ -164,7 +164,8 @@ fn declaration(
     ward: &Ward<'_>,
 ) -> Result<Option<String>, AllocError>
     requires { CanBePrinted ward.now }
-    ensures is { IfOk result (λ found. shown ward.now ≡ election_shown (election_entry election.now) → IfSome found (λ text. string_bytes text ≡ declaration_of (election_entry election.now))) }
+    ensures is { IfOk result (λ found. shown ward.now ≡ election_shown (election_entry election.now)
+        → IfSome found (λ text. string_bytes text ≡ declaration_of (election_entry election.now))) }
     ensures some { IfOk result (λ found. CanBeCounted (election_entry election.now) → IsSome found) }
 {
     let Some(elected) = elected_in(alloc, election)? else {

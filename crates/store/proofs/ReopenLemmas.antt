@@ -1,5 +1,5 @@
 -- A database that a stop left opens again, at the state whose tables it holds.
-use Rattle.std.proofs.Common.{◌≡◌, ◌⊎◌, inl, inr, true, refl, sym, ap₂, subst}
+use Rattle.std.proofs.Common.{◌≡◌, ◌⊎◌, inl, inr, true, refl, sym, ap₂, subst, true≢false}
 use Rattle.sqlite_trees.specs.Objects.{catalog_tree}
 use Rattle.sqlite_catalog.specs.Listing.{Lists}
 use Rattle.sqlite_catalog.proofs.ReadLemmas.{lists_once}
@@ -11,14 +11,17 @@ use Rattle.sqlite.specs.State.{State}
 use Rattle.register.specs.Offices.{OfficeState}
 use Rattle.tables.specs.declared.fault.Fault.{Fault}
 use Rattle.tables.specs.declared.fault.Fault.TheVariants.{Memory, Store, Damaged, Closed, WrongDatabase, NewerSchema}
-use Rattle.tables.specs.declared.table.Table.TheVariants.{Office}
-use Rattle.tables.specs.Schema.{IsOfficeSchema}
+use Rattle.tables.specs.declared.table.Table.{Table}
+use Rattle.tables.specs.declared.table.Table.TheVariants.{Office, Ward, Candidate, Batch, Keying, Verdict, Lot, Receipt}
+use Rattle.tables.specs.Schema.{IsOfficeSchema, changes_rows}
 use Rattle.tables.specs.Contents.{Contents, IsOffice}
 use Rattle.tables.specs.Presence.{has_table, IsOurs}
+use Rattle.tables.specs.Reading.{SharesRowids, FailsToList, FailsBy}
 use Rattle.store.specs.Offices.{tables_of, HoldsState, IsAt}
-use Rattle.store.specs.Openings.{HasNoOffice, IsNewer, IsLeftAt, IsToldBy}
+use Rattle.store.specs.Openings.{HasNoOffice, IsNewer, IsLeftAt, IsToldBy, has_entries}
 use Rattle.tables.proofs.ListingLemmas.{begins_to}
-use Rattle.store.proofs.StateLemmas.{one_state}
+use Rattle.tables.proofs.HoldLemmas.{own_rowids}
+use Rattle.store.proofs.StateLemmas.{one_state, tables_rise}
 use Rattle.store.proofs.TellLemmas.{this_office, state_version}
 
 sound : (c : Contents) (db : Database) → IsOffice c db → IsDatabase db
@@ -63,6 +66,30 @@ left_told s db f left told = go f told
     go Closed told = absurd told
     go WrongDatabase told = absurd ((holds_office s db (left_holds s db left)).0 told)
     go NewerSchema told = absurd ((holds_office s db (left_holds s db left)).1 told)
+
+-- where rows change, they are entries
+changing_has : (t : Table) → changes_rows t ≡ true → has_entries t ≡ true
+changing_has Office changes = absurd (true≢false (sym changes))
+changing_has Ward changes = refl
+changing_has Candidate changes = refl
+changing_has Batch changes = refl
+changing_has Keying changes = refl
+changing_has Verdict changes = refl
+changing_has Lot changes = refl
+changing_has Receipt changes = refl
+
+-- rowids are the rows' own, so the store failed where that is told
+own_there : (s : OfficeState) (db : Database) → HoldsState db s → ¬ SharesRowids db
+unfolding IsOffice
+own_there s db held shared =
+    let t = shared.0 in
+    own_rowids t (tables_of s t) db.trees (held.office.holds t) (tables_rise s held.is.rise t (changing_has t shared.1)) shared.1 shared.2
+
+pub left_failed : (s : OfficeState) (db : Database) (old new : State) (f : Fault) → IsLeftAt s db → IsToldBy db f → FailsToList db old new f → FailsBy old new f
+left_failed s db old new f left told fails = elim (left_told s db f left told) [
+  | inl memory ↦ inl memory
+  | inr store ↦ inr (store, elim (fails store) [ inl failed ↦ failed | inr shared ↦ absurd (own_there s db (left_holds s db left) shared) ])
+]
 
 -- and the state found in it is this one
 pub left_opened : (s : OfficeState) (db : Database) (st : State) → IsLeftAt s db → (x : OfficeState) × HoldsState db x × IsAt x st → IsAt s st

@@ -10,7 +10,7 @@ ghost use Rattle.rowcheck.specs.States.{state_of};
 ghost use Rattle.tables.specs.Schema.{BeginsTo, IsOfficeSchema};
 ghost use Rattle.tables.specs.Contents.{RestsAt};
 ghost use Rattle.tables.specs.Presence.{IsOurs};
-ghost use Rattle.tables.specs.Reading.{OnlyReads};
+ghost use Rattle.tables.specs.Reading.{OnlyReads, FailsToList};
 ghost use Rattle.store.specs.Offices.{HoldsState};
 ghost use Rattle.store.specs.Openings.{IsToldBy, TellsNoState, IsVersion, TellsRow, TellsRows, HasVersion, TellsOffice, HoldsEntries};
 
@@ -65,6 +65,8 @@ fn check_office<S: Alter>(conn: &mut Connection<S>) -> Result<(), Fault>
         → OnOk result (HasVersion 1 db) }
     ensures told { HasCleanDisk (state S.Store conn.new) → (db : Database) → BeginsTo Table.Office db.schema → IsDatabase db → RestsAt db (state S.Store conn.old)
         → IfErr result (TellsOffice db) }
+    ensures fails { HasCleanDisk (state S.Store conn.new) → (db : Database) → BeginsTo Table.Office db.schema → RestsAt db (state S.Store conn.old)
+        → IfErr result (FailsToList db (state S.Store conn.old) (state S.Store conn.new)) }
     ensures opens { HasCleanDisk (state S.Store conn.new) → OnOk result (IsTrue (state S.Store conn.new).is_open) }
     ensures reads { OnlyReads (state S.Store conn.old) (state S.Store conn.new) }
     ensures outside { conn.new.in_transaction ≡ false }
@@ -112,6 +114,8 @@ fn check_tables<S: Alter>(alloc: Global, conn: &mut Connection<S>) -> Result<(),
         → OnOk result ((s : OfficeState) × HoldsEntries db s) }
     ensures told { HasCleanDisk (state S.Store conn.new) → (db : Database) → IsOfficeSchema db.schema → RestsAt db (state S.Store conn.old)
         → IfErr result (TellsNoState db) }
+    ensures fails { HasCleanDisk (state S.Store conn.new) → (db : Database) → IsOfficeSchema db.schema → RestsAt db (state S.Store conn.old)
+        → IfErr result (FailsToList db (state S.Store conn.old) (state S.Store conn.new)) }
     ensures opens { HasCleanDisk (state S.Store conn.new) → OnOk result (IsTrue (state S.Store conn.new).is_open) }
     ensures reads { OnlyReads (state S.Store conn.old) (state S.Store conn.new) }
     ensures outside { conn.new.in_transaction ≡ false }
@@ -129,13 +133,15 @@ fn check_tables<S: Alter>(alloc: Global, conn: &mut Connection<S>) -> Result<(),
 /// in this order: `WrongDatabase` where there is no office table or no row in it; `Damaged` where
 /// that table is no office's, and `NewerSchema` where its version is above 1, before another
 /// table is looked at; then `Damaged` where a table is missing or the rows are those of no state.
-/// `Memory` and `Store` may be told at any point.
+/// `Memory` may be told at any point, and `Store` where the store failed or rowids aren't the rows' own.
 pub fn check<S: Alter>(alloc: Global, conn: &mut Connection<S>) -> Result<(), Fault>
     requires { conn.old.in_transaction ≡ false }
     ensures holds { HasCleanDisk (state S.Store conn.new) → (db : Database) → IsOurs db.schema → RestsAt db (state S.Store conn.old)
         → OnOk result ((s : OfficeState) × HoldsState db s) }
     ensures told { HasCleanDisk (state S.Store conn.new) → (db : Database) → IsOurs db.schema → RestsAt db (state S.Store conn.old)
         → IfErr result (IsToldBy db) }
+    ensures fails { HasCleanDisk (state S.Store conn.new) → (db : Database) → IsOurs db.schema → RestsAt db (state S.Store conn.old)
+        → IfErr result (FailsToList db (state S.Store conn.old) (state S.Store conn.new)) }
     ensures opens { HasCleanDisk (state S.Store conn.new) → OnOk result (IsTrue (state S.Store conn.new).is_open) }
     ensures reads { OnlyReads (state S.Store conn.old) (state S.Store conn.new) }
     ensures outside { conn.new.in_transaction ≡ false }

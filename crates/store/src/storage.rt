@@ -10,7 +10,7 @@ ghost use Rattle.register.specs.Effects.{change_entry, with_change};
 ghost use Rattle.sqlite.specs.Effect.{Database};
 ghost use Rattle.tables.specs.Contents.{Contents, SameContents, Rests, RestsAt, Stores};
 ghost use Rattle.tables.specs.Presence.{has_some_table, has_every_table, IsOurs};
-ghost use Rattle.tables.specs.Reading.{OnlyReads};
+ghost use Rattle.tables.specs.Reading.{OnlyReads, FailsToList, FailsBy};
 ghost use Rattle.store.specs.Offices.{tables_of, ChangesTo, HoldsState, IsAt, LeavesState, Wears};
 ghost use Rattle.store.specs.Openings.{IsBlank, IsToldBy, IsLeftAt};
 
@@ -125,14 +125,19 @@ impl<S: Alter> Store<S> {
     /// Opens the office that the connection's database holds, and changes nothing.
     ///
     /// `WrongDatabase` where there is no office table or no row in it, `NewerSchema` where a later program
-    /// made it, `Damaged` where the rows are the tables of no state. `Store` too where the connection is
-    /// inside a transaction. The connection is handed back with a fault, its database as it was.
+    /// made it, `Damaged` where the rows are the tables of no state. `Store` where the store failed, where
+    /// rowids aren't the rows' own, or where the connection is inside a transaction. The connection is
+    /// handed back with a fault, its database as it was.
     pub fn open_from(alloc: Global, mut conn: Connection<S>) -> Result<Self, (Fault, Connection<S>)>
         ensures opened { IfOk result (λ store. HasCleanDisk (state S.Store store) → (db : Database) → IsOurs db.schema → RestsAt db (state S.Store conn)
             → (s : OfficeState) × HoldsState db s × IsAt s (state S.Store store)) }
         ensures told { IfErr result (λ e. HasCleanDisk (state S.Store e.1) → (db : Database) → IsOurs db.schema → RestsAt db (state S.Store conn) → IsToldBy db e.0) }
         ensures reopens { IfOk result (λ store. HasCleanDisk (state S.Store store) → (db : Database) → RestsAt db (state S.Store conn) → (s : OfficeState) → IsLeftAt s db → IsAt s (state S.Store store)) }
         ensures refuses { IfErr result (λ e. HasCleanDisk (state S.Store e.1) → (db : Database) → RestsAt db (state S.Store conn) → (s : OfficeState) → IsLeftAt s db → (e.0 ≡ Fault.Memory) ⊎ (e.0 ≡ Fault.Store)) }
+        ensures fails { IfErr result (λ e. HasCleanDisk (state S.Store e.1) → (db : Database) → IsOurs db.schema → RestsAt db (state S.Store conn)
+            → FailsToList db (state S.Store conn) (state S.Store e.1) e.0) }
+        ensures cause { IfErr result (λ e. HasCleanDisk (state S.Store e.1) → (db : Database) → RestsAt db (state S.Store conn) → (s : OfficeState) → IsLeftAt s db
+            → FailsBy (state S.Store conn) (state S.Store e.1) e.0) }
         ensures reads { IfOk result (λ store. OnlyReads (state S.Store conn) (state S.Store store)) }
         ensures reads_too { IfErr result (λ e. OnlyReads (state S.Store conn) (state S.Store e.1)) }
         ensures inside { conn.in_transaction ≡ true → result ≡ Err (Fault.Store, conn) }
@@ -150,7 +155,8 @@ impl<S: Alter> Store<S> {
     }
 
     /// Writes a change in one transaction, whole or not at all. After a fault the old tables or the new
-    /// ones may be found.
+    /// ones may be found. Each fault comes inside the transaction: what begins it is the first call, which
+    /// takes no memory and can't fail.
     pub fn commit(&mut self, change: &Change) -> Result<(), Fault>
         ensures done { HasCleanDisk (state S.Store self.new) → IsTrue (state S.Store self.old).is_open → (s : OfficeState) → IsAt s (state S.Store self.old)
             → IsState (with_change (change_entry change.now) s) → OnOk result (IsAt (with_change (change_entry change.now) s) (state S.Store self.new)) }

@@ -25,21 +25,22 @@ use Rattle.sqlite.specs.Listing.{understood, reads_listing, IsSourceOf}
 use Rattle.sqlite.specs.State.{State, HasCleanDisk, HasCause, IsNotRun, IsNoStatement, FailsToQuery, store_error}
 use Rattle.sqlite.proofs.Callers.{IsPlain, command_of}
 use Rattle.sqlite_value.specs.declared.keys.Key.{Key}
+use Rattle.sqlite_value.specs.Keys.{ascending}
 use Rattle.tables.specs.declared.fault.Fault.{Fault}
 use Rattle.tables.specs.Faults.{fault_of, TellsQuery}
-use Rattle.tables.specs.Reading.{OnlyReads, HasFailed, FailsBy}
+use Rattle.tables.specs.Reading.{OnlyReads, HasFailed, FailsBy, FailsToList}
 use Rattle.tables.specs.declared.table.Table.{Table}
 use Rattle.tables.specs.declared.table.Table.TheVariants.{Office, Ward, Candidate, Batch, Keying, Verdict, Lot, Receipt}
 use Rattle.tables.specs.declared.table.Reference.{Reference}
 use Rattle.tables.specs.declared.table.Reference.TheVariants.{WardOfBatch}
-use Rattle.tables.specs.Texts.{select_text, select_by_reference_text}
-use Rattle.tables.specs.Schema.{Definition, schema_from, place_of, places_from, tree_of, shape, columns_of, table_sought, place_sought, BeginsTo}
+use Rattle.tables.specs.Texts.{select_text, select_by_reference_text, select_rowids_text}
+use Rattle.tables.specs.Schema.{Definition, schema_from, place_of, places_from, tree_of, shape, columns_of, table_sought, place_sought, changes_rows, BeginsTo}
 use Rattle.tables.specs.Contents.{Contents, RestsAt, Rests, RestsIfOpen}
 use Rattle.tables.specs.Rows.{is_of, begins_key}
 use Rattle.tables.proofs.FaultLemmas.{query_cause}
 use Rattle.tables.proofs.ListingLemmas.{begins_to, office_of}
 use Rattle.tables.proofs.ListLemmas.{mapped_length}
-use Rattle.tables.proofs.Queries.{selects, selects_by_reference}
+use Rattle.tables.proofs.Queries.{selects, selects_by_reference, selects_rowids}
 use Rattle.tables.proofs.SelectLemmas.{query, IsSelect, tail_of, asked_of, tests_from, columns_from, ordered_from}
 
 -- ---- one read after another
@@ -68,6 +69,23 @@ fails_sooner a b c f counts (inr store) = inr (store.0, failed_sooner a b c coun
 pub fails_later : (a b c : State) (f : Fault) → OnlyReads a b → OnlyReads b c → HasCleanDisk c → FailsBy b c f → FailsBy a c f
 fails_later a b c f first second clean (inl memory) = inl memory
 fails_later a b c f first second clean (inr store) = inr (store.0, failed_later a b c first (second.clean clean) second.counts store.1)
+
+-- a fault of the store has a cause
+pub failed_by : (old new : State) (f : Fault) → FailsBy old new f → f ≡ Store → HasFailed old new
+failed_by old new f (inl memory) store = absurd (let no : Memory ≡ Store = sym memory ∙ store in cc)
+failed_by old new f (inr failed) store = failed.1
+
+-- and so where rows are listed
+pub if_fails_to_list : {X : Type 0} (db : Database) (old new : State) (r : Result X Fault) → IfErr r (FailsBy old new) → IfErr r (FailsToList db old new)
+if_fails_to_list db old new (Ok x) fails = tt
+if_fails_to_list db old new (Err f) fails = λ store. inl (failed_by old new f fails store)
+
+-- a listing after a read fails
+pub lists_later : (db : Database) (a b c : State) (f : Fault) → OnlyReads a b → OnlyReads b c → HasCleanDisk c → FailsToList db b c f → FailsToList db a c f
+lists_later db a b c f first second clean fails store = elim (fails store) [
+  | inl failed ↦ inl (failed_later a b c first (second.clean clean) second.counts failed)
+  | inr shared ↦ inr shared
+]
 
 -- ---- one query
 
@@ -210,6 +228,18 @@ pub accepts_reference : (r : Reference) (value : Value) → is_of Integer value 
 accepts_reference WardOfBatch (Int n) kind rest others views = refl
 accepts_reference WardOfBatch _ kind rest others views = absurd (true≢false (sym kind))
 
+-- a query of the rowids is accepted
+accepts_rowids : (t : Table) → changes_rows t ≡ true → (rest : List Definition) (others : List Index) (views : List View)
+    → accepts_program (schema_from (1 + place_of t) rest others views) [] (query (tree_of t) [] (col 1 0 ∷ []) ((col 1 0, ascending Binary) ∷ [])) [] ≡ true
+accepts_rowids Office changes rest others views = absurd (true≢false (sym changes))
+accepts_rowids Ward changes rest others views = refl
+accepts_rowids Candidate changes rest others views = refl
+accepts_rowids Batch changes rest others views = refl
+accepts_rowids Keying changes rest others views = absurd (true≢false (sym changes))
+accepts_rowids Verdict changes rest others views = absurd (true≢false (sym changes))
+accepts_rowids Lot changes rest others views = absurd (true≢false (sym changes))
+accepts_rowids Receipt changes rest others views = absurd (true≢false (sym changes))
+
 -- ---- the queries of a table
 
 -- all rows, under a schema that begins with the tables up to this one
@@ -217,6 +247,12 @@ pub all_fails : {X : Type 0} (t : Table) (db : Database) → BeginsTo t db.schem
 all_fails t db begins old new r clean rests tells =
     if_fails (schema_from (1 + place_of t) begins.rest begins.others begins.views) (select_text t 0) (tree_of t) _ _ _ _ ((selects t 0 (omega arith)).select begins.rest begins.others begins.views) [] refl
     (accepts t [] refl (omega arith) begins.rest begins.others begins.views) old new r clean (ap (λ (d : Database). d.schema) rests.now ∙ begins.is) tells
+
+-- the rowids of a table whose rows change
+pub rowids_fail : (t : Table) → changes_rows t ≡ true → (db : Database) → BeginsTo t db.schema → (old new : State) (f : Fault) → HasCleanDisk new → RestsAt db old → TellsQuery (select_rowids_text t) [] old new f → FailsBy old new f
+rowids_fail t changes db begins old new f clean rests tells =
+    if_fails (schema_from (1 + place_of t) begins.rest begins.others begins.views) (select_rowids_text t) (tree_of t) _ _ _ _ ((selects_rowids t changes).select begins.rest begins.others begins.views) [] refl
+    (accepts_rowids t changes begins.rest begins.others begins.views) {X = ℕ} old new (Err f) clean (ap (λ (d : Database). d.schema) rests.now ∙ begins.is) tells
 
 -- the schema of an office, which is seen if the connection is open
 begun : (t : Table) (c : Contents) (s : State) → (IsTrue s.is_open → Rests c s) → IsTrue s.is_open → BeginsTo t s.now.schema

@@ -5,7 +5,7 @@ use Rattle.std.specs.Ordering.{is_eq, eq_by_cmp, ordering_reverse}
 use Rattle.std.specs.Cmp.{IsTotalOrder}
 use Rattle.std.specs.List.Sorted.{IsPermutation, IsSorted, IsStrictlySortedBy}
 use Rattle.std.proofs.lemmas.Bool.{and_parts, and_from, true≢false, false≢true}
-use Rattle.std.proofs.lemmas.Cmp.{eq_by_cmp_equiv}
+use Rattle.std.proofs.lemmas.Cmp.{eq_by_cmp_equiv, tied_itself}
 use Rattle.std.proofs.lemmas.Map.Keys.{IsDistinct-from_sorted, IsDistinct-IsPermutation, apart_from_distinct, sorted_head, sorted_tail}
 use Rattle.std.proofs.lemmas.List.Sorted.{IsPermutation-sym, IsPermutation-map, IsPermutation-trans}
 use Rattle.sqlite_rules.specs.Lists.{Has}
@@ -20,14 +20,16 @@ use Rattle.sqlite.specs.Kind.{Kind}
 use Rattle.sqlite.specs.Kind.TheVariants.{Integer, Text as Words, Blob as Bytes}
 use Rattle.sqlite.specs.Order.{Row}
 use Rattle.sqlite.specs.Schema.{Schema}
+use Rattle.sqlite.specs.Tree.{Trees, rowid}
+use Rattle.sqlite.specs.View.{is_int}
 use Rattle.sqlite.specs.Effect.{Database, IsDatabase}
 use Rattle.tables.specs.declared.table.Table.{Table}
 use Rattle.tables.specs.declared.table.Table.TheVariants.{Office, Ward, Candidate, Batch, Keying, Verdict, Lot, Receipt}
-use Rattle.tables.specs.Schema.{definition, columns_of, tree_of, BeginsTo}
-use Rattle.tables.specs.Rows.{tuples, at, column_places, is_row_of, is_of, are_of, begins_with, row_cmp}
+use Rattle.tables.specs.Schema.{definition, columns_of, tree_of, changes_rows, BeginsTo}
+use Rattle.tables.specs.Rows.{tuples, at, column_places, is_row_of, is_of, are_of, begins_with, row_cmp, HasWrongRowid, RepeatsRowid}
 use Rattle.tables.specs.Contents.{HoldsTable}
 use Rattle.tables.specs.Reading.{Lists, ListsKeyed, HoldsNone, HasOther, FailsToRise}
-use Rattle.tables.proofs.ListLemmas.{mapped_has, has_mapped, permuted_has, mapped_same, mapped_itself, all_pass, has_at}
+use Rattle.tables.proofs.ListLemmas.{mapped_length, get_mapped, mapped_has, has_mapped, permuted_has, mapped_same, mapped_itself, all_pass, has_at}
 use Rattle.tables.proofs.PlaceLemmas.{padded, pads, at_twice, typed_at}
 use Rattle.tables.proofs.OrderLemmas.{row_total, rise_all, one_key}
 
@@ -130,6 +132,24 @@ no_repeat t rows sorted fails held rise same =
     let apart = IsDistinct-IsPermutation (eq_by_cmp (row_cmp t)) (eq_by_cmp_equiv (row_total t)).symm held rows same (IsDistinct-from_sorted (row_cmp t) held rise) in
     let at_place = apart_from_distinct (eq_by_cmp (row_cmp t)) rows fails.0 (fails.0 + 1) [] apart (omega arith) fails.1 in
     false≢true (sym at_place ∙ ap is_eq (one_key t rows sorted fails))
+
+-- rowids of a table that holds a list that rises by the key are its rows' own
+pub own_rowids : (t : Table) (rows : List Row) (trees : Trees) → HoldsTable t rows trees → IsStrictlySortedBy (row_cmp t) rows → changes_rows t ≡ true → ¬ (HasWrongRowid (trees (tree_of t)) ⊎ RepeatsRowid (trees (tree_of t)))
+own_rowids t rows trees holds rise changes (inl wrong) = true≢false (sym ((holds.keyed changes).ints wrong.0 wrong.1) ∙ wrong.2)
+own_rowids t rows trees holds rise changes (inr twice) =
+    let k = twice.place in
+    let within = twice.within in
+    let first : k < length twice.ordered = omega (arith, within) in
+    let here = get_or twice.ordered k [] in
+    let next = get_or twice.ordered (k + 1) [] in
+    let back = IsPermutation-sym _ _ twice.same in
+    let one : here ≡ next = (holds.keyed changes).once here next (permuted_has here _ _ back (has_at twice.ordered k [] first)) (permuted_has next _ _ back (has_at twice.ordered (k + 1) [] within)) twice.equal in
+    let shown = map (drop 1) twice.ordered in
+    let len : length shown ≡ length twice.ordered = mapped_length (drop 1) twice.ordered in
+    let same : get_or shown k [] ≡ get_or shown (k + 1) [] = get_mapped (drop 1) twice.ordered k [] [] first ∙ ap (drop 1) one ∙ sym (get_mapped (drop 1) twice.ordered (k + 1) [] [] within) in
+    let distinct = IsDistinct-IsPermutation (eq_by_cmp (row_cmp t)) (eq_by_cmp_equiv (row_total t)).symm rows shown (IsPermutation-trans _ _ _ holds.same (IsPermutation-map (drop 1) _ _ twice.same)) (IsDistinct-from_sorted (row_cmp t) rows rise) in
+    let apart = apart_from_distinct (eq_by_cmp (row_cmp t)) shown k (k + 1) [] distinct (omega arith) (omega (arith, within, len)) in
+    false≢true (sym apart ∙ ap (λ r. is_eq (row_cmp t (get_or shown k []) r)) (sym same) ∙ ap is_eq (tied_itself (row_total t) (get_or shown k [])))
 
 pub none_held : (t : Table) (IsRow : Row → Type 0) (db : Database) (rows : List Row) → Lists t (begins_with []) db rows → HasOther IsRow rows ⊎ FailsToRise t rows → HoldsNone t IsRow db
 none_held t IsRow db rows lists (inl other) held all rise holds = no_wrong IsRow rows other held all (held_listed t db rows lists held holds)

@@ -22,7 +22,7 @@ use Rattle.sqlite.specs.Disk.{MoreFaults}
 use Rattle.tables.specs.declared.fault.Fault.{Fault}
 use Rattle.tables.specs.declared.fault.Fault.TheVariants.{Memory, Store}
 use Rattle.tables.specs.declared.table.Table.{Table}
-use Rattle.tables.specs.Rows.{tuples, at, column_places, is_row_of, begins_with, row_cmp, Keyed}
+use Rattle.tables.specs.Rows.{tuples, at, column_places, is_row_of, begins_with, row_cmp, Keyed, HasWrongRowid, RepeatsRowid}
 use Rattle.tables.specs.Contents.{Contents, HoldsTable, RestsAt}
 
 -- the text is a SELECT
@@ -56,6 +56,14 @@ HasFailed old new = MoreFaults old.faults new.faults ⊎ ((old.is_open ≡ false
 -- why a read of rows that are all entries' tells nothing: memory was wanting, or the store failed
 abbrev pub FailsBy : State → State → Fault → Type 0
 FailsBy old new f = (f ≡ Memory) ⊎ ((f ≡ Store) × HasFailed old new)
+
+-- in some table whose rows change, rowids aren't the rows' own
+abbrev pub SharesRowids : Database → Type 0
+SharesRowids db = (t : Table) × (changes_rows t ≡ true) × (HasWrongRowid (db.trees (tree_of t)) ⊎ RepeatsRowid (db.trees (tree_of t)))
+
+-- why all rows of tables can't be listed, where that is told as a fault of the store: it failed, or rowids aren't the rows' own
+abbrev pub FailsToList : Database → State → State → Fault → Type 0
+FailsToList db old new f = f ≡ Store → HasFailed old new ⊎ SharesRowids db
 
 -- the rows of the table that pass a test, each with all its columns, in the order of the key
 pub record Lists (t : Table) (test : Row → Bool) (db : Database) (rows : List Row) : Type 0 where

@@ -8,7 +8,7 @@ ghost use Rattle.tables.specs.Schema.{BeginsTo};
 ghost use Rattle.std.specs.List.Sorted.{IsStrictlySortedBy};
 ghost use Rattle.tables.specs.Rows.{at, column_places, row_cmp};
 ghost use Rattle.tables.specs.Contents.{RestsAt};
-ghost use Rattle.tables.specs.Reading.{OnlyReads, ListsKeyed, ListsEntries, HasOther, HoldsNone};
+ghost use Rattle.tables.specs.Reading.{OnlyReads, FailsToList, ListsKeyed, ListsEntries, HasOther, HoldsNone};
 
 use crate::entry::Entries;
 use crate::fault::Fault;
@@ -45,6 +45,8 @@ pub fn keyed_rows<S: Alter>(conn: &mut Connection<S>, table: Table) -> Result<Ve
     ensures outside { conn.new.in_transaction ≡ false }
     ensures cause { HasCleanDisk (state S.Store conn.new) → (db : Database) → BeginsTo table db.schema → RestsAt db (state S.Store conn.old)
         → IfErr result (λ f. (f ≡ Fault.Memory) ⊎ (f ≡ Fault.Store)) }
+    ensures fails { HasCleanDisk (state S.Store conn.new) → (db : Database) → BeginsTo table db.schema → RestsAt db (state S.Store conn.old)
+        → IfErr result (FailsToList db (state S.Store conn.old) (state S.Store conn.new)) }
 {
     if !table.changes_rows() {
         return all_rows(conn, table);
@@ -65,6 +67,8 @@ pub fn all_entries<E: Entries, S: Alter>(
         → IfOk result (λ found. ListsEntries E.TABLE db (map E.row_of found.items)) }
     ensures cause { HasCleanDisk (state S.Store conn.new) → (db : Database) → BeginsTo E.TABLE db.schema → RestsAt db (state S.Store conn.old)
         → IfErr result (λ f. (f ≡ Fault.Memory) ⊎ ((f ≡ Fault.Store) ⊎ ((f ≡ Fault.Damaged) × HoldsNone E.TABLE E.is_row db))) }
+    ensures fails { HasCleanDisk (state S.Store conn.new) → (db : Database) → BeginsTo E.TABLE db.schema → RestsAt db (state S.Store conn.old)
+        → IfErr result (FailsToList db (state S.Store conn.old) (state S.Store conn.new)) }
     ensures rise { IfOk result (λ found. IsStrictlySortedBy (row_cmp E.TABLE) (map E.row_of found.items)) }
     ensures opens { HasCleanDisk (state S.Store conn.new) → OnOk result (IsTrue (state S.Store conn.new).is_open) }
     ensures reads { OnlyReads (state S.Store conn.old) (state S.Store conn.new) }

@@ -11,7 +11,7 @@ ghost use Rattle.tables.specs.Texts.{select_rowids_text};
 ghost use Rattle.tables.specs.Schema.{BeginsTo, tree_of, changes_rows};
 ghost use Rattle.tables.specs.Rows.{Keyed, HasWrongRowid, RepeatsRowid};
 ghost use Rattle.tables.specs.Contents.{RestsAt};
-ghost use Rattle.tables.specs.Reading.{OnlyReads, ListsRowids, RowidsRise, RowidsFailToRise};
+ghost use Rattle.tables.specs.Reading.{OnlyReads, ListsRowids, RowidsRise, RowidsFailToRise, FailsToList};
 ghost use Rattle.tables.specs.Faults.{TellsQuery};
 
 use crate::cells::integer_at;
@@ -85,6 +85,8 @@ pub fn check_rowids<S: Alter>(conn: &mut Connection<S>, table: Table) -> Result<
     ensures cause { HasCleanDisk (state S.Store conn.new) → (db : Database) → BeginsTo table db.schema → RestsAt db (state S.Store conn.old)
         → IfErr result (λ f. TellsQuery (select_rowids_text table) [] (state S.Store conn.old) (state S.Store conn.new) f
         ⊎ ((f ≡ Fault.Memory) ⊎ ((f ≡ Fault.Store) × (HasWrongRowid (db.trees (tree_of table)) ⊎ RepeatsRowid (db.trees (tree_of table)))))) }
+    ensures fails { HasCleanDisk (state S.Store conn.new) → (db : Database) → BeginsTo table db.schema → RestsAt db (state S.Store conn.old)
+        → IfErr result (FailsToList db (state S.Store conn.old) (state S.Store conn.new)) }
 {
     let rows = all_rowids(conn, table)?;
     check_each(&rows)?;

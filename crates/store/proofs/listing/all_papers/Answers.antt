@@ -4,6 +4,7 @@ use Rattle.std.proofs.lemmas.Result.{err_from_is_err_and}
 use Rattle.tables.specs.declared.table.Table.TheVariants.{Batch, Keying, Verdict}
 use Rattle.store.specs.EntryRows.{IsBatchRow, IsKeyedRow, IsJudgedRow}
 use Rattle.tables.proofs.ReadLemmas.{only_reads_then}
+use Rattle.tables.proofs.CauseLemmas.{lists_later}
 use Rattle.tables.proofs.ListingLemmas.{begins_to}
 use Rattle.store.proofs.FitLemmas.{batches_fit, keyings_fit, verdicts_fit}
 use Rattle.store.proofs.TellLemmas.{told_entries}
@@ -53,3 +54,25 @@ returns-in_err-verdicts-clause-told g c clean db has rests =
     let late = c.all_entries-2.ensures.reads.rests second (c.in_ok-keyings.ensures.opens second) db mid in
     let p = err_from_is_err_and c.from_residual-in_err-verdicts.result c.from_residual-in_err-verdicts.ensures.1 in
     rw (p.1, p.2) (told_entries Verdict IsJudgedRow refl verdicts_fit db _ (c.in_err-verdicts.ensures.cause clean db (begins_to Verdict db.schema has) late))
+
+pub returns-in_err-batches-clause-fails : goal.returns-in_err-batches-clause-fails
+returns-in_err-batches-clause-fails g c clean db has rests =
+    let p = err_from_is_err_and c.from_residual.result c.from_residual.ensures.1 in
+    rw (p.1, p.2) (c.in_err-batches.ensures.fails clean db (begins_to Batch db.schema has) rests)
+
+pub returns-in_err-keyings-clause-fails : goal.returns-in_err-keyings-clause-fails
+returns-in_err-keyings-clause-fails g c clean db has rests =
+    let before = c.all_entries-2.ensures.reads.clean clean in
+    let mid = c.all_entries.ensures.reads.rests before (c.in_ok-batches.ensures.opens before) db rests in
+    let p = err_from_is_err_and c.from_residual-in_err-keyings.result c.from_residual-in_err-keyings.ensures.1 in
+    rw (p.1, p.2) (lists_later db _ _ _ _ c.all_entries.ensures.reads c.all_entries-2.ensures.reads clean (c.in_err-keyings.ensures.fails clean db (begins_to Keying db.schema has) mid))
+
+pub returns-in_err-verdicts-clause-fails : goal.returns-in_err-verdicts-clause-fails
+returns-in_err-verdicts-clause-fails g c clean db has rests =
+    let second = c.all_entries-3.ensures.reads.clean clean in
+    let before = c.all_entries-2.ensures.reads.clean second in
+    let mid = c.all_entries.ensures.reads.rests before (c.in_ok-batches.ensures.opens before) db rests in
+    let late = c.all_entries-2.ensures.reads.rests second (c.in_ok-keyings.ensures.opens second) db mid in
+    let p = err_from_is_err_and c.from_residual-in_err-verdicts.result c.from_residual-in_err-verdicts.ensures.1 in
+    let both = only_reads_then _ _ _ c.all_entries.ensures.reads c.all_entries-2.ensures.reads in
+    rw (p.1, p.2) (lists_later db _ _ _ _ both c.all_entries-3.ensures.reads clean (c.in_err-verdicts.ensures.fails clean db (begins_to Verdict db.schema has) late))

@@ -1,6 +1,7 @@
 -- Why `all_rows` keeps its promise.
 use Rattle.std.proofs.lemmas.Result.{err_from_is_err_and}
 use Rattle.tables.proofs.ReadLemmas.{only_reads_then}
+use Rattle.tables.proofs.CauseLemmas.{lists_later}
 use Rattle.store.proofs.ListsLemmas.{lists_maps, rows_of_maps_rise}
 use Rattle.store.proofs.listing.all_rows.Goals as goal
 
@@ -44,3 +45,25 @@ returns-in_err-lots-clause-told g c clean db has rests =
     let late = c.all_papers.ensures.reads.rests second (c.in_ok-batches.ensures.opens second) db mid in
     let p = err_from_is_err_and c.from_residual-in_err-lots.result c.from_residual-in_err-lots.ensures.1 in
     rw (p.1, p.2) (c.in_err-lots.ensures.told clean db has late)
+
+pub returns-in_err-wards-clause-fails : goal.returns-in_err-wards-clause-fails
+returns-in_err-wards-clause-fails g c clean db has rests =
+    let p = err_from_is_err_and c.from_residual.result c.from_residual.ensures.1 in
+    rw (p.1, p.2) (c.in_err-wards.ensures.fails clean db has rests)
+
+pub returns-in_err-batches-clause-fails : goal.returns-in_err-batches-clause-fails
+returns-in_err-batches-clause-fails g c clean db has rests =
+    let before = c.all_papers.ensures.reads.clean clean in
+    let mid = c.all_contests.ensures.reads.rests before (c.in_ok-wards.ensures.opens before) db rests in
+    let p = err_from_is_err_and c.from_residual-in_err-batches.result c.from_residual-in_err-batches.ensures.1 in
+    rw (p.1, p.2) (lists_later db _ _ _ _ c.all_contests.ensures.reads c.all_papers.ensures.reads clean (c.in_err-batches.ensures.fails clean db has mid))
+
+pub returns-in_err-lots-clause-fails : goal.returns-in_err-lots-clause-fails
+returns-in_err-lots-clause-fails g c clean db has rests =
+    let second = c.all_records.ensures.reads.clean clean in
+    let before = c.all_papers.ensures.reads.clean second in
+    let mid = c.all_contests.ensures.reads.rests before (c.in_ok-wards.ensures.opens before) db rests in
+    let late = c.all_papers.ensures.reads.rests second (c.in_ok-batches.ensures.opens second) db mid in
+    let p = err_from_is_err_and c.from_residual-in_err-lots.result c.from_residual-in_err-lots.ensures.1 in
+    let both = only_reads_then _ _ _ c.all_contests.ensures.reads c.all_papers.ensures.reads in
+    rw (p.1, p.2) (lists_later db _ _ _ _ both c.all_records.ensures.reads clean (c.in_err-lots.ensures.fails clean db has late))

@@ -5,6 +5,7 @@ use Rattle.sqlite.specs.Held.{state}
 use Rattle.tables.specs.declared.table.Table.TheVariants.{Office}
 use Rattle.tables.specs.Presence.{has_table, has_every_table}
 use Rattle.tables.proofs.ReadLemmas.{only_reads_then}
+use Rattle.tables.proofs.CauseLemmas.{lists_later}
 use Rattle.store.proofs.TellLemmas.{answered, sound_at, told_office, told_tables, this_office, missing_damaged, state_held}
 use Rattle.store.proofs.opening.check.Goals as goal
 
@@ -56,3 +57,19 @@ returns-clause-holds g c clean db ours rests =
     let every = ours.every (answered has_every_table db (state g.S.Store c.check_office.new.conn) mid c.has_every_table.result true c.has_every_table.ensures.value all) in
     let tables = c.in_ok-check_tables.ensures.holds clean db every sound mid in
     (tables.0, state_held db every sound (c.in_ok-check_office.ensures.holds before db (ours.office there) sound rests) tables.0 tables.1)
+
+pub returns-in_err-check_office-clause-fails : goal.returns-in_err-check_office-clause-fails
+returns-in_err-check_office-clause-fails g c clean db ours rests =
+    let yes : c.has_table.result ≡ true = search rules in
+    let there = answered (has_table Office) db (state g.S.Store c.args.conn.now) rests c.has_table.result true c.has_table.ensures.value yes in
+    let p = err_from_is_err_and c.from_residual.result c.from_residual.ensures.1 in
+    rw (p.1, p.2) (c.in_err-check_office.ensures.fails clean db (ours.office there) rests)
+
+pub returns-in_err-check_tables-clause-fails : goal.returns-in_err-check_tables-clause-fails
+returns-in_err-check_tables-clause-fails g c clean db ours rests =
+    let all : c.has_every_table.result ≡ true = search rules in
+    let before = c.check_tables.ensures.reads.clean clean in
+    let mid = c.check_office.ensures.reads.rests before (c.in_ok-check_office.ensures.opens before) db rests in
+    let every = answered has_every_table db (state g.S.Store c.check_office.new.conn) mid c.has_every_table.result true c.has_every_table.ensures.value all in
+    let p = err_from_is_err_and c.from_residual-in_err-check_tables.result c.from_residual-in_err-check_tables.ensures.1 in
+    rw (p.1, p.2) (lists_later db _ _ _ _ c.check_office.ensures.reads c.check_tables.ensures.reads clean (c.in_err-check_tables.ensures.fails clean db (ours.every every) mid))

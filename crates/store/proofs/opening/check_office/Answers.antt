@@ -1,5 +1,7 @@
 -- Why `check_office` keeps its promise.
+use Rattle.std.proofs.Common.{subst}
 use Rattle.std.proofs.lemmas.Result.{err_from_is_err_and}
+use Rattle.store.specs.Openings.{TellsRows}
 use Rattle.store.proofs.TellLemmas.{store_office, version_held, office_told}
 use Rattle.store.proofs.opening.check_office.Goals as goal
 
@@ -17,3 +19,13 @@ pub returns-in_err-check_rows-clause-told : goal.returns-in_err-check_rows-claus
 returns-in_err-check_rows-clause-told g c clean db begins sound rests =
     let p = err_from_is_err_and c.from_residual-in_err-check_rows.result c.from_residual-in_err-check_rows.ensures.1 in
     rw (p.1, p.2) (office_told db begins sound c.in_ok-rows.rows.items (c.in_ok-rows.ensures.lists clean db begins rests) _ (rw c.deref.ensures.value at c.in_err-check_rows.ensures.told))
+
+pub returns-in_err-rows-clause-fails : goal.returns-in_err-rows-clause-fails
+returns-in_err-rows-clause-fails g c clean db has rests =
+    let p = err_from_is_err_and c.from_residual.result c.from_residual.ensures.1 in
+    rw (p.1, p.2) (c.in_err-rows.ensures.fails clean db has rests)
+
+pub returns-in_err-check_rows-clause-fails : goal.returns-in_err-check_rows-clause-fails
+returns-in_err-check_rows-clause-fails g c clean db has rests =
+    let p = err_from_is_err_and c.from_residual-in_err-check_rows.result c.from_residual-in_err-check_rows.ensures.1 in
+    rw (p.1, p.2) (λ store. absurd (subst (TellsRows c.deref.result.now) store c.in_err-check_rows.ensures.told))

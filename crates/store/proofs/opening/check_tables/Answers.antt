@@ -1,9 +1,10 @@
 -- Why `check_tables` keeps its promise.
-use Rattle.std.proofs.Common.{◌≡◌, true, false, subst, rules}
+use Rattle.std.proofs.Common.{◌≡◌, true, false, sym, ◌∙◌, subst, rules}
 use Rattle.std.proofs.lemmas.Result.{err_from_is_err_and}
 use Rattle.register.specs.Offices.{OfficeState}
 use Rattle.register.specs.Items.{IsState}
 use Rattle.rowcheck.specs.States.{state_of}
+use Rattle.tables.specs.declared.fault.Fault.TheVariants.{Memory, Store}
 use Rattle.store.proofs.TellLemmas.{maps_are, entries_held}
 use Rattle.store.proofs.opening.check_tables.Goals as goal
 
@@ -24,3 +25,14 @@ pub returns-in_err-rows-clause-told : goal.returns-in_err-rows-clause-told
 returns-in_err-rows-clause-told g c clean db has rests =
     let p = err_from_is_err_and c.from_residual.result c.from_residual.ensures.1 in
     rw (p.1, p.2) (c.in_err-rows.ensures.told clean db has rests)
+
+pub returns-in_err-rows-clause-fails : goal.returns-in_err-rows-clause-fails
+returns-in_err-rows-clause-fails g c clean db has rests =
+    let p = err_from_is_err_and c.from_residual.result c.from_residual.ensures.1 in
+    rw (p.1, p.2) (c.in_err-rows.ensures.fails clean db has rests)
+
+pub returns-in_err-of_state-clause-fails : goal.returns-in_err-of_state-clause-fails
+returns-in_err-of_state-clause-fails g c clean db has rests =
+    let p = err_from_is_err_and c.from_residual-in_err-of_state.result c.from_residual-in_err-of_state.ensures.1 in
+    let memory = c.in_err-of_state.ensures.cause in
+    rw (p.1, p.2) (λ store. absurd (let no : Memory ≡ Store = sym memory ∙ store in cc))

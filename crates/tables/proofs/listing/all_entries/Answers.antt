@@ -3,6 +3,7 @@ use Rattle.std.proofs.Common.{◌≡◌, inl, inr, [], map, refl, sym, subst, �
 use Rattle.std.proofs.lemmas.Result.{err_from_is_err_and}
 use Rattle.std.specs.List.Sorted.{IsStrictlySortedBy}
 use Rattle.tables.specs.Rows.{at, column_places, begins_with, is_row_of, row_cmp}
+use Rattle.tables.specs.declared.fault.Fault.TheVariants.{Memory, Store, Damaged}
 use Rattle.tables.specs.Reading.{ListsKeyed}
 use Rattle.tables.proofs.ListLemmas.{all_mapped}
 use Rattle.tables.proofs.HoldLemmas.{shown_rows, none_held}
@@ -47,3 +48,16 @@ returns-in_err-entries-clause-cause g c clean db begins rests =
       | inl memory ↦ inl memory
       | inr wrong ↦ inr (inr (wrong.0, none_held g.E.Entries.TABLE g.E.Entries.is_row db c.in_ok-rows.rows.items keyed.lists (inl (rw c.deref-2.ensures.value at wrong.1))))
     ])
+
+pub returns-in_err-rows-clause-fails : goal.returns-in_err-rows-clause-fails
+returns-in_err-rows-clause-fails g c clean db begins rests =
+    let p = err_from_is_err_and c.from_residual.result c.from_residual.ensures.1 in
+    rw (p.1, p.2) ((rw c.TABLE.ensures at (c.in_err-rows.ensures.fails clean db)) begins rests)
+
+pub returns-in_err-entries-clause-fails : goal.returns-in_err-entries-clause-fails
+returns-in_err-entries-clause-fails g c clean db begins rests =
+    let p = err_from_is_err_and c.from_residual-in_err-entries.result c.from_residual-in_err-entries.ensures.1 in
+    rw (p.1, p.2) (λ store. absurd (elim c.in_err-entries.ensures.cause [
+      | inl memory ↦ let no : Memory ≡ Store = sym memory ∙ store in cc
+      | inr wrong ↦ let no : Damaged ≡ Store = sym wrong.0 ∙ store in cc
+    ]))

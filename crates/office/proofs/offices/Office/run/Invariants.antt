@@ -1,10 +1,9 @@
-use Rattle.std.proofs.Common.{◌≡◌, ◌≤◌, false, length, map, take, vec_len, vec_capacity}
+use Rattle.std.proofs.Common.{◌≡◌, ◌≤◌, length, map, take, vec_len, vec_capacity}
 use Rattle.sqlite.specs.State.{HasCleanDisk}
 use Rattle.sqlite.specs.Held.{state}
-use Rattle.register.specs.Offices.{OfficeState}
 use Rattle.register.specs.Machine.{after}
-use Rattle.store.specs.Offices.{IsAt, Wears}
-use Rattle.office.specs.Answers.{IsOpenAt, told, told_of}
+use Rattle.store.specs.Offices.{Wears}
+use Rattle.office.specs.Answers.{WhenOpenAt, IsOpenAt, told, told_of}
 use Rattle.office.specs.Runs.{outcomes}
 use Rattle.office.proofs.offices.Office.run.Given as goal
 
@@ -14,8 +13,6 @@ invariant-loop-request g l = record {
   room : length l.requests ≤ vec_capacity l.answers;
   clean : HasCleanDisk (state g.S.Store l.self.held) → HasCleanDisk (state g.S.Store l.initial.self.held);
   wears : Wears (state g.S.Store l.initial.self.held) (state g.S.Store l.self.held);
-  open_at : HasCleanDisk (state g.S.Store l.self.held) → l.initial.self.closed ≡ false → (s : OfficeState) → IsAt s (state g.S.Store l.initial.self.held)
-      → IsOpenAt (after s (take l.request-index l.requests)) l.self.closed (state g.S.Store l.self.held);
-  answers : HasCleanDisk (state g.S.Store l.self.held) → l.initial.self.closed ≡ false → (s : OfficeState) → IsAt s (state g.S.Store l.initial.self.held)
-      → map told l.answers.items ≡ map told_of (outcomes s (take l.request-index l.requests));
+  open_at : WhenOpenAt (state g.S.Store) l.initial.self l.self (λ s. IsOpenAt (after s (take l.request-index l.requests)) l.self.closed (state g.S.Store l.self.held));
+  answers : WhenOpenAt (state g.S.Store) l.initial.self l.self (λ s. map told l.answers.items ≡ map told_of (outcomes s (take l.request-index l.requests)));
 }
