@@ -46,7 +46,9 @@ fn count_of(it_is: bool) -> usize
 /// What some batches and others come to together. A sum past the highest number that can be counted is
 /// that number; an office has none, with at most 9999 batches of 500 papers.
 fn both(some: Tally, others: Tally) -> Tally
-    ensures { (result.taken ≡ min (some.taken + others.taken) (2 ^ 64 - 1)) × (result.differing ≡ min (some.differing + others.differing) (2 ^ 64 - 1)) × (result.doubtful_open ≡ min (some.doubtful_open + others.doubtful_open) (2 ^ 64 - 1)) }
+    ensures taken { result.taken ≡ min (some.taken + others.taken) (2 ^ 64 - 1) }
+    ensures differing { result.differing ≡ min (some.differing + others.differing) (2 ^ 64 - 1) }
+    ensures doubtful_open { result.doubtful_open ≡ min (some.doubtful_open + others.doubtful_open) (2 ^ 64 - 1) }
 {
     Tally {
         taken: some.taken.saturating_add(others.taken),

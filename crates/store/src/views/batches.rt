@@ -101,7 +101,8 @@ pub(crate) fn polled_batch<S: Alter>(
 ) -> Result<PolledBatch, Fault>
     requires { conn.old.in_transaction ≡ false }
     ensures { Reads (state S.Store conn.old) (state S.Store conn.new) result
-        (λ s found. (option_map batch_entry found.batch ≡ batch_at s batch) × (option_map ward_entry found.ward ≡ ward_for s (batch_at s batch)) × (map candidate_entry found.candidates.items ≡ candidates_for s (batch_at s batch))) }
+        (λ s found. (option_map batch_entry found.batch ≡ batch_at s batch) × (option_map ward_entry found.ward ≡ ward_for s (batch_at s batch))
+        × (map candidate_entry found.candidates.items ≡ candidates_for s (batch_at s batch))) }
 {
     let batch = find_batch(conn, batch)?;
     let ward = ward_of(conn, &batch)?;

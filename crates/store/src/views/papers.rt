@@ -161,7 +161,14 @@ pub(crate) fn verdict_part<S: Alter>(
 ) -> Result<Part, Fault>
     requires { conn.old.in_transaction ≡ false }
     ensures { Reads (state S.Store conn.old) (state S.Store conn.new) result
-        (λ s part. part_entries part ≡ record empty_part { ward = ward_for s (batch_at s batch); candidates = candidates_for s (batch_at s batch); batch = batch_at s batch; first = first_for s (batch_at s batch); second = second_for s (batch_at s batch); verdict = verdict_at s batch paper }) }
+        (λ s part. part_entries part ≡ record empty_part {
+          ward = ward_for s (batch_at s batch);
+          candidates = candidates_for s (batch_at s batch);
+          batch = batch_at s batch;
+          first = first_for s (batch_at s batch);
+          second = second_for s (batch_at s batch);
+          verdict = verdict_at s batch paper;
+        }) }
 {
     let PolledBatch {
         batch: polled,

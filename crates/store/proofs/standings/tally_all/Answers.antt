@@ -13,8 +13,11 @@ pub loop-batch-preserved : goal.loop-batch-preserved
 loop-batch-preserved g c =
     let k = c.loop-batch.batch-index in
     let next = entries_more batch_entry c.args.batches.now k no_batch c.loop-batch-test.true in
+    let sum = c.both-tally in
     reads_as (reads_both c.loop-batch.invariant c.in_ok-one.ensures)
-    (λ s is told. subst (λ (l : List BatchEntry). IsTally s l c.both-tally.result) (sym next) (more_tally s (take k (map batch_entry c.args.batches.now)) _ c.loop-batch.tally c.in_ok-one.one c.both-tally.result told.0 told.1 c.both-tally.ensures))
+    (λ s is told.
+    subst (λ (l : List BatchEntry). IsTally s l sum.result) (sym next)
+    (more_tally s (take k (map batch_entry c.args.batches.now)) _ c.loop-batch.tally c.in_ok-one.one sum.result told.0 told.1 (sum.ensures.taken, sum.ensures.differing, sum.ensures.doubtful_open)))
 
 pub returns-in_err-one : goal.returns-in_err-one
 returns-in_err-one g c = reads_cut c.from_residual.ensures.1 c.loop-batch.invariant c.in_err-one.ensures
