@@ -1,5 +1,5 @@
 -- What is read for the count of a ward is what the state has.
-use Rattle.std.proofs.Common.{◌≡◌, ◌≤◌, ℕ, Option, Some, None, MatchOption, option_map, length, true, refl, sym, ap, subst, ◌∙◌}
+use Rattle.std.proofs.Common.{◌≡◌, ◌≤◌, ℕ, Option, Some, None, MatchOption, option_map, length, true, refl, ap, subst, ◌∙◌}
 use Rattle.register.specs.Offices.{WardEntry, OfficeState, ward_at}
 use Rattle.register.specs.declared.elections.Election.{Election}
 use Rattle.register.specs.Elections.{ElectionEntry, election_of, election_entry, has_count, contest_of}

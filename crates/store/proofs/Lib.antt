@@ -13,3 +13,4 @@ pub mod TallyLemmas
 pub mod WorkLemmas
 pub mod PartLemmas
 pub mod ElectionLemmas
+pub mod ReadsLemmas

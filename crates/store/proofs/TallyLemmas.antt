@@ -1,11 +1,18 @@
 -- Why the tallies of batches are those of the state.
-use Rattle.std.proofs.Common.{◌≡◌, ℕ, ◌+◌, Bool, true, false, cond, List, [], ◌∷◌, ◌++◌, map, filter, length, refl, sym, ap, ◌∙◌, arith}
+use Rattle.std.proofs.Common.{◌≡◌, ℕ, ◌+◌, ◌-◌, ◌^◌, ◌<◌, ◌≤◌, ◌==◌, min, Bool, true, false, cond, List, [], ◌∷◌, ◌++◌, map, filter, length, refl, ap, ◌∙◌, arith}
+use Rattle.std.proofs.lemmas.Bool.{and_parts}
 use Rattle.std.proofs.lemmas.List.Elements.{filter-append}
+use Rattle.std.proofs.lemmas.List.Kept.{IsStrictlySortedBy-filter}
 use Rattle.std.proofs.lemmas.List.{length-append}
 use Rattle.register.specs.declared.verdicts.JudgedPaper.{JudgedPaper}
-use Rattle.register.specs.Offices.{BatchEntry, OfficeState, keyed_entry, judged_entry, verdicts_of}
-use Rattle.register.specs.Papers.{are_taken, differ, is_taken, is_differing, is_open, open_in, open_among, first_keying, second_keying}
+use Rattle.register.specs.Offices.{BatchEntry, OfficeState, keyed_entry, judged_entry, verdicts_of, batch_cmp}
+use Rattle.register.specs.Papers.{are_taken, differ, is_taken, is_differing, is_open, open_in, open_among, first_keying, second_keying, batches_of, taken_of, differing_of}
+use Rattle.register.specs.Keyed.{are_rounds_to}
+use Rattle.register.specs.Items.{IsState, is_batch}
+use Rattle.register.specs.Polls.{pile_of, judgement_on, judgements}
 use Rattle.register.specs.Standings.{StatusEntry}
+use Rattle.register.proofs.MapLemmas.{kept_all}
+use Rattle.register.proofs.ContestLemmas.{length_map, few_among, few_batches}
 use Rattle.store.specs.declared.standings.Tally.{Tally}
 use Rattle.store.specs.declared.views.papers.Keyings.{Keyings}
 use Rattle.store.specs.Tallies.{tally_by, IsTally}
@@ -33,9 +40,9 @@ one_tally s b keyings verdicts first second judged =
     let differing : differ one other ≡ is_differing s b = ap (λ ks. differ ks other) first ∙ ap (differ (first_keying s b)) second in
     let opens : length (filter (is_open (map judged_entry verdicts)) one) ≡ open_in s b = ap (λ vs. length (filter (is_open vs) one)) judged ∙ ap (λ ks. length (filter (is_open (verdicts_of s b.number)) ks)) first in
     record {
-      taken = ap (λ q. cond q 1 0) taken ∙ one_there b (is_taken s b);
-      differing = ap (λ q. cond q 1 0) differing ∙ one_there b (is_differing s b);
-      doubtful_open = ap (λ q. cond q (length (filter (is_open (map judged_entry verdicts)) one)) 0) taken ∙ ap (λ n. cond (is_taken s b) n 0) opens ∙ open_there s b (is_taken s b);
+      taken = λ few. ap (λ q. cond q 1 0) taken ∙ one_there b (is_taken s b);
+      differing = λ few. ap (λ q. cond q 1 0) differing ∙ one_there b (is_differing s b);
+      doubtful_open = λ few. ap (λ q. cond q (length (filter (is_open (map judged_entry verdicts)) one)) 0) taken ∙ ap (λ n. cond (is_taken s b) n 0) opens ∙ open_there s b (is_taken s b);
     }
 
 -- ---- some batches
@@ -51,20 +58,62 @@ open_both s [] cs = plus (open_among s cs)
 open_both s (b ∷ bs) cs = let later = open_both s bs cs in omega (arith, later)
 
 pub no_tally : (s : OfficeState) (tally : Tally) → tally.taken ≡ 0 → tally.differing ≡ 0 → tally.doubtful_open ≡ 0 → IsTally s [] tally
-no_tally s tally taken differing doubtful_open = record { taken = taken; differing = differing; doubtful_open = doubtful_open }
+no_tally s tally taken differing doubtful_open = record { taken = λ few. taken; differing = λ few. differing; doubtful_open = λ few. doubtful_open }
 
 -- what some batches come to, and then one more
 pub more_tally : (s : OfficeState) (bs : List BatchEntry) (b : BatchEntry) (some one sum : Tally) → IsTally s bs some → IsTally s (b ∷ []) one
-    → (sum.taken ≡ some.taken + one.taken) × (sum.differing ≡ some.differing + one.differing) × (sum.doubtful_open ≡ some.doubtful_open + one.doubtful_open) → IsTally s (bs ++ b ∷ []) sum
+    → (sum.taken ≡ min (some.taken + one.taken) (2 ^ 64 - 1)) × (sum.differing ≡ min (some.differing + one.differing) (2 ^ 64 - 1)) × (sum.doubtful_open ≡ min (some.doubtful_open + one.doubtful_open) (2 ^ 64 - 1)) → IsTally s (bs ++ b ∷ []) sum
 more_tally s bs b some one sum first last sums =
     record {
-      taken = sums.0 ∙ both first.taken last.taken ∙ sym (counted (is_taken s) bs (b ∷ []));
-      differing = sums.1 ∙ both first.differing last.differing ∙ sym (counted (is_differing s) bs (b ∷ []));
-      doubtful_open = sums.2 ∙ both first.doubtful_open last.doubtful_open ∙ sym (ap (open_among s) (filter-append (is_taken s) bs (b ∷ [])) ∙ open_both s (filter (is_taken s) bs) (filter (is_taken s) (b ∷ [])));
+      taken = both sums.0 first.taken last.taken (counted (is_taken s) bs (b ∷ []));
+      differing = both sums.1 first.differing last.differing (counted (is_differing s) bs (b ∷ []));
+      doubtful_open = both sums.2 first.doubtful_open last.doubtful_open (ap (open_among s) (filter-append (is_taken s) bs (b ∷ [])) ∙ open_both s (filter (is_taken s) bs) (filter (is_taken s) (b ∷ [])));
     }
   where
-    both : {k l m n : ℕ} → k ≡ m → l ≡ n → k + l ≡ m + n
-    both {k} {l} {m} {n} h g = omega (arith, h, g)
+    both : {k l m n sum total : ℕ} → sum ≡ min (k + l) (2 ^ 64 - 1) → (m < 2 ^ 64 → k ≡ m) → (n < 2 ^ 64 → l ≡ n) → total ≡ m + n → total < 2 ^ 64 → sum ≡ total
+    both {k} {l} {m} {n} {sum} {total} sums first last are few =
+        let one = first (omega (arith, are, few)) in
+        let other = last (omega (arith, are, few)) in
+        omega (arith, sums, one, other, are, few)
+
+-- ---- a ward's can be counted
+
+fewer : {X : Type 0} (p : X → Bool) (xs : List X) → length (filter p xs) ≤ length xs
+fewer p [] = omega arith
+fewer p (x ∷ xs) = go (p x) (fewer p xs)
+  where
+    go : (q : Bool) → length (filter p xs) ≤ length xs → length (cond q (x ∷ filter p xs) (filter p xs)) ≤ length (x ∷ xs)
+    go true later = omega (arith, later)
+    go false later = omega (arith, later)
+
+open_fewer : (s : OfficeState) (bs : List BatchEntry) → open_among s (filter (is_taken s) bs) ≤ length (judgements [] (map (pile_of s) bs))
+open_fewer s [] = omega arith
+open_fewer s (b ∷ bs) = go (is_taken s b) (open_fewer s bs)
+  where
+    go : (q : Bool) → open_among s (filter (is_taken s) bs) ≤ length (judgements [] (map (pile_of s) bs)) → open_among s (cond q (b ∷ filter (is_taken s) bs) (filter (is_taken s) bs)) ≤ length (cond q (map (judgement_on [] (verdicts_of s b.number)) (first_keying s b)) [] ++ judgements [] (map (pile_of s) bs))
+    go true later =
+        omega (
+          arith,
+          later,
+          fewer (is_open (verdicts_of s b.number)) (first_keying s b),
+          length_map (judgement_on [] (verdicts_of s b.number)) (first_keying s b),
+          length-append (map (judgement_on [] (verdicts_of s b.number)) (first_keying s b)) (judgements [] (map (pile_of s) bs)),
+        )
+    go false later = later
+
+-- a ward of a state has at most 9999 batches, of 500 papers
+pub countable : (s : OfficeState) → IsState s → (ward : ℕ) (tally : Tally) → IsTally s (batches_of s ward) tally
+    → (tally.taken ≡ length (taken_of s ward)) × (tally.differing ≡ length (differing_of s ward)) × (tally.doubtful_open ≡ open_among s (taken_of s ward))
+countable s is ward tally as_far =
+    let of = λ (b : BatchEntry). b.ward == ward in
+    let own = batches_of s ward in
+    let good = kept_all is_batch of s.batches (and_parts _ _ (and_parts _ _ (and_parts _ _ is.in_range).1).1).0 in
+    let few = few_batches own good (IsStrictlySortedBy-filter batch_cmp of s.batches is.rise.batches) in
+    let papers = few_among s [] own good (kept_all (λ b. are_rounds_to s b b.round) of s.batches (and_parts _ _ is.keyed).1) in (
+      as_far.taken (omega (arith, few, fewer (is_taken s) own)),
+      as_far.differing (omega (arith, few, fewer (is_differing s) own)),
+      as_far.doubtful_open (omega (arith, few, papers, open_fewer s own)),
+    )
 
 -- ---- a ward
 

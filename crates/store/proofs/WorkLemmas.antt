@@ -3,7 +3,6 @@ use Rattle.std.proofs.Common.{◌≡◌, ℕ, Bool, true, false, cond, List, [],
 use Rattle.std.proofs.lemmas.List.{map-append}
 use Rattle.std.proofs.lemmas.List.Elements.{filter-append}
 use Rattle.std.specs.Option.{option_to_list}
-use Rattle.sqlite.specs.Order.{Row}
 use Rattle.register.specs.declared.status.Work.{Work}
 use Rattle.register.specs.Offices.{BatchEntry, OfficeState}
 use Rattle.register.specs.Standings.{WorkEntry, work_entry, is_work, work_on}
@@ -20,12 +19,10 @@ same_work x y batch ward columns size round keyed =
     ∙ ap (λ v. record y { round = v; keyed = x.keyed }) round
     ∙ ap (λ v. record y { keyed = v }) keyed
 
--- an entry was found where one is whose row is told
-pub found_alike : {V X : Type 0} (shown : V → Row) (row : X → Row) (v : Option V) (x : Option X) → option_map shown v ≡ option_map row x → is_some v ≡ is_some x
-found_alike shown row None None is = refl
-found_alike shown row None (Some x) is = absurd cc
-found_alike shown row (Some v) None is = absurd cc
-found_alike shown row (Some v) (Some x) is = refl
+-- an entry was found where one is
+pub found_alike : {V X : Type 0} (entry : V → X) (v : Option V) (x : Option X) → option_map entry v ≡ x → is_some v ≡ is_some x
+found_alike entry None x is = ap is_some is
+found_alike entry (Some v) x is = ap is_some is
 
 -- ---- some batches
 

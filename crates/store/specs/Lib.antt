@@ -4,3 +4,4 @@ pub mod Openings
 pub mod Listings
 pub mod Tallies
 pub mod Elections
+pub mod Reads

@@ -1,5 +1,5 @@
 -- What the batches of a ward come to.
-use Rattle.std.specs.Prelude.{◌≡◌, if◌then◌else◌, List, map, length}
+use Rattle.std.specs.Prelude.{◌≡◌, ◌<◌, ◌^◌, if◌then◌else◌, List, map, length}
 use Rattle.std.specs.List.{filter}
 use Rattle.register.specs.declared.verdicts.JudgedPaper.{JudgedPaper}
 use Rattle.register.specs.Offices.{BatchEntry, OfficeState, keyed_entry, judged_entry}
@@ -18,8 +18,8 @@ tally_by keyings verdicts =
       doubtful_open = if are_taken first second then length (filter (is_open (map judged_entry verdicts)) first) else 0;
     }
 
--- how many of some batches are taken, how many differ, and how many doubtful papers of the taken ones have no verdict
+-- how many of some batches are taken, how many differ, and how many doubtful papers of the taken ones have no verdict, each as far as can be counted
 pub record IsTally (s : OfficeState) (batches : List BatchEntry) (tally : Tally) : Type 0 where
-  pub taken : tally.taken ≡ length (filter (is_taken s) batches)
-  pub differing : tally.differing ≡ length (filter (is_differing s) batches)
-  pub doubtful_open : tally.doubtful_open ≡ open_among s (filter (is_taken s) batches)
+  pub taken : length (filter (is_taken s) batches) < 2 ^ 64 → tally.taken ≡ length (filter (is_taken s) batches)
+  pub differing : length (filter (is_differing s) batches) < 2 ^ 64 → tally.differing ≡ length (filter (is_differing s) batches)
+  pub doubtful_open : open_among s (filter (is_taken s) batches) < 2 ^ 64 → tally.doubtful_open ≡ open_among s (filter (is_taken s) batches)

@@ -1,6 +1,6 @@
 //! How a ward stands, its election, and the columns of a batch's papers, read from the tables.
 
-ghost use Rattle.std.specs.Prelude.{◌≡◌, ◌+◌, if◌then◌else◌, false, [], ◌∷◌, map, option_map, IfOk, IfErr, OnOk, IsTrue};
+ghost use Rattle.std.specs.Prelude.{◌≡◌, ◌+◌, ◌-◌, ◌^◌, min, if◌then◌else◌, false, [], ◌∷◌, map, option_map, IfOk, IfErr, OnOk, IsTrue};
 ghost use Rattle.sqlite.specs.State.{HasCleanDisk};
 ghost use Rattle.sqlite.specs.Held.{state};
 ghost use Rattle.register.specs.Offices.{OfficeState, ward_entry, batch_entry, ward_at, candidates_of, lots_of};
@@ -11,6 +11,7 @@ ghost use Rattle.register.specs.Standings.{status_entry, status_of, status_at, c
 ghost use Rattle.tables.specs.Reading.{OnlyReads, FailsBy};
 ghost use Rattle.store.specs.Offices.{IsAt};
 ghost use Rattle.store.specs.Tallies.{IsTally, tally_by};
+ghost use Rattle.store.specs.Reads.{Reads};
 
 use crate::storage::Store;
 use crate::views::batches::{find_batch, list_batches};
@@ -42,30 +43,18 @@ fn count_of(it_is: bool) -> usize
     if it_is { 1 } else { 0 }
 }
 
-/// A sum of counts. None is too large in fact: an office has at most 9999 batches, of 500 papers.
-fn sum_of(count: usize, other: usize) -> Result<usize, Fault>
-    ensures value { IfOk result (λ n. n ≡ count + other) }
-    ensures cause { IfErr result (λ f. f ≡ Fault.Memory) }
+/// What some batches and others come to together. A sum past the highest number that can be counted is
+/// that number; an office has none, with at most 9999 batches of 500 papers.
+fn both(some: Tally, others: Tally) -> Tally
+    ensures taken { result.taken ≡ min (some.taken + others.taken) (2 ^ 64 - 1) }
+    ensures differing { result.differing ≡ min (some.differing + others.differing) (2 ^ 64 - 1) }
+    ensures doubtful_open { result.doubtful_open ≡ min (some.doubtful_open + others.doubtful_open) (2 ^ 64 - 1) }
 {
-    match count.checked_add(other) {
-        Some(n) => Ok(n),
-        None => Err(Fault::Memory),
+    Tally {
+        taken: some.taken.saturating_add(others.taken),
+        differing: some.differing.saturating_add(others.differing),
+        doubtful_open: some.doubtful_open.saturating_add(others.doubtful_open),
     }
-}
-
-/// What some batches and others come to together.
-fn both(some: Tally, others: Tally) -> Result<Tally, Fault>
-    ensures sums { IfOk result (λ t. (t.taken ≡ some.taken + others.taken) × (t.differing ≡ some.differing + others.differing) × (t.doubtful_open ≡ some.doubtful_open + others.doubtful_open)) }
-    ensures cause { IfErr result (λ f. f ≡ Fault.Memory) }
-{
-    let taken = sum_of(some.taken, others.taken)?;
-    let differing = sum_of(some.differing, others.differing)?;
-    let doubtful_open = sum_of(some.doubtful_open, others.doubtful_open)?;
-    Ok(Tally {
-        taken,
-        differing,
-        doubtful_open,
-    })
 }
 
 /// What a batch comes to by its keyings and the verdicts on its papers.
@@ -93,11 +82,7 @@ fn tally_of<S: Alter>(
     batch: &Batch,
 ) -> Result<Tally, Fault>
     requires { conn.old.in_transaction ≡ false }
-    ensures found { HasCleanDisk (state S.Store conn.new) → (s : OfficeState) → IsAt s (state S.Store conn.old) → IfOk result (IsTally s (batch_entry batch.now ∷ [])) }
-    ensures cause { HasCleanDisk (state S.Store conn.new) → (s : OfficeState) → IsAt s (state S.Store conn.old) → IfErr result (FailsBy (state S.Store conn.old) (state S.Store conn.new)) }
-    ensures opens { HasCleanDisk (state S.Store conn.new) → OnOk result (IsTrue (state S.Store conn.new).is_open) }
-    ensures reads { OnlyReads (state S.Store conn.old) (state S.Store conn.new) }
-    ensures outside { conn.new.in_transaction ≡ false }
+    ensures { Reads (state S.Store conn.old) (state S.Store conn.new) result (λ s. IsTally s (batch_entry batch.now ∷ [])) }
 {
     let keyings = keyings_of(alloc, conn, batch)?;
     let verdicts = list_verdicts(alloc, conn, batch.number)?;
@@ -110,12 +95,9 @@ fn tally_all<S: Alter>(
     conn: &mut Connection<S>,
     batches: &[Batch],
 ) -> Result<Tally, Fault>
-    requires { conn.old.in_transaction ≡ false }
-    ensures found { HasCleanDisk (state S.Store conn.new) → (s : OfficeState) → IsAt s (state S.Store conn.old) → IfOk result (IsTally s (map batch_entry batches.now)) }
-    ensures cause { HasCleanDisk (state S.Store conn.new) → (s : OfficeState) → IsAt s (state S.Store conn.old) → IfErr result (FailsBy (state S.Store conn.old) (state S.Store conn.new)) }
-    ensures opens { HasCleanDisk (state S.Store conn.new) → IsTrue (state S.Store conn.old).is_open → OnOk result (IsTrue (state S.Store conn.new).is_open) }
-    ensures reads { OnlyReads (state S.Store conn.old) (state S.Store conn.new) }
-    ensures outside { conn.new.in_transaction ≡ false }
+    requires outside { conn.old.in_transaction ≡ false }
+    requires is_open { HasCleanDisk (state S.Store conn.old) → IsTrue (state S.Store conn.old).is_open }
+    ensures { Reads (state S.Store conn.old) (state S.Store conn.new) result (λ s. IsTally s (map batch_entry batches.now)) }
 {
     let mut tally = Tally {
         taken: 0,
@@ -124,7 +106,7 @@ fn tally_all<S: Alter>(
     };
     for batch in batches {
         let one = tally_of(alloc, conn, batch)?;
-        tally = both(tally, one)?;
+        tally = both(tally, one);
     }
     Ok(tally)
 }
@@ -136,11 +118,7 @@ fn ward_status<S: Alter>(
     ward: &Ward,
 ) -> Result<Status, Fault>
     requires { conn.old.in_transaction ≡ false }
-    ensures found { HasCleanDisk (state S.Store conn.new) → (s : OfficeState) → IsAt s (state S.Store conn.old) → IfOk result (λ found. status_entry found ≡ status_of s (ward_entry ward.now)) }
-    ensures cause { HasCleanDisk (state S.Store conn.new) → (s : OfficeState) → IsAt s (state S.Store conn.old) → IfErr result (FailsBy (state S.Store conn.old) (state S.Store conn.new)) }
-    ensures opens { HasCleanDisk (state S.Store conn.new) → OnOk result (IsTrue (state S.Store conn.new).is_open) }
-    ensures reads { OnlyReads (state S.Store conn.old) (state S.Store conn.new) }
-    ensures outside { conn.new.in_transaction ≡ false }
+    ensures { Reads (state S.Store conn.old) (state S.Store conn.new) result (λ s found. status_entry found ≡ status_of s (ward_entry ward.now)) }
 {
     let candidates = list_candidates(alloc, conn, ward.number)?;
     let batches = list_batches(alloc, conn, ward.number)?;
@@ -164,11 +142,7 @@ fn find_status<S: Alter>(
     ward: u32,
 ) -> Result<Option<Status>, Fault>
     requires { conn.old.in_transaction ≡ false }
-    ensures found { HasCleanDisk (state S.Store conn.new) → (s : OfficeState) → IsAt s (state S.Store conn.old) → IfOk result (λ found. option_map status_entry found ≡ status_at s ward) }
-    ensures cause { HasCleanDisk (state S.Store conn.new) → (s : OfficeState) → IsAt s (state S.Store conn.old) → IfErr result (FailsBy (state S.Store conn.old) (state S.Store conn.new)) }
-    ensures opens { HasCleanDisk (state S.Store conn.new) → OnOk result (IsTrue (state S.Store conn.new).is_open) }
-    ensures reads { OnlyReads (state S.Store conn.old) (state S.Store conn.new) }
-    ensures outside { conn.new.in_transaction ≡ false }
+    ensures { Reads (state S.Store conn.old) (state S.Store conn.new) result (λ s found. option_map status_entry found ≡ status_at s ward) }
 {
     let found = find_ward(conn, ward)?;
     match found {
@@ -187,11 +161,7 @@ fn find_columns<S: Alter>(
     batch: u32,
 ) -> Result<Option<Columns>, Fault>
     requires { conn.old.in_transaction ≡ false }
-    ensures found { HasCleanDisk (state S.Store conn.new) → (s : OfficeState) → IsAt s (state S.Store conn.old) → IfOk result (λ found. found ≡ columns_at s batch) }
-    ensures cause { HasCleanDisk (state S.Store conn.new) → (s : OfficeState) → IsAt s (state S.Store conn.old) → IfErr result (FailsBy (state S.Store conn.old) (state S.Store conn.new)) }
-    ensures opens { HasCleanDisk (state S.Store conn.new) → OnOk result (IsTrue (state S.Store conn.new).is_open) }
-    ensures reads { OnlyReads (state S.Store conn.old) (state S.Store conn.new) }
-    ensures outside { conn.new.in_transaction ≡ false }
+    ensures { Reads (state S.Store conn.old) (state S.Store conn.new) result (λ s found. found ≡ columns_at s batch) }
 {
     let found = find_batch(conn, batch)?;
     match found {

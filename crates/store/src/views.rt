@@ -9,6 +9,7 @@ ghost use Rattle.register.specs.Machine.{part_of};
 ghost use Rattle.register.specs.Views.{IsViewOf};
 ghost use Rattle.tables.specs.Reading.{OnlyReads, FailsBy};
 ghost use Rattle.store.specs.Offices.{IsAt};
+ghost use Rattle.store.specs.Reads.{Reads};
 
 pub(crate) mod batches;
 pub(crate) mod candidates;
@@ -38,11 +39,7 @@ fn find_part<S: Alter>(
     command: &Command,
 ) -> Result<Part, Fault>
     requires { conn.old.in_transaction ≡ false }
-    ensures found { HasCleanDisk (state S.Store conn.new) → (s : OfficeState) → IsAt s (state S.Store conn.old) → IfOk result (λ part. part_entries part ≡ part_of s actor command.now) }
-    ensures cause { HasCleanDisk (state S.Store conn.new) → (s : OfficeState) → IsAt s (state S.Store conn.old) → IfErr result (FailsBy (state S.Store conn.old) (state S.Store conn.new)) }
-    ensures opens { HasCleanDisk (state S.Store conn.new) → OnOk result (IsTrue (state S.Store conn.new).is_open) }
-    ensures reads { OnlyReads (state S.Store conn.old) (state S.Store conn.new) }
-    ensures outside { conn.new.in_transaction ≡ false }
+    ensures { Reads (state S.Store conn.old) (state S.Store conn.new) result (λ s part. part_entries part ≡ part_of s actor command.now) }
 {
     match command {
         Command::Ward(WardCommand::Add { ward, .. }) => ward_part(alloc, conn, *ward),
@@ -85,12 +82,8 @@ fn view_of<'a, S: Alter>(
     command: &Command,
 ) -> Result<View<'a>, Fault>
     requires { conn.old.in_transaction ≡ false }
-    ensures shows { HasCleanDisk (state S.Store conn.new) → (s : OfficeState) → IsAt s (state S.Store conn.old) → IfOk result (IsViewOf s command.now) }
+    ensures told { Reads (state S.Store conn.old) (state S.Store conn.new) result (λ s. IsViewOf s command.now) }
     ensures asked { IfOk result (λ view. (view.actor ≡ actor) × (view.id.now ≡ id.now)) }
-    ensures cause { HasCleanDisk (state S.Store conn.new) → (s : OfficeState) → IsAt s (state S.Store conn.old) → IfErr result (FailsBy (state S.Store conn.old) (state S.Store conn.new)) }
-    ensures opens { HasCleanDisk (state S.Store conn.new) → OnOk result (IsTrue (state S.Store conn.new).is_open) }
-    ensures reads { OnlyReads (state S.Store conn.old) (state S.Store conn.new) }
-    ensures outside { conn.new.in_transaction ≡ false }
 {
     let receipt = find_receipt(conn, actor, id)?;
     let part = find_part(alloc, conn, actor, command)?;

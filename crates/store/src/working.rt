@@ -9,6 +9,7 @@ ghost use Rattle.register.specs.Parts.{is_in_phase};
 ghost use Rattle.register.specs.Standings.{work_entry, is_work, work_on, work_of};
 ghost use Rattle.tables.specs.Reading.{OnlyReads, FailsBy};
 ghost use Rattle.store.specs.Offices.{IsAt};
+ghost use Rattle.store.specs.Reads.{Reads};
 
 use crate::storage::Store;
 use crate::views::batches::all_batches;
@@ -40,11 +41,7 @@ fn work_on<S: Alter>(
     clerk: u32,
 ) -> Result<Work, Fault>
     requires { conn.old.in_transaction ≡ false }
-    ensures found { HasCleanDisk (state S.Store conn.new) → (s : OfficeState) → IsAt s (state S.Store conn.old) → IfOk result (λ work. work_entry work ≡ work_on s clerk (batch_entry batch.now)) }
-    ensures cause { HasCleanDisk (state S.Store conn.new) → (s : OfficeState) → IsAt s (state S.Store conn.old) → IfErr result (FailsBy (state S.Store conn.old) (state S.Store conn.new)) }
-    ensures opens { HasCleanDisk (state S.Store conn.new) → OnOk result (IsTrue (state S.Store conn.new).is_open) }
-    ensures reads { OnlyReads (state S.Store conn.old) (state S.Store conn.new) }
-    ensures outside { conn.new.in_transaction ≡ false }
+    ensures { Reads (state S.Store conn.old) (state S.Store conn.new) result (λ s work. work_entry work ≡ work_on s clerk (batch_entry batch.now)) }
 {
     let candidates = list_candidates(alloc, conn, batch.ward)?;
     let keyed = has_keyed(conn, batch.number, batch.round, clerk)?;
@@ -65,13 +62,10 @@ fn own_work<S: Alter>(
     batch: &Batch,
     clerk: u32,
 ) -> Result<Option<Work>, Fault>
-    requires { conn.old.in_transaction ≡ false }
-    ensures found { HasCleanDisk (state S.Store conn.new) → (s : OfficeState) → IsAt s (state S.Store conn.old)
-        → IfOk result (λ found. option_map work_entry found ≡ (if is_work s clerk (batch_entry batch.now) then Some (work_on s clerk (batch_entry batch.now)) else None)) }
-    ensures cause { HasCleanDisk (state S.Store conn.new) → (s : OfficeState) → IsAt s (state S.Store conn.old) → IfErr result (FailsBy (state S.Store conn.old) (state S.Store conn.new)) }
-    ensures opens { HasCleanDisk (state S.Store conn.new) → IsTrue (state S.Store conn.old).is_open → OnOk result (IsTrue (state S.Store conn.new).is_open) }
-    ensures reads { OnlyReads (state S.Store conn.old) (state S.Store conn.new) }
-    ensures outside { conn.new.in_transaction ≡ false }
+    requires outside { conn.old.in_transaction ≡ false }
+    requires is_open { HasCleanDisk (state S.Store conn.old) → IsTrue (state S.Store conn.old).is_open }
+    ensures { Reads (state S.Store conn.old) (state S.Store conn.new) result
+        (λ s found. option_map work_entry found ≡ (if is_work s clerk (batch_entry batch.now) then Some (work_on s clerk (batch_entry batch.now)) else None)) }
 {
     if !is_its_clerk(clerk, batch) {
         return Ok(None);
@@ -91,13 +85,9 @@ fn work_in<S: Alter>(
     batches: &[Batch],
     clerk: u32,
 ) -> Result<Vec<Work>, Fault>
-    requires { conn.old.in_transaction ≡ false }
-    ensures found { HasCleanDisk (state S.Store conn.new) → (s : OfficeState) → IsAt s (state S.Store conn.old)
-        → IfOk result (λ found. map work_entry found.items ≡ map (work_on s clerk) (filter (is_work s clerk) (map batch_entry batches.now))) }
-    ensures cause { HasCleanDisk (state S.Store conn.new) → (s : OfficeState) → IsAt s (state S.Store conn.old) → IfErr result (FailsBy (state S.Store conn.old) (state S.Store conn.new)) }
-    ensures opens { HasCleanDisk (state S.Store conn.new) → IsTrue (state S.Store conn.old).is_open → OnOk result (IsTrue (state S.Store conn.new).is_open) }
-    ensures reads { OnlyReads (state S.Store conn.old) (state S.Store conn.new) }
-    ensures outside { conn.new.in_transaction ≡ false }
+    requires outside { conn.old.in_transaction ≡ false }
+    requires is_open { HasCleanDisk (state S.Store conn.old) → IsTrue (state S.Store conn.old).is_open }
+    ensures { Reads (state S.Store conn.old) (state S.Store conn.new) result (λ s found. map work_entry found.items ≡ map (work_on s clerk) (filter (is_work s clerk) (map batch_entry batches.now))) }
 {
     let mut found = Vec::new(alloc);
     for batch in batches {
@@ -117,11 +107,7 @@ fn find_work<S: Alter>(
     clerk: u32,
 ) -> Result<Vec<Work>, Fault>
     requires { conn.old.in_transaction ≡ false }
-    ensures found { HasCleanDisk (state S.Store conn.new) → (s : OfficeState) → IsAt s (state S.Store conn.old) → IfOk result (λ found. map work_entry found.items ≡ work_of s clerk) }
-    ensures cause { HasCleanDisk (state S.Store conn.new) → (s : OfficeState) → IsAt s (state S.Store conn.old) → IfErr result (FailsBy (state S.Store conn.old) (state S.Store conn.new)) }
-    ensures opens { HasCleanDisk (state S.Store conn.new) → OnOk result (IsTrue (state S.Store conn.new).is_open) }
-    ensures reads { OnlyReads (state S.Store conn.old) (state S.Store conn.new) }
-    ensures outside { conn.new.in_transaction ≡ false }
+    ensures { Reads (state S.Store conn.old) (state S.Store conn.new) result (λ s found. map work_entry found.items ≡ work_of s clerk) }
 {
     let batches = all_batches(alloc, conn)?;
     let found = work_in(alloc, conn, &batches, clerk)?;

@@ -1,14 +1,13 @@
 //! Batches, read for a request.
 
-ghost use Rattle.std.specs.Prelude.{◌≡◌, false, map, option_map, IfOk, IfErr, OnOk, IsTrue};
+ghost use Rattle.std.specs.Prelude.{◌≡◌, false, map, option_map, IsTrue};
 ghost use Rattle.sqlite.specs.State.{HasCleanDisk};
 ghost use Rattle.sqlite.specs.Held.{state};
-ghost use Rattle.register.specs.Offices.{OfficeState, ward_entry, candidate_entry, batch_entry, ward_at, batch_at};
+ghost use Rattle.register.specs.Offices.{ward_entry, candidate_entry, batch_entry, ward_at, batch_at};
 ghost use Rattle.register.specs.Papers.{batches_of};
 ghost use Rattle.register.specs.Batches.{ward_for, candidates_for, first_for, second_for};
 ghost use Rattle.register.specs.Parts.{empty_part, part_entries};
-ghost use Rattle.tables.specs.Reading.{OnlyReads, FailsBy};
-ghost use Rattle.store.specs.Offices.{IsAt};
+ghost use Rattle.store.specs.Reads.{Reads};
 
 use crate::entries::batches::Batches;
 use crate::views::candidates::list_candidates;
@@ -35,11 +34,7 @@ pub(crate) fn find_batch<S: Alter>(
     batch: u32,
 ) -> Result<Option<Batch>, Fault>
     requires { conn.old.in_transaction ≡ false }
-    ensures found { HasCleanDisk (state S.Store conn.new) → (s : OfficeState) → IsAt s (state S.Store conn.old) → IfOk result (λ found. option_map batch_entry found ≡ batch_at s batch) }
-    ensures cause { HasCleanDisk (state S.Store conn.new) → (s : OfficeState) → IsAt s (state S.Store conn.old) → IfErr result (FailsBy (state S.Store conn.old) (state S.Store conn.new)) }
-    ensures opens { HasCleanDisk (state S.Store conn.new) → OnOk result (IsTrue (state S.Store conn.new).is_open) }
-    ensures reads { OnlyReads (state S.Store conn.old) (state S.Store conn.new) }
-    ensures outside { conn.new.in_transaction ≡ false }
+    ensures { Reads (state S.Store conn.old) (state S.Store conn.new) result (λ s found. option_map batch_entry found ≡ batch_at s batch) }
 {
     find_entry::<Batches, S>(conn, &[number(batch)])
 }
@@ -50,11 +45,7 @@ pub(crate) fn all_batches<S: Alter>(
     conn: &mut Connection<S>,
 ) -> Result<Vec<Batch>, Fault>
     requires { conn.old.in_transaction ≡ false }
-    ensures found { HasCleanDisk (state S.Store conn.new) → (s : OfficeState) → IsAt s (state S.Store conn.old) → IfOk result (λ found. map batch_entry found.items ≡ s.batches) }
-    ensures cause { HasCleanDisk (state S.Store conn.new) → (s : OfficeState) → IsAt s (state S.Store conn.old) → IfErr result (FailsBy (state S.Store conn.old) (state S.Store conn.new)) }
-    ensures opens { HasCleanDisk (state S.Store conn.new) → OnOk result (IsTrue (state S.Store conn.new).is_open) }
-    ensures reads { OnlyReads (state S.Store conn.old) (state S.Store conn.new) }
-    ensures outside { conn.new.in_transaction ≡ false }
+    ensures { Reads (state S.Store conn.old) (state S.Store conn.new) result (λ s found. map batch_entry found.items ≡ s.batches) }
 {
     entries_beginning::<Batches, S>(alloc, conn, &[])
 }
@@ -66,11 +57,7 @@ pub(crate) fn list_batches<S: Alter>(
     ward: u32,
 ) -> Result<Vec<Batch>, Fault>
     requires { conn.old.in_transaction ≡ false }
-    ensures found { HasCleanDisk (state S.Store conn.new) → (s : OfficeState) → IsAt s (state S.Store conn.old) → IfOk result (λ found. map batch_entry found.items ≡ batches_of s ward) }
-    ensures cause { HasCleanDisk (state S.Store conn.new) → (s : OfficeState) → IsAt s (state S.Store conn.old) → IfErr result (FailsBy (state S.Store conn.old) (state S.Store conn.new)) }
-    ensures opens { HasCleanDisk (state S.Store conn.new) → OnOk result (IsTrue (state S.Store conn.new).is_open) }
-    ensures reads { OnlyReads (state S.Store conn.old) (state S.Store conn.new) }
-    ensures outside { conn.new.in_transaction ≡ false }
+    ensures { Reads (state S.Store conn.old) (state S.Store conn.new) result (λ s found. map batch_entry found.items ≡ batches_of s ward) }
 {
     entries_referring::<Batches, S>(alloc, conn, Reference::WardOfBatch, number(ward))
 }
@@ -80,12 +67,9 @@ pub(crate) fn ward_of<S: Alter>(
     conn: &mut Connection<S>,
     batch: &Option<Batch>,
 ) -> Result<Option<Ward>, Fault>
-    requires { conn.old.in_transaction ≡ false }
-    ensures found { HasCleanDisk (state S.Store conn.new) → (s : OfficeState) → IsAt s (state S.Store conn.old) → IfOk result (λ found. option_map ward_entry found ≡ ward_for s (option_map batch_entry batch.now)) }
-    ensures cause { HasCleanDisk (state S.Store conn.new) → (s : OfficeState) → IsAt s (state S.Store conn.old) → IfErr result (FailsBy (state S.Store conn.old) (state S.Store conn.new)) }
-    ensures opens { HasCleanDisk (state S.Store conn.new) → IsTrue (state S.Store conn.old).is_open → OnOk result (IsTrue (state S.Store conn.new).is_open) }
-    ensures reads { OnlyReads (state S.Store conn.old) (state S.Store conn.new) }
-    ensures outside { conn.new.in_transaction ≡ false }
+    requires outside { conn.old.in_transaction ≡ false }
+    requires is_open { HasCleanDisk (state S.Store conn.old) → IsTrue (state S.Store conn.old).is_open }
+    ensures { Reads (state S.Store conn.old) (state S.Store conn.new) result (λ s found. option_map ward_entry found ≡ ward_for s (option_map batch_entry batch.now)) }
 {
     match batch {
         Some(batch) => find_ward(conn, batch.ward),
@@ -99,12 +83,9 @@ pub(crate) fn candidates_of<S: Alter>(
     conn: &mut Connection<S>,
     batch: &Option<Batch>,
 ) -> Result<Vec<Candidate>, Fault>
-    requires { conn.old.in_transaction ≡ false }
-    ensures found { HasCleanDisk (state S.Store conn.new) → (s : OfficeState) → IsAt s (state S.Store conn.old) → IfOk result (λ found. map candidate_entry found.items ≡ candidates_for s (option_map batch_entry batch.now)) }
-    ensures cause { HasCleanDisk (state S.Store conn.new) → (s : OfficeState) → IsAt s (state S.Store conn.old) → IfErr result (FailsBy (state S.Store conn.old) (state S.Store conn.new)) }
-    ensures opens { HasCleanDisk (state S.Store conn.new) → IsTrue (state S.Store conn.old).is_open → OnOk result (IsTrue (state S.Store conn.new).is_open) }
-    ensures reads { OnlyReads (state S.Store conn.old) (state S.Store conn.new) }
-    ensures outside { conn.new.in_transaction ≡ false }
+    requires outside { conn.old.in_transaction ≡ false }
+    requires is_open { HasCleanDisk (state S.Store conn.old) → IsTrue (state S.Store conn.old).is_open }
+    ensures { Reads (state S.Store conn.old) (state S.Store conn.new) result (λ s found. map candidate_entry found.items ≡ candidates_for s (option_map batch_entry batch.now)) }
 {
     match batch {
         Some(batch) => list_candidates(alloc, conn, batch.ward),
@@ -119,12 +100,9 @@ pub(crate) fn polled_batch<S: Alter>(
     batch: u32,
 ) -> Result<PolledBatch, Fault>
     requires { conn.old.in_transaction ≡ false }
-    ensures found { HasCleanDisk (state S.Store conn.new) → (s : OfficeState) → IsAt s (state S.Store conn.old)
-        → IfOk result (λ found. (option_map batch_entry found.batch ≡ batch_at s batch) × (option_map ward_entry found.ward ≡ ward_for s (batch_at s batch)) × (map candidate_entry found.candidates.items ≡ candidates_for s (batch_at s batch))) }
-    ensures cause { HasCleanDisk (state S.Store conn.new) → (s : OfficeState) → IsAt s (state S.Store conn.old) → IfErr result (FailsBy (state S.Store conn.old) (state S.Store conn.new)) }
-    ensures opens { HasCleanDisk (state S.Store conn.new) → OnOk result (IsTrue (state S.Store conn.new).is_open) }
-    ensures reads { OnlyReads (state S.Store conn.old) (state S.Store conn.new) }
-    ensures outside { conn.new.in_transaction ≡ false }
+    ensures { Reads (state S.Store conn.old) (state S.Store conn.new) result
+        (λ s found. (option_map batch_entry found.batch ≡ batch_at s batch) × (option_map ward_entry found.ward ≡ ward_for s (batch_at s batch))
+        × (map candidate_entry found.candidates.items ≡ candidates_for s (batch_at s batch))) }
 {
     let batch = find_batch(conn, batch)?;
     let ward = ward_of(conn, &batch)?;
@@ -144,11 +122,7 @@ pub(crate) fn new_batch_part<S: Alter>(
     batch: u32,
 ) -> Result<Part, Fault>
     requires { conn.old.in_transaction ≡ false }
-    ensures found { HasCleanDisk (state S.Store conn.new) → (s : OfficeState) → IsAt s (state S.Store conn.old) → IfOk result (λ part. part_entries part ≡ record empty_part { ward = ward_at s ward; batch = batch_at s batch }) }
-    ensures cause { HasCleanDisk (state S.Store conn.new) → (s : OfficeState) → IsAt s (state S.Store conn.old) → IfErr result (FailsBy (state S.Store conn.old) (state S.Store conn.new)) }
-    ensures opens { HasCleanDisk (state S.Store conn.new) → OnOk result (IsTrue (state S.Store conn.new).is_open) }
-    ensures reads { OnlyReads (state S.Store conn.old) (state S.Store conn.new) }
-    ensures outside { conn.new.in_transaction ≡ false }
+    ensures { Reads (state S.Store conn.old) (state S.Store conn.new) result (λ s part. part_entries part ≡ record empty_part { ward = ward_at s ward; batch = batch_at s batch }) }
 {
     let ward = find_ward(conn, ward)?;
     let batch = find_batch(conn, batch)?;
@@ -166,11 +140,8 @@ pub(crate) fn again_part<S: Alter>(
     batch: u32,
 ) -> Result<Part, Fault>
     requires { conn.old.in_transaction ≡ false }
-    ensures found { HasCleanDisk (state S.Store conn.new) → (s : OfficeState) → IsAt s (state S.Store conn.old) → IfOk result (λ part. part_entries part ≡ record empty_part { ward = ward_for s (batch_at s batch); batch = batch_at s batch; first = first_for s (batch_at s batch); second = second_for s (batch_at s batch) }) }
-    ensures cause { HasCleanDisk (state S.Store conn.new) → (s : OfficeState) → IsAt s (state S.Store conn.old) → IfErr result (FailsBy (state S.Store conn.old) (state S.Store conn.new)) }
-    ensures opens { HasCleanDisk (state S.Store conn.new) → OnOk result (IsTrue (state S.Store conn.new).is_open) }
-    ensures reads { OnlyReads (state S.Store conn.old) (state S.Store conn.new) }
-    ensures outside { conn.new.in_transaction ≡ false }
+    ensures { Reads (state S.Store conn.old) (state S.Store conn.new) result
+        (λ s part. part_entries part ≡ record empty_part { ward = ward_for s (batch_at s batch); batch = batch_at s batch; first = first_for s (batch_at s batch); second = second_for s (batch_at s batch) }) }
 {
     let batch = find_batch(conn, batch)?;
     let ward = ward_of(conn, &batch)?;

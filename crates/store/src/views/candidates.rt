@@ -1,12 +1,10 @@
 //! Candidates, read for a request.
 
-ghost use Rattle.std.specs.Prelude.{◌≡◌, false, map, option_map, IfOk, IfErr, OnOk, IsTrue};
-ghost use Rattle.sqlite.specs.State.{HasCleanDisk};
+ghost use Rattle.std.specs.Prelude.{◌≡◌, false, map, option_map};
 ghost use Rattle.sqlite.specs.Held.{state};
-ghost use Rattle.register.specs.Offices.{OfficeState, candidate_entry, ward_at, candidate_at, candidates_of};
+ghost use Rattle.register.specs.Offices.{candidate_entry, ward_at, candidate_at, candidates_of};
 ghost use Rattle.register.specs.Parts.{empty_part, part_entries};
-ghost use Rattle.tables.specs.Reading.{OnlyReads, FailsBy};
-ghost use Rattle.store.specs.Offices.{IsAt};
+ghost use Rattle.store.specs.Reads.{Reads};
 
 use crate::entries::candidates::Candidates;
 use crate::views::wards::find_ward;
@@ -24,11 +22,7 @@ pub(crate) fn find_candidate<S: Alter>(
     candidate: u32,
 ) -> Result<Option<Candidate>, Fault>
     requires { conn.old.in_transaction ≡ false }
-    ensures found { HasCleanDisk (state S.Store conn.new) → (s : OfficeState) → IsAt s (state S.Store conn.old) → IfOk result (λ found. option_map candidate_entry found ≡ candidate_at s ward candidate) }
-    ensures cause { HasCleanDisk (state S.Store conn.new) → (s : OfficeState) → IsAt s (state S.Store conn.old) → IfErr result (FailsBy (state S.Store conn.old) (state S.Store conn.new)) }
-    ensures opens { HasCleanDisk (state S.Store conn.new) → OnOk result (IsTrue (state S.Store conn.new).is_open) }
-    ensures reads { OnlyReads (state S.Store conn.old) (state S.Store conn.new) }
-    ensures outside { conn.new.in_transaction ≡ false }
+    ensures { Reads (state S.Store conn.old) (state S.Store conn.new) result (λ s found. option_map candidate_entry found ≡ candidate_at s ward candidate) }
 {
     find_entry::<Candidates, S>(conn, &[number(ward), number(candidate)])
 }
@@ -40,11 +34,7 @@ pub(crate) fn list_candidates<S: Alter>(
     ward: u32,
 ) -> Result<Vec<Candidate>, Fault>
     requires { conn.old.in_transaction ≡ false }
-    ensures found { HasCleanDisk (state S.Store conn.new) → (s : OfficeState) → IsAt s (state S.Store conn.old) → IfOk result (λ found. map candidate_entry found.items ≡ candidates_of s ward) }
-    ensures cause { HasCleanDisk (state S.Store conn.new) → (s : OfficeState) → IsAt s (state S.Store conn.old) → IfErr result (FailsBy (state S.Store conn.old) (state S.Store conn.new)) }
-    ensures opens { HasCleanDisk (state S.Store conn.new) → OnOk result (IsTrue (state S.Store conn.new).is_open) }
-    ensures reads { OnlyReads (state S.Store conn.old) (state S.Store conn.new) }
-    ensures outside { conn.new.in_transaction ≡ false }
+    ensures { Reads (state S.Store conn.old) (state S.Store conn.new) result (λ s found. map candidate_entry found.items ≡ candidates_of s ward) }
 {
     entries_beginning::<Candidates, S>(alloc, conn, &[number(ward)])
 }
@@ -57,11 +47,8 @@ pub(crate) fn candidate_part<S: Alter>(
     candidate: u32,
 ) -> Result<Part, Fault>
     requires { conn.old.in_transaction ≡ false }
-    ensures found { HasCleanDisk (state S.Store conn.new) → (s : OfficeState) → IsAt s (state S.Store conn.old) → IfOk result (λ part. part_entries part ≡ record empty_part { ward = ward_at s number; candidate = candidate_at s number candidate }) }
-    ensures cause { HasCleanDisk (state S.Store conn.new) → (s : OfficeState) → IsAt s (state S.Store conn.old) → IfErr result (FailsBy (state S.Store conn.old) (state S.Store conn.new)) }
-    ensures opens { HasCleanDisk (state S.Store conn.new) → OnOk result (IsTrue (state S.Store conn.new).is_open) }
-    ensures reads { OnlyReads (state S.Store conn.old) (state S.Store conn.new) }
-    ensures outside { conn.new.in_transaction ≡ false }
+    ensures { Reads (state S.Store conn.old) (state S.Store conn.new) result
+        (λ s part. part_entries part ≡ record empty_part { ward = ward_at s number; candidate = candidate_at s number candidate }) }
 {
     let ward = find_ward(conn, number)?;
     let candidate = find_candidate(conn, number, candidate)?;

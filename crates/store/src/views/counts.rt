@@ -1,17 +1,15 @@
 //! What the commands about a ward's count need, read for a request.
 
-ghost use Rattle.std.specs.Prelude.{◌≡◌, ◌⊎◌, ◌≤◌, true, false, length, option_map, MatchOption, IfOk, IfErr, IsOk, OnOk, IsTrue};
-ghost use Rattle.sqlite.specs.State.{HasCleanDisk};
+ghost use Rattle.std.specs.Prelude.{◌≡◌, ◌⊎◌, ◌≤◌, true, false, length, option_map, MatchOption, IfOk, IfErr, IsOk};
 ghost use Rattle.sqlite.specs.Held.{state};
 ghost use Rattle.votes.specs.Units.{max_seats, max_papers};
 ghost use Rattle.count.specs.Law.Contest.{IsContest};
-ghost use Rattle.register.specs.Offices.{OfficeState, ward_at, candidate_at};
+ghost use Rattle.register.specs.Offices.{ward_at, candidate_at};
 ghost use Rattle.register.specs.Elections.{election_entry, has_count, contest_of};
 ghost use Rattle.register.specs.Counts.{poll_for, due_for, elected_for};
 ghost use Rattle.register.specs.Parts.{empty_part, part_entries};
-ghost use Rattle.tables.specs.Reading.{OnlyReads, FailsBy};
-ghost use Rattle.store.specs.Offices.{IsAt};
 ghost use Rattle.store.specs.Elections.{polled_part, counted_part};
+ghost use Rattle.store.specs.Reads.{Reads};
 
 use crate::views::candidates::find_candidate;
 use crate::views::elections::find_election;
@@ -73,11 +71,7 @@ pub(crate) fn seal_part<S: Alter>(
     ward: u32,
 ) -> Result<Part, Fault>
     requires { conn.old.in_transaction ≡ false }
-    ensures found { HasCleanDisk (state S.Store conn.new) → (s : OfficeState) → IsAt s (state S.Store conn.old) → IfOk result (λ part. part_entries part ≡ record empty_part { ward = ward_at s ward; poll = poll_for s (ward_at s ward) }) }
-    ensures cause { HasCleanDisk (state S.Store conn.new) → (s : OfficeState) → IsAt s (state S.Store conn.old) → IfErr result (FailsBy (state S.Store conn.old) (state S.Store conn.new)) }
-    ensures opens { HasCleanDisk (state S.Store conn.new) → OnOk result (IsTrue (state S.Store conn.new).is_open) }
-    ensures reads { OnlyReads (state S.Store conn.old) (state S.Store conn.new) }
-    ensures outside { conn.new.in_transaction ≡ false }
+    ensures { Reads (state S.Store conn.old) (state S.Store conn.new) result (λ s part. part_entries part ≡ record empty_part { ward = ward_at s ward; poll = poll_for s (ward_at s ward) }) }
 {
     let found = find_election(alloc, conn, ward)?;
     let part = polled(alloc, found)?;
@@ -92,11 +86,8 @@ pub(crate) fn count_part<S: Alter>(
     ward: u32,
 ) -> Result<Part, Fault>
     requires { conn.old.in_transaction ≡ false }
-    ensures found { HasCleanDisk (state S.Store conn.new) → (s : OfficeState) → IsAt s (state S.Store conn.old) → IfOk result (λ part. part_entries part ≡ record empty_part { ward = ward_at s ward; due = due_for s (ward_at s ward); elected = elected_for s (ward_at s ward) }) }
-    ensures cause { HasCleanDisk (state S.Store conn.new) → (s : OfficeState) → IsAt s (state S.Store conn.old) → IfErr result (FailsBy (state S.Store conn.old) (state S.Store conn.new)) }
-    ensures opens { HasCleanDisk (state S.Store conn.new) → OnOk result (IsTrue (state S.Store conn.new).is_open) }
-    ensures reads { OnlyReads (state S.Store conn.old) (state S.Store conn.new) }
-    ensures outside { conn.new.in_transaction ≡ false }
+    ensures { Reads (state S.Store conn.old) (state S.Store conn.new) result
+        (λ s part. part_entries part ≡ record empty_part { ward = ward_at s ward; due = due_for s (ward_at s ward); elected = elected_for s (ward_at s ward) }) }
 {
     let found = find_election(alloc, conn, ward)?;
     let part = counted(alloc, found)?;
@@ -111,11 +102,8 @@ pub(crate) fn lot_part<S: Alter>(
     candidate: u32,
 ) -> Result<Part, Fault>
     requires { conn.old.in_transaction ≡ false }
-    ensures found { HasCleanDisk (state S.Store conn.new) → (s : OfficeState) → IsAt s (state S.Store conn.old) → IfOk result (λ part. part_entries part ≡ record empty_part { ward = ward_at s ward; candidate = candidate_at s ward candidate; due = due_for s (ward_at s ward); elected = elected_for s (ward_at s ward) }) }
-    ensures cause { HasCleanDisk (state S.Store conn.new) → (s : OfficeState) → IsAt s (state S.Store conn.old) → IfErr result (FailsBy (state S.Store conn.old) (state S.Store conn.new)) }
-    ensures opens { HasCleanDisk (state S.Store conn.new) → OnOk result (IsTrue (state S.Store conn.new).is_open) }
-    ensures reads { OnlyReads (state S.Store conn.old) (state S.Store conn.new) }
-    ensures outside { conn.new.in_transaction ≡ false }
+    ensures { Reads (state S.Store conn.old) (state S.Store conn.new) result
+        (λ s part. part_entries part ≡ record empty_part { ward = ward_at s ward; candidate = candidate_at s ward candidate; due = due_for s (ward_at s ward); elected = elected_for s (ward_at s ward) }) }
 {
     let part = count_part(alloc, conn, ward)?;
     let candidate = find_candidate(conn, ward, candidate)?;

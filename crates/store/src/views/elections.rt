@@ -1,15 +1,14 @@
 //! What the count of a ward rests on, read from the tables.
 
-ghost use Rattle.std.specs.Prelude.{◌≡◌, ◌++◌, ◌∷◌, [], false, map, option_map, IfOk, IfErr, OnOk, IsTrue};
+ghost use Rattle.std.specs.Prelude.{◌≡◌, ◌++◌, ◌∷◌, [], false, map, option_map, IfOk, IfErr, IsTrue};
 ghost use Rattle.sqlite.specs.State.{HasCleanDisk};
 ghost use Rattle.sqlite.specs.Held.{state};
-ghost use Rattle.register.specs.Offices.{OfficeState, ward_entry, batch_entry, lot_entry, ward_at, candidates_of, lots_of};
+ghost use Rattle.register.specs.Offices.{ward_entry, batch_entry, lot_entry, ward_at, candidates_of, lots_of};
 ghost use Rattle.register.specs.Marks.{columns_of};
 ghost use Rattle.register.specs.Polls.{pile_of, piles_of, ballots_in, ballots_entry};
 ghost use Rattle.register.specs.Elections.{lot_pair, election_of, election_entry};
-ghost use Rattle.tables.specs.Reading.{OnlyReads, FailsBy};
-ghost use Rattle.store.specs.Offices.{IsAt};
 ghost use Rattle.store.specs.Elections.{pile_by};
+ghost use Rattle.store.specs.Reads.{Reads};
 
 use crate::entries::lots::Lots;
 use crate::views::batches::list_batches;
@@ -40,11 +39,7 @@ pub(crate) fn list_lots<S: Alter>(
     ward: u32,
 ) -> Result<Vec<DrawnLot>, Fault>
     requires { conn.old.in_transaction ≡ false }
-    ensures found { HasCleanDisk (state S.Store conn.new) → (s : OfficeState) → IsAt s (state S.Store conn.old) → IfOk result (λ found. map lot_entry found.items ≡ lots_of s ward) }
-    ensures cause { HasCleanDisk (state S.Store conn.new) → (s : OfficeState) → IsAt s (state S.Store conn.old) → IfErr result (FailsBy (state S.Store conn.old) (state S.Store conn.new)) }
-    ensures opens { HasCleanDisk (state S.Store conn.new) → OnOk result (IsTrue (state S.Store conn.new).is_open) }
-    ensures reads { OnlyReads (state S.Store conn.old) (state S.Store conn.new) }
-    ensures outside { conn.new.in_transaction ≡ false }
+    ensures { Reads (state S.Store conn.old) (state S.Store conn.new) result (λ s found. map lot_entry found.items ≡ lots_of s ward) }
 {
     entries_beginning::<Lots, S>(alloc, conn, &[number(ward)])
 }
@@ -56,11 +51,7 @@ pub(crate) fn recorded_lots<S: Alter>(
     ward: u32,
 ) -> Result<Vec<(u8, u8)>, Fault>
     requires { conn.old.in_transaction ≡ false }
-    ensures found { HasCleanDisk (state S.Store conn.new) → (s : OfficeState) → IsAt s (state S.Store conn.old) → IfOk result (λ found. found.items ≡ map lot_pair (lots_of s ward)) }
-    ensures cause { HasCleanDisk (state S.Store conn.new) → (s : OfficeState) → IsAt s (state S.Store conn.old) → IfErr result (FailsBy (state S.Store conn.old) (state S.Store conn.new)) }
-    ensures opens { HasCleanDisk (state S.Store conn.new) → OnOk result (IsTrue (state S.Store conn.new).is_open) }
-    ensures reads { OnlyReads (state S.Store conn.old) (state S.Store conn.new) }
-    ensures outside { conn.new.in_transaction ≡ false }
+    ensures { Reads (state S.Store conn.old) (state S.Store conn.new) result (λ s found. found.items ≡ map lot_pair (lots_of s ward)) }
 {
     let lots = list_lots(alloc, conn, ward)?;
     match lot_pairs(alloc, &lots) {
@@ -77,11 +68,7 @@ fn papers_of<S: Alter>(
     batch: &Batch,
 ) -> Result<BatchPapers, Fault>
     requires { conn.old.in_transaction ≡ false }
-    ensures found { HasCleanDisk (state S.Store conn.new) → (s : OfficeState) → IsAt s (state S.Store conn.old) → IfOk result (λ papers. pile_by papers ≡ pile_of s (batch_entry batch.now)) }
-    ensures cause { HasCleanDisk (state S.Store conn.new) → (s : OfficeState) → IsAt s (state S.Store conn.old) → IfErr result (FailsBy (state S.Store conn.old) (state S.Store conn.new)) }
-    ensures opens { HasCleanDisk (state S.Store conn.new) → OnOk result (IsTrue (state S.Store conn.new).is_open) }
-    ensures reads { OnlyReads (state S.Store conn.old) (state S.Store conn.new) }
-    ensures outside { conn.new.in_transaction ≡ false }
+    ensures { Reads (state S.Store conn.old) (state S.Store conn.new) result (λ s papers. pile_by papers ≡ pile_of s (batch_entry batch.now)) }
 {
     let keyings = keyings_of(alloc, conn, batch)?;
     let verdicts = list_verdicts(alloc, conn, batch.number)?;
@@ -107,12 +94,9 @@ fn ballots_of<S: Alter>(
     columns: Columns,
     batches: &[Batch],
 ) -> Result<Ballots, Fault>
-    requires { conn.old.in_transaction ≡ false }
-    ensures found { HasCleanDisk (state S.Store conn.new) → (s : OfficeState) → IsAt s (state S.Store conn.old) → IfOk result (λ ballots. ballots_entry ballots ≡ ballots_in columns (map (pile_of s) (map batch_entry batches.now))) }
-    ensures cause { HasCleanDisk (state S.Store conn.new) → (s : OfficeState) → IsAt s (state S.Store conn.old) → IfErr result (FailsBy (state S.Store conn.old) (state S.Store conn.new)) }
-    ensures opens { HasCleanDisk (state S.Store conn.new) → IsTrue (state S.Store conn.old).is_open → OnOk result (IsTrue (state S.Store conn.new).is_open) }
-    ensures reads { OnlyReads (state S.Store conn.old) (state S.Store conn.new) }
-    ensures outside { conn.new.in_transaction ≡ false }
+    requires outside { conn.old.in_transaction ≡ false }
+    requires is_open { HasCleanDisk (state S.Store conn.old) → IsTrue (state S.Store conn.old).is_open }
+    ensures { Reads (state S.Store conn.old) (state S.Store conn.new) result (λ s ballots. ballots_entry ballots ≡ ballots_in columns (map (pile_of s) (map batch_entry batches.now))) }
 {
     let mut ballots = Ballots::new(alloc);
     for batch in batches {
@@ -130,11 +114,7 @@ fn ward_ballots<S: Alter>(
     columns: Columns,
 ) -> Result<Ballots, Fault>
     requires { conn.old.in_transaction ≡ false }
-    ensures found { HasCleanDisk (state S.Store conn.new) → (s : OfficeState) → IsAt s (state S.Store conn.old) → IfOk result (λ ballots. ballots_entry ballots ≡ ballots_in columns (piles_of s ward)) }
-    ensures cause { HasCleanDisk (state S.Store conn.new) → (s : OfficeState) → IsAt s (state S.Store conn.old) → IfErr result (FailsBy (state S.Store conn.old) (state S.Store conn.new)) }
-    ensures opens { HasCleanDisk (state S.Store conn.new) → OnOk result (IsTrue (state S.Store conn.new).is_open) }
-    ensures reads { OnlyReads (state S.Store conn.old) (state S.Store conn.new) }
-    ensures outside { conn.new.in_transaction ≡ false }
+    ensures { Reads (state S.Store conn.old) (state S.Store conn.new) result (λ s ballots. ballots_entry ballots ≡ ballots_in columns (piles_of s ward)) }
 {
     let batches = list_batches(alloc, conn, ward)?;
     let ballots = ballots_of(alloc, conn, columns, &batches)?;
@@ -148,11 +128,7 @@ pub(crate) fn find_ballots<S: Alter>(
     ward: u32,
 ) -> Result<Ballots, Fault>
     requires { conn.old.in_transaction ≡ false }
-    ensures found { HasCleanDisk (state S.Store conn.new) → (s : OfficeState) → IsAt s (state S.Store conn.old) → IfOk result (λ ballots. ballots_entry ballots ≡ ballots_in (columns_of (candidates_of s ward)) (piles_of s ward)) }
-    ensures cause { HasCleanDisk (state S.Store conn.new) → (s : OfficeState) → IsAt s (state S.Store conn.old) → IfErr result (FailsBy (state S.Store conn.old) (state S.Store conn.new)) }
-    ensures opens { HasCleanDisk (state S.Store conn.new) → OnOk result (IsTrue (state S.Store conn.new).is_open) }
-    ensures reads { OnlyReads (state S.Store conn.old) (state S.Store conn.new) }
-    ensures outside { conn.new.in_transaction ≡ false }
+    ensures { Reads (state S.Store conn.old) (state S.Store conn.new) result (λ s ballots. ballots_entry ballots ≡ ballots_in (columns_of (candidates_of s ward)) (piles_of s ward)) }
 {
     let candidates = list_candidates(alloc, conn, ward)?;
     let ballots = ward_ballots(alloc, conn, ward, columns_of(&candidates))?;
@@ -166,11 +142,7 @@ fn ward_election<S: Alter>(
     ward: Ward,
 ) -> Result<Election, Fault>
     requires { conn.old.in_transaction ≡ false }
-    ensures found { HasCleanDisk (state S.Store conn.new) → (s : OfficeState) → IsAt s (state S.Store conn.old) → IfOk result (λ found. election_entry found ≡ election_of s (ward_entry ward)) }
-    ensures cause { HasCleanDisk (state S.Store conn.new) → (s : OfficeState) → IsAt s (state S.Store conn.old) → IfErr result (FailsBy (state S.Store conn.old) (state S.Store conn.new)) }
-    ensures opens { HasCleanDisk (state S.Store conn.new) → OnOk result (IsTrue (state S.Store conn.new).is_open) }
-    ensures reads { OnlyReads (state S.Store conn.old) (state S.Store conn.new) }
-    ensures outside { conn.new.in_transaction ≡ false }
+    ensures { Reads (state S.Store conn.old) (state S.Store conn.new) result (λ s found. election_entry found ≡ election_of s (ward_entry ward)) }
 {
     let candidates = list_candidates(alloc, conn, ward.number)?;
     let ballots = ward_ballots(alloc, conn, ward.number, columns_of(&candidates))?;
@@ -190,11 +162,7 @@ pub(crate) fn find_election<S: Alter>(
     ward: u32,
 ) -> Result<Option<Election>, Fault>
     requires { conn.old.in_transaction ≡ false }
-    ensures found { HasCleanDisk (state S.Store conn.new) → (s : OfficeState) → IsAt s (state S.Store conn.old) → IfOk result (λ found. option_map election_entry found ≡ option_map (election_of s) (ward_at s ward)) }
-    ensures cause { HasCleanDisk (state S.Store conn.new) → (s : OfficeState) → IsAt s (state S.Store conn.old) → IfErr result (FailsBy (state S.Store conn.old) (state S.Store conn.new)) }
-    ensures opens { HasCleanDisk (state S.Store conn.new) → OnOk result (IsTrue (state S.Store conn.new).is_open) }
-    ensures reads { OnlyReads (state S.Store conn.old) (state S.Store conn.new) }
-    ensures outside { conn.new.in_transaction ≡ false }
+    ensures { Reads (state S.Store conn.old) (state S.Store conn.new) result (λ s found. option_map election_entry found ≡ option_map (election_of s) (ward_at s ward)) }
 {
     let found = find_ward(conn, ward)?;
     match found {

@@ -1,14 +1,13 @@
 //! Ballot papers, read for a request.
 
-ghost use Rattle.std.specs.Prelude.{◌≡◌, false, map, option_map, IfOk, IfErr, OnOk, IsTrue};
+ghost use Rattle.std.specs.Prelude.{◌≡◌, false, map, option_map, IsTrue};
 ghost use Rattle.sqlite.specs.State.{HasCleanDisk};
 ghost use Rattle.sqlite.specs.Held.{state};
-ghost use Rattle.register.specs.Offices.{OfficeState, batch_entry, keyed_entry, judged_entry, batch_at, keying_of, verdict_at, verdicts_of};
+ghost use Rattle.register.specs.Offices.{batch_entry, keyed_entry, judged_entry, batch_at, keying_of, verdict_at, verdicts_of};
 ghost use Rattle.register.specs.Papers.{is_keyed, first_keying, second_keying};
 ghost use Rattle.register.specs.Batches.{ward_for, candidates_for, first_for, second_for};
 ghost use Rattle.register.specs.Parts.{empty_part, part_entries};
-ghost use Rattle.tables.specs.Reading.{OnlyReads, FailsBy};
-ghost use Rattle.store.specs.Offices.{IsAt};
+ghost use Rattle.store.specs.Reads.{Reads};
 
 use crate::entries::keyings::KeyedPapers;
 use crate::entries::verdicts::JudgedPapers;
@@ -39,11 +38,7 @@ pub(crate) fn list_keying<S: Alter>(
     clerk: u32,
 ) -> Result<Vec<KeyedPaper>, Fault>
     requires { conn.old.in_transaction ≡ false }
-    ensures found { HasCleanDisk (state S.Store conn.new) → (s : OfficeState) → IsAt s (state S.Store conn.old) → IfOk result (λ found. map keyed_entry found.items ≡ keying_of s batch round clerk) }
-    ensures cause { HasCleanDisk (state S.Store conn.new) → (s : OfficeState) → IsAt s (state S.Store conn.old) → IfErr result (FailsBy (state S.Store conn.old) (state S.Store conn.new)) }
-    ensures opens { HasCleanDisk (state S.Store conn.new) → OnOk result (IsTrue (state S.Store conn.new).is_open) }
-    ensures reads { OnlyReads (state S.Store conn.old) (state S.Store conn.new) }
-    ensures outside { conn.new.in_transaction ≡ false }
+    ensures { Reads (state S.Store conn.old) (state S.Store conn.new) result (λ s found. map keyed_entry found.items ≡ keying_of s batch round clerk) }
 {
     entries_beginning::<KeyedPapers, S>(alloc, conn, &[number(batch), number(round), number(clerk)])
 }
@@ -57,11 +52,7 @@ pub(crate) fn has_keyed<S: Alter>(
     clerk: u32,
 ) -> Result<bool, Fault>
     requires { conn.old.in_transaction ≡ false }
-    ensures found { HasCleanDisk (state S.Store conn.new) → (s : OfficeState) → IsAt s (state S.Store conn.old) → IfOk result (λ found. found ≡ is_keyed (keying_of s batch round clerk)) }
-    ensures cause { HasCleanDisk (state S.Store conn.new) → (s : OfficeState) → IsAt s (state S.Store conn.old) → IfErr result (FailsBy (state S.Store conn.old) (state S.Store conn.new)) }
-    ensures opens { HasCleanDisk (state S.Store conn.new) → OnOk result (IsTrue (state S.Store conn.new).is_open) }
-    ensures reads { OnlyReads (state S.Store conn.old) (state S.Store conn.new) }
-    ensures outside { conn.new.in_transaction ≡ false }
+    ensures { Reads (state S.Store conn.old) (state S.Store conn.new) result (λ s found. found ≡ is_keyed (keying_of s batch round clerk)) }
 {
     let key = [
         number(batch),
@@ -80,12 +71,8 @@ pub(crate) fn keyings_of<S: Alter>(
     batch: &Batch,
 ) -> Result<Keyings, Fault>
     requires { conn.old.in_transaction ≡ false }
-    ensures found { HasCleanDisk (state S.Store conn.new) → (s : OfficeState) → IsAt s (state S.Store conn.old)
-        → IfOk result (λ found. (map keyed_entry found.first.items ≡ first_keying s (batch_entry batch.now)) × (map keyed_entry found.second.items ≡ second_keying s (batch_entry batch.now))) }
-    ensures cause { HasCleanDisk (state S.Store conn.new) → (s : OfficeState) → IsAt s (state S.Store conn.old) → IfErr result (FailsBy (state S.Store conn.old) (state S.Store conn.new)) }
-    ensures opens { HasCleanDisk (state S.Store conn.new) → OnOk result (IsTrue (state S.Store conn.new).is_open) }
-    ensures reads { OnlyReads (state S.Store conn.old) (state S.Store conn.new) }
-    ensures outside { conn.new.in_transaction ≡ false }
+    ensures { Reads (state S.Store conn.old) (state S.Store conn.new) result
+        (λ s found. (map keyed_entry found.first.items ≡ first_keying s (batch_entry batch.now)) × (map keyed_entry found.second.items ≡ second_keying s (batch_entry batch.now))) }
 {
     let first = list_keying(alloc, conn, batch.number, batch.round, batch.first_clerk)?;
     let second = list_keying(alloc, conn, batch.number, batch.round, batch.second_clerk)?;
@@ -98,13 +85,10 @@ pub(crate) fn both_keyings<S: Alter>(
     conn: &mut Connection<S>,
     batch: &Option<Batch>,
 ) -> Result<Keyings, Fault>
-    requires { conn.old.in_transaction ≡ false }
-    ensures found { HasCleanDisk (state S.Store conn.new) → (s : OfficeState) → IsAt s (state S.Store conn.old)
-        → IfOk result (λ found. (map keyed_entry found.first.items ≡ first_for s (option_map batch_entry batch.now)) × (map keyed_entry found.second.items ≡ second_for s (option_map batch_entry batch.now))) }
-    ensures cause { HasCleanDisk (state S.Store conn.new) → (s : OfficeState) → IsAt s (state S.Store conn.old) → IfErr result (FailsBy (state S.Store conn.old) (state S.Store conn.new)) }
-    ensures opens { HasCleanDisk (state S.Store conn.new) → IsTrue (state S.Store conn.old).is_open → OnOk result (IsTrue (state S.Store conn.new).is_open) }
-    ensures reads { OnlyReads (state S.Store conn.old) (state S.Store conn.new) }
-    ensures outside { conn.new.in_transaction ≡ false }
+    requires outside { conn.old.in_transaction ≡ false }
+    requires is_open { HasCleanDisk (state S.Store conn.old) → IsTrue (state S.Store conn.old).is_open }
+    ensures { Reads (state S.Store conn.old) (state S.Store conn.new) result
+        (λ s found. (map keyed_entry found.first.items ≡ first_for s (option_map batch_entry batch.now)) × (map keyed_entry found.second.items ≡ second_for s (option_map batch_entry batch.now))) }
 {
     match batch {
         Some(batch) => keyings_of(alloc, conn, batch),
@@ -122,11 +106,7 @@ pub(crate) fn find_verdict<S: Alter>(
     paper: u32,
 ) -> Result<Option<JudgedPaper>, Fault>
     requires { conn.old.in_transaction ≡ false }
-    ensures found { HasCleanDisk (state S.Store conn.new) → (s : OfficeState) → IsAt s (state S.Store conn.old) → IfOk result (λ found. option_map judged_entry found ≡ verdict_at s batch paper) }
-    ensures cause { HasCleanDisk (state S.Store conn.new) → (s : OfficeState) → IsAt s (state S.Store conn.old) → IfErr result (FailsBy (state S.Store conn.old) (state S.Store conn.new)) }
-    ensures opens { HasCleanDisk (state S.Store conn.new) → OnOk result (IsTrue (state S.Store conn.new).is_open) }
-    ensures reads { OnlyReads (state S.Store conn.old) (state S.Store conn.new) }
-    ensures outside { conn.new.in_transaction ≡ false }
+    ensures { Reads (state S.Store conn.old) (state S.Store conn.new) result (λ s found. option_map judged_entry found ≡ verdict_at s batch paper) }
 {
     find_entry::<JudgedPapers, S>(conn, &[number(batch), number(paper)])
 }
@@ -138,11 +118,7 @@ pub(crate) fn list_verdicts<S: Alter>(
     batch: u32,
 ) -> Result<Vec<JudgedPaper>, Fault>
     requires { conn.old.in_transaction ≡ false }
-    ensures found { HasCleanDisk (state S.Store conn.new) → (s : OfficeState) → IsAt s (state S.Store conn.old) → IfOk result (λ found. map judged_entry found.items ≡ verdicts_of s batch) }
-    ensures cause { HasCleanDisk (state S.Store conn.new) → (s : OfficeState) → IsAt s (state S.Store conn.old) → IfErr result (FailsBy (state S.Store conn.old) (state S.Store conn.new)) }
-    ensures opens { HasCleanDisk (state S.Store conn.new) → OnOk result (IsTrue (state S.Store conn.new).is_open) }
-    ensures reads { OnlyReads (state S.Store conn.old) (state S.Store conn.new) }
-    ensures outside { conn.new.in_transaction ≡ false }
+    ensures { Reads (state S.Store conn.old) (state S.Store conn.new) result (λ s found. map judged_entry found.items ≡ verdicts_of s batch) }
 {
     entries_beginning::<JudgedPapers, S>(alloc, conn, &[number(batch)])
 }
@@ -157,12 +133,8 @@ pub(crate) fn keying_part<S: Alter>(
     clerk: u32,
 ) -> Result<Part, Fault>
     requires { conn.old.in_transaction ≡ false }
-    ensures found { HasCleanDisk (state S.Store conn.new) → (s : OfficeState) → IsAt s (state S.Store conn.old)
-        → IfOk result (λ part. part_entries part ≡ record empty_part { ward = ward_for s (batch_at s batch); candidates = candidates_for s (batch_at s batch); batch = batch_at s batch; own = keying_of s batch round clerk }) }
-    ensures cause { HasCleanDisk (state S.Store conn.new) → (s : OfficeState) → IsAt s (state S.Store conn.old) → IfErr result (FailsBy (state S.Store conn.old) (state S.Store conn.new)) }
-    ensures opens { HasCleanDisk (state S.Store conn.new) → OnOk result (IsTrue (state S.Store conn.new).is_open) }
-    ensures reads { OnlyReads (state S.Store conn.old) (state S.Store conn.new) }
-    ensures outside { conn.new.in_transaction ≡ false }
+    ensures { Reads (state S.Store conn.old) (state S.Store conn.new) result
+        (λ s part. part_entries part ≡ record empty_part { ward = ward_for s (batch_at s batch); candidates = candidates_for s (batch_at s batch); batch = batch_at s batch; own = keying_of s batch round clerk }) }
 {
     let PolledBatch {
         batch: polled,
@@ -188,12 +160,15 @@ pub(crate) fn verdict_part<S: Alter>(
     paper: u32,
 ) -> Result<Part, Fault>
     requires { conn.old.in_transaction ≡ false }
-    ensures found { HasCleanDisk (state S.Store conn.new) → (s : OfficeState) → IsAt s (state S.Store conn.old)
-        → IfOk result (λ part. part_entries part ≡ record empty_part { ward = ward_for s (batch_at s batch); candidates = candidates_for s (batch_at s batch); batch = batch_at s batch; first = first_for s (batch_at s batch); second = second_for s (batch_at s batch); verdict = verdict_at s batch paper }) }
-    ensures cause { HasCleanDisk (state S.Store conn.new) → (s : OfficeState) → IsAt s (state S.Store conn.old) → IfErr result (FailsBy (state S.Store conn.old) (state S.Store conn.new)) }
-    ensures opens { HasCleanDisk (state S.Store conn.new) → OnOk result (IsTrue (state S.Store conn.new).is_open) }
-    ensures reads { OnlyReads (state S.Store conn.old) (state S.Store conn.new) }
-    ensures outside { conn.new.in_transaction ≡ false }
+    ensures { Reads (state S.Store conn.old) (state S.Store conn.new) result
+        (λ s part. part_entries part ≡ record empty_part {
+          ward = ward_for s (batch_at s batch);
+          candidates = candidates_for s (batch_at s batch);
+          batch = batch_at s batch;
+          first = first_for s (batch_at s batch);
+          second = second_for s (batch_at s batch);
+          verdict = verdict_at s batch paper;
+        }) }
 {
     let PolledBatch {
         batch: polled,

@@ -1,11 +1,9 @@
 //! Receipts, read for a request.
 
-ghost use Rattle.std.specs.Prelude.{◌≡◌, false, option_map, IfOk, IfErr, OnOk, IsTrue};
-ghost use Rattle.sqlite.specs.State.{HasCleanDisk};
+ghost use Rattle.std.specs.Prelude.{◌≡◌, false, option_map};
 ghost use Rattle.sqlite.specs.Held.{state};
-ghost use Rattle.register.specs.Offices.{OfficeState, receipt_entry, receipt_at};
-ghost use Rattle.tables.specs.Reading.{OnlyReads, FailsBy};
-ghost use Rattle.store.specs.Offices.{IsAt};
+ghost use Rattle.register.specs.Offices.{receipt_entry, receipt_at};
+ghost use Rattle.store.specs.Reads.{Reads};
 
 use crate::entries::receipts::Receipts;
 use register::Receipt;
@@ -21,11 +19,7 @@ pub(crate) fn find_receipt<S: Alter>(
     id: &str,
 ) -> Result<Option<Receipt>, Fault>
     requires { conn.old.in_transaction ≡ false }
-    ensures found { HasCleanDisk (state S.Store conn.new) → (s : OfficeState) → IsAt s (state S.Store conn.old) → IfOk result (λ found. option_map receipt_entry found ≡ receipt_at s actor id.now) }
-    ensures cause { HasCleanDisk (state S.Store conn.new) → (s : OfficeState) → IsAt s (state S.Store conn.old) → IfErr result (FailsBy (state S.Store conn.old) (state S.Store conn.new)) }
-    ensures opens { HasCleanDisk (state S.Store conn.new) → OnOk result (IsTrue (state S.Store conn.new).is_open) }
-    ensures reads { OnlyReads (state S.Store conn.old) (state S.Store conn.new) }
-    ensures outside { conn.new.in_transaction ≡ false }
+    ensures { Reads (state S.Store conn.old) (state S.Store conn.new) result (λ s found. option_map receipt_entry found ≡ receipt_at s actor id.now) }
 {
     find_entry::<Receipts, S>(conn, &[number(actor), text(id)])
 }

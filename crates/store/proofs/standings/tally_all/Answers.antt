@@ -1,46 +1,27 @@
 -- Why `tally_all` keeps its promise.
-use Rattle.std.proofs.Common.{refl, map, take, sym, subst, ap, ◌∙◌, ◌≡◌, ◌++◌, ◌∷◌, [], ◌+◌, get_or, arith, List}
-use Rattle.std.proofs.lemmas.List.{take_more}
-use Rattle.std.proofs.lemmas.Result.{err_from_is_err_and}
-use Rattle.register.specs.declared.batches.Batch.{Batch}
+use Rattle.std.proofs.Common.{refl, map, take, sym, subst, List}
 use Rattle.register.specs.Offices.{BatchEntry, batch_entry}
-use Rattle.tables.proofs.ListLemmas.{get_mapped, mapped_length}
-use Rattle.tables.proofs.ReadLemmas.{only_reads_then, only_reads_itself}
 use Rattle.store.specs.Tallies.{IsTally}
-use Rattle.tables.proofs.CauseLemmas.{fails_later}
-use Rattle.store.proofs.KeepLemmas.{is_at_read}
 use Rattle.store.proofs.TallyLemmas.{no_tally, more_tally}
+use Rattle.store.proofs.ReadsLemmas.{reads_none, reads_as, reads_both, reads_cut, entries_more, entries_all, no_batch}
 use Rattle.store.proofs.standings.tally_all.Goals as goal
 
 pub loop-batch-init : goal.loop-batch-init
-loop-batch-init g c = record {
-  outside = c.requires;
-  opens = λ clean is_open. is_open;
-  reads = only_reads_itself _;
-  tally = λ clean s at. no_tally s _ refl refl refl;
-}
+loop-batch-init g c = reads_none c.requires.outside c.requires.is_open (λ s is. no_tally s _ refl refl refl)
 
 pub loop-batch-preserved : goal.loop-batch-preserved
 loop-batch-preserved g c =
-    let inv = c.loop-batch.invariant in
     let k = c.loop-batch.batch-index in
-    let none : Batch = record { number = 0; ward = 0; size = 0; first_clerk = 0; second_clerk = 0; round = 0 } in
-    let b = batch_entry (get_or c.args.batches.now k none) in
-    let bs = map batch_entry c.args.batches.now in
-    record {
-      outside = c.tally_of.ensures.outside;
-      opens = λ clean is_open. c.in_ok-one.ensures.opens clean;
-      reads = only_reads_then _ _ _ inv.reads c.tally_of.ensures.reads;
-      tally = λ clean s at.
-          let before = c.tally_of.ensures.reads.clean clean in
-          let mid = is_at_read s _ _ inv.reads before at in
-          let is : get_or bs k b ≡ b = get_mapped batch_entry c.args.batches.now k b none c.loop-batch-test.true in
-          let next : take (k + 1) bs ≡ take k bs ++ b ∷ [] = take_more bs k b (omega (arith, mapped_length batch_entry c.args.batches.now, c.loop-batch-test.true)) ∙ ap (λ (x : BatchEntry). take k bs ++ x ∷ []) is in
-          subst (λ (l : List BatchEntry). IsTally s l c.in_ok-tally.tally) (sym next) (more_tally s (take k bs) b c.loop-batch.tally c.in_ok-one.one c.in_ok-tally.tally (inv.tally before s at) (c.in_ok-one.ensures.found clean s mid) c.in_ok-tally.ensures.sums);
-    }
+    let next = entries_more batch_entry c.args.batches.now k no_batch c.loop-batch-test.true in
+    let sum = c.both-tally in
+    reads_as (reads_both c.loop-batch.invariant c.in_ok-one.ensures)
+    (λ s is told.
+    subst (λ (l : List BatchEntry). IsTally s l sum.result) (sym next)
+    (more_tally s (take k (map batch_entry c.args.batches.now)) _ c.loop-batch.tally c.in_ok-one.one sum.result told.0 told.1 (sum.ensures.taken, sum.ensures.differing, sum.ensures.doubtful_open)))
 
-pub returns-in_err-one-clause-cause : goal.returns-in_err-one-clause-cause
-returns-in_err-one-clause-cause g c clean s at =
-    let mid = is_at_read s _ _ c.loop-batch.invariant.reads (c.tally_of.ensures.reads.clean clean) at in
-    let p = err_from_is_err_and c.from_residual.result c.from_residual.ensures.1 in
-    rw (p.1, p.2) (fails_later _ _ _ _ c.loop-batch.invariant.reads c.tally_of.ensures.reads clean (c.in_err-one.ensures.cause clean s mid))
+pub returns-in_err-one : goal.returns-in_err-one
+returns-in_err-one g c = reads_cut c.from_residual.ensures.1 c.loop-batch.invariant c.in_err-one.ensures
+
+pub returns : goal.returns
+returns g c =
+    reads_as c.loop-batch.invariant (λ s is told. subst (λ (l : List BatchEntry). IsTally s l c.loop-batch.tally) (entries_all batch_entry c.args.batches.now _ c.loop-batch-test.false) told)

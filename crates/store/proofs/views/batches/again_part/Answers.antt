@@ -1,43 +1,20 @@
 -- Why `again_part` keeps its promise.
 use Rattle.std.proofs.Common.{ap, ◌∙◌}
-use Rattle.std.proofs.lemmas.Result.{err_from_is_err_and}
 use Rattle.register.specs.Batches.{ward_for, first_for, second_for}
-use Rattle.tables.proofs.ReadLemmas.{only_reads_then}
-use Rattle.tables.proofs.CauseLemmas.{fails_later}
-use Rattle.store.proofs.KeepLemmas.{is_at_read}
 use Rattle.store.proofs.PartLemmas.{same_part}
+use Rattle.store.proofs.ReadsLemmas.{reads_as, reads_both, reads_cut}
 use Rattle.store.proofs.views.batches.again_part.Goals as goal
 
-pub returns-clause-found : goal.returns-clause-found
-returns-clause-found g c clean s at =
-    let later = c.both_keyings.ensures.reads.clean clean in
-    let before = c.ward_of.ensures.reads.clean later in
-    let mid = is_at_read s _ _ c.find_batch.ensures.reads before at in
-    let late = is_at_read s _ _ c.ward_of.ensures.reads later mid in
-    let batch = c.in_ok-batch.ensures.found before s at in
-    let keyings = c.in_ok-first.ensures.found clean s late in
+pub returns : goal.returns
+returns g c =
+    reads_as (reads_both (reads_both c.in_ok-batch.ensures c.in_ok-ward.ensures) c.in_ok-first.ensures)
+    (λ s is told.
     let e = c.empty.ensures in
-    same_part _ _ (c.in_ok-ward.ensures.found later s mid ∙ ap (ward_for s) batch) (ap (λ p. p.candidate) e) (ap (λ p. p.candidates) e) (batch) (ap (λ p. p.own) e) (keyings.0 ∙ ap (first_for s) batch) (keyings.1 ∙ ap (second_for s) batch) (ap (λ p. p.verdict) e) (ap (λ p. p.poll) e) (ap (λ p. p.due) e) (ap (λ p. p.elected) e)
+    let batch = told.0.0 in
+    same_part _ _ (told.0.1 ∙ ap (ward_for s) batch) (ap (λ p. p.candidate) e) (ap (λ p. p.candidates) e) batch (ap (λ p. p.own) e) (told.1.0 ∙ ap (first_for s) batch) (told.1.1 ∙ ap (second_for s) batch) (ap (λ p. p.verdict) e) (ap (λ p. p.poll) e) (ap (λ p. p.due) e) (ap (λ p. p.elected) e))
 
-pub returns-in_err-ward-clause-cause : goal.returns-in_err-ward-clause-cause
-returns-in_err-ward-clause-cause g c clean s at =
-    let mid = is_at_read s _ _ c.find_batch.ensures.reads (c.ward_of.ensures.reads.clean clean) at in
-    let p = err_from_is_err_and c.from_residual-in_err-ward.result c.from_residual-in_err-ward.ensures.1 in
-    rw (p.1, p.2) (fails_later _ _ _ _ c.find_batch.ensures.reads c.ward_of.ensures.reads clean (c.in_err-ward.ensures.cause clean s mid))
+pub returns-in_err-ward : goal.returns-in_err-ward
+returns-in_err-ward g c = reads_cut c.from_residual-in_err-ward.ensures.1 c.in_ok-batch.ensures c.in_err-ward.ensures
 
-pub returns-in_err-first-clause-cause : goal.returns-in_err-first-clause-cause
-returns-in_err-first-clause-cause g c clean s at =
-    let later = c.both_keyings.ensures.reads.clean clean in
-    let mid = is_at_read s _ _ c.find_batch.ensures.reads (c.ward_of.ensures.reads.clean later) at in
-    let late = is_at_read s _ _ c.ward_of.ensures.reads later mid in
-    let p = err_from_is_err_and c.from_residual-in_err-first.result c.from_residual-in_err-first.ensures.1 in
-    rw (p.1, p.2) (fails_later _ _ _ _ (only_reads_then _ _ _ c.find_batch.ensures.reads c.ward_of.ensures.reads) c.both_keyings.ensures.reads clean (c.in_err-first.ensures.cause clean s late))
-
-pub returns-clause-reads : goal.returns-clause-reads
-returns-clause-reads g c = only_reads_then _ _ _ c.find_batch.ensures.reads (only_reads_then _ _ _ c.ward_of.ensures.reads c.both_keyings.ensures.reads)
-
-pub returns-in_err-ward-clause-reads : goal.returns-in_err-ward-clause-reads
-returns-in_err-ward-clause-reads g c = only_reads_then _ _ _ c.find_batch.ensures.reads c.ward_of.ensures.reads
-
-pub returns-in_err-first-clause-reads : goal.returns-in_err-first-clause-reads
-returns-in_err-first-clause-reads g c = only_reads_then _ _ _ c.find_batch.ensures.reads (only_reads_then _ _ _ c.ward_of.ensures.reads c.both_keyings.ensures.reads)
+pub returns-in_err-first : goal.returns-in_err-first
+returns-in_err-first g c = reads_cut c.from_residual-in_err-first.ensures.1 (reads_both c.in_ok-batch.ensures c.in_ok-ward.ensures) c.in_err-first.ensures

@@ -2,16 +2,13 @@
 use Rattle.std.proofs.Common.{refl}
 use Rattle.register.specs.Offices.{batch_entry}
 use Rattle.store.specs.EntryRows.{row_of_batch}
-use Rattle.store.specs.Offices.{tables_of}
 use Rattle.store.proofs.StateLemmas.{batch_in, batch_back}
-use Rattle.store.proofs.RowLemmas.{if_entries_told}
 use Rattle.store.proofs.FindLemmas.{all_batches_listed}
 use Rattle.store.proofs.FitLemmas.{batches_fit}
+use Rattle.store.proofs.ReadsLemmas.{reads_entries}
 use Rattle.store.proofs.views.batches.all_batches.Goals as goal
 
-pub returns-clause-found : goal.returns-clause-found
-returns-clause-found g c clean s at =
-    if_entries_told (λ found. found.items) batch_entry row_of_batch batch_in batch_back c.entries_beginning.result s.batches _ (all_batches_listed s at.is) (c.entries_beginning.ensures.finds clean (tables_of s) at.rests)
-
-pub returns-clause-cause : goal.returns-clause-cause
-returns-clause-cause g c clean s at = c.entries_beginning.ensures.cause clean (tables_of s) at.rests refl (batches_fit s at.is)
+pub returns : goal.returns
+returns g c =
+    let e = c.entries_beginning.ensures in
+    reads_entries (λ found. found.items) batch_entry row_of_batch batch_in batch_back (λ s. s.batches) all_batches_listed batches_fit e.finds e.cause refl e.opens e.reads e.outside

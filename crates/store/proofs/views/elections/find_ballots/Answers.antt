@@ -1,29 +1,17 @@
 -- Why `find_ballots` keeps its promise.
 use Rattle.std.proofs.Common.{ℕ, List, map, ap, ◌∙◌}
-use Rattle.std.proofs.lemmas.Result.{err_from_is_err_and}
 use Rattle.register.specs.Offices.{candidate_entry}
 use Rattle.register.specs.Marks.{columns_of}
 use Rattle.register.specs.Polls.{piles_of, ballots_in}
-use Rattle.tables.proofs.ReadLemmas.{only_reads_then}
-use Rattle.tables.proofs.CauseLemmas.{fails_later}
-use Rattle.store.proofs.KeepLemmas.{is_at_read}
+use Rattle.store.proofs.ReadsLemmas.{reads_as, reads_both, reads_cut}
 use Rattle.store.proofs.views.elections.find_ballots.Goals as goal
 
-pub returns-clause-found : goal.returns-clause-found
-returns-clause-found g c clean s at =
-    let before = c.ward_ballots.ensures.reads.clean clean in
-    let mid = is_at_read s _ _ c.list_candidates.ensures.reads before at in
-    let columns = c.columns_of.ensures.is ∙ ap columns_of (ap (map candidate_entry) c.deref.ensures.value ∙ c.in_ok-candidates.ensures.found before s at) in
-    c.in_ok-ballots.ensures.found clean s mid ∙ ap (λ (columns : List ℕ). ballots_in columns (piles_of s c.args.ward)) columns
+pub returns : goal.returns
+returns g c =
+    reads_as (reads_both c.in_ok-candidates.ensures c.in_ok-ballots.ensures)
+    (λ s is told.
+    let columns = c.columns_of.ensures.is ∙ ap columns_of (ap (map candidate_entry) c.deref.ensures.value ∙ told.0) in
+    told.1 ∙ ap (λ (columns : List ℕ). ballots_in columns (piles_of s c.args.ward)) columns)
 
-pub returns-in_err-ballots-clause-cause : goal.returns-in_err-ballots-clause-cause
-returns-in_err-ballots-clause-cause g c clean s at =
-    let mid = is_at_read s _ _ c.list_candidates.ensures.reads (c.ward_ballots.ensures.reads.clean clean) at in
-    let p = err_from_is_err_and c.from_residual-in_err-ballots.result c.from_residual-in_err-ballots.ensures.1 in
-    rw (p.1, p.2) (fails_later _ _ _ _ c.list_candidates.ensures.reads c.ward_ballots.ensures.reads clean (c.in_err-ballots.ensures.cause clean s mid))
-
-pub returns-clause-reads : goal.returns-clause-reads
-returns-clause-reads g c = only_reads_then _ _ _ c.list_candidates.ensures.reads c.ward_ballots.ensures.reads
-
-pub returns-in_err-ballots-clause-reads : goal.returns-in_err-ballots-clause-reads
-returns-in_err-ballots-clause-reads g c = only_reads_then _ _ _ c.list_candidates.ensures.reads c.ward_ballots.ensures.reads
+pub returns-in_err-ballots : goal.returns-in_err-ballots
+returns-in_err-ballots g c = reads_cut c.from_residual-in_err-ballots.ensures.1 c.in_ok-candidates.ensures c.in_err-ballots.ensures

@@ -1,21 +1,16 @@
 -- Why `find_election` keeps its promise.
-use Rattle.std.proofs.lemmas.Result.{err_from_is_err_and}
-use Rattle.tables.proofs.CauseLemmas.{fails_later}
 use Rattle.std.proofs.Common.{◌≡◌, Some, option_map, ap, ◌∙◌}
 use Rattle.register.specs.Offices.{ward_entry, ward_at}
 use Rattle.register.specs.Elections.{ElectionEntry, election_of}
-use Rattle.store.proofs.KeepLemmas.{is_at_read}
+use Rattle.store.proofs.ReadsLemmas.{reads_as, reads_both, reads_cut}
 use Rattle.store.proofs.views.elections.find_election.Goals as goal
 
-pub returns-in_ok-election-in-Some-clause-found : goal.returns-in_ok-election-in-Some-clause-found
-returns-in_ok-election-in-Some-clause-found g c clean s at =
-    let before = c.ward_election.ensures.reads.clean clean in
-    let mid = is_at_read s _ _ c.find_ward.ensures.reads before at in
-    let there : Some (ward_entry c.in-Some.ward) ≡ ward_at s c.args.ward = rw c.in-Some.is at (c.in_ok-found.ensures.found before s at) in
-    ap (λ (e : ElectionEntry). Some e) (c.in_ok-election-in-Some.ensures.found clean s mid) ∙ ap (option_map (election_of s)) there
+pub returns-in_ok-election-in-Some : goal.returns-in_ok-election-in-Some
+returns-in_ok-election-in-Some g c =
+    reads_as (reads_both c.in_ok-found.ensures c.in_ok-election-in-Some.ensures)
+    (λ s is told.
+    let there : Some (ward_entry c.in-Some.ward) ≡ ward_at s c.args.ward = rw c.in-Some.is at told.0 in
+    ap (λ (e : ElectionEntry). Some e) told.1 ∙ ap (option_map (election_of s)) there)
 
-pub returns-in_err-election-in-Some-clause-cause : goal.returns-in_err-election-in-Some-clause-cause
-returns-in_err-election-in-Some-clause-cause g c clean s at =
-    let mid = is_at_read s _ _ c.find_ward.ensures.reads (c.ward_election.ensures.reads.clean clean) at in
-    let p = err_from_is_err_and c.from_residual-in_err-election-in-Some.result c.from_residual-in_err-election-in-Some.ensures.1 in
-    rw (p.1, p.2) (fails_later _ _ _ _ c.find_ward.ensures.reads c.ward_election.ensures.reads clean (c.in_err-election-in-Some.ensures.cause clean s mid))
+pub returns-in_err-election-in-Some : goal.returns-in_err-election-in-Some
+returns-in_err-election-in-Some g c = reads_cut c.from_residual-in_err-election-in-Some.ensures.1 c.in_ok-found.ensures c.in_err-election-in-Some.ensures
