@@ -41,13 +41,19 @@ fits s actor (Count command) is none = count_fits s actor command is none
 
 -- ---- a request at a state
 
--- what is decided on a receipt and a part that are those of a state is decided there,
-pub ruling_on : (s : OfficeState) (actor : ℕ) (id : List ℕ) (command : Command) (receipt : Option ReceiptEntry) (part : PartEntries) → receipt ≡ receipt_at s actor id → part ≡ part_of s actor command
+-- a receipt decides without the part
+alike : (actor : ℕ) (id : List ℕ) (command : Command) (receipt : Option ReceiptEntry) (part other : PartEntries) → (receipt ≡ None → part ≡ other) → decided actor id command receipt part ≡ decided actor id command receipt other
+unfolding decided
+alike actor id command None part other same = ap (decided actor id command None) (same refl)
+alike actor id command (Some receipt) part other same = refl
+
+-- what is decided on a receipt that is that of a state, and where there is none on its part, is decided there,
+pub ruling_on : (s : OfficeState) (actor : ℕ) (id : List ℕ) (command : Command) (receipt : Option ReceiptEntry) (part : PartEntries) → receipt ≡ receipt_at s actor id → (receipt_at s actor id ≡ None → part ≡ part_of s actor command)
     → decided actor id command receipt part ≡ ruling_at s actor id command
-ruling_on s actor id command receipt part same_receipt same_part = rw (same_receipt, same_part) refl
+ruling_on s actor id command receipt part same_receipt same_part = rw same_receipt (alike actor id command (receipt_at s actor id) part (part_of s actor command) same_part)
 
 -- and is its step
-pub step_on : (s : OfficeState) (actor : ℕ) (id : List ℕ) (command : Command) (receipt : Option ReceiptEntry) (part : PartEntries) → receipt ≡ receipt_at s actor id → part ≡ part_of s actor command
+pub step_on : (s : OfficeState) (actor : ℕ) (id : List ℕ) (command : Command) (receipt : Option ReceiptEntry) (part : PartEntries) → receipt ≡ receipt_at s actor id → (receipt_at s actor id ≡ None → part ≡ part_of s actor command)
     → outcome_at s (decided actor id command receipt part) ≡ step s actor id command
 unfolding step
 step_on s actor id command receipt part same_receipt same_part = ap (outcome_at s) (ruling_on s actor id command receipt part same_receipt same_part)

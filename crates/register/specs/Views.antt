@@ -1,5 +1,5 @@
 -- What a view shows of a state, and what a decision says.
-use Rattle.std.specs.Prelude.{◌≡◌, ⊤, ℕ, ◌∷◌, Some, option_map, string_bytes}
+use Rattle.std.specs.Prelude.{◌≡◌, ⊤, ℕ, ◌∷◌, Some, None, option_map, string_bytes}
 use Rattle.count.specs.Law.Count.{stage_of}
 use Rattle.count.specs.declared.stages.Action.{Action}
 use Rattle.count.specs.declared.stages.Due.TheVariants.{Act}
@@ -16,10 +16,10 @@ use Rattle.register.specs.Elections.{election_of, contest_of, stages_of, due_of}
 use Rattle.register.specs.Keyings.{reply_to}
 use Rattle.register.specs.Machine.{Ruling, accepts, keeps, refuses, Outcome, accepted, outcome_at, decided, part_of}
 
--- the view shows what the state has for this command
+-- the view shows what the state has for this command: its receipt, and where there is none the part of the state
 pub record IsViewOf (s : OfficeState) (command : Command) (view : View) : Type 0 where
   pub receipt : option_map receipt_entry view.receipt ≡ receipt_at s view.actor view.id.now
-  pub part : part_entries view.part ≡ part_of s view.actor command
+  pub part : receipt_at s view.actor view.id.now ≡ None → part_entries view.part ≡ part_of s view.actor command
 
 -- what is decided on a view
 abbrev pub decided_on : View → Command → Ruling

@@ -73,7 +73,7 @@ fn find_part<S: Alter>(
     }
 }
 
-/// What the machine sees of the tables for one request.
+/// What the machine sees of the tables for one request. Where it has a receipt, that is read and nothing else.
 fn view_of<'a, S: Alter>(
     alloc: Global,
     conn: &mut Connection<S>,
@@ -86,6 +86,14 @@ fn view_of<'a, S: Alter>(
     ensures asked { IfOk result (λ view. (view.actor ≡ actor) × (view.id.now ≡ id.now)) }
 {
     let receipt = find_receipt(conn, actor, id)?;
+    if receipt.is_some() {
+        return Ok(View {
+            actor,
+            id,
+            receipt,
+            part: Part::empty(alloc),
+        });
+    }
     let part = find_part(alloc, conn, actor, command)?;
     Ok(View {
         actor,
