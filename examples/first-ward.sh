@@ -5,6 +5,11 @@ source "$(dirname "$(readlink -f "${BASH_SOURCE[0]}")")/play.bash"
 echo 'Ann, Bob and Cy' >"$folder/names.txt"
 : >"$folder/empty.txt"
 
+# The office, where no file may grow past 1024 bytes.
+cramped_office() {
+    (ulimit -f 1 && "$here/../count-office" "$@")
+}
+
 # Tells which files there are.
 list_files() {
     echo "files: $(ls -x "$folder" --ignore=output --ignore=errors --ignore=played)"
@@ -26,6 +31,11 @@ list_files() {
     play town.db init
     play town.db ward 8 2 Quay --id w4
     play missing/town.db init
+    # a write past the system's limit of a file's size fails; without the limit the order is done
+    office=cramped_office play other.db init
+    office=cramped_office play town.db ward 9 2 Pier --id w5
+    play town.db status 9
+    play town.db ward 9 2 Pier --id w5
     # a file that is no database stays as it is
     play names.txt init
     play names.txt status 7
