@@ -6,9 +6,9 @@
 The ward, its import files and its papers come from a fixed generator. Of a ward with more than 20000 papers the batches are
 filled by the stock sqlite with the rows that the orders would have left, since four hundred imports would take long; the
 program judges them at each opening. Each order is timed on a copy of the file, as the
-shortest of several runs, beside `read_rows`, which opens the same file with the kit's sqlite alone and reads all its rows in
-the order of their keys. Keying 500 papers is timed beside the stock sqlite that Python has, which adds the same rows in one
-transaction. Peaks of memory are the processes' own. Both programs are built first where they have to be.
+shortest of several runs, beside the stock sqlite that Python has, which opens the same file, reads all rows of all its tables
+in the order of their keys, and judges nothing. Keying 500 papers is timed beside the same sqlite, which adds the same rows in
+one transaction. Peaks of memory are those of the program. It is built first where it has to be.
 """
 
 import os
@@ -22,7 +22,6 @@ import time
 
 ROOT = os.path.dirname(os.path.dirname(os.path.realpath(__file__)))
 PROGRAM = os.path.join(ROOT, "out", "count-office")
-READER = os.path.join(ROOT, "crates", "read_rows", "out", "read_rows")
 CANDIDATES = 10
 SEATS = 4
 BATCH = 500
@@ -31,8 +30,6 @@ RUNS = 5
 
 def build():
     subprocess.run([os.path.join(ROOT, "count-office"), "--help"], stdout=subprocess.DEVNULL, check=True)
-    if not os.path.exists(READER):
-        subprocess.run(["rt", "run"], cwd=os.path.join(ROOT, "crates", "read_rows"), stdout=subprocess.DEVNULL, stderr=subprocess.DEVNULL)
 
 
 def run(words, status=0):
@@ -135,6 +132,28 @@ def best(town, words, status=0):
     return min(times), max(peaks)
 
 
+def read_rows(town):
+    """Opens a file with the stock sqlite, and reads all rows of all its tables in the order of their keys."""
+    base = sqlite3.connect(town)
+    for (table,) in base.execute("SELECT name FROM sqlite_schema WHERE type = 'table'").fetchall():
+        key = ", ".join(column[1] for column in base.execute(f"PRAGMA table_info({table})") if column[5])
+        base.execute(f"SELECT * FROM {table} ORDER BY {key}").fetchall()
+    base.close()
+
+
+def reading_seconds(town):
+    """The shortest of several such readings, each of a copy of the file."""
+    times = []
+    for _ in range(RUNS):
+        copy = town + ".copy"
+        shutil.copyfile(town, copy)
+        began = time.perf_counter()
+        read_rows(copy)
+        times.append(time.perf_counter() - began)
+        os.remove(copy)
+    return min(times)
+
+
 def stock_seconds(town, texts):
     """The shortest time in which the stock sqlite adds the rows of a keying in one transaction."""
     times = []
@@ -157,7 +176,6 @@ def measure(folder, count):
     doubtful = sqlite3.connect(town).execute("SELECT batch, paper FROM keying WHERE marks = 'D' LIMIT 1").fetchone()
     keying = os.path.join(folder, "keying.csv")
     orders = [
-        ("read_rows (the kit's sqlite alone)", [READER], 0),
         ("status 7", [PROGRAM, "status", "7"], 0),
         ("ward 8 2 Quay", [PROGRAM, "ward", "8", "2", "Quay", "--id", "x"], 0),
         ("batch", [PROGRAM, "batch", str(batches + 2), "7", "500", "4", "9", "--id", "x"], 0),
@@ -165,7 +183,7 @@ def measure(folder, count):
         ("again (refused)", [PROGRAM, "again", "1", "--id", "x"], 1),
         ("judge", [PROGRAM, "judge", str(doubtful[0]), str(doubtful[1]), "reject:3", "--id", "x"], 0),
     ]
-    results = []
+    results = [("all rows read by the stock sqlite", reading_seconds(town), None)]
     for name, words, status in orders:
         seconds, peak = best(town, words, status)
         results.append((name, seconds, peak))
@@ -193,7 +211,8 @@ def main():
             line = f"{columns[0][1][row][0]:38}"
             for _, results in columns:
                 base = results[0][1]
-                line += f"{results[row][1] * 1000:13.0f} ms {results[row][1] / base:6.2f} {results[row][2]:8.0f}"
+                _, seconds, peak = results[row]
+                line += f"{seconds * 1000:13.0f} ms {seconds / base:6.2f} " + (f"{peak:8.0f}" if peak is not None else f"{'–':>8}")
             print(line)
         office, idle, stock = fresh_keying(folder)
         print(f"500 papers keyed: {office * 1000:.0f} ms, of which an order that keys nothing takes {idle * 1000:.0f} ms; stock sqlite {stock * 1000:.1f} ms")

@@ -21,7 +21,8 @@ use Rattle.store.proofs.ReopenLemmas.{left_holds}
 use Rattle.office.specs.Answers.{Told, again, done, no, told_of}
 use Rattle.office.proofs.RunLemmas.{beginning}
 use Rattle.desk.specs.Errands.{File, IsAnswered, IsAnswerAbove, IsEndOf, IsKept, IsPerformed, IsPerformedAndKept, IsPlain, IsReplyAbove, IsRun, IsSent, IsStopped, Performs, Sends, SendsSome, TellsAnswers, TellsFault, TellsOther}
-use Rattle.desk.specs.Pages.{Cut, uncut, cut_behind, cut_error, IsShown, Outputs, Page, cut_below, page_told}
+use Rattle.desk.specs.Pages.{Cut, uncut, cut_behind, cut_error, IsShown, Outputs, Page, cut_below, failed, page_told}
+use Rattle.desk.specs.declared.lines.Failure.TheVariants.{Office}
 use Rattle.desk.specs.Requests.{Errand, Work, making, running, serving}
 use Rattle.desk.proofs.PageLemmas.{broken_ends}
 
@@ -69,11 +70,6 @@ pub wrong_same : {T P : Type 0} (fault : Fault) → fault ≡ WrongDatabase → 
 wrong_same fault wrong (inl memory) = let bad : WrongDatabase ≡ Memory = sym wrong ∙ memory in absurd (cc bad)
 wrong_same fault wrong (inr (inl failing)) = let bad : WrongDatabase ≡ Store = sym wrong ∙ failing in absurd (cc bad)
 wrong_same fault wrong (inr (inr there)) = there.2
-
-pub memory_ends : (work : Work) → IsEndOf work Memory
-memory_ends making = inl (inl refl)
-memory_ends (serving port connections) = inl refl
-memory_ends (running errand) = inl refl
 
 -- ---- what is kept
 
@@ -159,10 +155,10 @@ sends_some s errand file [] sends = tt
 sends_some s errand file (r ∷ rs) sends = sends
 
 -- a fault is told where nothing was sent
-fault_other : (s : OfficeState) (work : Work) (file : File) (page : Page) → TellsFault page → TellsOther s work file page
-fault_other s making file page fault = fault
-fault_other s (serving port connections) file page fault = inr fault
-fault_other s (running errand) file page fault = inr fault
+fault_other : (s : OfficeState) (work : Work) (file : File) (page : Page) (fault : Fault) → page ≡ failed (Office fault) → IsEndOf work fault → TellsOther s work file page
+fault_other s making file page fault is ends = (fault, is)
+fault_other s (serving port connections) file page fault is ends = absurd ends
+fault_other s (running errand) file page fault is ends = inr (fault, is)
 
 -- where there was nothing to send, nothing is told
 sent_other : (cut : Cut) (s : OfficeState) (errand : Errand) (file : File) (requests : List Request) (page : Page) (closed : Bool) (st : State) → Sends s errand file requests → IsSent cut s requests page closed st
@@ -213,9 +209,9 @@ run_kept earlier errand file cut old new page status closed st shown (inr (inr s
 pub kept : (earlier : List Request) (work : Work) (file : File) (cut : Cut) (old new : Outputs) (page : Page) (status : ℕ) (st : State) → IsShown cut old new page status
     → Performs cut (after empty_office earlier) work file page st → IsKept earlier work file cut page status st
 kept earlier work file cut old new page status st shown (inr unopened) =
-    nothing_kept earlier work file cut page status st (fault_other (after empty_office earlier) work file page (unopened.0, unopened.1)) unopened.3
+    nothing_kept earlier work file cut page status st (fault_other (after empty_office earlier) work file page unopened.0 unopened.1 unopened.2) unopened.3
 kept earlier making file cut old new page status st shown (inl it) = absurd it
-kept earlier (serving port connections) file cut old new page status st shown (inl it) = nothing_kept earlier (serving port connections) file cut page status st (inl it.0) it.1
+kept earlier (serving port connections) file cut old new page status st shown (inl it) = nothing_kept earlier (serving port connections) file cut page status st it.0 it.1
 kept earlier (running errand) file cut old new page status st shown (inl it) = run_kept earlier errand file cut old new page status it.0 st shown it.1
 
 -- what comes of an order, with what is kept of it

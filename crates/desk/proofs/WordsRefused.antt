@@ -1,5 +1,5 @@
 -- The status of words that `clap` doesn't take.
-use Rattle.std.proofs.Common.{◌≡◌, ◌∙◌, ◌⊎◌, ℕ, List, [], ◌∷◌, true, refl, sym, ap, inl, inr}
+use Rattle.std.proofs.Common.{◌≡◌, ◌∙◌, ◌⊎◌, ℕ, List, [], ◌∷◌, true, refl, subst, sym, ap, inl, inr}
 use Rattle.std.specs.Prelude.{◌==◌}
 use Rattle.std.specs.List.{list_any}
 use Rattle.std.proofs.Math.Bool.{or-true}
@@ -11,20 +11,32 @@ use Rattle.clap.specs.declared.error.kind.ErrorKind.{ErrorKind}
 use Rattle.clap.specs.declared.error.kind.ErrorKind.TheVariants as kind
 use Rattle.clap.proofs.OnLiterals.{clap_on_literals}
 use Rattle.desk.specs.Orders.{orders}
-use Rattle.desk.specs.Words.{office_words, status_of_kind, wrong_with}
+use Rattle.desk.specs.Words.{IsToldOf, TellsRefusal, office_words, status_of_kind, wrong_with}
+use Rattle.desk.specs.declared.words.WordsFault.{WordsFault}
+use Rattle.desk.specs.declared.words.WordsFault.TheVariants as words_fault
 
 -- a kind is one of some kinds, and so its status is that of one of them
-pub among_gives_status : (k : ErrorKind) (kinds : Kinds) (status : ℕ) → status ≡ status_of_kind k → IsAmong k kinds
+among_gives_status : (k : ErrorKind) (kinds : Kinds) (status : ℕ) → status ≡ status_of_kind k → IsAmong k kinds
     → list_any (λ x. status_of_kind x == status) kinds ≡ true
 among_gives_status k [] status is none = absurd none
 among_gives_status k (x ∷ xs) status is (inl same) = rw (eq-eqb (status_of_kind x) status (ap status_of_kind (sym same) ∙ sym is)) refl
 among_gives_status k (x ∷ xs) status is (inr later) = rw (among_gives_status k xs status is later) (or-true _)
 
 -- and so is that of a kind that isn't want of memory
-pub refusal_gives_status : (k : ErrorKind) (kinds : Kinds) (status : ℕ) → status ≡ status_of_kind k → (k ≡ kind.OutOfMemory → ⊥) → (k ≡ kind.OutOfMemory) ⊎ IsAmong k kinds
+refusal_gives_status : (k : ErrorKind) (kinds : Kinds) (status : ℕ) → status ≡ status_of_kind k → (k ≡ kind.OutOfMemory → ⊥) → (k ≡ kind.OutOfMemory) ⊎ IsAmong k kinds
     → list_any (λ x. status_of_kind x == status) kinds ≡ true
 refusal_gives_status k kinds status is other (inl memory) = absurd (other memory)
 refusal_gives_status k kinds status is other (inr among) = among_gives_status k kinds status is among
+
+-- what is told of a refusal is told of what is wrong with the words
+refusal_is_told : (k : ErrorKind) (kinds : Kinds) (fault : WordsFault) → TellsRefusal k fault → (k ≡ kind.OutOfMemory) ⊎ IsAmong k kinds → IsToldOf kinds fault
+refusal_is_told k kinds words_fault.Memory tells among = tt
+refusal_is_told k kinds words_fault.Verdict tells among = absurd tells
+refusal_is_told k kinds (words_fault.Words text status) tells among = (refusal_gives_status k kinds status tells.1 tells.0 among, tells.2)
+
+-- where the kind that was asked for is that of the error
+pub refusal_told : (k given : ErrorKind) (kinds : Kinds) (fault : WordsFault) → given ≡ k → TellsRefusal given fault → (k ≡ kind.OutOfMemory) ⊎ IsAmong k kinds → IsToldOf kinds fault
+refusal_told k given kinds fault same tells among = refusal_is_told k kinds fault (subst (λ x. TellsRefusal x fault) same tells) among
 
 office_is_free : is_simple_and_free office_words ≡ true
 unfolding office_words orders clap_on_literals

@@ -132,10 +132,10 @@ IsRun cut s errand file page closed st =
 abbrev pub IsPlain : Fault → Type 0
 IsPlain fault = (fault ≡ Memory) ⊎ (fault ≡ Store)
 
--- the faults that may end what is to be done before an office is open: none is made where one is
+-- the faults that may end what is to be done before an office is open: none is made where one is, and for a socket none is opened
 abbrev pub IsEndOf : Work → Fault → Type 0
 IsEndOf making fault = IsPlain fault ⊎ (fault ≡ WrongDatabase)
-IsEndOf (serving port connections) fault = IsPlain fault
+IsEndOf (serving port connections) fault = ⊥
 IsEndOf (running errand) fault = IsPlain fault
 
 -- a fault before an office was open: a stop leaves the state as it was
@@ -171,9 +171,9 @@ pub record IsForeign (db : Database) (page : Page) (old new : State) : Type 0 wh
   pub given : IsToldBy db fault
   pub same : OnlyReads old new
 
--- What needs a socket is told as a failed one, or want of memory is, and nothing is changed.
+-- What needs a socket is told as a failed one, and nothing is changed.
 abbrev pub IsUnserved : Page → State → State → Type 0
-IsUnserved page old new = ((page ≡ failed Output) ⊎ (page ≡ failed (Office Memory))) × OnlyReads old new
+IsUnserved page old new = (page ≡ failed Output) × OnlyReads old new
 
 -- what comes of what is to be done, by what the connection rests at: an office at a state, a database with nothing in it, one with a
 -- table of our names, one of no office, or anything
@@ -218,7 +218,7 @@ TellsAnswers s (r ∷ rs) (suc others) cut page = IsAnswerAbove (told_of (step_o
 -- where nothing was sent, the page tells that there was nothing to send, what was asked or why nothing was sent, or a fault
 abbrev pub TellsOther : OfficeState → Work → File → Page → Type 0
 TellsOther s making file page = TellsFault page
-TellsOther s (serving port connections) file page = (page ≡ failed Output) ⊎ TellsFault page
+TellsOther s (serving port connections) file page = page ≡ failed Output
 TellsOther s (running errand) file page = ((Sends s errand file [] × (page ≡ empty_page)) ⊎ IsTold s errand file page) ⊎ TellsFault page
 
 -- Of the requests of an order so many were answered, as the page tells; where none was sent, it tells something else. Whatever a stop leaves

@@ -1,5 +1,5 @@
 -- What `clap` takes for the words of an order, and the order that its matches mean, by the table of orders.
-use Rattle.std.specs.Prelude.{◌≡◌, ◌==◌, ⊤, ℕ, Bool, true, false, List, [], ◌∷◌, Option, Some, None, pos, codes, map, find, is_none, option_map, unwrap_or}
+use Rattle.std.specs.Prelude.{◌≡◌, ◌≢◌, ◌==◌, ⊤, ℕ, Bool, true, false, List, [], ◌∷◌, Option, Some, None, pos, codes, map, find, is_none, option_map, string_bytes, unwrap_or, IfSome}
 use Rattle.std.specs.Option.{option_map_or}
 use Rattle.std.specs.List.{list_any}
 use Rattle.std.specs.Str.{bytes_eq}
@@ -8,7 +8,7 @@ use Rattle.clap.specs.Simple.{on_top}
 use Rattle.clap.specs.declared.builder.value_parser.ValueParser.{ValueParser}
 use Rattle.clap.specs.declared.builder.value_parser.ValueParser.TheVariants as parser
 use Rattle.clap.specs.declared.error.kind.ErrorKind.{ErrorKind}
-use Rattle.clap.specs.declared.error.kind.ErrorKind.TheVariants.{DisplayHelp}
+use Rattle.clap.specs.declared.error.kind.ErrorKind.TheVariants.{DisplayHelp, OutOfMemory}
 use Rattle.desk.specs.declared.words.WordsFault.{WordsFault}
 use Rattle.desk.specs.declared.words.WordsFault.TheVariants as words_fault
 use Rattle.desk.specs.declared.table.Kind.{Kind}
@@ -132,8 +132,24 @@ abbrev pub status_of_kind : ErrorKind → ℕ
 status_of_kind DisplayHelp = 0
 status_of_kind _ = 2
 
--- what is told of words, by what is wrong with them: a text with that status; or, where nothing is, that a verdict says none
+-- what is told of words, by what is wrong with them: a text with that status, and not an empty one; or, where nothing is, that a verdict says none
 abbrev pub IsToldOf : Kinds → WordsFault → Type 0
 IsToldOf kinds words_fault.Memory = ⊤
 IsToldOf kinds words_fault.Verdict = kinds ≡ []
-IsToldOf kinds (words_fault.Words text status) = list_any (λ kind. status_of_kind kind == status) kinds ≡ true
+IsToldOf kinds (words_fault.Words text status) = (list_any (λ kind. status_of_kind kind == status) kinds ≡ true) × (string_bytes text ≢ [])
+
+-- the text is the own one of what displays itself, where that is known and not empty
+abbrev pub IsOwnText : Option Text → Text → Type 0
+IsOwnText own text = IfSome own (λ bytes. bytes ≢ [] → text ≡ bytes)
+
+-- what is told of a refusal of this kind: a text that isn't empty, with the status of the kind; or want of memory
+abbrev pub TellsRefusal : ErrorKind → WordsFault → Type 0
+TellsRefusal kind words_fault.Memory = ⊤
+TellsRefusal kind words_fault.Verdict = ⊥
+TellsRefusal kind (words_fault.Words text status) = (kind ≢ OutOfMemory) × (status ≡ status_of_kind kind) × (string_bytes text ≢ [])
+
+-- the text is that of what is told
+abbrev pub TellsOwnText : Option Text → WordsFault → Type 0
+TellsOwnText own words_fault.Memory = ⊤
+TellsOwnText own words_fault.Verdict = ⊥
+TellsOwnText own (words_fault.Words text status) = IsOwnText own (string_bytes text)

@@ -74,7 +74,7 @@ fn put_pieces<W: Sink>(pieces: &[&str], sink: &mut W) -> Result<(), Broken>
 fn tell_text<O: Sink, E: Sink>(pieces: &[&str], out: &mut O, err: &mut E) -> u8
     requires out { O.failed out.old < 2 ^ 64 - 1 }
     requires err { E.failed err.old < 2 ^ 64 - 1 }
-    ensures { Shows (outputs_of O.taken O.failed E.taken E.failed out.old err.old) (outputs_of O.taken O.failed E.taken E.failed out.new err.new) (printed (flat_map (λ piece. piece.now) pieces.now)) result }
+    ensures { let outputs = outputs_of O.taken O.failed E.taken E.failed in Shows (outputs out.old err.old) (outputs out.new err.new) (printed (flat_map (λ piece. piece.now) pieces.now)) result }
 {
     match put_pieces(pieces, out) {
         Ok(()) => 0,
@@ -163,7 +163,7 @@ pub fn tell_failure<E: Sink>(failure: Failure, err: &mut E) -> u8
 pub(crate) fn tell<O: Sink, E: Sink>(outcome: &Outcome, out: &mut O, err: &mut E) -> u8
     requires out { O.failed out.old < 2 ^ 64 - 1 }
     requires err { E.failed err.old < 2 ^ 64 - 1 }
-    ensures { Shows (outputs_of O.taken O.failed E.taken E.failed out.old err.old) (outputs_of O.taken O.failed E.taken E.failed out.new err.new) (page_of outcome.now) result }
+    ensures { let outputs = outputs_of O.taken O.failed E.taken E.failed in Shows (outputs out.old err.old) (outputs out.new err.new) (page_of outcome.now) result }
 {
     match outcome {
         Outcome::Ready => tell_text(&["office ready", "\n"], out, err),
@@ -181,7 +181,7 @@ pub(crate) fn tell<O: Sink, E: Sink>(outcome: &Outcome, out: &mut O, err: &mut E
 pub fn tell_words<O: Sink, E: Sink>(fault: &WordsFault, out: &mut O, err: &mut E) -> u8
     requires out { O.failed out.old < 2 ^ 64 - 1 }
     requires err { E.failed err.old < 2 ^ 64 - 1 }
-    ensures { Shows (outputs_of O.taken O.failed E.taken E.failed out.old err.old) (outputs_of O.taken O.failed E.taken E.failed out.new err.new) (words_page fault.now) result }
+    ensures { let outputs = outputs_of O.taken O.failed E.taken E.failed in Shows (outputs out.old err.old) (outputs out.new err.new) (words_page fault.now) result }
 {
     match fault {
         WordsFault::Memory => tell_failure(Failure::Office(Fault::Memory), err),

@@ -31,7 +31,7 @@ fn run<S: Alter, R: Read + Drop, O: Sink, E: Sink>(
 ) -> u8
     requires out { O.failed out.old < 2 ^ 64 - 1 }
     requires err { E.failed err.old < 2 ^ 64 - 1 }
-    ensures ran { Tells (outputs_of O.taken O.failed E.taken E.failed out.old err.old) (outputs_of O.taken O.failed E.taken E.failed out.new err.new) result
+    ensures ran { let outputs = outputs_of O.taken O.failed E.taken E.failed in Tells (outputs out.old err.old) (outputs out.new err.new) result
         (λ cut page. WhereOpen office.old.closed (state S.Store office.old.held) (state S.Store office.new.held)
         (λ s. IsRun cut s (errand_of errand.now) (option_map R.remaining file) page office.new.closed (state S.Store office.new.held))) }
     ensures clean { HasCleanDisk (state S.Store office.new.held) → HasCleanDisk (state S.Store office.old.held) }
@@ -62,7 +62,7 @@ fn run_opened<S: Alter, R: Read + Drop, O: Sink, E: Sink>(
 ) -> (u8, Connection<S>)
     requires out { O.failed out.old < 2 ^ 64 - 1 }
     requires err { E.failed err.old < 2 ^ 64 - 1 }
-    ensures { Tells (outputs_of O.taken O.failed E.taken E.failed out.old err.old) (outputs_of O.taken O.failed E.taken E.failed out.new err.new) result.0
+    ensures { let outputs = outputs_of O.taken O.failed E.taken E.failed in Tells (outputs out.old err.old) (outputs out.new err.new) result.0
         (λ cut page. HasCleanDisk (state S.Store result.1) → IsPerformed cut (running (errand_of errand.now)) (option_map R.remaining file) page (state S.Store conn) (state S.Store result.1)) }
 {
     match Office::open_from(alloc, conn) {
@@ -83,7 +83,7 @@ fn make_office<S: Alter, O: Sink, E: Sink>(
 ) -> (u8, Connection<S>)
     requires out { O.failed out.old < 2 ^ 64 - 1 }
     requires err { E.failed err.old < 2 ^ 64 - 1 }
-    ensures { Tells (outputs_of O.taken O.failed E.taken E.failed out.old err.old) (outputs_of O.taken O.failed E.taken E.failed out.new err.new) result.0
+    ensures { let outputs = outputs_of O.taken O.failed E.taken E.failed in Tells (outputs out.old err.old) (outputs out.new err.new) result.0
         (λ cut page. HasCleanDisk (state S.Store result.1) → (told : File) → IsPerformed cut making told page (state S.Store conn) (state S.Store result.1)) }
 {
     match Office::create(alloc, conn) {
@@ -119,7 +119,7 @@ pub fn perform<S: Alter, R: Read + Drop, O: Sink, E: Sink>(
 ) -> (u8, Connection<S>)
     requires out { O.failed out.old < 2 ^ 64 - 1 }
     requires err { E.failed err.old < 2 ^ 64 - 1 }
-    ensures headline { Tells (outputs_of O.taken O.failed E.taken E.failed out.old err.old) (outputs_of O.taken O.failed E.taken E.failed out.new err.new) result.0
+    ensures headline { let outputs = outputs_of O.taken O.failed E.taken E.failed in Tells (outputs out.old err.old) (outputs out.new err.new) result.0
         (λ cut page. HasCleanDisk (state S.Store result.1)
         → IsPerformedAndKept cut (work_for order.now) (option_map R.remaining file) page result.0 (state S.Store conn) (state S.Store result.1)) }
 {

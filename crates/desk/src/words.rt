@@ -1,18 +1,19 @@
 //! The words of the command line, read to one order.
 
-ghost use Rattle.std.specs.Prelude.{◌≡◌, ◌⊎◌, true, false, [], Some, map, IfOk, IfErr};
-ghost use Rattle.clap.specs.Words.{HasKind, Kinds, app_of, subcommand_of, kind_of, takes, with_rule, with_subcommand};
+ghost use Rattle.std.specs.Prelude.{◌≡◌, ◌≢◌, ◌⊎◌, true, false, [], Some, map, string_bytes, IfOk, IfErr};
+ghost use Rattle.clap.specs.Words.{app_of, subcommand_of, takes, with_rule, with_subcommand};
 ghost use Rattle.clap.specs.declared.builder.command.Command.TheViews.{out-Command as fields_of};
 ghost use Rattle.desk.specs.Orders.{entry_of, told};
-ghost use Rattle.desk.specs.Words.{IsToldOf, has_bad_verdict, id_rule, meaning, number_rule, office_words, order_words, rule_of_kind, start_words, status_of_kind, text_rule, with_orders, wrong_with};
+ghost use Rattle.desk.specs.Words.{IsOwnText, IsToldOf, TellsOwnText, TellsRefusal, has_bad_verdict, id_rule, meaning, number_rule, office_words, order_words, rule_of_kind, start_words, status_of_kind, text_rule, with_orders, wrong_with};
 
 use crate::matched::{NoOrder, order_in};
 use crate::orders::Order;
 use crate::table::{Entry, Kind, MAX_CONNECTIONS, MAX_PORT, Word, entries};
 use clap::builder::ValueParser;
 use clap::error::ErrorKind;
-use clap::{Arg, Command, Error, value_parser};
+use clap::{Arg, Command, value_parser};
 use std::alloc::{AllocError, Global};
+use std::fmt::Display;
 
 const USAGE_NAME: &str = "count-office DB";
 
@@ -32,6 +33,9 @@ error, with status 1; words that are not understood with 2, and faults with 3.
 
 docs/ELECTION.md leads through an election, order by order. docs/FORMATS.md tells what each
 refusal and each fault means, and what to do about it.";
+
+/// What is told of words that aren't understood, where nothing else is.
+const NOT_UNDERSTOOD: &str = "error: the words are not understood\n";
 
 /// Why the words are no order.
 #[derive(Debug, Drop)]
@@ -191,16 +195,32 @@ fn status_of(kind: ErrorKind) -> u8
     }
 }
 
-/// What is told of words that `clap` doesn't take.
-fn refused(alloc: Global, error: &Error) -> WordsFault
-    ensures memory { kind_of error.now ≡ ErrorKind.OutOfMemory → result ≡ WordsFault.Memory }
-    ensures denies { (kinds : Kinds) → HasKind kinds error.now → IsToldOf kinds result }
+/// What something displays; where that is nothing, that the words aren't understood.
+fn text_of<D: Display>(alloc: Global, shown: &D) -> Result<String, AllocError>
+    ensures some { IfOk result (λ text. string_bytes text ≢ []) }
+    ensures own { IfOk result (λ text. IsOwnText (D.output shown.now) (string_bytes text)) }
 {
-    let kind = error.kind();
+    let text = format!(in alloc; "{shown}")?;
+    if text.is_empty() {
+        String::from_str(alloc, NOT_UNDERSTOOD)
+    } else {
+        Ok(text)
+    }
+}
+
+/// What is told of words that `clap` doesn't take: the text that its error displays, by the kind of the error.
+///
+/// `clap` states nothing of that text. So the error is any value that displays itself, of which nothing else
+/// can be told than that.
+fn refused<D: Display>(alloc: Global, kind: ErrorKind, shown: &D) -> WordsFault
+    ensures memory { kind ≡ ErrorKind.OutOfMemory → result ≡ WordsFault.Memory }
+    ensures told { TellsRefusal kind result }
+    ensures own { TellsOwnText (D.output shown.now) result }
+{
     if kind == ErrorKind::OutOfMemory {
         return WordsFault::Memory;
     }
-    match format!(in alloc; "{error}") {
+    match text_of(alloc, shown) {
         Ok(text) => WordsFault::Words {
             text,
             status: status_of(kind),
@@ -213,8 +233,8 @@ fn refused(alloc: Global, error: &Error) -> WordsFault
 ///
 /// The order and its values are those that `clap` matches in the words, read by the table of orders.
 /// Words that `clap` takes are refused for want of memory, and for a verdict whose word says none, alone.
-/// Words that it doesn't take are no order: they are told with status 0 where what is wrong with them first
-/// is that they ask for help, and else with 2, or want of memory is told.
+/// Words that it doesn't take are no order: they are told, in a text that isn't empty, with status 0 where what
+/// is wrong with them first is that they ask for help, and else with 2, or want of memory is told.
 pub fn order<'a>(alloc: Global, words: &'a [&'a str]) -> Result<Order<'a>, WordsFault>
     ensures accepts { IfOk result (λ _. wrong_with (map (λ s. s.now) words.entry.now) ≡ []) }
     ensures denies { IfErr result (IsToldOf (wrong_with (map (λ s. s.now) words.entry.now))) }
@@ -228,7 +248,7 @@ pub fn order<'a>(alloc: Global, words: &'a [&'a str]) -> Result<Order<'a>, Words
     };
     let matches = match command.try_get_matches_from(words) {
         Ok(matches) => matches,
-        Err(error) => return Err(refused(alloc, &error)),
+        Err(error) => return Err(refused(alloc, error.kind(), &error)),
     };
     match order_in(alloc, &matches) {
         Ok(order) => Ok(order),

@@ -4,6 +4,9 @@ pub mod BodyLemmas
 pub mod TextLemmas
 pub mod DigitLemmas
 pub mod TargetLemmas
+pub mod RowLemmas
+pub mod PartLemmas
+pub mod PathLemmas
 pub mod LengthLemmas
 pub mod AskingLemmas
 pub mod ReplyLemmas

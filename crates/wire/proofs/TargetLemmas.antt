@@ -51,7 +51,7 @@ module _ {K : Type 0} (P : K → Type 0) where
   param_step-kind rows path all =
       one_of_three (ltb 0 (length (longest_suffix (segment path) rows))) (has_slash path) _ _ _ rows (with_suffix-kind (longest_suffix (segment path) rows) rows all) all
 
-  or_else-kind : (one other : Option K) → IfSome one P → IfSome other P → IfSome (or_else one other) P
+  pub or_else-kind : (one other : Option K) → IfSome one P → IfSome other P → IfSome (or_else one other) P
   or_else-kind None other a b = b
   or_else-kind (Some key) other a b = a
 

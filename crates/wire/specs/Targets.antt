@@ -1,5 +1,5 @@
 -- What the targets of requests name: four routes, as `matchit` finds them for the whole target, with numbers in them.
-use Rattle.std.specs.Prelude.{◌&&◌, ◌∷◌, ◌==◌, Bool, List, [], Option, Some, None, Result, Ok, Err, codes, false, if◌then◌else◌, length, nat_le, not, option_and_then, option_map, ℕ}
+use Rattle.std.specs.Prelude.{◌≡◌, ◌↔◌, ◌++◌, ◌&&◌, ◌∷◌, ◌==◌, Bool, List, [], Option, Some, None, Result, Ok, Err, codes, false, if◌then◌else◌, length, nat_le, not, option_and_then, option_map, ℕ}
 use Rattle.std.specs.Char.{is_ascii, is_ascii_digit}
 use Rattle.std.specs.List.{list_all}
 use Rattle.std.specs.Str.Parse.{digits_value}
@@ -72,3 +72,17 @@ route_of target = if list_all is_ascii target then first office_routes target el
 -- what a target names
 abbrev pub named_by : List ℕ → Option Target
 named_by target = option_and_then (λ (route : RouteOf Place). named_at route.value (walk route.pattern route.text target route.names 0 0)) (route_of target)
+
+-- ---- the same in plain words
+
+-- the target of something that is served: its path, in which each number is written in 1 to 5 digits, the first not 0
+abbrev pub IsTargetOf : Target → List ℕ → Type 0
+IsTargetOf (Keying clerk batch) target =
+    (c b : List ℕ) × (target ≡ codes "/clerks/" ++ (c ++ (codes "/batches/" ++ (b ++ codes "/keying")))) × (number_in c ≡ Some clerk) × (number_in b ≡ Some batch)
+IsTargetOf (Reading (Work clerk)) target = (c : List ℕ) × (target ≡ codes "/clerks/" ++ (c ++ codes "/work")) × (number_in c ≡ Some clerk)
+IsTargetOf (Reading (Sheet ward)) target = (w : List ℕ) × (target ≡ codes "/wards/" ++ (w ++ codes "/sheet")) × (number_in w ≡ Some ward)
+IsTargetOf (Reading (Declaration ward)) target = (w : List ℕ) × (target ≡ codes "/wards/" ++ (w ++ codes "/result")) × (number_in w ≡ Some ward)
+
+-- a target names just what it is the path of, and so none names anything else
+abbrev pub NamesItsOwn : List ℕ → Type 0
+NamesItsOwn target = (there : Target) → (named_by target ≡ Some there) ↔ IsTargetOf there target

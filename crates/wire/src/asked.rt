@@ -2,7 +2,7 @@
 
 ghost use Rattle.std.specs.Prelude.{◌≡◌, ◌≢◌, ◌-◌, ◌^◌, ◌<◌, ◌++◌, IfErr, IfOk, IfSome, List, Ok, OnOk, ℕ};
 ghost use Rattle.wire.specs.Asking.{Asks, AsksOneThing, FailsAfter, IsUnread, IsWanting, LacksAt, LacksBody, asked_at, asked_entry, asked_with, verb_of, verb_text, wanted};
-ghost use Rattle.wire.specs.Targets.{named_by};
+ghost use Rattle.wire.specs.Targets.{NamesItsOwn, named_by};
 ghost use Rattle.httparse.specs.Spans.{IsRequestWithin, span_bytes};
 
 use crate::body::{KeyingBody, keying_of, read_body};
@@ -165,6 +165,9 @@ fn read_request<R: Source>(alloc: Global, reader: &mut R) -> Result<Asked, Unrea
 /// `Broken` comes only from the source, which then counts one failure more, and only while what was read doesn't
 /// say yet what is asked: once it does, nothing more is read, for the client may wait for its answer. Of the
 /// bytes behind the request some may have been read.
+///
+/// What is asked for hangs on the target alone, which names just what it is the path of: one of the four of this crate,
+/// with numbers of 1 to 5 digits in it, the first not 0. Any other target names nothing.
 pub fn read_asked<R: Source>(alloc: Global, reader: &mut R) -> Result<Asked, Unread>
     requires { R.failed reader.old < 2 ^ 64 - 1 }
     ensures asks { IfSome (R.held reader.old) (λ bytes. IfOk result (λ asked. Asks bytes (asked_entry asked))) }
@@ -172,6 +175,7 @@ pub fn read_asked<R: Source>(alloc: Global, reader: &mut R) -> Result<Asked, Unr
     ensures err { IfErr result (IsUnread (R.failed reader.old) (R.failed reader.new)) }
     ensures wanting { IfErr result (FailsAfter (R.held reader.old) (R.held reader.new) IsWanting) }
     ensures one { (bytes : List ℕ) → AsksOneThing bytes }
+    ensures targets { (target : List ℕ) → NamesItsOwn target }
 {
     read_request(alloc, reader)
 }

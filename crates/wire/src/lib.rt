@@ -5,9 +5,9 @@
 //! `GET /wards/{w}/result`. [`read_asked`] reads what is asked, [`Asked`], or why it is denied before the
 //! office is asked, [`Denial`].
 //!
-//! `specs/Asking.antt` says what the bytes of a client ask, `specs/Responses.antt` which bytes an answer
-//! has, and `specs/Serving.antt` what is answered at a state of the office, and what each end of a
-//! connection leaves.
+//! `specs/Asking.antt` says what the bytes of a client ask, `specs/Targets.antt` which targets name what,
+//! `specs/Responses.antt` which bytes an answer has, and `specs/Serving.antt` what is answered at a state of
+//! the office, and what each end of a connection leaves.
 //!
 //! ```text
 //! match serve_one(alloc, &mut reader, &mut writer, &mut office) {

@@ -53,7 +53,7 @@ returns-in-Serve g c =
               in_nothing = λ is. absurd (cc is);
               taken = λ is. absurd (cc is);
               elsewhere = λ errand is. absurd (cc is);
-              anywhere = λ port connections is. (inl refl, only_reads_itself st);
+              anywhere = λ port connections is. (refl, only_reads_itself st);
             }));
       };
     }

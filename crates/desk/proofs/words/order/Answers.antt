@@ -1,14 +1,16 @@
 use Rattle.std.proofs.Common.{◌∙◌, refl, sym, ap, map, inr, Err}
 use Rattle.std.proofs.lemmas.Bool.{false≢true}
+use Rattle.clap.specs.Words.{kind_of}
 use Rattle.desk.specs.Words.{has_bad_verdict, meaning}
 use Rattle.desk.proofs.OrdersNamed.{matches_are_the_words, matches_name_an_order}
-use Rattle.desk.proofs.WordsRefused.{refused_is_wrong, taken_is_right}
+use Rattle.desk.proofs.WordsRefused.{refusal_told, refused_is_wrong, taken_is_right}
 use Rattle.desk.proofs.words.order.Goals as goal
 
 pub returns-in-Err-try_get_matches_from-clause-denies : goal.returns-in-Err-try_get_matches_from-clause-denies
 returns-in-Err-try_get_matches_from-clause-denies c =
     let parse = c.in-Err-try_get_matches_from in
-    c.refused.ensures.denies _ (refused_is_wrong c.in-Ok.command (map (λ s. s.now) c.args.words.now) parse.error c.in-Ok.ensures.app parse.ensures.kinds)
+    refusal_told (kind_of parse.error) c.kind.result _ c.refused.result c.kind.ensures c.refused.ensures.told
+    (refused_is_wrong c.in-Ok.command (map (λ s. s.now) c.args.words.now) parse.error c.in-Ok.ensures.app parse.ensures.kinds)
 
 pub returns-in-Ok-order_in-clause-accepts : goal.returns-in-Ok-order_in-clause-accepts
 returns-in-Ok-order_in-clause-accepts c = taken_is_right c.in-Ok.command (map (λ s. s.now) c.args.words.now) c.in-Ok.ensures.app c.in-Ok-try_get_matches_from.ensures.kinds

@@ -1,0 +1,228 @@
+-- A target names just what it is the path of.
+use Rattle.std.proofs.Common.{◌≡◌, ◌∙◌, ◌-◌, ◌+◌, ℕ, Bool, true, false, List, [], ◌∷◌, ◌++◌, Option, Some, None, append_assoc, codes, drop, length, ltb, refl, subst, sym, ap, arith}
+use Rattle.std.specs.Prelude.{IfSome, if◌then◌else◌, option_and_then, option_map}
+use Rattle.std.specs.Char.{is_ascii}
+use Rattle.std.specs.List.{list_all}
+use Rattle.std.proofs.lemmas.Bool.{ne_eqb}
+use Rattle.std.proofs.lemmas.List.{length-append}
+use Rattle.std.proofs.lemmas.List.Folds.{list_all-append}
+use Rattle.matchit.specs.Params.{part_of, walk, wild_stop}
+use Rattle.matchit.specs.Router.{RouteOf}
+use Rattle.matchit.specs.Rows.{RowsOf, param_token}
+use Rattle.matchit.specs.Seek.{first, segment, step}
+use Rattle.matchit.specs.Route.{scan}
+use Rattle.wire.proofs.RowLemmas.{Fits, Gives, GoBySlash, HasNoSlash, seek-end, seek-gives, seek-part, seek-word, steps}
+use Rattle.wire.specs.Targets.{IsTargetOf, NamesItsOwn, named_at, named_by, number_in, office_routes}
+use Rattle.wire.specs.declared.target.Place.{Place}
+use Rattle.wire.specs.declared.target.Place.TheVariants as place
+use Rattle.wire.specs.declared.target.Reading.TheVariants.{Declaration, Sheet, Work}
+use Rattle.wire.specs.declared.target.Target.{Target}
+use Rattle.wire.specs.declared.target.Target.TheVariants.{Keying, Reading}
+use Rattle.wire.proofs.PartLemmas.{IsNumeric, numeric, one-part, one-taken, two-parts, walk-part, with_taken}
+
+-- ---- a target of one of the routes names something
+
+-- a route with one parameter leads to a place, and names this by the number that the parameter writes
+pub record OneRoute : Type 0 where
+  pub word : List ℕ
+  pub rest : List ℕ
+  pub text : List ℕ
+  pub name : ℕ × ℕ
+  pub to : Place
+  pub kind : ℕ → Target
+
+-- its path for a part
+abbrev path_of : OneRoute → List ℕ → List ℕ
+path_of r part = r.word ++ (part ++ (47 ∷ r.rest))
+
+abbrev route_of_one : OneRoute → RouteOf Place
+route_of_one r = record { pattern = r.word ++ (param_token ∷ (47 ∷ r.rest)); text = r.text; names = r.name ∷ []; value = r.to }
+
+-- what is computed of such a route
+pub record IsOneRoute (r : OneRoute) : Type 0 where
+  pub word_bytes : list_all (λ x. ltb x param_token) r.word ≡ true
+  pub rest_bytes : list_all (λ x. ltb x param_token) (47 ∷ r.rest) ≡ true
+  pub word_low : list_all is_ascii r.word ≡ true
+  pub rest_low : list_all is_ascii (47 ∷ r.rest) ≡ true
+  pub stops : (path : List ℕ) (from : ℕ) → wild_stop (r.word ++ (param_token ∷ (47 ∷ r.rest))) (length r.word) path from ≡ from + length (segment (drop from path)) - 1
+  pub names : (part : List ℕ) → named_at r.to (with_taken (part_of r.text r.name.0 r.name.1) part []) ≡ option_map r.kind (number_in part)
+  pub own : (target part : List ℕ) (n : ℕ) → target ≡ path_of r part → number_in part ≡ Some n → IsTargetOf (r.kind n) target
+
+-- what a route names of a target is something whose path the target is
+abbrev NamesOwn : List ℕ → RouteOf Place → Type 0
+NamesOwn target route = (there : Target) → named_at route.value (walk route.pattern route.text target route.names 0 0) ≡ Some there → IsTargetOf there target
+
+read-back : (target part : List ℕ) (kind : ℕ → Target) (there : Target) → ((n : ℕ) → number_in part ≡ Some n → IsTargetOf (kind n) target) → option_map kind (number_in part) ≡ Some there
+    → IsTargetOf there target
+read-back target part kind there own named = by (number_in part) refl named
+  where
+    by : (o : Option ℕ) → number_in part ≡ o → option_map kind o ≡ Some there → IsTargetOf there target
+    by None is named = let no : ⊥ = cc in absurd no
+    by (Some n) is named = let same : kind n ≡ there = cc in subst (λ t. IsTargetOf t target) same (own n is)
+
+one-own : (r : OneRoute) → IsOneRoute r → (target : List ℕ) → Fits (r.word ++ (param_token ∷ (47 ∷ r.rest))) target → NamesOwn target (route_of_one r)
+one-own r is target fits = λ there named.
+    let path = one-part r.word (47 ∷ r.rest) target is.word_bytes is.rest_bytes fits in
+    let taken = one-taken r.word r.rest r.text target path.part r.name is.word_bytes path.is path.whole (is.stops target) in
+    read-back target path.part r.kind there (λ n own. is.own target path.part n path.is own) (sym (is.names path.part) ∙ sym (ap (named_at r.to) taken) ∙ named)
+
+low-path : (word part end : List ℕ) → list_all is_ascii word ≡ true → list_all is_ascii part ≡ true → list_all is_ascii end ≡ true → list_all is_ascii (word ++ (part ++ end)) ≡ true
+low-path word part end one two three = list_all-append is_ascii word (part ++ end) ∙ rw (one, list_all-append is_ascii part end, two, three) refl
+
+named-found : (target : List ℕ) (route : RouteOf Place) → list_all is_ascii target ≡ true → first office_routes target ≡ Some route
+    → named_by target ≡ named_at route.value (walk route.pattern route.text target route.names 0 0)
+named-found target route low found = rw (low, found) refl
+
+one-named : (r : OneRoute) → IsOneRoute r → (part : List ℕ) (n : ℕ) → number_in part ≡ Some n → first office_routes (path_of r part) ≡ Some (route_of_one r)
+    → named_by (path_of r part) ≡ Some (r.kind n)
+one-named r is part n own found =
+    let numbered = numeric part n own in
+    named-found (path_of r part) (route_of_one r) (low-path r.word part (47 ∷ r.rest) is.word_low numbered.low is.rest_low) found
+    ∙ ap (named_at r.to) (one-taken r.word r.rest r.text (path_of r part) part r.name is.word_bytes refl numbered.whole (is.stops (path_of r part)))
+    ∙ is.names part ∙ ap (option_map r.kind) own
+
+-- ---- our routes
+
+work : OneRoute
+work = record { word = codes "/clerks/"; rest = codes "work"; text = codes "/clerks/{c}/work"; name = (9, 10); to = place.Work; kind = λ n. Reading (Work n) }
+
+sheet : OneRoute
+sheet = record { word = codes "/wards/"; rest = codes "sheet"; text = codes "/wards/{w}/sheet"; name = (8, 9); to = place.Sheet; kind = λ n. Reading (Sheet n) }
+
+declaration : OneRoute
+declaration = record { word = codes "/wards/"; rest = codes "result"; text = codes "/wards/{w}/result"; name = (8, 9); to = place.Declaration; kind = λ n. Reading (Declaration n) }
+
+is-work : IsOneRoute work
+unfolding work
+is-work = record { word_bytes = refl; rest_bytes = refl; word_low = refl; rest_low = refl; stops = λ path from. refl; names = λ part. refl; own = λ target part n is own. (part, is, own) }
+
+is-sheet : IsOneRoute sheet
+unfolding sheet
+is-sheet = record { word_bytes = refl; rest_bytes = refl; word_low = refl; rest_low = refl; stops = λ path from. refl; names = λ part. refl; own = λ target part n is own. (part, is, own) }
+
+is-declaration : IsOneRoute declaration
+unfolding declaration
+is-declaration = record { word_bytes = refl; rest_bytes = refl; word_low = refl; rest_low = refl; stops = λ path from. refl; names = λ part. refl; own = λ target part n is own. (part, is, own) }
+
+-- ---- the route of a keying, with two parameters
+
+abbrev keying_pattern : List ℕ
+keying_pattern = codes "/clerks/" ++ (param_token ∷ (codes "/batches/" ++ (param_token ∷ codes "/keying")))
+
+abbrev keying_path : List ℕ → List ℕ → List ℕ
+keying_path c b = codes "/clerks/" ++ (c ++ (codes "/batches/" ++ (b ++ codes "/keying")))
+
+keying_route : RouteOf Place
+keying_route = record { pattern = keying_pattern; text = codes "/clerks/{c}/batches/{b}/keying"; names = (9, 10) ∷ (21, 22) ∷ []; value = place.Keying }
+
+keying-taken : (target c b : List ℕ) → target ≡ keying_path c b → HasNoSlash c → HasNoSlash b
+    → walk keying_route.pattern keying_route.text target keying_route.names 0 0 ≡ with_taken (codes "c") c (with_taken (codes "b") b [])
+unfolding keying_route
+keying-taken target c b is c_whole b_whole =
+    walk-part keying_pattern (codes "/clerks/{c}/batches/{b}/keying") target (9, 10) ((21, 22) ∷ []) (codes "/clerks/") (codes "/batches/" ++ (param_token ∷ codes "/keying")) [] c
+    (codes "batches/" ++ (b ++ codes "/keying")) 0 0 refl refl refl is c_whole (λ from. refl)
+    ∙ ap (with_taken (codes "c") c)
+    (walk-part keying_pattern (codes "/clerks/{c}/batches/{b}/keying") target (21, 22) [] (codes "/batches/") (codes "/keying") (codes "/clerks/" ++ c) b (codes "keying") 9 (8 + length c)
+    (sym (length-append (codes "/clerks/") c)) refl refl (is ∙ sym (append_assoc (codes "/clerks/") c (codes "/batches/" ++ (b ++ codes "/keying")))) b_whole (λ from. refl))
+
+-- what two numbers name
+abbrev keying_by : Option ℕ → Option ℕ → Option Target
+keying_by clerk batch = option_and_then (λ c. option_map (λ b. Keying c b) batch) clerk
+
+keying-own : (target : List ℕ) → Fits keying_pattern target → NamesOwn target keying_route
+unfolding keying_route
+keying-own target fits = λ there named.
+    let path = two-parts (codes "/clerks/") (codes "/batches/") (codes "/keying") target refl refl refl fits in
+    let taken = keying-taken target path.one path.two path.is path.one_whole path.two_whole in
+    by there path.one path.two path.is (number_in path.one) (number_in path.two) refl refl (sym (ap (named_at place.Keying) taken) ∙ named)
+  where
+    by : (there : Target) (c b : List ℕ) → target ≡ keying_path c b → (clerk batch : Option ℕ) → number_in c ≡ clerk → number_in b ≡ batch → keying_by clerk batch ≡ Some there
+        → IsTargetOf there target
+    by there c b is None batch own other named = let no : ⊥ = cc in absurd no
+    by there c b is (Some clerk) None own other named = let no : ⊥ = cc in absurd no
+    by there c b is (Some clerk) (Some batch) own other named = let same : Keying clerk batch ≡ there = cc in subst (λ t. IsTargetOf t target) same (c, b, is, own, other)
+
+-- ---- what the routes find
+
+clerk_rows : RowsOf (RouteOf Place)
+clerk_rows = steps (codes "/clerks/") office_routes
+
+batch_rows : RowsOf (RouteOf Place)
+batch_rows = steps (codes "/batches/") (step param_token clerk_rows)
+
+ward_rows : RowsOf (RouteOf Place)
+ward_rows = steps (codes "/wards/") office_routes
+
+clerks-go : GoBySlash clerk_rows
+unfolding clerk_rows scan
+clerks-go = record { misses = λ d few. rw (ne_eqb 256 d (λ e. omega arith)) refl; cut = λ seg cut. rw cut refl; keeps = refl }
+
+batches-go : GoBySlash batch_rows
+unfolding batch_rows clerk_rows scan
+batches-go = record { misses = λ d few. rw (ne_eqb 256 d (λ e. omega arith)) refl; cut = λ seg cut. rw cut refl; keeps = refl }
+
+wards-go : GoBySlash ward_rows
+unfolding ward_rows scan
+wards-go = record { misses = λ d few. rw (ne_eqb 256 d (λ e. omega arith)) refl; cut = λ seg cut. rw cut refl; keeps = refl }
+
+work-found : (part : List ℕ) → IsNumeric part → first office_routes (path_of work part) ≡ Some (route_of_one work)
+unfolding work clerk_rows scan
+work-found part is =
+    seek-word (codes "/clerks/") office_routes (part ++ codes "/work") (route_of_one work)
+    (seek-part clerk_rows part (codes "work") (route_of_one work) clerks-go is.some is.whole is.below
+    (seek-word (codes "/work") (step param_token clerk_rows) [] (route_of_one work) (seek-end _ _ refl)))
+
+sheet-found : (part : List ℕ) → IsNumeric part → first office_routes (path_of sheet part) ≡ Some (route_of_one sheet)
+unfolding sheet ward_rows scan
+sheet-found part is =
+    seek-word (codes "/wards/") office_routes (part ++ codes "/sheet") (route_of_one sheet)
+    (seek-part ward_rows part (codes "sheet") (route_of_one sheet) wards-go is.some is.whole is.below
+    (seek-word (codes "/sheet") (step param_token ward_rows) [] (route_of_one sheet) (seek-end _ _ refl)))
+
+declaration-found : (part : List ℕ) → IsNumeric part → first office_routes (path_of declaration part) ≡ Some (route_of_one declaration)
+unfolding declaration ward_rows scan
+declaration-found part is =
+    seek-word (codes "/wards/") office_routes (part ++ codes "/result") (route_of_one declaration)
+    (seek-part ward_rows part (codes "result") (route_of_one declaration) wards-go is.some is.whole is.below
+    (seek-word (codes "/result") (step param_token ward_rows) [] (route_of_one declaration) (seek-end _ _ refl)))
+
+keying-found : (c b : List ℕ) → IsNumeric c → IsNumeric b → first office_routes (keying_path c b) ≡ Some keying_route
+unfolding keying_route batch_rows clerk_rows scan
+keying-found c b is_c is_b =
+    seek-word (codes "/clerks/") office_routes (c ++ (codes "/batches/" ++ (b ++ codes "/keying"))) keying_route
+    (seek-part clerk_rows c (codes "batches/" ++ (b ++ codes "/keying")) keying_route clerks-go is_c.some is_c.whole is_c.below
+    (seek-word (codes "/batches/") (step param_token clerk_rows) (b ++ codes "/keying") keying_route
+    (seek-part batch_rows b (codes "keying") keying_route batches-go is_b.some is_b.whole is_b.below
+    (seek-word (codes "/keying") (step param_token batch_rows) [] keying_route (seek-end _ _ refl)))))
+
+-- ---- both ways
+
+routes-own : (target : List ℕ) → Gives (NamesOwn target) office_routes target
+unfolding keying_route work sheet declaration scan
+routes-own target = (keying-own target, (one-own work is-work target, (one-own declaration is-declaration target, (one-own sheet is-sheet target, tt))))
+
+named-own : (target : List ℕ) (there : Target) → named_by target ≡ Some there → IsTargetOf there target
+named-own target there named = by (list_all is_ascii target) (first office_routes target) (seek-gives (NamesOwn target) 0 office_routes target (routes-own target)) named
+  where
+    by : (low : Bool) (found : Option (RouteOf Place)) → IfSome found (NamesOwn target)
+        → option_and_then (λ (route : RouteOf Place). named_at route.value (walk route.pattern route.text target route.names 0 0)) (if low then found else None) ≡ Some there → IsTargetOf there target
+    by false found own named = let no : ⊥ = cc in absurd no
+    by true None own named = let no : ⊥ = cc in absurd no
+    by true (Some route) own named = own there named
+
+own-named : (target : List ℕ) (there : Target) → IsTargetOf there target → named_by target ≡ Some there
+unfolding work sheet declaration keying_route
+own-named target (Reading (Work n)) (part, is, own) = ap named_by is ∙ one-named work is-work part n own (work-found part (numeric part n own))
+own-named target (Reading (Sheet n)) (part, is, own) = ap named_by is ∙ one-named sheet is-sheet part n own (sheet-found part (numeric part n own))
+own-named target (Reading (Declaration n)) (part, is, own) = ap named_by is ∙ one-named declaration is-declaration part n own (declaration-found part (numeric part n own))
+own-named target (Keying clerk batch) (c, b, is, own, other) =
+    let is_c = numeric c clerk own in
+    let is_b = numeric b batch other in
+    let low = low-path (codes "/clerks/") c (codes "/batches/" ++ (b ++ codes "/keying")) refl is_c.low (low-path (codes "/batches/") b (codes "/keying") refl is_b.low refl) in
+    ap named_by is
+    ∙ named-found (keying_path c b) keying_route low (keying-found c b is_c is_b)
+    ∙ ap (named_at place.Keying) (keying-taken (keying_path c b) c b refl is_c.whole is_b.whole)
+    ∙ ap (λ n. keying_by n (number_in b)) own ∙ ap (keying_by (Some clerk)) other
+
+pub NamesItsOwn-all : (target : List ℕ) → NamesItsOwn target
+NamesItsOwn-all target there = (named-own target there, own-named target there)
