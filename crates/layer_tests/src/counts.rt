@@ -173,20 +173,10 @@ fn recorded_lots_decide(rt: HostRuntime) -> Result<(), Fail> {
     let papers = tied_papers(rt.alloc())?;
     let candidates = first_columns(3);
     assert!(rt; is_contest(&candidates, 1, &papers));
-    for (lots, wanted, _) in LOTS {
-        let mut book = ParcelBook::new(rt.alloc(), candidates, 1, &papers)?;
-        let end = run_count(&mut book, lots)?;
-        assert_eq!(rt; end_text(rt.alloc(), end)?.as_str(), wanted);
-    }
-    Ok(())
-}
-
-#[test]
-fn what_is_due_by_the_lots(rt: HostRuntime) -> Result<(), Fail> {
-    let papers = tied_papers(rt.alloc())?;
-    let candidates = first_columns(3);
-    assert!(rt; is_contest(&candidates, 1, &papers));
     for (lots, end, later) in LOTS {
+        let mut book = ParcelBook::new(rt.alloc(), candidates, 1, &papers)?;
+        let ended = run_count(&mut book, lots)?;
+        assert_eq!(rt; end_text(rt.alloc(), ended)?.as_str(), end);
         let mut book = ParcelBook::new(rt.alloc(), candidates, 1, &papers)?;
         count_to(&mut book, lots, 1)?;
         let drawn = Due::Act(Action::Exclude(3));

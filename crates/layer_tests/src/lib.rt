@@ -1,4 +1,5 @@
-//! Tests of the layers from `votes` to `wire`, each by its public calls.
+//! Tests of the layers from `votes` to `wire`, each by its public calls. Those of `register` and `rowcheck` are met by
+//! the orders of `count_office`, which play each command and each of its refusals.
 //!
 //! A crate's tests are proved together with the whole crate. Here, above them all, they load what the
 //! layers state, and nothing of those is proved a second time.
@@ -12,10 +13,6 @@ mod counts;
 mod imports;
 #[cfg(test)]
 mod papers;
-#[cfg(test)]
-mod requests;
-#[cfg(test)]
-mod rows;
 #[cfg(test)]
 mod sheets;
 #[cfg(test)]

@@ -1,8 +1,8 @@
 //! Marks as they are read, and papers as they are judged.
 
 use paper::{
-    Columns, Keyed, MarkFault, Marked, Marks, Prefs, Rejection, Standing, Status, available_from,
-    judge, next_available,
+    Columns, Keyed, MarkFault, Marked, Marks, Prefs, Standing, Status, available_from, judge,
+    next_available,
 };
 use std::process::Abort;
 use std::test::Fail;
@@ -44,6 +44,8 @@ fn papers_are_judged(rt: HostRuntime) -> Result<(), Fail> {
         }
     }
     assert_eq!(&rt; keyed(&rt, "D")?, Keyed::Doubtful);
+    // Millions are held.
+    assert_eq!(&rt; std::mem::size_of::<Prefs>(), 30);
     Ok(())
 }
 
@@ -75,48 +77,6 @@ fn texts_with_faults(rt: HostRuntime) {
         Marks::read(b"D".as_slice(), Columns::empty()),
         Ok(Keyed::Doubtful)
     );
-}
-
-#[test]
-fn rejections_have_codes(rt: HostRuntime) {
-    for (rejection, code) in [
-        (Rejection::NoFirstPreference, 1),
-        (Rejection::SeveralFirstPreferences, 2),
-        (Rejection::NoOfficialMark, 3),
-        (Rejection::VoterIdentifiable, 4),
-        (Rejection::VoidForUncertainty, 5),
-    ] {
-        assert_eq!(&rt; rejection.number(), code);
-    }
-}
-
-/// Lists of candidates, and whether each is one of preferences.
-const LISTS: [(&[u8], bool); 5] = [
-    (&[30, 1, 7], true),
-    (&[], false),
-    (&[1, 0], false),
-    (&[31], false),
-    (&[4, 2, 4], false),
-];
-
-#[test]
-fn lists_of_preferences(rt: HostRuntime) {
-    for (list, is_ranking) in LISTS {
-        let prefs = Prefs::from_slice(list);
-        assert_eq!(&rt; prefs.is_some(), is_ranking);
-        if let Some(prefs) = &prefs {
-            assert_eq!(&rt; prefs.as_slice(), list);
-        }
-    }
-}
-
-#[test]
-fn columns_are_walked_upwards(rt: HostRuntime) {
-    assert_eq!(&rt; three().as_slice(), [1, 2, 3].as_slice());
-    assert_eq!(&rt; three().len(), 3);
-    assert!(&rt; three().has(2));
-    assert!(&rt; !three().has(4));
-    assert_eq!(&rt; std::mem::size_of::<Prefs>(), 30);
 }
 
 /// 2 and 4 continue, 1 is elected, 3 is excluded.

@@ -139,19 +139,3 @@ fn sheets_and_declarations(rt: HostRuntime) -> Result<(), Fail> {
     prints_sheet(&rt, &ward, &[], SEALED)?;
     Ok(())
 }
-
-#[test]
-fn an_uncontested_ward(rt: HostRuntime) -> Result<(), Fail> {
-    let candidates = candidates_of(rt.alloc(), &["Dee", "Eve"])?;
-    let ward = Ward {
-        number: 8,
-        name: "Quay",
-        seats: 2,
-        candidates: &candidates,
-        poll: None,
-    };
-    prints_sheet(&rt, &ward, &[], "Ward 8 Quay\nSeats 2, uncontested\n")?;
-    let all = Columns::empty().with(1).with(2);
-    prints_declaration(&rt, &ward, all, "Ward 8 Quay\nElected\n 1 Dee\n 2 Eve\n")?;
-    Ok(())
-}

@@ -112,34 +112,19 @@ fn values_and_their_text(rt: HostRuntime) -> Result<(), Fail> {
 }
 
 #[test]
-fn text_goes_out_in_pieces(rt: HostRuntime) -> Result<(), Fail> {
-    let mut narrow = Narrow {
-        page: Vec::new(rt.alloc()),
-        room: 13,
-    };
-    let mut sink = Counted::new(&mut narrow);
-    assert!(&rt; quota(4999500, 1).write(&mut sink).is_ok());
-    assert_eq!(&rt; sink.failures(), 0);
-    assert!(&rt; narrow.page.as_slice() == "2499751.00000".as_bytes());
-    Ok(())
-}
-
-#[test]
 fn a_sink_that_fails_keeps_a_beginning(rt: HostRuntime) -> Result<(), Fail> {
-    for room in 0..13usize {
+    let text = "2499751.00000".as_bytes();
+    for room in 0..=text.len() {
         let mut narrow = Narrow {
             page: Vec::new(rt.alloc()),
             room,
         };
         let mut sink = Counted::new(&mut narrow);
-        assert!(&rt; quota(4999500, 1).write(&mut sink).is_err(), "room {room}");
-        assert_eq!(&rt; sink.failures(), 1, "room {room}");
-        assert!(&rt;
-            "2499751.00000"
-                .as_bytes()
-                .starts_with(narrow.page.as_slice()),
-            "room {room}"
-        );
+        let whole = room == text.len();
+        assert_eq!(&rt; quota(4999500, 1).write(&mut sink).is_ok(), whole, "room {room}");
+        assert_eq!(&rt; sink.failures(), u64::from(!whole), "room {room}");
+        let page = narrow.page.as_slice();
+        assert!(&rt; text.starts_with(page) && whole == (page == text), "room {room}");
     }
     Ok(())
 }

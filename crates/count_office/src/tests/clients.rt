@@ -1,9 +1,14 @@
 //! Clients over HTTP, whose connections may break.
 
+ghost use Rattle.std.specs.Prelude.{IfOk, IfSome};
+ghost use Rattle.desk.specs.Serving.{IsFresh};
+
 use std::alloc::Global;
+use std::cell::RefCell;
 use std::io;
 use std::io::{ErrorKind, Read, Write};
 use std::test::Fail;
+use votes::Counted;
 
 /// A client: the bytes that it sends before it ends its side, after how many of them reading it fails, and
 /// how many bytes of the answer it takes before writing to it fails.
@@ -25,16 +30,11 @@ impl<'a> Client<'a> {
     }
 
     /// What it sends, as it is read.
-    pub fn sending(&self) -> Sending<'a> {
+    fn sending(&self) -> Sending<'a> {
         Sending {
             left: self.sends,
             heard: self.heard,
         }
-    }
-
-    /// What it takes, as it is written.
-    pub fn taking(&self, alloc: Global) -> Taking {
-        Taking::new(alloc, self.takes)
     }
 }
 
@@ -56,6 +56,78 @@ impl Read for Sending<'_> {
         self.left = later;
         self.heard -= count;
         Ok(count)
+    }
+}
+
+/// Where a client writes what it takes, behind what others took: so many bytes, and then it fails.
+#[derive(Drop)]
+pub struct Writing<'a> {
+    page: &'a RefCell<Vec<u8>>,
+    room: usize,
+}
+
+impl Write for Writing<'_> {
+    fn write(&mut self, bytes: &[u8]) -> io::Result<usize> {
+        let count = bytes.len().min(self.room);
+        if count < bytes.len() && count == 0 {
+            return Err(io::Error::from(ErrorKind::BrokenPipe));
+        }
+        let Ok(mut page) = self.page.try_borrow_mut() else {
+            return Err(io::Error::from(ErrorKind::Other));
+        };
+        match page.extend_from_slice(&bytes[..count]) {
+            Ok(()) => {
+                self.room -= count;
+                Ok(count)
+            }
+            Err(_) => Err(io::Error::from(ErrorKind::OutOfMemory)),
+        }
+    }
+
+    fn flush(&mut self) -> io::Result<()> {
+        Ok(())
+    }
+}
+
+/// Clients who come in turn, or can't be let in, and the page that they write on.
+#[derive(Drop)]
+pub struct Coming<'c, 's, 'p> {
+    clients: &'c [Option<Client<'s>>],
+    came: usize,
+    page: &'p RefCell<Vec<u8>>,
+}
+
+impl<'c, 's, 'p> Coming<'c, 's, 'p> {
+    pub fn new(
+        clients: &'c [Option<Client<'s>>],
+        page: &'p RefCell<Vec<u8>>,
+    ) -> Coming<'c, 's, 'p> {
+        Coming {
+            clients,
+            came: 0,
+            page,
+        }
+    }
+}
+
+impl<'s, 'p> Iterator for Coming<'_, 's, 'p> {
+    type Item = io::Result<(Counted<Sending<'s>>, Counted<Writing<'p>>)>;
+
+    ghost next_gives = { λ _ next _. IfSome next (λ found. IfOk found IsFresh) };
+
+    fn next(&mut self) -> Option<io::Result<(Counted<Sending<'s>>, Counted<Writing<'p>>)>> {
+        let next = *self.clients.get(self.came)?;
+        self.came = self.came.saturating_add(1);
+        match next {
+            Some(client) => {
+                let writing = Writing {
+                    page: self.page,
+                    room: client.takes,
+                };
+                Some(Ok((Counted::new(client.sending()), Counted::new(writing))))
+            }
+            None => Some(Err(io::Error::from(ErrorKind::ConnectionAborted))),
+        }
     }
 }
 

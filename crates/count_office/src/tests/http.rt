@@ -2,11 +2,11 @@
 
 use super::clients::Client;
 use super::counts::SURPLUS_CUT_BY_FRACTIONS;
-use super::disks::{Act, Disks, File, play_acts};
+use super::disks::{Act, play_acts};
 use super::keyings::{GIVEN_OUT, NOMINATED};
-use super::steps::{Step, Told};
+use super::steps::Step;
 use office::texts_are_there;
-use std::process::Abort;
+use register::elections::elections_are_fair;
 use std::test::Fail;
 
 /// Ward 7 in keying, with batch 12 of two papers for the clerks 4 and 9.
@@ -23,8 +23,8 @@ pub const KEYED: &str =
 pub const BAD_REQUEST: &str =
     "HTTP/1.1 400 Bad Request\r\nContent-Type: application/json\r\nContent-Length: 23\r\nConnection: close\r\n\r\n{\"error\":\"bad request\"}";
 
-const TOO_LARGE: &str =
-    "HTTP/1.1 413 Payload Too Large\r\nContent-Type: application/json\r\nContent-Length: 21\r\nConnection: close\r\n\r\n{\"error\":\"too large\"}";
+/// The work of clerk 4 from then on.
+const FOUR_KEYED: &str = "batch 12 ward 7 [1, 2, 3] size 2 round 1: keyed\n";
 
 /// How many bytes the head of that answer has.
 const KEYED_HEAD: usize = 90;
@@ -98,34 +98,10 @@ const ASKED: &str = r#"> POST /clerks/4/batches/12/keying HTTP/1.1
 {"error":"method not allowed"}
 "#;
 
-/// What is no request: no head; a head that is cut; a body in chunks; two lengths; a length that isn't digits; a body a
-/// byte short; no body; a fourth member; a round in letters; one past 32 bits; and a paper that is no text.
+/// What is no request: no head; a body a byte short; and one that is too long. (What else is none, layer_tests has.)
 const BAD: &str = r#"> X
 >
 >
-400 Bad Request
-{"error":"bad request"}
-> GET /wards/7/sheet HTTP/1.1
-> Host: a
-400 Bad Request
-{"error":"bad request"}
-> POST /clerks/4/batches/12/keying HTTP/1.1
-> Transfer-Encoding: chunked
->
-> 0
-400 Bad Request
-{"error":"bad request"}
-> POST /clerks/4/batches/12/keying HTTP/1.1
-> Content-Length: 43
-> content-length: 43
->
-> {"id":"h1","round":1,"papers":["1,2,","D"]}
-400 Bad Request
-{"error":"bad request"}
-> POST /clerks/4/batches/12/keying HTTP/1.1
-> Content-Length: +5
->
-> 12345
 400 Bad Request
 {"error":"bad request"}
 > POST /clerks/4/batches/12/keying HTTP/1.1
@@ -135,34 +111,11 @@ const BAD: &str = r#"> X
 400 Bad Request
 {"error":"bad request"}
 > POST /clerks/4/batches/12/keying HTTP/1.1
+> Content-Length: 1048577
 >
 >
-400 Bad Request
-{"error":"bad request"}
-> POST /clerks/4/batches/12/keying HTTP/1.1
-> Content-Length: 52
->
-> {"id":"h1","round":1,"papers":["1,2,","D"],"more":0}
-400 Bad Request
-{"error":"bad request"}
-> POST /clerks/4/batches/12/keying HTTP/1.1
-> Content-Length: 45
->
-> {"id":"h1","round":"1","papers":["1,2,","D"]}
-400 Bad Request
-{"error":"bad request"}
-> POST /clerks/4/batches/12/keying HTTP/1.1
-> Content-Length: 52
->
-> {"id":"h1","round":4294967296,"papers":["1,2,","D"]}
-400 Bad Request
-{"error":"bad request"}
-> POST /clerks/4/batches/12/keying HTTP/1.1
-> Content-Length: 41
->
-> {"id":"h1","round":1,"papers":["1,2,",0]}
-400 Bad Request
-{"error":"bad request"}
+413 Payload Too Large
+{"error":"too large"}
 "#;
 
 /// What is told of a ward that is declared.
@@ -201,105 +154,52 @@ Elected
  3 Cy
 ";
 
-/// The keying, whose answer is taken up to so many bytes.
-fn key(disks: Disks, rt: &(impl Abort + AllocGlobal), takes: usize) -> Result<Disks, Fail> {
-    let clients = [Client {
-        sends: KEYING.as_bytes(),
-        heard: usize::MAX,
-        takes,
-    }];
-    let taken = KEYED.get(..takes).unwrap_or("");
-    disks.hear(rt, &[(Step::Serve(&clients), (0, taken, "WriteFailed"))])
-}
-
 #[test]
 fn clerks_key_and_read_over_http(rt: HostRuntime) -> Result<(), Fail> {
     texts_are_there();
-    let disks = play_acts(&rt, BEGUN)?.follow_unchanged(&rt, BAD)?;
-    key(disks, &rt, KEYED_HEAD)?.follow(&rt, ASKED)?;
+    elections_are_fair();
+    let keying = Client::whole(KEYING.as_bytes());
+    // Connections that break: within the request, and behind the head of the answer.
+    let unread = Some(Client {
+        heard: 100,
+        ..keying
+    });
+    let unwritten = Some(Client {
+        takes: KEYED_HEAD,
+        ..keying
+    });
+    let head = KEYED.get(..KEYED_HEAD).unwrap_or("");
+    play_acts(&rt, BEGUN)?
+        .follow_unchanged(&rt, BAD)?
+        .hear_unchanged(&rt, &[(Step::Serve(&[unread], 1), (0, "", "Ok(())"))])?
+        .hear(&rt, &[(Step::Serve(&[unwritten], 1), (0, head, "Ok(())"))])?
+        .follow(&rt, ASKED)?;
     play_acts(&rt, SURPLUS_CUT_BY_FRACTIONS)?.follow_unchanged(&rt, COUNTED)?;
     Ok(())
 }
 
-/// Requests that are too long: a beginning, a part and how often it stands there, and an end. A head past 8,192 bytes; a
-/// header more than 32; a body nested too deep; one past 1,048,576 bytes; and one of so many spaces.
-const LONG: [(&str, &str, usize, &str, &str); 5] = [
-    (
-        "GET /wards/7/sheet HTTP/1.1\r\n",
-        "b",
-        8164,
-        "",
-        BAD_REQUEST,
-    ),
-    (
-        "GET /wards/7/sheet HTTP/1.1\r\n",
-        "A: b\r\n",
-        33,
-        "\r\n",
-        BAD_REQUEST,
-    ),
-    (
-        "POST /clerks/4/batches/12/keying HTTP/1.1\r\nContent-Length: 400\r\n\r\n",
-        "[",
-        200,
-        "]]]]]]]]]]]]]]]]]]]]]]]]]]]]]]]]]]]]]]]]]]]]]]]]]]]]]]]]]]]]]]]]]]]]]]]]]]]]]]]]]]]]]]]]]]]]]]]]]]]]]]]]]]]]]]]]]]]]]]]]]]]]]]]]]]]]]]]]]]]]]]]]]]]]]]]]]]]]]]]]]]]]]]]]]]]]]]]]]]]]]]]]]]]]]]]]]]]]]]]]",
-        BAD_REQUEST,
-    ),
-    (
-        "POST /clerks/4/batches/12/keying HTTP/1.1\r\nContent-Length: 1048577\r\n\r\n",
-        "",
-        0,
-        "",
-        TOO_LARGE,
-    ),
-    (
-        "POST /clerks/4/batches/12/keying HTTP/1.1\r\nContent-Length: 1048576\r\n\r\n",
-        "        ",
-        131072,
-        "",
-        BAD_REQUEST,
-    ),
-];
-
 #[test]
-fn what_is_too_long_is_refused(rt: HostRuntime) -> Result<(), Fail> {
-    let mut disks = play_acts(&rt, BEGUN)?;
-    for (begins, part, times, ends, answer) in LONG {
-        let mut request = String::from_str(rt.alloc(), begins)?;
-        for _ in 0..times {
-            request.push_str(part)?;
-        }
-        request.push_str(ends)?;
-        let code = answer.get(9..12).unwrap_or("");
-        let err = format!(in rt.alloc(); "Answered({code})")?;
-        let told: Told<'_> = (0, answer, err.as_str());
-        disks = disks.hear_unchanged(&rt, &[(Step::Ask(request.as_bytes()), told)])?;
-    }
-    Ok(())
-}
-
-#[test]
-fn a_connection_that_breaks_asks_nothing_or_once(rt: HostRuntime) -> Result<(), Fail> {
-    let disks = play_acts(&rt, BEGUN)?;
-    let again = [(Step::Ask(KEYING.as_bytes()), (0, KEYED, "Answered(200)"))];
-    let (rows, _) = disks
-        .copied(rt.alloc(), File::Log, u64::MAX)?
-        .hear(&rt, &again)?
-        .rows(rt.alloc())?;
-    for takes in 0..KEYED.len() {
-        let copy = disks.copied(rt.alloc(), File::Log, u64::MAX)?;
-        let (found, _) = key(copy, &rt, takes)?.hear(&rt, &again)?.rows(rt.alloc())?;
-        assert_eq!(&rt; found.as_str(), rows.as_str(), "{takes}");
-    }
-    let mut disks = disks;
-    for heard in 0..KEYING.len() {
-        let clients = [Client {
-            sends: KEYING.as_bytes(),
-            heard,
-            takes: usize::MAX,
-        }];
-        let case = (Step::Serve(&clients), (0, "", "ReadFailed"));
-        disks = disks.hear_unchanged(&rt, &[case])?;
-    }
+fn clients_are_let_in_up_to_a_failure(rt: HostRuntime) -> Result<(), Fail> {
+    let keying = Some(Client::whole(KEYING.as_bytes()));
+    let (nobody, one) = ([], [keying]);
+    let (late, between) = ([None, keying], [keying, None, keying]);
+    let disks = play_acts(&rt, BEGUN)?.hear_unchanged(
+        &rt,
+        &[
+            // A client fewer, one who can't be let in, and none that is wanted.
+            (Step::Serve(&nobody, 1), (0, "", "Err(Output)")),
+            (Step::Serve(&late, 2), (0, "", "Err(Output)")),
+            (Step::Serve(&one, 0), (0, "", "Ok(())")),
+        ],
+    )?;
+    // What was answered before such a one stands.
+    let disks = disks.hear(
+        &rt,
+        &[
+            (Step::Serve(&between, 3), (0, KEYED, "Err(Output)")),
+            (Step::Work(4), (0, FOUR_KEYED, "")),
+        ],
+    )?;
+    disks.hear_unchanged(&rt, &[(Step::Serve(&one, 2), (0, KEYED, "Err(Output)"))])?;
     Ok(())
 }

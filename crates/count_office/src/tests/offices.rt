@@ -166,6 +166,8 @@ ward 8 added
 3| fault 103: damaged
 # UPDATE ward SET phase = 4
 ward 8 added
+# UPDATE ward SET phase = 5
+3| fault 103: damaged
 # UPDATE ward SET phase = 3, done = 1
 3| fault 103: damaged
 # UPDATE ward SET done = 1
@@ -175,6 +177,14 @@ ward 8 added
 # UPDATE receipt SET id = 'QUAY'
 3| fault 103: damaged
 # UPDATE receipt SET subject = 'ward 07'
+3| fault 103: damaged
+# UPDATE receipt SET subject = 'ward 100'
+3| fault 103: damaged
+# UPDATE receipt SET subject = 'ward 7 '
+3| fault 103: damaged
+# UPDATE receipt SET subject = 'lot 7 1'
+3| fault 103: damaged
+# UPDATE receipt SET subject = 'third 12'
 3| fault 103: damaged
 # UPDATE receipt SET actor = 4
 3| fault 103: damaged

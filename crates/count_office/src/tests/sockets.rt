@@ -1,13 +1,14 @@
 //! Connections over loopback, in one process with their clients.
 
-use super::disks::{File, play_acts};
+use super::disks::play_acts;
 use super::http::{BAD_REQUEST, BEGUN, KEYED, KEYING};
-use super::steps::{STOPPED_ANSWER, Step};
-use super::stops::{CLOSED_ANSWER, calls_to_a_client};
+use super::steps::Step;
+use desk::serving::limit_waiting;
 use std::io::{Read, Write};
 use std::net::{OpenListener, OpenStream, Shutdown, TcpListener, TcpStream};
 use std::process::Abort;
 use std::test::Fail;
+use std::time::Duration;
 
 /// A client that has sent its whole request.
 fn connected(rt: &HostRuntime, listener: &TcpListener, sends: &str) -> Result<TcpStream, Fail> {
@@ -49,15 +50,12 @@ fn a_silent_connection_is_let_go(rt: HostRuntime) -> Result<(), Fail> {
 }
 
 #[test]
-fn a_closed_office_goes_on_answering(rt: HostRuntime) -> Result<(), Fail> {
-    let disks = play_acts(&rt, BEGUN)?;
-    let calls = calls_to_a_client(&rt, &disks)?;
-    let stopping = disks.copied(rt.alloc(), File::Log, calls)?;
+fn both_ways_of_waiting_are_limited(rt: HostRuntime) -> Result<(), Fail> {
     let listener = TcpListener::bind(&rt, "127.0.0.1:0")?;
-    let first = connected(&rt, &listener, KEYING)?;
-    let second = connected(&rt, &listener, KEYING)?;
-    stopping.hear(&rt, &[(Step::Listen(&listener, 2), (0, "Ok(())", ""))])?;
-    assert_eq!(rt; received(&rt, first)?.as_str(), STOPPED_ANSWER);
-    assert_eq!(rt; received(&rt, second)?.as_str(), CLOSED_ANSWER);
+    let stream = TcpStream::connect(&rt, listener.local_addr()?)?;
+    limit_waiting(&stream)?;
+    let half_a_minute = Some(Duration::from_secs(30));
+    assert!(rt; stream.read_timeout()? == half_a_minute);
+    assert!(rt; stream.write_timeout()? == half_a_minute);
     Ok(())
 }

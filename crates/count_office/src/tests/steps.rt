@@ -2,17 +2,18 @@
 
 ghost use Rattle.std.specs.Prelude.{◌≡◌, ◌+◌, ◌-◌, ◌^◌, ◌<◌};
 
-use super::clients::{Client, Taking};
+use super::clients::{Client, Coming, Taking};
 use desk::perform::perform;
+use desk::serving::serve_all;
 use desk::{order, serve_on, tell_words};
 use office::{Answer, Office, Run, Stop, Work};
 use register::Request;
 use sqlite::{Alter, Connection};
 use std::alloc::{AllocError, Global};
+use std::cell::RefCell;
 use std::net::TcpListener;
 use std::test::Fail;
 use votes::{Counted, Sink};
-use wire::{Served, serve_one};
 
 /// One step of a script.
 #[derive(Clone, Copy, Debug)]
@@ -27,11 +28,11 @@ pub enum Step<'a> {
     List(&'a [Request]),
     /// The office opened, and asked for the work of a clerk; what it tells stands as the output.
     Work(u32),
-    /// The office opened, and a client answered that sends these bytes; what it took stands as the output,
-    /// and how the connection ended as the error output.
+    /// The office opened, and a client served that sends these bytes; what it took stands as the output, and
+    /// what came of serving as the error output.
     Ask(&'a [u8]),
-    /// The same of clients in turn, whose connections may break.
-    Serve(&'a [Client<'a>]),
+    /// The same of so many clients in turn, whose connections may break, and of whom one may not be let in.
+    Serve(&'a [Option<Client<'a>>], u32),
     /// The office opened, and so many connections answered; how that ended stands as the output.
     Listen(&'a TcpListener, u32),
     /// Statements, whatever is in the database.
@@ -178,41 +179,12 @@ fn work<S: Alter + Drop>(
     Ok((Said::quietly(alloc, text), conn))
 }
 
-/// Answers a client: what it took, and how its connection ended.
-fn answer<S: Alter + Drop>(
-    alloc: Global,
-    office: &mut Office<S>,
-    client: &Client<'_>,
-) -> Result<(String, Served), Fail> {
-    let mut reader = Counted::new(client.sending());
-    let mut taking = client.taking(alloc);
-    let served = {
-        let mut writer = Counted::new(&mut taking);
-        serve_one(alloc, &mut reader, &mut writer, office)
-    };
-    Ok((taking.text()?, served))
-}
-
-/// Answers clients in turn: all that they took, and how each connection ended.
-fn answer_all<S: Alter + Drop>(
-    alloc: Global,
-    office: &mut Office<S>,
-    clients: &[Client<'_>],
-) -> Result<(String, String), Fail> {
-    let mut out = String::new(alloc);
-    let mut err = String::new(alloc);
-    for client in clients {
-        let (taken, served) = answer(alloc, office, client)?;
-        out.push_str(taken.as_str())?;
-        write!(err, "{served:?}")?;
-    }
-    Ok((out, err))
-}
-
+/// Lets clients in: all that they took, and what came of it.
 fn serve<S: Alter + Drop>(
     alloc: Global,
     conn: Connection<S>,
-    clients: &[Client<'_>],
+    clients: &[Option<Client<'_>>],
+    connections: u32,
 ) -> Result<(Said, Connection<S>), Fail> {
     let mut office = match Office::open_from(alloc, conn) {
         Ok(office) => office,
@@ -229,9 +201,14 @@ fn serve<S: Alter + Drop>(
             ));
         }
     };
-    let told = answer_all(alloc, &mut office, clients);
+    let page = RefCell::new(Vec::new(alloc));
+    let served = {
+        let mut coming = Coming::new(clients, &page);
+        serve_all(alloc, &mut coming, connections, &mut office)
+    };
     let conn = office.into_connection();
-    let (out, err) = told?;
+    let out = String::from_utf8(page.into_inner())?;
+    let err = format!(in alloc; "{served:?}")?;
     Ok((
         Said {
             status: 0,
@@ -304,8 +281,8 @@ fn done<S: Alter + Drop>(
         }
         Step::List(requests) => list(alloc, conn, requests),
         Step::Work(clerk) => work(alloc, conn, clerk),
-        Step::Ask(sends) => serve(alloc, conn, &[Client::whole(sends)]),
-        Step::Serve(clients) => serve(alloc, conn, clients),
+        Step::Ask(sends) => serve(alloc, conn, &[Some(Client::whole(sends))], 1),
+        Step::Serve(clients, connections) => serve(alloc, conn, clients, connections),
         Step::Listen(listener, connections) => listen(alloc, conn, listener, connections),
         Step::Change(statements) => {
             conn.execute_batch(statements)?;

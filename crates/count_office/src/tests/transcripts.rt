@@ -100,7 +100,7 @@ impl<'a> Typed<'a> {
     }
 
     /// Writes the answer of which the status and the body stand here.
-    fn answer(&self, alloc: Global) -> Result<(String, String), Fail> {
+    fn answer(&self, alloc: Global) -> Result<String, Fail> {
         let Some((phrase, body)) = self.out.as_str().split_once('\n') else {
             return Err(Fail::from("a client is answered"));
         };
@@ -120,19 +120,14 @@ impl<'a> Typed<'a> {
             Some(method) => format!(in alloc; "Allow: {method}\r\n")?,
             None => String::new(alloc),
         };
-        let code = phrase.split(' ').next().unwrap_or("");
-        Ok((
-            format!(in alloc; "{head}{allow}Connection: close\r\n\r\n{body}")?,
-            format!(in alloc; "Answered({code})")?,
-        ))
+        Ok(format!(in alloc; "{head}{allow}Connection: close\r\n\r\n{body}")?)
     }
 
     /// Nothing more stands below the words.
     fn end(&mut self, alloc: Global) -> Result<(), Fail> {
         if self.asks == Asks::Client {
-            let (out, err) = self.answer(alloc)?;
-            self.out = out;
-            self.err = err;
+            self.out = self.answer(alloc)?;
+            self.err.push_str("Ok(())")?;
         }
         Ok(())
     }

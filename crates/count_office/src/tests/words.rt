@@ -3,7 +3,6 @@
 use super::transcripts;
 use desk::{WordsFault, order};
 use std::alloc::{AllocError, Global};
-use std::process::Abort;
 use std::test::Fail;
 
 /// What the words are: an order, or the status and the text of a fault.
@@ -100,80 +99,8 @@ fn words_are_read_to_orders(rt: HostRuntime) -> Result<(), Fail> {
     Ok(())
 }
 
-/// Right words of each order that takes any; those in digits are numbers of any size.
-const RIGHT: &str = "$ ward --id=a 7 2 Harbour
-$ candidate --id=a 7 1 Ann
-$ import-candidates --id=a harbour.csv
-$ withdraw --id=a 7 1
-$ close --id=a 7
-$ batch --id=a 12 7 2 4 9
-$ import-keying --id=a 4 12 1 k.csv
-$ again --id=a 12
-$ judge --id=a 12 2 reject:3
-$ seal --id=a 7
-$ advance --id=a 7
-$ lot --id=a 7 2 3
-$ declare --id=a 7
-$ status 7
-$ sheet 7
-$ result 7
-";
-
-/// Words that are no order are told with a text that holds this, and status 2.
-fn is_told(alloc: Global, words: &[&str], within: &str) -> Result<bool, AllocError> {
-    let text = read(alloc, words)?;
-    Ok(text.as_str().starts_with("2 error: ") && text.as_str().contains(within))
-}
-
-/// Words that are no number of the range, and what is told of each.
-const WRONG_NUMBERS: [(&str, &str); 3] = [
-    ("x", "invalid value 'x' for '<"),
-    ("4294967296", "4294967296 is not in 0..=4294967295"),
-    ("-5", "unexpected argument '-5' found"),
-];
-
-/// A number of an order, put wrong in each way, is told.
-fn hear_wrong(rt: &(impl Abort + AllocGlobal), right: &[&str], place: usize) -> Result<(), Fail> {
-    for (wrong, within) in WRONG_NUMBERS {
-        let mut words = Vec::from_slice(rt.alloc(), right)?;
-        let Some(number) = words.get_mut(place) else {
-            return Err(Fail::from("no such place"));
-        };
-        *number = wrong;
-        assert!(rt; is_told(rt.alloc(), words.as_slice(), within)?, "{words:?}");
-    }
-    Ok(())
-}
-
-/// A word more than the right ones, one fewer, or a wrong number among them is told.
-fn hear_near(rt: &(impl Abort + AllocGlobal), right: &[&str]) -> Result<(), Fail> {
-    let mut more = Vec::from_slice(rt.alloc(), right)?;
-    more.push("more")?;
-    let within = "unexpected argument 'more' found";
-    assert!(rt; is_told(rt.alloc(), more.as_slice(), within)?, "{more:?}");
-    let Some((_, fewer)) = right.split_last() else {
-        return Err(Fail::from("no words"));
-    };
-    let within = "required arguments were not provided";
-    assert!(rt; is_told(rt.alloc(), fewer, within)?, "{fewer:?}");
-    for (place, word) in right.iter().enumerate() {
-        if word.parse::<u32>().is_ok() {
-            hear_wrong(rt, right, place)?;
-        }
-    }
-    Ok(())
-}
-
-#[test]
-fn a_word_too_few_too_many_or_wrong_is_told(rt: HostRuntime) -> Result<(), Fail> {
-    for typed in &transcripts::read(rt.alloc(), RIGHT)? {
-        hear_near(&rt, typed.words())?;
-    }
-    Ok(())
-}
-
 /// Words that are no order, parted by spaces; how what is told of them begins, and what stands in it.
-const NO_ORDERS: [(&str, &str, &str); 20] = [
+const NO_ORDERS: [(&str, &str, &str); 24] = [
     (
         "DB serve 8080",
         "2 error: ",
@@ -203,6 +130,26 @@ const NO_ORDERS: [(&str, &str, &str); 20] = [
     ("DB close --help", "0 Closes", "<WARD>"),
     ("DB init now", "2 error: ", "'now'"),
     ("DB close 7", "2 error: ", "--id <ID>"),
+    (
+        "DB close 7 more --id n1",
+        "2 error: ",
+        "unexpected argument 'more' found",
+    ),
+    (
+        "DB close x --id n1",
+        "2 error: ",
+        "invalid value 'x' for '<WARD>'",
+    ),
+    (
+        "DB close 4294967296 --id n1",
+        "2 error: ",
+        "4294967296 is not in 0..=4294967295",
+    ),
+    (
+        "DB close -5 --id n1",
+        "2 error: ",
+        "unexpected argument '-5' found",
+    ),
     ("DB wrad 7", "2 error: ", "'ward'"),
     ("DB tally 7", "2 error: ", "'tally'"),
     ("DB help", "2 error: ", "unrecognized subcommand 'help'"),
@@ -228,6 +175,14 @@ const NO_ORDERS: [(&str, &str, &str); 20] = [
     ),
 ];
 
+/// The whole of what is told of a word too many: the text of `clap`, and nothing beside it.
+const WHOLE: &str = "2 error: unexpected argument 'now' found
+
+Usage: count-office DB init
+
+For more information, try '--help'.
+";
+
 #[test]
 fn words_that_are_no_order_get_help(rt: HostRuntime) -> Result<(), Fail> {
     let text = read(rt.alloc(), &[])?;
@@ -236,6 +191,8 @@ fn words_that_are_no_order_get_help(rt: HostRuntime) -> Result<(), Fail> {
         text.as_str().contains("Usage: count-office DB <COMMAND>"),
         "{text}"
     );
+    let now = read(rt.alloc(), &["DB", "init", "now"])?;
+    assert_eq!(rt; now.as_str(), WHOLE);
     for (line, beginning, within) in NO_ORDERS {
         let words: Vec<&str> = line.split(' ').collect(rt.alloc())?;
         let text = read(rt.alloc(), words.as_slice())?;
