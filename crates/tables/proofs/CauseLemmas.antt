@@ -27,6 +27,7 @@ use Rattle.sqlite.proofs.Callers.{IsPlain, command_of}
 use Rattle.sqlite_value.specs.declared.keys.Key.{Key}
 use Rattle.sqlite_value.specs.Keys.{ascending}
 use Rattle.tables.specs.declared.fault.Fault.{Fault}
+use Rattle.tables.specs.declared.fault.Fault.TheVariants.{Memory, Store}
 use Rattle.tables.specs.Faults.{fault_of, TellsQuery}
 use Rattle.tables.specs.Reading.{OnlyReads, HasFailed, FailsBy, FailsToList}
 use Rattle.tables.specs.declared.table.Table.{Table}
