@@ -121,10 +121,17 @@ fn a_sink_that_fails_keeps_a_beginning(rt: HostRuntime) -> Result<(), Fail> {
         };
         let mut sink = Counted::new(&mut narrow);
         let whole = room == text.len();
-        assert_eq!(&rt; quota(4999500, 1).write(&mut sink).is_ok(), whole, "room {room}");
+        assert_eq!(&rt;
+            quota(4999500, 1).write(&mut sink).is_ok(),
+            whole,
+            "room {room}"
+        );
         assert_eq!(&rt; sink.failures(), u64::from(!whole), "room {room}");
         let page = narrow.page.as_slice();
-        assert!(&rt; text.starts_with(page) && whole == (page == text), "room {room}");
+        assert!(&rt;
+            text.starts_with(page) && whole == (page == text),
+            "room {room}"
+        );
     }
     Ok(())
 }
