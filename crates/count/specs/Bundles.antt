@@ -1,0 +1,38 @@
+-- Equal papers kept once: each list of preferences with the number of papers that have it.
+use Rattle.std.specs.Prelude.{◌≡◌, ℕ, ◌+◌, ◌*◌, ◌≤◌, List, [], ◌∷◌, length, map, fold, replicate}
+use Rattle.std.specs.List.{AllByRecursion, flat_map}
+use Rattle.std.specs.List.Sorted.{IsStrictlySortedBy}
+use Rattle.std.specs.Ordering.{nat_cmp, match_ordering}
+use Rattle.std.specs.declared.cmp.Ordering.{Ordering}
+use Rattle.std.specs.Cmp.Lexicographic.{slice_cmp}
+use Rattle.paper.specs.Ranking.{IsRanking}
+
+-- a list of preferences, and how many papers have it
+abbrev pub Bundle : Type 0
+Bundle = List ℕ × ℕ
+
+-- the order of lists: by their numbers from the first on, a list before those that it begins
+abbrev pub list_cmp : List ℕ → List ℕ → Ordering
+list_cmp = slice_cmp nat_cmp
+
+-- the papers that bundles stand for: each list as often as its number says
+abbrev pub papers_of : List Bundle → List (List ℕ)
+papers_of bundles = flat_map (λ (b : Bundle). replicate b.1 b.0) bundles
+
+-- bundles with papers more of one list: its number rises, or the list comes to its place with their number
+abbrev pub with_papers : List Bundle → List ℕ → ℕ → List Bundle
+with_papers [] list n = (list, n) ∷ []
+with_papers (b ∷ bs) list n = match_ordering (list_cmp list b.0) ((list, n) ∷ b ∷ bs) ((b.0, b.1 + n) ∷ bs) (b ∷ with_papers bs list n)
+
+-- the bundles of some papers
+abbrev pub bundled : List (List ℕ) → List Bundle
+bundled papers = fold (λ bs paper. with_papers bs paper 1) [] papers
+
+-- a bundle has a paper at least, and its list is one of preferences: some candidates, each once
+abbrev pub IsBundle : Bundle → Type 0
+IsBundle b = (1 ≤ b.1) × (1 ≤ length b.0) × IsRanking b.0
+
+-- each list stands once, in its order, and is that of a paper at least
+pub record AreBundles (bundles : List Bundle) : Type 0 where
+  pub rise : IsStrictlySortedBy list_cmp (map (λ (b : Bundle). b.0) bundles)
+  pub each : AllByRecursion IsBundle bundles
