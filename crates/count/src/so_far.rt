@@ -1,10 +1,11 @@
 //! A count to some stage of it, by the recorded lots.
 
-ghost use Rattle.std.specs.Prelude.{◌≡◌, ◌+◌, ◌≤◌, ℕ, [], map, length, OnOk, OnErr, IfOk};
+ghost use Rattle.std.specs.Prelude.{◌≡◌, ◌+◌, ◌≤◌, ℕ, List, [], map, length, OnOk, OnErr, IfOk};
 ghost use Rattle.std.specs.List.{range_with_len};
+ghost use Rattle.std.specs.List.Sorted.{IsPermutation};
 ghost use Rattle.count.specs.Law.Contest.{History};
 ghost use Rattle.count.specs.Law.Due.{due_after};
-ghost use Rattle.count.specs.Law.Right.{IsRight};
+ghost use Rattle.count.specs.Law.Right.{IsRight, reordered};
 ghost use Rattle.count.specs.Law.Count.{with_next, stages_to, due_by as due_by_lots};
 
 use crate::book::CountBook;
@@ -26,8 +27,9 @@ fn advance_by<B: CountBook>(book: &mut B, lots: &[(u8, u8)]) -> Result<(), Alloc
 /// Counts so many stages, or as many as there are: a new book has those stages of the count then.
 ///
 /// A lot is a pair of a stage, counted from 1, and the candidate that it names; where two are for one
-/// stage, the first counts. These stages are right for the lots, and the only right ones. An error is want
-/// of memory; the book has the stages made so far then, no more than asked for, and they are right.
+/// stage, the first counts. These stages are right for the lots, and the only right ones; in whichever order
+/// the papers come, they are the same. An error is want of memory; the book has the stages made so far then,
+/// no more than asked for, and they are right.
 #[tactic(auto, using(crate::proofs::Law::CountLemmas::stages_counted), unfolding(crate::specs::Law::Count::stages_to))]
 pub fn count_to<B: CountBook>(
     book: &mut B,
@@ -41,6 +43,7 @@ pub fn count_to<B: CountBook>(
     ensures err_few { OnErr result (length (B.history book.new) ≤ stages) }
     ensures right { (k : ℕ) → IsRight (B.contest book.old) lots.now (stages_to (B.contest book.old) lots.now k) }
     ensures only { (h : History) → IsRight (B.contest book.old) lots.now h → h ≡ stages_to (B.contest book.old) lots.now (length h) }
+    ensures ordered { (papers : List (List ℕ)) (k : ℕ) → IsPermutation (B.contest book.old).papers papers → stages_to (reordered (B.contest book.old) papers) lots.now k ≡ stages_to (B.contest book.old) lots.now k }
 {
     for _ in 0..stages {
         advance_by(book, lots)?;

@@ -2,10 +2,11 @@
 use Rattle.std.proofs.Common.{◌≡◌, ℕ, zero, suc, ◌+◌, ◌≤◌, true, false, Bool, cond, nat_eq, List, [], ◌∷◌, ◌++◌, length, map, Option, Some, None, refl, sym, ap, ◌∙◌, arith}
 use Rattle.std.specs.Prelude.{IfSome, IfNone}
 use Rattle.std.specs.List.{list_any, range_with_len}
+use Rattle.std.specs.List.Sorted.{IsPermutation}
 use Rattle.std.proofs.lemmas.List.FromFn.{map-range_with_len_more}
 use Rattle.count.specs.Law.Contest.{Contest, History}
 use Rattle.count.specs.Law.Due.{due_after, drawn, lot_for, next_action, action_on}
-use Rattle.count.specs.Law.Right.{Tells, IsRight}
+use Rattle.count.specs.Law.Right.{Tells, IsRight, reordered}
 use Rattle.count.specs.Law.Count.{stage_of, with_stage, with_next, stages_to, due_or, due_by}
 use Rattle.count.specs.Advance.{AdvancesBy, refusal, end_of, end_after}
 use Rattle.count.specs.declared.stages.Stage.{Stage}
@@ -16,7 +17,7 @@ use Rattle.count.specs.declared.book.AdvanceError.{AdvanceError}
 use Rattle.count.specs.declared.book.AdvanceError.TheVariants.{LotNotAmong as not_among}
 use Rattle.count.specs.declared.run.CountEnd.{CountEnd}
 use Rattle.count.specs.declared.run.CountEnd.TheVariants.{LotNotAmong as misses_lot}
-use Rattle.count.proofs.Law.RightLemmas.{is_told}
+use Rattle.count.proofs.Law.RightLemmas.{is_told, same_tells}
 
 -- a stage that is worked out tells what it should
 told_of : (contest : Contest) (before : History) (action : Action) → Tells contest before (stage_of contest before action)
@@ -52,7 +53,27 @@ stages_only contest lots (s ∷ before) right =
     ∙ ap (with_stage contest before) (sym right.1.was_due)
     ∙ ap (with_next contest lots) earlier
 
-pub ruleset stages_counted = (stages_right, stages_few, stages_only)
+-- the order of the papers makes no difference to them
+stage_reordered : (contest : Contest) (papers : List (List ℕ)) (before : History) (action : Action) → IsPermutation contest.papers papers →
+    stage_of (reordered contest papers) before action ≡ stage_of contest before action
+stage_reordered contest papers before action order =
+    let s : Stage = stage_of (reordered contest papers) before action in
+    is_told contest before s (same_tells contest papers before s order (told_of (reordered contest papers) before action))
+
+next_reordered : (contest : Contest) (papers : List (List ℕ)) (before : History) (o : Option Action) → IsPermutation contest.papers papers →
+    with_stage (reordered contest papers) before o ≡ with_stage contest before o
+next_reordered contest papers before None order = refl
+next_reordered contest papers before (Some action) order = ap (λ (s : Stage). s ∷ before) (stage_reordered contest papers before action order)
+
+pub stages_reordered : (contest : Contest) (lots : List (ℕ × ℕ)) (papers : List (List ℕ)) (k : ℕ) → IsPermutation contest.papers papers →
+    stages_to (reordered contest papers) lots k ≡ stages_to contest lots k
+unfolding stages_to
+stages_reordered contest lots papers zero order = refl
+stages_reordered contest lots papers (suc k) order =
+    let h : History = stages_to contest lots k in
+    ap (with_next (reordered contest papers) lots) (stages_reordered contest lots papers k order) ∙ next_reordered contest papers h (next_action contest lots h) order
+
+pub ruleset stages_counted = (stages_right, stages_few, stages_only, stages_reordered)
 
 -- where a count ends, no action comes next, and else one does
 ended_none : (contest : Contest) (stages : History) (lot : Option ℕ) (due : Due) (e : CountEnd) → end_of lot due ≡ Some e → drawn contest stages lot due ≡ None

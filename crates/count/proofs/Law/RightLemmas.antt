@@ -92,7 +92,7 @@ same_lost contest papers [] order = refl
 same_lost contest papers (s ∷ before) order =
     omega (arith, same_lost contest papers before order, same_lost_at contest papers s before s.action order)
 
-same_tells : (contest : Contest) (papers : List (List ℕ)) (before : History) (s : Stage) → IsPermutation contest.papers papers →
+pub same_tells : (contest : Contest) (papers : List (List ℕ)) (before : History) (s : Stage) → IsPermutation contest.papers papers →
     Tells (reordered contest papers) before s → Tells contest before s
 same_tells contest papers before s order tells = record {
   votes_told = tells.votes_told ∙ map-cong _ _ numbers (λ c. same_votes contest papers (s ∷ before) c order);
