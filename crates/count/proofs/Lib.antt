@@ -2,6 +2,8 @@
 pub mod Law
 pub mod ArrayLemmas
 pub mod BookLemmas
+pub mod BundleLemmas
+pub mod BundleLaws
 pub mod ChoiceLemmas
 pub mod ColumnLemmas
 pub mod ContestLemmas

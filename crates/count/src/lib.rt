@@ -2,8 +2,9 @@
 //!
 //! A [`CountBook`] is a count that is under way: the stages that are done, what is [`Due`], and
 //! [`CountBook::advance`], which adds the one stage that is due. [`ParcelBook`] keeps the papers in
-//! parcels, as a teller does. [`run_count`] counts to the end with the lots that are recorded, and
-//! [`count_to`] so many stages; [`due_by`] and [`dues_to`] tell what is due by those lots.
+//! parcels, as a teller does; [`Bundles`] keep equal papers once. [`run_count`] counts to the end with
+//! the lots that are recorded, and [`count_to`] so many stages; [`due_by`] and [`dues_to`] tell what is
+//! due by those lots.
 //!
 //! ```text
 //! if is_contest(&candidates, seats, &papers) {
@@ -15,6 +16,7 @@
 #![tactic(auto)]
 
 // what a count is held on, and its stages
+mod bundles;
 mod contest;
 mod stages;
 mod terms;
@@ -38,6 +40,7 @@ mod act;
 mod parcel_book;
 
 pub use book::{AdvanceError, CountBook};
+pub use bundles::Bundles;
 pub use contest::is_contest;
 pub use parcel_book::ParcelBook;
 pub use run::{CountEnd, run_count};

@@ -1,19 +1,24 @@
 //! The preferences of a ballot paper.
 
-ghost use Rattle.std.specs.Prelude.{◌≡◌, ℕ, ◌≤◌, length, IfSome, IsSome, IsTrue, ◌↔◌};
+ghost use Rattle.std.specs.Prelude.{◌≡◌, ℕ, ◌≤◌, length, IfSome, IsSome, IsTrue, ◌↔◌, Some, nat_eq, refl};
+ghost use Rattle.std.specs.Cmp.{partial_equiv_from_equiv};
+ghost use Rattle.std.specs.Cmp.Lexicographic.{pointwise, slice_cmp, nat_list_cmp_total, nat_list_eq_equiv, texts_po, texts_ties};
+ghost use Rattle.std.specs.Ordering.{nat_cmp};
 ghost use Rattle.paper.specs.Columns.{max_candidates};
 ghost use Rattle.paper.specs.Padded.{listed, padded};
 ghost use Rattle.paper.specs.Ranking.{IsRanking};
 
 use crate::columns::MAX_CANDIDATES;
 use crate::padded::{list_in, padded_numbers};
+use std::cmp::Ordering;
 use std::marker::Model;
 
 /// The preferences of a valid ballot paper, seen as the list of its candidates' numbers, each once,
-/// the first preference first.
+/// the first preference first. In their order the first number that differs decides, and a list
+/// stands before those that it begins.
 // One byte a candidate, which is the least for a value that is Copy and lends so many numbers as a
 // slice: the numbers, and zeros behind them in place of a length.
-#[derive(Clone, Copy, Debug, PartialEq, Eq)]
+#[derive(Clone, Copy, Debug)]
 pub struct Prefs {
     numbers: [u8; MAX_CANDIDATES],
 }
@@ -67,6 +72,44 @@ impl Prefs {
         ensures ranking { IsRanking self.now }
     {
         list_in(&self.numbers)
+    }
+}
+
+impl PartialEq for Prefs {
+    ghost eq = { pointwise nat_eq };
+
+    ghost laws = { partial_equiv_from_equiv nat_list_eq_equiv };
+
+    fn eq(&self, other: &Prefs) -> bool {
+        self.as_slice() == other.as_slice()
+    }
+}
+
+impl Eq for Prefs {
+    ghost laws = { nat_list_eq_equiv };
+}
+
+impl PartialOrd for Prefs {
+    ghost partial_cmp = { λ a b. Some (slice_cmp nat_cmp a b) };
+
+    ghost laws = { texts_po };
+
+    fn partial_cmp(&self, other: &Prefs) -> Option<Ordering> {
+        Some(self.cmp(other))
+    }
+}
+
+impl Ord for Prefs {
+    ghost cmp = { slice_cmp nat_cmp };
+
+    ghost total = { nat_list_cmp_total };
+
+    ghost matches_partial_cmp = { λ a b. refl };
+
+    ghost matches_eq = { texts_ties };
+
+    fn cmp(&self, other: &Prefs) -> Ordering {
+        self.as_slice().cmp(&other.as_slice())
     }
 }
 
