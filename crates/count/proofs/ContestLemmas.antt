@@ -1,8 +1,9 @@
 -- The test of a contest, paper by paper.
-use Rattle.std.proofs.Common.{◌≡◌, ℕ, suc, zero, ◌+◌, ◌<◌, ◌≤◌, List, [], ◌∷◌, length, take, get_or, refl, arith, subst}
+use Rattle.std.proofs.Common.{◌≡◌, ℕ, suc, zero, ◌+◌, ◌<◌, ◌≤◌, List, [], ◌∷◌, ◌++◌, length, take, get_or, replicate, refl, sym, ◌∙◌, arith, subst, Bool, true}
 use Rattle.std.specs.List.{AllByRecursion}
 use Rattle.paper.specs.Columns.{IsColumnSet}
 use Rattle.votes.specs.Units.{max_seats, max_papers}
+use Rattle.count.specs.Bundles.{Bundle, IsBundle, papers_of}
 use Rattle.count.specs.Law.Contest.{AreForCandidates, contest_for, IsContest}
 
 -- one member more, all members, and one of them
@@ -22,5 +23,31 @@ pub contest-is : (candidates : List ℕ) (seats : ℕ) (papers : List (List ℕ)
     IsContest (contest_for candidates seats papers)
 contest-is candidates seats papers set some few contested few_papers of =
     record { candidate_set = set; some_seats = some; few_seats = few; contested = contested; few_papers = few_papers; for_candidates = of; quota_is = refl }
+
+-- where each bundle has a paper, something holds of all papers exactly where it holds of each bundle's list
+all-replicated : (P : List ℕ → Type 0) (n : ℕ) (list : List ℕ) (rest : List (List ℕ)) → P list → AllByRecursion P rest → AllByRecursion P (replicate n list ++ rest)
+all-replicated P zero list rest one all = all
+all-replicated P (suc n) list rest one all = (one, all-replicated P n list rest one all)
+
+all-behind : (P : List ℕ → Type 0) (n : ℕ) (list : List ℕ) (rest : List (List ℕ)) → AllByRecursion P (replicate n list ++ rest) → AllByRecursion P rest
+all-behind P zero list rest all = all
+all-behind P (suc n) list rest all = all-behind P n list rest all.1
+
+first-replicated : (P : List ℕ → Type 0) (n : ℕ) (list : List ℕ) (rest : List (List ℕ)) → 1 ≤ n → AllByRecursion P (replicate n list ++ rest) → P list
+first-replicated P zero list rest some all = absurd (omega (arith, some))
+first-replicated P (suc n) list rest some all = all.0
+
+pub all-papers : (P : List ℕ → Type 0) (bundles : List Bundle) → AllByRecursion (λ (b : Bundle). P b.0) bundles → AllByRecursion P (papers_of bundles)
+all-papers P [] all = tt
+all-papers P (b ∷ bs) all = all-replicated P b.1 b.0 (papers_of bs) all.0 (all-papers P bs all.1)
+
+pub all-lists : (P : List ℕ → Type 0) (bundles : List Bundle) → AllByRecursion IsBundle bundles → AllByRecursion P (papers_of bundles) → AllByRecursion (λ (b : Bundle). P b.0) bundles
+all-lists P [] each all = tt
+all-lists P (b ∷ bs) each all = (first-replicated P b.1 b.0 (papers_of bs) each.0.0 all, all-lists P bs each.1 (all-behind P b.1 b.0 (papers_of bs) all))
+
+-- tests that agree on each number agree on all of a list
+pub all-alike : (f g : ℕ → Bool) (xs : List ℕ) → ((x : ℕ) → f x ≡ g x) → AllByRecursion (λ x. f x ≡ true) xs → AllByRecursion (λ x. g x ≡ true) xs
+all-alike f g [] alike all = tt
+all-alike f g (x ∷ xs) alike all = (sym (alike x) ∙ all.0, all-alike f g xs alike all.1)
 
 pub ruleset contests = contest-is

@@ -1,0 +1,120 @@
+//! The same elections in both books: papers in parcels, and equal papers kept once.
+
+use super::worked::{WORKED, Worked};
+use super::{first_columns, papers_of, records};
+use count::{
+    BundleBook, Bundles, CountBook, CountEnd, ParcelBook, Placed, is_bundled_contest, is_contest,
+    run_count,
+};
+use paper::Prefs;
+use std::alloc::Global;
+use std::process::Abort;
+use std::test::Fail;
+use votes::MAX_PAPERS;
+
+/// The papers of some groups as bundles, added one by one from the last to the first.
+pub fn bundles_of(alloc: Global, papers: &[Prefs]) -> Result<Bundles, Fail> {
+    let mut bundles = Bundles::new(alloc);
+    for paper in papers.iter().rev() {
+        if bundles.papers() < MAX_PAPERS {
+            bundles.add(*paper)?;
+        }
+    }
+    Ok(bundles)
+}
+
+/// Counts a worked election to its end in a new book, and compares each stage.
+fn comes_as_worked<B: CountBook>(
+    rt: &impl Abort,
+    book: &mut B,
+    worked: &Worked,
+) -> Result<(), Fail>
+    requires { B.history book.old ≡ [] }
+{
+    let end = run_count(book, worked.lots)?;
+    assert!(rt; end == CountEnd::Finished, "{}", worked.name);
+    assert_eq!(rt; book.stages().len(), worked.stages.len(), "{}", worked.name);
+    for (stage, expected) in book.stages().iter().zip(worked.stages) {
+        assert!(rt; records(stage, expected), "{}: {stage:?}", worked.name);
+    }
+    Ok(())
+}
+
+#[test]
+fn both_books_count_alike(rt: HostRuntime) -> Result<(), Fail> {
+    for worked in &WORKED {
+        let candidates = first_columns(worked.candidates);
+        let papers = papers_of(rt.alloc(), worked.papers)?;
+        let bundles = bundles_of(rt.alloc(), &papers)?;
+        assert!(rt; is_contest(&candidates, worked.seats, &papers));
+        assert!(rt; is_bundled_contest(&candidates, worked.seats, &bundles));
+        let mut book = ParcelBook::new(rt.alloc(), candidates, worked.seats, &papers)?;
+        comes_as_worked(&rt, &mut book, worked)?;
+        let mut book = BundleBook::new(rt.alloc(), candidates, worked.seats, &bundles)?;
+        comes_as_worked(&rt, &mut book, worked)?;
+    }
+    Ok(())
+}
+
+/// The bundles of the first worked election after its second stage: a list, how many papers have it, who
+/// holds them, and the value of each in units.
+const PLACES: [(&[u8], u32, u8, u64); 4] = [
+    (&[1, 2], 4, 2, 33333),
+    (&[1, 3], 2, 3, 33333),
+    (&[2], 1, 2, 100000),
+    (&[3], 2, 3, 100000),
+];
+
+#[test]
+fn bundles_lie_where_their_papers_do(rt: HostRuntime) -> Result<(), Fail> {
+    let Some(worked) = WORKED.first() else {
+        return Err(Fail::from("no such election"));
+    };
+    let candidates = first_columns(worked.candidates);
+    let bundles = bundles_of(rt.alloc(), &papers_of(rt.alloc(), worked.papers)?)?;
+    assert!(rt; is_bundled_contest(&candidates, worked.seats, &bundles));
+    let mut book = BundleBook::new(rt.alloc(), candidates, worked.seats, &bundles)?;
+    count_to(&mut book, worked.lots, 2)?;
+    assert_eq!(rt; book.places().len(), PLACES.len());
+    let lying = bundles.iter().zip(book.places());
+    for (((list, papers), placed), expected) in lying.zip(&PLACES) {
+        let found = (list.as_slice(), *papers, placed.holder, placed.value.units());
+        assert!(rt; found == *expected, "{found:?}");
+    }
+    Ok(())
+}
+
+/// Takes a worked election up from where it stood after so many stages, and counts it to its end.
+fn goes_on_from(
+    rt: &impl Abort,
+    alloc: Global,
+    worked: &Worked,
+    bundles: &Bundles,
+    stages: usize,
+) -> Result<(), Fail> {
+    let candidates = first_columns(worked.candidates);
+    assert!(rt; is_bundled_contest(&candidates, worked.seats, bundles));
+    let mut stood = BundleBook::new(alloc, candidates, worked.seats, bundles)?;
+    count_to(&mut stood, worked.lots, stages)?;
+    let (places, made) = (stood.places(), stood.stages());
+    let mut book = BundleBook::resume(alloc, candidates, worked.seats, bundles, places, made)?;
+    assert_eq!(rt; book.stages().len(), stages, "{}", worked.name);
+    let end = run_count(&mut book, worked.lots)?;
+    assert!(rt; end == CountEnd::Finished, "{}", worked.name);
+    for (stage, expected) in book.stages().iter().zip(worked.stages) {
+        assert!(rt; records(stage, expected), "{}: {stage:?}", worked.name);
+    }
+    Ok(())
+}
+
+#[test]
+fn counts_go_on_from_each_stage(rt: HostRuntime) -> Result<(), Fail> {
+    for worked in &WORKED {
+        let papers = papers_of(rt.alloc(), worked.papers)?;
+        let bundles = bundles_of(rt.alloc(), &papers)?;
+        for stages in 0..worked.stages.len() {
+            goes_on_from(&rt, rt.alloc(), worked, &bundles, stages)?;
+        }
+    }
+    Ok(())
+}
