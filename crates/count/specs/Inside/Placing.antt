@@ -52,9 +52,17 @@ worth_placed f [] bundles = 0
 worth_placed f (at ∷ places) [] = 0
 worth_placed f (at ∷ places) (b ∷ bundles) = b.1 * f at + worth_placed f places bundles
 
+-- where a paper lies before the first stage
+abbrev pub nowhere : Placed
+nowhere = record { holder = 0; value = 0 }
+
 -- where a paper lies as its first preference's, as one vote
 abbrev pub first_place : List ℕ → Placed
 first_place paper = record { holder = first_of paper; value = one_vote }
+
+-- where the papers of bundles lie as their first preferences'
+abbrev pub first_places : List Bundle → List Placed
+first_places bundles = map (λ (b : Bundle). first_place b.0) bundles
 
 -- where a paper goes if c holds it: to its next available preference, at the value that a rule makes of its own; another stays
 abbrev pub passed_at : (ℕ → Bool) → TransferRule → ℕ → List ℕ → Placed → Placed
