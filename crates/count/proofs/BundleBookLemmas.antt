@@ -109,4 +109,4 @@ some-own contest stages right = own_lots contest (λ before s. lot_for right.lot
 
 pub ruleset book_laws = (bundled-conserved, bundled-others, bundled-short)
 
-pub ruleset book_facts = (bundled-few, bundled-several, bundled-filled, adds-advances, drawn-due, adds-bundled)
+pub ruleset book_facts = (bundled-few, bundled-several, bundled-filled, adds-advances, drawn-due)

@@ -136,3 +136,9 @@ worth-stop f rest left none = ap (λ (l : List Placed). worth_placed f l left) n
 
 pub worth-end : (f : Placed → ℕ) (rest : List Placed) (left : List Bundle) → left ≡ [] → worth_placed f rest left ≡ 0
 worth-end f rest left none = ap (worth_placed f rest) none ∙ worth-none f rest
+
+-- at first every sum is nothing
+pub no-sums : (n h : ℕ) → slice_index (replicate n 0) h ≡ 0
+no-sums zero h = refl
+no-sums (suc n) zero = refl
+no-sums (suc n) (suc h) = no-sums n h

@@ -102,9 +102,9 @@ fn dealt_places(alloc: Global, bundles: &Bundles) -> Result<Vec<Placed>, AllocEr
     ensures { IfOk result (λ dealt. dealt.items ≡ first_places bundles.now) }
 {
     let mut dealt = Vec::with_capacity(alloc, bundles.len())?;
-    for (list, _) in bundles.iter() {
+    for (prefs, _) in bundles.iter() {
         dealt.push(Placed {
-            holder: first_preference(list.as_slice()),
+            holder: first_preference(prefs.as_slice()),
             value: Votes::from_units(ONE_VOTE),
         })?;
     }

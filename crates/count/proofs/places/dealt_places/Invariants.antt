@@ -3,5 +3,5 @@ use Rattle.std.proofs.Common.{◌≡◌, ◌++◌}
 use Rattle.count.specs.Inside.Placing.{first_places}
 use Rattle.count.proofs.places.dealt_places.Given as goal
 
-abbrev pub invariant-loop-list : goal.invariant-loop-list
-invariant-loop-list l = l.dealt.items ++ first_places l.list-iterator ≡ first_places l.bundles
+abbrev pub invariant-loop-prefs : goal.invariant-loop-prefs
+invariant-loop-prefs l = l.dealt.items ++ first_places l.prefs-iterator ≡ first_places l.bundles
