@@ -17,6 +17,7 @@ use Rattle.count.specs.Inside.Keeping.{with_newly, IsAdded}
 use Rattle.count.specs.Inside.Placing.{contest_on, places_of, IsBundled, IsFigured}
 use Rattle.count.specs.declared.placed.Placed.{Placed}
 use Rattle.count.specs.declared.stages.Action.{Action}
+use Rattle.count.specs.declared.stages.Due.{Due}
 use Rattle.count.specs.declared.stages.Due.TheVariants.{Finished}
 use Rattle.count.specs.declared.stages.Stage.{Stage}
 use Rattle.count.specs.declared.terms.Terms.{Terms}
@@ -110,3 +111,8 @@ some-own contest stages right = own_lots contest (λ before s. lot_for right.lot
 pub ruleset book_laws = (bundled-conserved, bundled-others, bundled-short)
 
 pub ruleset book_facts = (bundled-few, bundled-several, bundled-filled, adds-advances, drawn-due)
+
+-- a lot that is due is among several, over stages that are lent
+pub due-several : (contest : Contest) (lent stages : List Stage) (bundles : List Bundle) (places : List Placed) (due : Due) → lent ≡ stages → due ≡ due_after contest (reverse lent) → IsBundled contest (reverse stages) bundles places → IsAmongSeveral due
+due-several contest lent stages bundles places due same is book =
+    subst IsAmongSeveral (sym (is ∙ ap (λ (l : List Stage). due_after contest (reverse l)) same)) (bundled-several contest (reverse stages) bundles places book)
