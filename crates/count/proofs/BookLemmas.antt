@@ -60,7 +60,7 @@ pub adds-advances : (contest : Contest) (before : History) (lot : Option ℕ) (a
 adds-advances contest before lot action after was adds = record { stage = adds.stage; one_more = adds.one_more; next = adds-next contest before lot action after was adds }
 
 -- and the history stays right for the lots that its own actions name
-adds-right : (contest : Contest) (before : History) (lot : Option ℕ) (action : Action) (after : History) → IsRightByItself contest before → drawn contest before lot (due_after contest before) ≡ Some action →
+pub adds-right : (contest : Contest) (before : History) (lot : Option ℕ) (action : Action) (after : History) → IsRightByItself contest before → drawn contest before lot (due_after contest before) ≡ Some action →
     Adds contest before action after → IsRightByItself contest after
 adds-right contest before lot action after right was adds =
     let s : Stage = adds.stage in

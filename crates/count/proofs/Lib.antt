@@ -17,3 +17,6 @@ pub mod RestLemmas
 pub mod SumLemmas
 pub mod TallyLemmas
 pub mod WorthLemmas
+pub mod PlaceLemmas
+pub mod WeightLemmas
+pub mod BundleBookLemmas

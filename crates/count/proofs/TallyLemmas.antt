@@ -163,7 +163,7 @@ map-range f g (suc n) few h =
     ∙ sym (map-range_with_len_more g 1 n (n + 1) (omega arith)) ∙ sym (ap (λ k. map g (range_with_len 1 k)) e)
 
 -- functions that agree on the numbers of candidates make the same list of them
-map-numbers : (f g : ℕ → ℕ) → ((c : ℕ) → IsColumn c → f c ≡ g c) → map f numbers ≡ map g numbers
+pub map-numbers : (f g : ℕ → ℕ) → ((c : ℕ) → IsColumn c → f c ≡ g c) → map f numbers ≡ map g numbers
 map-numbers f g h = map-range f g 30 (omega arith) h
 
 -- what a stage records after an action is what the definitions tell

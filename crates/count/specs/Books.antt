@@ -1,7 +1,10 @@
 -- What a book is to its callers.
 use Rattle.std.specs.Prelude.{ℕ, List, [], ◌∷◌, ⊤}
 use Rattle.paper.specs.Ranking.{IsRanking}
+use Rattle.count.specs.Bundles.{Bundle}
 use Rattle.count.specs.Law.Contest.{Contest, History}
+use Rattle.count.specs.Law.Places.{Place}
+use Rattle.count.specs.declared.placed.Placed.{Placed}
 use Rattle.count.specs.declared.terms.Terms.{Terms}
 
 -- the contest of these terms and papers
@@ -17,3 +20,13 @@ AreRankings (paper ∷ papers) = IsRanking paper × AreRankings papers
 pub record Book : Type 0 where
   pub contest : Contest
   pub history : History
+
+-- a count that is under way on bundles, as a contract sees it
+pub record BundledBook : Type 0 where
+  pub contest : Contest
+  pub history : History
+  pub bundles : List Bundle
+
+-- a place, as a book by bundles hands it out and takes it
+abbrev pub placed : Place → Placed
+placed at = record { holder = at.holder; value = at.value }

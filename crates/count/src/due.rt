@@ -1,6 +1,6 @@
 //! What is due after some stages.
 
-ghost use Rattle.std.specs.Prelude.{◌≡◌, ℕ, ◌<◌, [], length, reverse, IfOk, IfErr, Some};
+ghost use Rattle.std.specs.Prelude.{◌≡◌, ℕ, ◌<◌, List, [], length, reverse, IfOk, IfErr, Some};
 ghost use Rattle.count.specs.Law.Due.{due_after, drawn, exclusion as exclusion_of, action_on as action_on_of, among as among_of, due_for as due_for_of};
 ghost use Rattle.count.specs.Law.Elected.{elected_after};
 ghost use Rattle.count.specs.Advance.{refusal};
@@ -11,7 +11,7 @@ use crate::elected::{continuing, elected, vacancies, with_surplus};
 use crate::stages::{Action, Due, Kind, Stage};
 use crate::terms::Terms;
 use crate::ties::{highest, lowest};
-use paper::{Columns, Prefs};
+use paper::Columns;
 
 /// The exclusion of a candidate.
 fn exclusion(terms: &Terms, stages: &[Stage], c: u8) -> Action
@@ -62,10 +62,10 @@ fn due_for(terms: &Terms, stages: &[Stage], group: &Columns) -> Due
     among(terms, stages, Kind::Surplus, &highest(stages, group))
 }
 
-/// What is due after some stages; the papers themselves aren't read.
-pub fn due(terms: &Terms, papers: &[Prefs], stages: &[Stage]) -> Due
+/// What is due after some stages, whatever the papers: they aren't read.
+pub fn due(terms: &Terms, stages: &[Stage]) -> Due
     requires few { length stages.now < 255 }
-    ensures { result ≡ due_after (contest_of terms.now papers.now) (reverse stages.now) }
+    ensures { (papers : List (List ℕ)) → result ≡ due_after (contest_of terms.now papers) (reverse stages.now) }
 {
     match stages.split_last() {
         None => Due::Act(Action::First),
@@ -79,25 +79,20 @@ pub fn due(terms: &Terms, papers: &[Prefs], stages: &[Stage]) -> Due
     }
 }
 
-/// The candidates who are elected; the papers themselves aren't read.
-pub fn elected_with(terms: &Terms, papers: &[Prefs], stages: &[Stage]) -> Columns
-    ensures { result ≡ elected_after (contest_of terms.now papers.now) (reverse stages.now) }
+/// The candidates who are elected, whatever the papers: they aren't read.
+pub fn elected_with(terms: &Terms, stages: &[Stage]) -> Columns
+    ensures { (papers : List (List ℕ)) → result ≡ elected_after (contest_of terms.now papers) (reverse stages.now) }
 {
     elected(terms, stages)
 }
 
-/// The action that is due, where a lot is handed; the papers themselves aren't read.
-pub fn action_by(
-    terms: &Terms,
-    papers: &[Prefs],
-    stages: &[Stage],
-    lot: Option<u8>,
-) -> Result<Action, AdvanceError>
+/// The action that is due, where a lot is handed, whatever the papers: they aren't read.
+pub fn action_by(terms: &Terms, stages: &[Stage], lot: Option<u8>) -> Result<Action, AdvanceError>
     requires few { length stages.now < 255 }
-    ensures ok { IfOk result (λ action. drawn (contest_of terms.now papers.now) (reverse stages.now) lot (due_after (contest_of terms.now papers.now) (reverse stages.now)) ≡ Some action) }
-    ensures err { IfErr result (λ e. refusal lot (due_after (contest_of terms.now papers.now) (reverse stages.now)) ≡ Some e) }
+    ensures ok { IfOk result (λ action. (papers : List (List ℕ)) → drawn (contest_of terms.now papers) (reverse stages.now) lot (due_after (contest_of terms.now papers) (reverse stages.now)) ≡ Some action) }
+    ensures err { IfErr result (λ e. (papers : List (List ℕ)) → refusal lot (due_after (contest_of terms.now papers) (reverse stages.now)) ≡ Some e) }
 {
-    match due(terms, papers, stages) {
+    match due(terms, stages) {
         Due::Act(action) => Ok(action),
         Due::Finished => Err(AdvanceError::Finished),
         Due::Lot { kind, among, .. } => match lot {

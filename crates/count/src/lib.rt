@@ -2,9 +2,10 @@
 //!
 //! A [`CountBook`] is a count that is under way: the stages that are done, what is [`Due`], and
 //! [`CountBook::advance`], which adds the one stage that is due. [`ParcelBook`] keeps the papers in
-//! parcels, as a teller does; [`Bundles`] keep equal papers once. [`run_count`] counts to the end with
-//! the lots that are recorded, and [`count_to`] so many stages; [`due_by`] and [`dues_to`] tell what is
-//! due by those lots.
+//! parcels, as a teller does. [`BundleBook`] keeps equal papers as one of [`Bundles`], each [`Placed`]
+//! with one holder, and goes on from where another stood. [`run_count`] counts to the end with the lots
+//! that are recorded, and [`count_to`] so many stages; [`due_by`] and [`dues_to`] tell what is due by
+//! those lots.
 //!
 //! ```text
 //! if is_contest(&candidates, seats, &papers) {
@@ -38,11 +39,19 @@ mod tally;
 // the book that keeps them
 mod act;
 mod parcel_book;
+// bundles of equal papers, where they lie, what they are worth, and the book that keeps them
+mod bundle_act;
+mod bundle_book;
+mod placed;
+mod places;
+mod weights;
 
 pub use book::{AdvanceError, CountBook};
+pub use bundle_book::BundleBook;
 pub use bundles::Bundles;
 pub use contest::is_contest;
 pub use parcel_book::ParcelBook;
+pub use placed::Placed;
 pub use run::{CountEnd, run_count};
 pub use so_far::{count_to, due_by, dues_to};
 pub use stages::{Action, Due, Kind, Stage};

@@ -18,7 +18,7 @@ use std::alloc::{AllocError, Global};
 use votes::Votes;
 
 /// What a surplus does to values: it cuts them by the part that it is of the votes credited.
-fn surplus_rule(quota: Votes, credited: Votes) -> TransferRule
+pub fn surplus_rule(quota: Votes, credited: Votes) -> TransferRule
     requires some { 0 < quota }
     requires above { quota < credited }
     requires few { credited ≤ max_units }

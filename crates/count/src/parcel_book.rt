@@ -78,21 +78,21 @@ impl<'a> CountBook for ParcelBook<'a> {
 
     #[tactic(auto, using(crate::proofs::BookLemmas::book_facts))]
     fn due(&self) -> Due {
-        due(&self.terms, self.papers, &self.stages)
+        due(&self.terms, &self.stages)
     }
 
     fn elected(&self) -> Columns {
-        elected_with(&self.terms, self.papers, &self.stages)
+        elected_with(&self.terms, &self.stages)
     }
 
     #[tactic(auto, using(crate::proofs::BookLemmas::book_facts))]
     fn action_by(&self, lot: Option<u8>) -> Result<Action, AdvanceError> {
-        action_by(&self.terms, self.papers, &self.stages, lot)
+        action_by(&self.terms, &self.stages, lot)
     }
 
     #[tactic(auto, using(crate::proofs::BookLemmas::book_facts))]
     fn advance(&mut self, lot: Option<u8>) -> Result<(), AdvanceError> {
-        let action = action_by(&self.terms, self.papers, &self.stages, lot)?;
+        let action = action_by(&self.terms, &self.stages, lot)?;
         match act(
             self.alloc,
             &self.terms,

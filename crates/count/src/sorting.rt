@@ -16,10 +16,10 @@ use std::alloc::{AllocError, Global};
 use votes::{ONE_VOTE, Votes, transfer_value};
 
 /// The holders of papers: each number that a candidate may have, and 0 for no one.
-const HOLDERS: usize = MAX_CANDIDATES + 1;
+pub const HOLDERS: usize = MAX_CANDIDATES + 1;
 
 /// The first of some preferences, or 0.
-fn first_preference(rest: &[u8]) -> u8
+pub fn first_preference(rest: &[u8]) -> u8
     ensures { result ≡ first_of rest.now }
 {
     match rest.first() {
@@ -126,7 +126,7 @@ fn pass_papers<'a>(
 }
 
 /// The value that a paper takes on when it is passed on.
-fn value_by(rule: &TransferRule, value: Votes) -> Votes
+pub fn value_by(rule: &TransferRule, value: Votes) -> Votes
     requires rule { IsTransferRule rule.now }
     requires small { value ≤ one_vote }
     ensures is { result ≡ new_value rule.now value }

@@ -104,7 +104,7 @@ fn non_transferable_with(stages: &[Stage], moved: &[Holding]) -> Votes
 }
 
 /// What the stages so far have lost by fractions.
-fn newest_lost(stages: &[Stage]) -> u64
+pub fn newest_lost(stages: &[Stage]) -> u64
     ensures { result ≡ newest_lost_of (reverse stages.now) }
 {
     match stages.split_last() {

@@ -31,6 +31,11 @@ IsRightBy contest handed (s ∷ before) = IsRightBy contest handed before × IsN
 abbrev pub IsRight : Contest → List (ℕ × ℕ) → History → Type 0
 IsRight contest lots stages = IsRightBy contest (λ before s. lot_for lots (length before + 1)) stages
 
+-- a history is right for some recorded lots
+pub record IsRightForSome (contest : Contest) (stages : History) : Type 0 where
+  pub lots : List (ℕ × ℕ)
+  pub right : IsRight contest lots stages
+
 -- the candidate of an action, as a lot would name him
 abbrev pub candidate_of : Action → Option ℕ
 candidate_of First = None

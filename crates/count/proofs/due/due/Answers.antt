@@ -9,13 +9,13 @@ use Rattle.count.proofs.Law.DueLemmas.{due-ended, due-open}
 use Rattle.count.proofs.due.due.Goals as goal
 
 pub returns-then-vacancies-eq0 : goal.returns-then-vacancies-eq0
-returns-then-vacancies-eq0 c =
-    due-ended (contest_of c.args.terms.now c.args.papers.now) (reverse c.args.stages.now) (reverse c.in-Some.field-0-1.now) c.in-Some.newest.now (reverse-newest c.args.stages.now c.in-Some.field-0-1.now c.in-Some.newest.now c.in-Some.ensures.cases.0)
+returns-then-vacancies-eq0 c = λ papers.
+    due-ended (contest_of c.args.terms.now papers) (reverse c.args.stages.now) (reverse c.in-Some.field-0-1.now) c.in-Some.newest.now (reverse-newest c.args.stages.now c.in-Some.field-0-1.now c.in-Some.newest.now c.in-Some.ensures.cases.0)
     (sym c.vacancies.ensures ∙ c.if-vacancies-eq0.true)
 
 pub returns-else-vacancies-eq0 : goal.returns-else-vacancies-eq0
-returns-else-vacancies-eq0 c =
-    let contest : Contest = contest_of c.args.terms.now c.args.papers.now in
+returns-else-vacancies-eq0 c = λ papers.
+    let contest : Contest = contest_of c.args.terms.now papers in
     let stages : History = reverse c.args.stages.now in
     c.due_for.ensures
     ∙ ap (due_for contest stages) (c.with_surplus-group.ensures ∙ ap (filter (λ x. nat_lt c.args.terms.now.quota (votes_at c.in-Some.newest.now x))) c.elected.ensures)

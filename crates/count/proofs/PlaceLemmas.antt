@@ -1,0 +1,176 @@
+-- Where bundles lie: each place is sound, and an action brings it to where the law has it.
+use Rattle.std.proofs.Common.{◌≡◌, ℕ, ◌*◌, ◌<◌, ◌≤◌, Bool, true, false, cond, eqb, List, [], ◌∷◌, ◌++◌, length, drop, map, append_assoc, refl, sym, ap, ◌∙◌, arith, subst}
+use Rattle.std.specs.List.{AllByRecursion}
+use Rattle.std.proofs.lemmas.List.{append-nil}
+use Rattle.std.proofs.Math.Nat.{div-le_of_le-mul, mul-le-mul_right}
+use Rattle.votes.specs.Units.{one_vote, cut}
+use Rattle.paper.specs.Columns.{max_candidates, IsColumn}
+use Rattle.paper.specs.Ranking.{IsRanking}
+use Rattle.paper.specs.Standing.{from_first}
+use Rattle.count.specs.Bundles.{Bundle, papers_of, IsBundle}
+use Rattle.count.specs.Books.{placed}
+use Rattle.count.specs.Law.Contest.{Contest, History, IsContest, newest_votes}
+use Rattle.count.specs.Law.Count.{begun}
+use Rattle.count.specs.Law.Elected.{is_continuing, is_elected, is_excluded, continuing_after}
+use Rattle.count.specs.Law.Places.{Place, place, moved, passed_on, first_of, after, next_available, surplus_of}
+use Rattle.count.specs.Inside.Holdings.{new_value, passed_to, OnlyColumns}
+use Rattle.count.specs.Inside.Placing.{places_of, IsSound, nowhere, first_places, passed_at, passed_places}
+use Rattle.count.specs.declared.parcel.TransferRule.{TransferRule}
+use Rattle.count.specs.declared.parcel.TransferRule.TheVariants.{AsReceived, Share}
+use Rattle.count.specs.declared.placed.Placed.{Placed}
+use Rattle.count.specs.declared.stages.Action.{Action}
+use Rattle.count.specs.declared.stages.Action.TheVariants.{First, Surplus, Exclude, ExcludeLast}
+use Rattle.count.proofs.ColumnLemmas.{columns-filter, only-columns}
+use Rattle.count.proofs.ParcelTotals.{first-known, from_first-same}
+
+-- a part of a value is within it
+cut-small : (s v t : ℕ) → s ≤ t → cut s v t ≤ v
+cut-small s v t part = div-le_of_le-mul t (mul-le-mul_right v part)
+
+passed_small : (b : Bool) (h w : ℕ) (at : Place) → w ≤ one_vote → at.value ≤ one_vote → (let m : Place = record { holder = h; value = w } in cond b m at).value ≤ one_vote
+passed_small true h w at new old = new
+passed_small false h w at new old = old
+
+moved_small : (contest : Contest) (before : History) (action : Action) (p : List ℕ) (at : Place) → at.value ≤ one_vote → (moved contest before action p at).value ≤ one_vote
+moved_small contest before First p at small = omega arith
+moved_small contest before (Surplus c) p at small =
+    let part : surplus_of contest before c ≤ newest_votes before c = omega arith in
+    let kept : cut (surplus_of contest before c) at.value (newest_votes before c) ≤ at.value = cut-small (surplus_of contest before c) at.value (newest_votes before c) part in
+    passed_small (eqb at.holder c) (next_available contest before c p) (cut (surplus_of contest before c) at.value (newest_votes before c)) at (omega (arith, kept, small)) small
+moved_small contest before (Exclude c) p at small = passed_small (eqb at.holder c) (next_available contest before c p) at.value at small small
+moved_small contest before (ExcludeLast c) p at small = small
+
+-- no paper's value is above one vote
+value-small : (contest : Contest) (stages : History) (p : List ℕ) → (place contest stages p).value ≤ one_vote
+value-small contest [] p = omega arith
+value-small contest (s ∷ before) p = moved_small contest before s.action p (place contest before p) (value-small contest before p)
+
+first_few : (p : List ℕ) → IsRanking p → first_of p ≤ max_candidates
+first_few [] r = omega arith
+first_few (x ∷ xs) r = r.1
+
+next_few : (contest : Contest) (before : History) (c : ℕ) (p : List ℕ) → IsContest contest → next_available contest before c p ≤ max_candidates
+next_few contest before c p fair =
+    first-known (is_continuing contest before) (after c p)
+    (only-columns (continuing_after contest before) (is_continuing contest before) (columns-filter _ contest.candidates fair.candidate_set) (λ d. refl))
+
+passed_few : (b : Bool) (h w : ℕ) (at : Place) → h ≤ max_candidates → at.holder ≤ max_candidates → (let m : Place = record { holder = h; value = w } in cond b m at).holder ≤ max_candidates
+passed_few true h w at new old = new
+passed_few false h w at new old = old
+
+moved_few : (contest : Contest) (before : History) (action : Action) (p : List ℕ) (at : Place) → IsContest contest → IsRanking p → at.holder ≤ max_candidates → (moved contest before action p at).holder ≤ max_candidates
+moved_few contest before First p at fair r few = first_few p r
+moved_few contest before (Surplus c) p at fair r few = passed_few (eqb at.holder c) (next_available contest before c p) _ at (next_few contest before c p fair) few
+moved_few contest before (Exclude c) p at fair r few = passed_few (eqb at.holder c) (next_available contest before c p) _ at (next_few contest before c p fair) few
+moved_few contest before (ExcludeLast c) p at fair r few = few
+
+-- whoever holds a paper has a candidate's number, or is no one
+holder-few : (contest : Contest) (stages : History) (p : List ℕ) → IsContest contest → IsRanking p → (place contest stages p).holder ≤ max_candidates
+holder-few contest [] p fair r = omega arith
+holder-few contest (s ∷ before) p fair r = moved_few contest before s.action p (place contest before p) fair r (holder-few contest before p fair r)
+
+-- all places are sound
+pub sound-places : (contest : Contest) (stages : History) (bundles : List Bundle) → IsContest contest → AllByRecursion IsBundle bundles → AllByRecursion IsSound (places_of contest stages bundles)
+sound-places contest stages [] fair each = tt
+sound-places contest stages (b ∷ bs) fair each = ((holder-few contest stages b.0 fair each.0.2, value-small contest stages b.0), sound-places contest stages bs fair each.1)
+
+-- before the first stage all papers are with no one
+pub nowhere-places : (contest : Contest) (bundles : List Bundle) → map (λ (b : Bundle). nowhere) bundles ≡ places_of contest [] bundles
+nowhere-places contest bundles = refl
+
+-- the first stage brings all papers to their first preferences,
+pub first-places : (contest : Contest) (before : History) (bundles : List Bundle) → first_places bundles ≡ places_of contest (begun First [] ∷ before) bundles
+first-places contest before bundles = refl
+
+-- an exclusion that fills the last vacancies leaves them,
+pub last-places : (contest : Contest) (before : History) (c : ℕ) (bundles : List Bundle) → places_of contest before bundles ≡ places_of contest (begun (ExcludeLast c) [] ∷ before) bundles
+last-places contest before c bundles = refl
+
+passed_choice : (b : Bool) (h w : ℕ) (at : Place) → (let m : Placed = record { holder = h; value = w } in cond b m (placed at)) ≡ placed (let m : Place = record { holder = h; value = w } in cond b m at)
+passed_choice true h w at = refl
+passed_choice false h w at = refl
+
+passed-one : (contest : Contest) (before : History) (c : ℕ) (rule : TransferRule) (p : List ℕ) (at : Place) →
+    passed_at (is_continuing contest before) rule c p (placed at) ≡ placed (passed_on contest before c p at (new_value rule at.value))
+passed-one contest before c rule p at = passed_choice (eqb at.holder c) (next_available contest before c p) (new_value rule at.value) at
+
+-- and another action passes a candidate's papers on
+passed-all : (contest : Contest) (before : History) (c : ℕ) (rule : TransferRule) (action : Action) (bundles : List Bundle) →
+    ((p : List ℕ) (at : Place) → passed_on contest before c p at (new_value rule at.value) ≡ moved contest before action p at) →
+    passed_places (is_continuing contest before) rule c (places_of contest before bundles) bundles ≡ places_of contest (begun action [] ∷ before) bundles
+passed-all contest before c rule action [] by = refl
+passed-all contest before c rule action (b ∷ bs) by =
+    let at : Place = place contest before b.0 in
+    let here : passed_at (is_continuing contest before) rule c b.0 (placed at) ≡ placed (moved contest before action b.0 at) = passed-one contest before c rule b.0 at ∙ ap placed (by b.0 at) in
+    ap (λ (x : Placed). x ∷ passed_places (is_continuing contest before) rule c (places_of contest before bs) bs) here
+    ∙ ap (λ (l : List Placed). placed (moved contest before action b.0 at) ∷ l) (passed-all contest before c rule action bs by)
+
+-- who continues may be told by another test that says the same
+passed-same : (p q : ℕ → Bool) (rule : TransferRule) (c : ℕ) (places : List Placed) (bundles : List Bundle) → ((d : ℕ) → p d ≡ q d) → passed_places p rule c places bundles ≡ passed_places q rule c places bundles
+passed-same p q rule c [] bundles same = refl
+passed-same p q rule c (at ∷ places) [] same = refl
+passed-same p q rule c (at ∷ places) (b ∷ bs) same =
+    let rest : List ℕ = drop 1 (from_first (λ d. eqb d c) b.0) in
+    ap (λ (l : List ℕ). (let m : Placed = record { holder = first_of l; value = new_value rule at.value } in cond (eqb at.holder c) m at) ∷ passed_places p rule c places bs) (from_first-same p q rest same)
+    ∙ ap (λ (l : List Placed). passed_at q rule c b.0 at ∷ l) (passed-same p q rule c places bs same)
+
+-- what a surplus passes on, and what an exclusion does
+pub surplus-places : (contest : Contest) (before : History) (c : ℕ) (continues : ℕ → Bool) (places : List Placed) (bundles : List Bundle) → ((d : ℕ) → continues d ≡ is_continuing contest before d) → places ≡ places_of contest before bundles →
+    passed_places continues (Share (surplus_of contest before c) (newest_votes before c)) c places bundles ≡ places_of contest (begun (Surplus c) [] ∷ before) bundles
+surplus-places contest before c continues places bundles same are =
+    let rule : TransferRule = Share (surplus_of contest before c) (newest_votes before c) in
+    passed-same continues (is_continuing contest before) rule c places bundles same
+    ∙ ap (λ (l : List Placed). passed_places (is_continuing contest before) rule c l bundles) are
+    ∙ passed-all contest before c rule (Surplus c) bundles (λ p at. refl)
+
+pub exclude-places : (contest : Contest) (before : History) (c : ℕ) (continues : ℕ → Bool) (places : List Placed) (bundles : List Bundle) → ((d : ℕ) → continues d ≡ is_continuing contest before d) → places ≡ places_of contest before bundles →
+    passed_places continues AsReceived c places bundles ≡ places_of contest (begun (Exclude c) [] ∷ before) bundles
+exclude-places contest before c continues places bundles same are =
+    passed-same continues (is_continuing contest before) AsReceived c places bundles same
+    ∙ ap (λ (l : List Placed). passed_places (is_continuing contest before) AsReceived c l bundles) are
+    ∙ passed-all contest before c AsReceived (Exclude c) bundles (λ p at. refl)
+
+-- where no bundle is left, no place is
+pub passed-none : (continues : ℕ → Bool) (rule : TransferRule) (c : ℕ) (places : List Placed) → passed_places continues rule c places [] ≡ []
+passed-none continues rule c [] = refl
+passed-none continues rule c (at ∷ places) = refl
+
+-- one bundle more is passed on
+pub passed-step : (continues : ℕ → Bool) (rule : TransferRule) (c : ℕ) (made more all rest others : List Placed) (left behind : List Bundle) (at x : Placed) (b : Bundle) → rest ≡ at ∷ others → left ≡ b ∷ behind →
+    made ++ passed_places continues rule c rest left ≡ all → x ≡ passed_at continues rule c b.0 at → more ≡ made ++ x ∷ [] → more ++ passed_places continues rule c others behind ≡ all
+passed-step continues rule c made more all rest others left behind at x b rest_is left_is so_far here pushed =
+    let go : List Placed → List Bundle → List Placed = passed_places continues rule c in
+    ap (λ (l : List Placed). l ++ go others behind) pushed
+    ∙ append_assoc made (x ∷ []) (go others behind)
+    ∙ ap (λ (y : Placed). made ++ (y ∷ go others behind)) here
+    ∙ ap (λ (l : List Bundle). made ++ go (at ∷ others) l) (sym left_is)
+    ∙ ap (λ (l : List Placed). made ++ go l left) (sym rest_is)
+    ∙ so_far
+
+-- where no place is left, no bundle is passed on
+pub passed-stop : (continues : ℕ → Bool) (rule : TransferRule) (c : ℕ) (made all rest : List Placed) (left behind : List Bundle) → rest ≡ [] →
+    made ++ passed_places continues rule c rest left ≡ all → made ++ passed_places continues rule c rest behind ≡ all
+passed-stop continues rule c made all rest left behind none so_far =
+    ap (λ (l : List Placed). made ++ passed_places continues rule c l behind) none
+    ∙ ap (λ (l : List Placed). made ++ passed_places continues rule c l left) (sym none)
+    ∙ so_far
+
+pub passed-end : (continues : ℕ → Bool) (rule : TransferRule) (c : ℕ) (made all rest : List Placed) (left : List Bundle) → left ≡ [] →
+    made ++ passed_places continues rule c rest left ≡ all → made ≡ all
+passed-end continues rule c made all rest left none so_far =
+    sym (append-nil made)
+    ∙ ap (λ (l : List Placed). made ++ l) (sym (passed-none continues rule c rest))
+    ∙ ap (λ (l : List Bundle). made ++ passed_places continues rule c rest l) (sym none)
+    ∙ so_far
+
+-- the same of a list that is made bundle by bundle
+pub mapped-step : (f : Bundle → Placed) (made more all : List Placed) (left behind : List Bundle) (x : Placed) (b : Bundle) → left ≡ b ∷ behind → made ++ map f left ≡ all → x ≡ f b → more ≡ made ++ x ∷ [] → more ++ map f behind ≡ all
+mapped-step f made more all left behind x b left_is so_far here pushed =
+    ap (λ (l : List Placed). l ++ map f behind) pushed
+    ∙ append_assoc made (x ∷ []) (map f behind)
+    ∙ ap (λ (y : Placed). made ++ (y ∷ map f behind)) here
+    ∙ ap (λ (l : List Bundle). made ++ map f l) (sym left_is)
+    ∙ so_far
+
+pub mapped-end : (f : Bundle → Placed) (made all : List Placed) (left : List Bundle) → left ≡ [] → made ++ map f left ≡ all → made ≡ all
+mapped-end f made all left none so_far = sym (append-nil made) ∙ ap (λ (l : List Bundle). made ++ map f l) (sym none) ∙ so_far

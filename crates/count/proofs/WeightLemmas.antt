@@ -1,0 +1,144 @@
+-- What the papers of bundles are worth is what the law adds up over all papers.
+use Rattle.std.proofs.Common.{◌≡◌, ℕ, suc, zero, ◌+◌, ◌-◌, ◌*◌, ◌<◌, ◌≤◌, ◌||◌, Bool, true, false, cond, eqb, List, [], ◌∷◌, ◌++◌, length, map, replicate, slice_index, Option, refl, sym, ap, ◌∙◌, arith, subst}
+use Rattle.std.specs.List.{sum_by, AllByRecursion}
+use Rattle.std.proofs.lemmas.List.Sums.{sum_by-append}
+use Rattle.std.proofs.lemmas.List.Folds.{sum_by-replicate}
+use Rattle.votes.specs.Units.{one_vote, max_units}
+use Rattle.paper.specs.Columns.{max_candidates, IsColumn}
+use Rattle.paper.specs.Ranking.{IsRanking}
+use Rattle.count.specs.Advance.{IsDue}
+use Rattle.count.specs.Books.{AreRankings, placed}
+use Rattle.count.specs.Bundles.{Bundle, papers_of, IsBundle}
+use Rattle.count.specs.Law.Contest.{Contest, History, IsContest, newest_votes, numbers}
+use Rattle.count.specs.Law.Count.{begun}
+use Rattle.count.specs.Law.Elected.{transfers, is_transferred}
+use Rattle.count.specs.Law.Figures.{votes_after, non_transferable_after, lost_after, lost_by}
+use Rattle.count.specs.Law.Places.{place}
+use Rattle.count.specs.Law.Right.{IsRightByItself, candidate_of}
+use Rattle.count.specs.Inside.Holdings.{newest_lost}
+use Rattle.count.specs.Inside.Placing.{places_of, IsBundled, value_of, value_to, worth_placed, votes_from, lost_from}
+use Rattle.count.specs.declared.placed.Placed.{Placed}
+use Rattle.count.specs.declared.stages.Action.{Action}
+use Rattle.count.specs.declared.stages.Action.TheVariants.{First, Surplus, Exclude, ExcludeLast}
+use Rattle.count.specs.declared.stages.Stage.{Stage}
+use Rattle.count.proofs.MoveLemmas.{surplus-lawful}
+use Rattle.count.proofs.SumLemmas.{sum_by-none}
+use Rattle.count.proofs.TallyLemmas.{map-numbers, newest_lost-is, newest_small}
+use Rattle.count.proofs.Law.CandidateSums.{one-within}
+use Rattle.count.proofs.Law.QuotaLemmas.{values-conserved, values-conserved-next}
+use Rattle.count.proofs.Law.StepLemmas.{step-first, surplus-held}
+use Rattle.count.proofs.Law.ValueLemmas.{all_values, held, surplus-conserves}
+
+by_itself : History → Stage → Option ℕ
+by_itself before s = candidate_of s.action
+
+-- what is added up over the papers of bundles is one paper's, as often as its bundle has papers
+pub sum-papers : (f : List ℕ → ℕ) (b : Bundle) (bs : List Bundle) → sum_by f (papers_of (b ∷ bs)) ≡ b.1 * f b.0 + sum_by f (papers_of bs)
+sum-papers f b bs = sum_by-append f (replicate b.1 b.0) (papers_of bs) ∙ ap (λ n. n + sum_by f (papers_of bs)) (sum_by-replicate f b.1 b.0)
+
+worth-papers : (f : Placed → ℕ) (at : List ℕ → Placed) (bundles : List Bundle) → worth_placed f (map (λ (b : Bundle). at b.0) bundles) bundles ≡ sum_by (λ p. f (at p)) (papers_of bundles)
+worth-papers f at [] = refl
+worth-papers f at (b ∷ bs) = ap (λ n. b.1 * f (at b.0) + n) (worth-papers f at bs) ∙ sym (sum-papers (λ p. f (at p)) b bs)
+
+-- the same at the places of a contest's papers
+worth-places : (f : Placed → ℕ) (contest : Contest) (stages : History) (bundles : List Bundle) (places : List Placed) → contest.papers ≡ papers_of bundles → places ≡ places_of contest stages bundles →
+    worth_placed f places bundles ≡ sum_by (λ p. f (placed (place contest stages p))) contest.papers
+worth-places f contest stages bundles places papers are =
+    ap (λ (l : List Placed). worth_placed f l bundles) are
+    ∙ worth-papers f (λ p. placed (place contest stages p)) bundles
+    ∙ ap (sum_by (λ p. f (placed (place contest stages p)))) (sym papers)
+
+pub worth-all : (contest : Contest) (stages : History) (bundles : List Bundle) (places : List Placed) → contest.papers ≡ papers_of bundles → places ≡ places_of contest stages bundles →
+    worth_placed value_of places bundles ≡ all_values contest stages
+worth-all contest stages bundles places papers are = worth-places value_of contest stages bundles places papers are
+
+pub worth-held : (h : ℕ) (contest : Contest) (stages : History) (bundles : List Bundle) (places : List Placed) → contest.papers ≡ papers_of bundles → places ≡ places_of contest stages bundles →
+    worth_placed (value_to h) places bundles ≡ held contest stages h
+worth-held h contest stages bundles places papers are = worth-places (value_to h) contest stages bundles places papers are
+
+-- all papers are worth no more than a vote each
+values-few : (contest : Contest) (stages : History) → IsContest contest → IsRightByItself contest stages → all_values contest stages ≤ max_units
+values-few contest [] fair right = omega (arith, sum_by-none (λ p. 0) contest.papers (λ p. refl))
+values-few contest (s ∷ before) fair right = omega (arith, values-conserved contest (λ h t. candidate_of t.action) s before fair right, fair.few_papers)
+
+values-few-next : (contest : Contest) (before : History) (action : Action) → IsContest contest → IsRightByItself contest before → IsDue contest before action → all_values contest (begun action [] ∷ before) ≤ max_units
+values-few-next contest before action fair right due = omega (arith, values-conserved-next contest (λ h t. candidate_of t.action) (begun action []) before fair right due, fair.few_papers)
+
+pub old-few : (contest : Contest) (stages : History) (bundles : List Bundle) (places : List Placed) → IsBundled contest stages bundles places → worth_placed value_of places bundles ≤ max_units
+old-few contest stages bundles places book = omega (arith, worth-all contest stages bundles places book.papers_are book.places_are, values-few contest stages book.fair book.right)
+
+pub new-few : (contest : Contest) (before : History) (action : Action) (bundles : List Bundle) (places moved : List Placed) → IsBundled contest before bundles places → IsDue contest before action →
+    moved ≡ places_of contest (begun action [] ∷ before) bundles → worth_placed value_of moved bundles ≤ max_units
+new-few contest before action bundles places moved book due are =
+    omega (arith, worth-all contest (begun action [] ∷ before) bundles moved book.papers_are are, values-few-next contest before action book.fair book.right due)
+
+-- nor are those of one holder
+pub held-few : (contest : Contest) (before : History) (action : Action) (bundles : List Bundle) (places moved : List Placed) → IsBundled contest before bundles places → IsDue contest before action →
+    moved ≡ places_of contest (begun action [] ∷ before) bundles → (h : ℕ) → worth_placed (value_to h) moved bundles ≤ max_units
+held-few contest before action bundles places moved book due are h =
+    omega (arith, worth-held h contest (begun action [] ∷ before) bundles moved book.papers_are are, one-within contest (begun action [] ∷ before) h, values-few-next contest before action book.fair book.right due)
+
+pub lost-few : (contest : Contest) (stages : History) → IsContest contest → IsRightByItself contest stages → newest_lost stages ≤ max_units
+lost-few contest stages fair right = (newest_small contest (λ h t. candidate_of t.action) stages [] fair right (omega arith)).lost_small
+
+-- the sums of the holders give the votes of all numbers,
+pub votes-figured : (contest : Contest) (before : History) (action : Action) (bundles : List Bundle) (moved : List Placed) (sums : List ℕ) → contest.papers ≡ papers_of bundles → moved ≡ places_of contest (begun action [] ∷ before) bundles →
+    ((h : ℕ) → h ≤ max_candidates → slice_index sums h ≡ worth_placed (value_to h) moved bundles) →
+    map (votes_from contest.quota before action sums) numbers ≡ map (votes_after contest (begun action [] ∷ before)) numbers
+votes-figured contest before action bundles moved sums papers are each =
+    map-numbers (votes_from contest.quota before action sums) (votes_after contest (begun action [] ∷ before)) (λ c column.
+    ap (λ n. cond (transfers action c || is_transferred before c) contest.quota n) (each c column.1 ∙ worth-held c contest (begun action [] ∷ before) bundles moved papers are))
+
+-- and the non-transferable;
+pub none-figured : (contest : Contest) (before : History) (action : Action) (bundles : List Bundle) (moved : List Placed) (sums : List ℕ) → contest.papers ≡ papers_of bundles → moved ≡ places_of contest (begun action [] ∷ before) bundles →
+    ((h : ℕ) → h ≤ max_candidates → slice_index sums h ≡ worth_placed (value_to h) moved bundles) →
+    slice_index sums 0 ≡ non_transferable_after contest (begun action [] ∷ before)
+none-figured contest before action bundles moved sums papers are each = each 0 (omega arith) ∙ worth-held 0 contest (begun action [] ∷ before) bundles moved papers are
+
+-- what all papers were worth and are worth gives what is lost
+lost_at : (contest : Contest) (before : History) (action : Action) → IsContest contest → IsRightByItself contest before → IsDue contest before action →
+    lost_from contest.quota before action (all_values contest before) (all_values contest (begun action [] ∷ before)) ≡ lost_after contest (begun action [] ∷ before)
+lost_at contest before First fair right due = omega (arith, newest_lost-is contest (λ h t. candidate_of t.action) before right)
+lost_at contest [] (Surplus c) fair right due = let e = step-first contest due.lot (Surplus c) due.is in cc
+lost_at contest (s ∷ before) (Surplus c) fair right due =
+    let stages : History = s ∷ before in
+    let next : Stage = begun (Surplus c) [] in
+    let lawful = surplus-lawful contest stages c fair right due in
+    let own = surplus-held contest s before c right.1.tells lawful.column lawful.above in
+    let conserved = surplus-conserves contest next stages c refl (omega (arith, lawful.above)) (omega (arith, lawful.above)) own in
+    let grown : lost_after contest (next ∷ stages) ≡ lost_after contest stages + lost_by contest next stages (Surplus c) = refl in
+    omega (arith, conserved, grown, newest_lost-is contest (λ h t. candidate_of t.action) stages right)
+lost_at contest before (Exclude c) fair right due = omega (arith, newest_lost-is contest (λ h t. candidate_of t.action) before right)
+lost_at contest before (ExcludeLast c) fair right due = omega (arith, newest_lost-is contest (λ h t. candidate_of t.action) before right)
+
+pub lost-figured : (contest : Contest) (before : History) (action : Action) (bundles : List Bundle) (places moved : List Placed) (old new : ℕ) → IsBundled contest before bundles places → IsDue contest before action →
+    moved ≡ places_of contest (begun action [] ∷ before) bundles → old ≡ worth_placed value_of places bundles → new ≡ worth_placed value_of moved bundles →
+    lost_from contest.quota before action old new ≡ lost_after contest (begun action [] ∷ before)
+lost-figured contest before action bundles places moved old new book due are old_is new_is =
+    ap (λ n. lost_from contest.quota before action n new) (old_is ∙ worth-all contest before bundles places book.papers_are book.places_are)
+    ∙ ap (lost_from contest.quota before action (all_values contest before)) (new_is ∙ worth-all contest (begun action [] ∷ before) bundles moved book.papers_are are)
+    ∙ lost_at contest before action book.fair book.right due
+
+-- where no bundle is left, nothing is worth anything
+pub worth-none : (f : Placed → ℕ) (places : List Placed) → worth_placed f places [] ≡ 0
+worth-none f [] = refl
+worth-none f (at ∷ places) = refl
+
+-- one bundle more, and what is left
+pub worth-step : (f : Placed → ℕ) (rest others : List Placed) (left behind : List Bundle) (at : Placed) (b : Bundle) → rest ≡ at ∷ others → left ≡ b ∷ behind →
+    worth_placed f rest left ≡ b.1 * f at + worth_placed f others behind
+worth-step f rest others left behind at b rest_is left_is =
+    ap (λ (l : List Placed). worth_placed f l left) rest_is ∙ ap (worth_placed f (at ∷ others)) left_is
+
+-- where no place is left, or no bundle is, nothing is worth anything
+pub worth-stop : (f : Placed → ℕ) (rest : List Placed) (left : List Bundle) → rest ≡ [] → worth_placed f rest left ≡ 0
+worth-stop f rest left none = ap (λ (l : List Placed). worth_placed f l left) none
+
+pub worth-end : (f : Placed → ℕ) (rest : List Placed) (left : List Bundle) → left ≡ [] → worth_placed f rest left ≡ 0
+worth-end f rest left none = ap (worth_placed f rest) none ∙ worth-none f rest
+
+-- at first every sum is nothing
+pub no-sums : (n h : ℕ) → slice_index (replicate n 0) h ≡ 0
+no-sums zero h = refl
+no-sums (suc n) zero = refl
+no-sums (suc n) (suc h) = no-sums n h

@@ -1,0 +1,7 @@
+-- Of the proof of `dealt_places`: what holds at each round of its loop.
+use Rattle.std.proofs.Common.{◌≡◌, ◌++◌}
+use Rattle.count.specs.Inside.Placing.{first_places}
+use Rattle.count.proofs.places.dealt_places.Given as goal
+
+abbrev pub invariant-loop-prefs : goal.invariant-loop-prefs
+invariant-loop-prefs l = l.dealt.items ++ first_places l.prefs-iterator ≡ first_places l.bundles

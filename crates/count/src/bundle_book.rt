@@ -1,0 +1,163 @@
+//! A count by bundles.
+
+ghost use Rattle.std.specs.Prelude.{◌≡◌, ◌<◌, [], map, reverse, length, slice_index_or, IfOk};
+ghost use Rattle.count.specs.Books.{placed};
+ghost use Rattle.count.specs.Bundles.{papers_of, AreBundles};
+ghost use Rattle.count.specs.Inside.Placing.{contest_on};
+ghost use Rattle.count.specs.Law.Contest.{contest_for, IsContest};
+ghost use Rattle.count.specs.Law.Places.{place as place_of};
+ghost use Rattle.count.specs.Law.Right.{IsRightForSome};
+
+use crate::book::{AdvanceError, CountBook};
+use crate::bundle_act::act_on_bundles;
+use crate::bundles::Bundles;
+use crate::due::{action_by, due, elected_with};
+use crate::placed::Placed;
+use crate::places::no_places;
+use crate::stages::{Action, Due, Stage};
+use crate::terms::Terms;
+use paper::Columns;
+use std::alloc::{AllocError, Global};
+use std::marker::Model;
+use votes::quota;
+
+/// A count whose equal papers lie together: with one holder, at one value, since the rules read no more of
+/// a paper than its preferences. So a stage costs what the bundles are, not what the papers are.
+#[derive(Drop)]
+pub struct BundleBook<'a> {
+    alloc: Global,
+    terms: Terms,
+    bundles: &'a Bundles,
+    places: Vec<Placed>,
+    stages: Vec<Stage>,
+}
+
+impl<'a> Model for BundleBook<'a> {
+    ghost use Rattle.std.specs.Prelude.{reverse};
+    ghost use Rattle.count.specs.Books.{BundledBook};
+    ghost use Rattle.count.specs.Inside.Placing.{contest_on, IsBundled};
+
+    ghost Value = { BundledBook };
+
+    ghost view = { λ a. record { contest = contest_on a.terms a.bundles.now; history = reverse a.stages.items; bundles = a.bundles.now } };
+
+    ghost invariant = { λ a. IsBundled (contest_on a.terms a.bundles.now) (reverse a.stages.items) a.bundles.now a.places.items };
+}
+
+/// The terms of a contest with the papers of bundles.
+fn terms_on(candidates: Columns, seats: u8, bundles: &Bundles) -> Terms
+    requires { IsContest (contest_for candidates seats (papers_of bundles.now)) }
+    ensures is { contest_on result bundles.now ≡ contest_for candidates seats (papers_of bundles.now) }
+    ensures bundles { AreBundles bundles.now }
+{
+    let _ = bundles.len();
+    Terms {
+        candidates,
+        seats,
+        quota: quota(bundles.papers(), seats),
+    }
+}
+
+impl<'a> BundleBook<'a> {
+    /// A count with no stage yet.
+    ///
+    /// There are to be more candidates than seats, 1 to `MAX_SEATS` seats, and preferences for candidates
+    /// only.
+    pub fn new(
+        alloc: Global,
+        candidates: Columns,
+        seats: u8,
+        bundles: &'a Bundles,
+    ) -> Result<Self, AllocError>
+        requires { IsContest (contest_for candidates seats (papers_of bundles.now)) }
+        ensures { IfOk result (λ book. book ≡ record { contest = contest_for candidates seats (papers_of bundles.now); history = []; bundles = bundles.now }) }
+    {
+        let places = no_places(alloc, bundles)?;
+        Ok(BundleBook {
+            alloc,
+            terms: terms_on(candidates, seats, bundles),
+            bundles,
+            places,
+            stages: Vec::new(alloc),
+        })
+    }
+
+    /// A count that goes on from where another stood: with its stages, and its bundles at the places that
+    /// they had after them.
+    ///
+    /// What `new` asks of candidates, seats and preferences is asked here too; the stages have to be right for
+    /// these papers and some lots, and the places those of the bundles after these stages, in their order.
+    pub fn resume(
+        alloc: Global,
+        candidates: Columns,
+        seats: u8,
+        bundles: &'a Bundles,
+        places: &[Placed],
+        stages: &[Stage],
+    ) -> Result<Self, AllocError>
+        requires contest { IsContest (contest_for candidates seats (papers_of bundles.now)) }
+        requires right { IsRightForSome (contest_for candidates seats (papers_of bundles.now)) (reverse stages.now) }
+        requires places { places.now ≡ map (λ b. placed (place_of (contest_for candidates seats (papers_of bundles.now)) (reverse stages.now) b.0)) bundles.now }
+        ensures { IfOk result (λ book. book ≡ record { contest = contest_for candidates seats (papers_of bundles.now); history = reverse stages.now; bundles = bundles.now }) }
+    {
+        let places = Vec::from_slice(alloc, places)?;
+        let stages = Vec::from_slice(alloc, stages)?;
+        let terms = terms_on(candidates, seats, bundles);
+        Ok(BundleBook {
+            alloc,
+            terms,
+            bundles,
+            places,
+            stages,
+        })
+    }
+
+    /// Where the papers of a bundle lie after the stages so far.
+    pub fn place(&self, i: usize) -> Placed
+        requires { i < length self.now.bundles }
+        ensures { result ≡ placed (place_of self.now.contest self.now.history (slice_index_or self.now.bundles i ([], 0)).0) }
+    {
+        self.places[i]
+    }
+}
+
+impl<'a> CountBook for BundleBook<'a> {
+    ghost contest = { λ b. b.contest };
+
+    ghost history = { λ b. b.history };
+
+    #[tactic(auto, using(crate::proofs::BundleBookLemmas::book_laws))]
+    fn stages(&self) -> &[Stage] {
+        &self.stages
+    }
+
+    #[tactic(auto, using(crate::proofs::BundleBookLemmas::book_facts))]
+    fn due(&self) -> Due {
+        due(&self.terms, &self.stages)
+    }
+
+    fn elected(&self) -> Columns {
+        elected_with(&self.terms, &self.stages)
+    }
+
+    #[tactic(auto, using(crate::proofs::BundleBookLemmas::book_facts))]
+    fn action_by(&self, lot: Option<u8>) -> Result<Action, AdvanceError> {
+        action_by(&self.terms, &self.stages, lot)
+    }
+
+    #[tactic(auto, using(crate::proofs::BundleBookLemmas::book_facts))]
+    fn advance(&mut self, lot: Option<u8>) -> Result<(), AdvanceError> {
+        let action = action_by(&self.terms, &self.stages, lot)?;
+        match act_on_bundles(
+            self.alloc,
+            &self.terms,
+            self.bundles,
+            &mut self.places,
+            &mut self.stages,
+            &action,
+        ) {
+            Ok(()) => Ok(()),
+            Err(_) => Err(AdvanceError::Memory),
+        }
+    }
+}

@@ -1,0 +1,149 @@
+//! Where bundles of equal papers go at a stage: each to its new place, in a vector of its own.
+
+ghost use Rattle.std.specs.Prelude.{◌≡◌, ℕ, ◌≤◌, ◌==◌, [], ◌∷◌, not, map, reverse, length, IfOk};
+ghost use Rattle.std.specs.List.{prefix_len, AllByRecursion};
+ghost use Rattle.votes.specs.Units.{one_vote};
+ghost use Rattle.paper.specs.Standing.{is_continuing, from_first};
+ghost use Rattle.count.specs.Law.Count.{begun};
+ghost use Rattle.count.specs.Advance.{IsDue};
+ghost use Rattle.count.specs.Inside.Holdings.{IsTransferRule};
+ghost use Rattle.count.specs.Inside.Placing.{contest_on, places_of, IsBundled, IsSound, nowhere, first_places, passed_at, passed_places as passed_places_of};
+
+use crate::bundles::Bundles;
+use crate::elected::{newest_votes, standing};
+use crate::moving::surplus_rule;
+use crate::parcel::TransferRule;
+use crate::placed::Placed;
+use crate::sorting::{first_preference, value_by};
+use crate::stages::{Action, Stage};
+use crate::terms::Terms;
+use paper::{Prefs, Standing, available_from};
+use std::alloc::{AllocError, Global};
+use votes::{ONE_VOTE, Votes};
+
+/// The places of all bundles before the first stage: with no one, at no value.
+pub fn no_places(alloc: Global, bundles: &Bundles) -> Result<Vec<Placed>, AllocError>
+    ensures { IfOk result (λ none. none.items ≡ map (λ b. nowhere) bundles.now) }
+{
+    let mut none = Vec::with_capacity(alloc, bundles.len())?;
+    for _ in bundles.iter() {
+        none.push(Placed {
+            holder: 0,
+            value: Votes::from_units(0),
+        })?;
+    }
+    Ok(none)
+}
+
+/// How many preferences stand before the one for a candidate.
+fn count_before(preferences: &[u8], c: u8) -> usize
+    ensures is { result ≡ prefix_len (λ d. not (d == c)) preferences.now }
+    ensures within { result ≤ length preferences.now }
+{
+    preferences.iter().take_while(|d| **d != c).count()
+}
+
+/// The preferences from the one for a candidate on; none where there is no such.
+fn from_holder<'a>(preferences: &'a [u8], c: u8) -> &'a [u8]
+    ensures { result.now ≡ from_first (λ d. d == c) preferences.now }
+{
+    &preferences[count_before(preferences, c)..]
+}
+
+/// Where equal papers go from a candidate, if he holds them: to their next available preference, at the
+/// value that a rule makes of the value of one of them. Others stay.
+fn passed_place(
+    list: &Prefs,
+    at: &Placed,
+    c: u8,
+    standing: &Standing,
+    rule: &TransferRule,
+) -> Placed
+    requires rule { IsTransferRule rule.now }
+    requires small { at.now.value ≤ one_vote }
+    ensures { result ≡ passed_at (is_continuing standing.now) rule.now c list.now at.now }
+{
+    if at.holder != c {
+        return *at;
+    }
+    let rest = available_from(from_holder(list.as_slice(), c), 1, standing);
+    Placed {
+        holder: first_preference(rest),
+        value: value_by(rule, at.value),
+    }
+}
+
+/// The places of all bundles, once a candidate's papers are passed on.
+fn passed_places(
+    alloc: Global,
+    bundles: &Bundles,
+    places: &[Placed],
+    c: u8,
+    standing: &Standing,
+    rule: &TransferRule,
+) -> Result<Vec<Placed>, AllocError>
+    requires rule { IsTransferRule rule.now }
+    requires sound { AllByRecursion IsSound places.now }
+    ensures { IfOk result (λ passed. passed.items ≡ passed_places_of (is_continuing standing.now) rule.now c places.now bundles.now) }
+{
+    let mut passed = Vec::with_capacity(alloc, places.len())?;
+    let mut rest = places;
+    for (list, _) in bundles.iter() {
+        if let Some((at, others)) = rest.split_first() {
+            passed.push(passed_place(list, at, c, standing, rule))?;
+            rest = others;
+        }
+    }
+    Ok(passed)
+}
+
+/// The places of all bundles by their first preferences, each paper as one vote.
+fn dealt_places(alloc: Global, bundles: &Bundles) -> Result<Vec<Placed>, AllocError>
+    ensures { IfOk result (λ dealt. dealt.items ≡ first_places bundles.now) }
+{
+    let mut dealt = Vec::with_capacity(alloc, bundles.len())?;
+    for (prefs, _) in bundles.iter() {
+        dealt.push(Placed {
+            holder: first_preference(prefs.as_slice()),
+            value: Votes::from_units(ONE_VOTE),
+        })?;
+    }
+    Ok(dealt)
+}
+
+/// The places of all bundles after a due action; the old ones stay as they are.
+pub fn moved_places(
+    alloc: Global,
+    terms: &Terms,
+    bundles: &Bundles,
+    places: &[Placed],
+    stages: &[Stage],
+    action: &Action,
+) -> Result<Vec<Placed>, AllocError>
+    requires book { IsBundled (contest_on terms.now bundles.now) (reverse stages.now) bundles.now places.now }
+    requires due { IsDue (contest_on terms.now bundles.now) (reverse stages.now) action.now }
+    ensures { IfOk result (λ moved. moved.items ≡ places_of (contest_on terms.now bundles.now) (begun action.now [] ∷ reverse stages.now) bundles.now) }
+{
+    match action {
+        Action::First => {
+            let moved = dealt_places(alloc, bundles)?;
+            Ok(moved)
+        }
+        Action::Surplus(c) => {
+            let standing = standing(terms, stages);
+            let rule = surplus_rule(terms.quota, newest_votes(stages, *c));
+            let moved = passed_places(alloc, bundles, places, *c, &standing, &rule)?;
+            Ok(moved)
+        }
+        Action::Exclude(c) => {
+            let standing = standing(terms, stages);
+            let rule = TransferRule::AsReceived;
+            let moved = passed_places(alloc, bundles, places, *c, &standing, &rule)?;
+            Ok(moved)
+        }
+        Action::ExcludeLast(_) => {
+            let moved = Vec::from_slice(alloc, places)?;
+            Ok(moved)
+        }
+    }
+}

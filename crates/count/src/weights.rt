@@ -1,0 +1,143 @@
+//! What the papers of bundles are worth, and what a stage records of them.
+
+ghost use Rattle.std.specs.Prelude.{◌≡◌, ℕ, ◌+◌, ◌*◌, ◌≤◌, [], ◌∷◌, map, reverse, length, slice_index};
+ghost use Rattle.std.specs.List.{AllByRecursion};
+ghost use Rattle.votes.specs.Units.{max_units};
+ghost use Rattle.paper.specs.Columns.{max_candidates};
+ghost use Rattle.count.specs.Advance.{IsDue};
+ghost use Rattle.count.specs.Law.Contest.{numbers};
+ghost use Rattle.count.specs.Law.Count.{begun};
+ghost use Rattle.count.specs.Inside.Holdings.{holder_count, newest_lost as newest_lost_of};
+ghost use Rattle.count.specs.Inside.Placing.{contest_on, places_of, IsBundled, IsSound, IsFigured, value_of, value_to, worth_placed, votes_from as votes_from_of, lost_from as lost_from_of};
+
+use crate::bundles::Bundles;
+use crate::elected::is_transferred_with;
+use crate::placed::Placed;
+use crate::sorting::HOLDERS;
+use crate::stages::{Action, Stage};
+use crate::tally::newest_lost;
+use crate::terms::Terms;
+use paper::{Columns, MAX_CANDIDATES};
+use votes::Votes;
+
+/// What all papers are worth, in units.
+fn worth(bundles: &Bundles, places: &[Placed]) -> u64
+    requires { worth_placed value_of places.now bundles.now ≤ max_units }
+    ensures { result ≡ worth_placed value_of places.now bundles.now }
+{
+    let mut sum = 0u64;
+    let mut rest = places;
+    for (_, papers) in bundles.iter() {
+        if let Some((at, others)) = rest.split_first() {
+            sum += u64::from(*papers) * at.value.units();
+            rest = others;
+        }
+    }
+    sum
+}
+
+/// Adds what some papers of one place are worth to what their holder's are worth.
+fn add_worth(sums: &mut [u64; HOLDERS], at: &Placed, papers: u32)
+    requires holder { at.now.holder ≤ max_candidates }
+    requires fits { slice_index sums.old at.now.holder + papers * at.now.value ≤ max_units }
+    ensures size { length sums.new ≡ holder_count }
+    ensures each { (h : ℕ) → h ≤ max_candidates → slice_index sums.new h ≡ slice_index sums.old h + papers * value_to h at.now }
+{
+    sums[usize::from(at.holder)] += u64::from(papers) * at.value.units();
+}
+
+/// What the papers of each holder are worth, in units: of no one, and of each number.
+fn sums(bundles: &Bundles, places: &[Placed]) -> [u64; HOLDERS]
+    requires sound { AllByRecursion IsSound places.now }
+    requires small { (h : ℕ) → worth_placed (value_to h) places.now bundles.now ≤ max_units }
+    ensures size { length result ≡ holder_count }
+    ensures each { (h : ℕ) → h ≤ max_candidates → slice_index result h ≡ worth_placed (value_to h) places.now bundles.now }
+{
+    let mut sums = [0u64; HOLDERS];
+    let mut rest = places;
+    for (_, papers) in bundles.iter() {
+        if let Some((at, others)) = rest.split_first() {
+            add_worth(&mut sums, at, *papers);
+            rest = others;
+        }
+    }
+    sums
+}
+
+/// The votes of a candidate by what each holder's papers are worth: just the quota once the surplus has gone.
+fn votes_from(
+    quota: Votes,
+    stages: &[Stage],
+    action: &Action,
+    sums: &[u64; HOLDERS],
+    c: u8,
+) -> Votes
+    requires few { c ≤ max_candidates }
+    ensures { result ≡ votes_from_of quota (reverse stages.now) action.now sums.now c }
+{
+    if is_transferred_with(stages, action, c) {
+        return quota;
+    }
+    Votes::from_units(sums[usize::from(c)])
+}
+
+/// The votes of all numbers by what each holder's papers are worth.
+fn all_votes_from(
+    quota: Votes,
+    stages: &[Stage],
+    action: &Action,
+    sums: &[u64; HOLDERS],
+) -> [Votes; MAX_CANDIDATES]
+    ensures { result ≡ map (votes_from_of quota (reverse stages.now) action.now sums.now) numbers }
+{
+    let mut votes = [Votes::from_units(0); MAX_CANDIDATES];
+    for i in 0..MAX_CANDIDATES {
+        votes[i] = votes_from(quota, stages, action, sums, i as u8 + 1);
+    }
+    votes
+}
+
+/// What is lost by fractions after an action, where all papers were worth `old` and are worth `new` now: a
+/// surplus leaves the quota.
+fn lost_from(quota: Votes, stages: &[Stage], action: &Action, old: u64, new: u64) -> Votes
+    requires lost { newest_lost_of (reverse stages.now) ≤ max_units }
+    requires old { old ≤ max_units }
+    ensures { result ≡ lost_from_of quota (reverse stages.now) action.now old new }
+{
+    let before = newest_lost(stages);
+    match action {
+        Action::First => Votes::from_units(before),
+        Action::Surplus(_) => {
+            Votes::from_units(before + old.saturating_sub(new).saturating_sub(quota.units()))
+        }
+        Action::Exclude(_) => Votes::from_units(before),
+        Action::ExcludeLast(_) => Votes::from_units(before),
+    }
+}
+
+/// The stage of an action that brought bundles to new places, with its figures, and nobody newly elected
+/// yet.
+pub fn figured(
+    terms: &Terms,
+    bundles: &Bundles,
+    stages: &[Stage],
+    action: &Action,
+    places: &[Placed],
+    moved: &[Placed],
+) -> Stage
+    requires book { IsBundled (contest_on terms.now bundles.now) (reverse stages.now) bundles.now places.now }
+    requires due { IsDue (contest_on terms.now bundles.now) (reverse stages.now) action.now }
+    requires moved { moved.now ≡ places_of (contest_on terms.now bundles.now) (begun action.now [] ∷ reverse stages.now) bundles.now }
+    ensures { IsFigured (contest_on terms.now bundles.now) (reverse stages.now) action.now result }
+{
+    let old = worth(bundles, places);
+    let new = worth(bundles, moved);
+    let sums = sums(bundles, moved);
+    Stage {
+        action: *action,
+        votes: all_votes_from(terms.quota, stages, action, &sums),
+        elected: Columns::empty(),
+        non_transferable: Votes::from_units(sums[0]),
+        lost: lost_from(terms.quota, stages, action, old, new),
+    }
+}
