@@ -62,7 +62,7 @@ impl<'a> BundleBook<'a> {
     /// A count with no stage yet.
     ///
     /// There are to be more candidates than seats, 1 to `MAX_SEATS` seats, and preferences for candidates
-    /// only.
+    /// only: `is_bundled_contest` is the test.
     pub fn new(
         alloc: Global,
         candidates: Columns,
@@ -118,6 +118,13 @@ impl<'a> BundleBook<'a> {
         ensures { result ≡ placed (place_of self.now.contest self.now.history (slice_index_or self.now.bundles i ([], 0)).0) }
     {
         self.places[i]
+    }
+
+    /// Where the papers of each bundle lie, in the order of the bundles.
+    pub fn places(&self) -> &[Placed]
+        ensures { result.now ≡ map (λ b. placed (place_of self.now.contest self.now.history b.0)) self.now.bundles }
+    {
+        &self.places
     }
 }
 
