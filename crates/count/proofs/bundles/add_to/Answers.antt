@@ -1,7 +1,7 @@
 -- Of the proof of `add_to`: the number that is there fits, and with the new papers it is what `with_papers` says.
-use Rattle.std.proofs.Common.{◌≡◌, ◌+◌, ◌≤◌, length, ap, ◌∙◌, arith, rules}
+use Rattle.std.proofs.Common.{◌≡◌, ◌+◌, ap, ◌∙◌, arith, rules}
 use Rattle.std.specs.BTreeMap.{insert_entry}
-use Rattle.count.specs.Bundles.{list_cmp, papers_of, with_papers}
+use Rattle.count.specs.Bundles.{list_cmp, with_papers}
 use Rattle.count.proofs.BundleLemmas.{number_of, number-le-papers, inserted-with_papers}
 use Rattle.count.proofs.bundles.add_to.Goals as goal
 
