@@ -12,6 +12,7 @@ pub mod FirstLemmas
 pub mod TransferLemmas
 pub mod ParcelTotals
 pub mod MoveLemmas
+pub mod OrderLemmas
 pub mod RecordLemmas
 pub mod RestLemmas
 pub mod SumLemmas

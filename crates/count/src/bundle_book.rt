@@ -1,8 +1,10 @@
 //! A count by bundles.
 
-ghost use Rattle.std.specs.Prelude.{◌≡◌, ◌<◌, [], map, reverse, length, slice_index_or, IfOk};
+ghost use Rattle.std.specs.Prelude.{◌≡◌, ◌<◌, ℕ, List, [], map, reverse, length, slice_index_or, IfOk};
 ghost use Rattle.count.specs.Books.{placed};
-ghost use Rattle.count.specs.Bundles.{papers_of, AreBundles};
+ghost use Rattle.std.specs.List.Sorted.{IsPermutation};
+ghost use Rattle.count.specs.Bundles.{papers_of, bundled, AreBundles};
+ghost use Rattle.count.specs.Law.Count.{stages_to};
 ghost use Rattle.count.specs.Inside.Placing.{contest_on};
 ghost use Rattle.count.specs.Law.Contest.{contest_for, IsContest};
 ghost use Rattle.count.specs.Law.Places.{place as place_of};
@@ -43,6 +45,17 @@ impl<'a> Model for BundleBook<'a> {
 
     ghost invariant = { λ a. IsBundled (contest_on a.terms a.bundles.now) (reverse a.stages.items) a.bundles.now a.places.items };
 }
+
+/// The law of a count by bundles, for its callers. The bundles of some papers stand for just these papers,
+/// in another order; where a count may be held on the papers, it may be held on those of the bundles; and its
+/// stages are the same, by whatever lots.
+#[tactic(auto, using(crate::proofs::OrderLemmas::bundled_alike))]
+pub fn bundles_count_alike()
+    ensures papers { (papers : List (List ℕ)) → IsPermutation papers (papers_of (bundled papers)) }
+    ensures contest { (candidates : List ℕ) (seats : ℕ) (papers : List (List ℕ)) → IsContest (contest_for candidates seats papers) → IsContest (contest_for candidates seats (papers_of (bundled papers))) }
+    ensures stages { (candidates : List ℕ) (seats : ℕ) (papers : List (List ℕ)) (lots : List (ℕ × ℕ)) (k : ℕ)
+        → stages_to (contest_for candidates seats (papers_of (bundled papers))) lots k ≡ stages_to (contest_for candidates seats papers) lots k }
+{}
 
 /// The terms of a contest with the papers of bundles.
 fn terms_on(candidates: Columns, seats: u8, bundles: &Bundles) -> Terms

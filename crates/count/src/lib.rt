@@ -47,7 +47,7 @@ mod places;
 mod weights;
 
 pub use book::{AdvanceError, CountBook};
-pub use bundle_book::BundleBook;
+pub use bundle_book::{BundleBook, bundles_count_alike};
 pub use bundles::Bundles;
 pub use contest::{is_bundled_contest, is_contest};
 pub use parcel_book::ParcelBook;
