@@ -17,6 +17,7 @@ mod ColumnLemmas
 mod PaperLemmas
 mod PollLemmas
 pub mod ContestLemmas
+pub mod BundledLemmas
 mod TellLemmas
 mod CountLemmas
 mod TotalLemmas

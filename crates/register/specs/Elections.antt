@@ -1,5 +1,5 @@
 -- The election in a ward, and its count: what rests on the ward, its candidates, its papers and its lots, and on nothing else.
-use Rattle.std.specs.Prelude.{ℕ, ◌+◌, ◌-◌, Bool, true, false, not, ◌&&◌, ◌||◌, ◌==◌, nat_le, nat_eq, if◌then◌else◌, List, map, length, Option, Some, None}
+use Rattle.std.specs.Prelude.{◌≡◌, ℕ, ◌+◌, ◌-◌, Bool, true, false, not, ◌&&◌, ◌||◌, ◌==◌, nat_le, nat_eq, if◌then◌else◌, List, map, length, Option, Some, None}
 use Rattle.std.specs.List.{list_all, list_any}
 use Rattle.count.specs.Law.Contest.{Contest, History, contest_for}
 use Rattle.count.specs.Law.Elected.{elected_after}
@@ -14,7 +14,7 @@ use Rattle.register.specs.Phases.{phase_number}
 use Rattle.register.specs.Offices.{WardEntry, CandidateEntry, LotEntry, OfficeState, candidates_of, lots_of, ward_entry, candidate_entry}
 use Rattle.register.specs.Nominations.{is_contested}
 use Rattle.register.specs.Marks.{columns_of}
-use Rattle.register.specs.Polls.{BallotsEntry, piles_of, ballots_in, ballots_entry}
+use Rattle.register.specs.Polls.{BallotsEntry, StandFor, are_bundled, piles_of, ballots_in}
 
 -- a ward, its candidates, its papers as far as its batches are taken, and the lots that are recorded: a stage and a candidate each
 pub record ElectionEntry : Type 0 where
@@ -33,9 +33,12 @@ election_of s w =
     let candidates = candidates_of s w.number in
     record { ward = w; candidates = candidates; ballots = ballots_in (columns_of candidates) (piles_of s w.number); lots = map lot_pair (lots_of s w.number) }
 
--- what an election stands for
-abbrev pub election_entry : Election → ElectionEntry
-election_entry e = record { ward = ward_entry e.ward; candidates = map candidate_entry e.candidates.items; ballots = ballots_entry e.ballots; lots = e.lots.items }
+-- an election, whose papers are kept in bundles, stands for this one
+pub record IsElection (e : Election) (entry : ElectionEntry) : Type 0 where
+  pub ward_is : ward_entry e.ward ≡ entry.ward
+  pub candidates_are : map candidate_entry e.candidates.items ≡ entry.candidates
+  pub ballots_are : StandFor are_bundled e.ballots entry.ballots
+  pub lots_are : e.lots.items ≡ entry.lots
 
 -- ---- the count
 
@@ -58,6 +61,13 @@ due_of e = if has_count e then due_by (contest_of e) e.lots (stages_of e) else F
 -- who is elected after the stages done; in an uncontested ward all candidates
 abbrev pub elected_of : ElectionEntry → List ℕ
 elected_of e = if has_count e then elected_after (contest_of e) (stages_of e) else columns_of e.candidates
+
+-- a book has counted the stages done, on the papers in another order, which makes no difference to what is read of it
+pub record IsCounted (e : ElectionEntry) (contest : Contest) (stages : History) : Type 0 where
+  pub stages_are : stages ≡ stages_of e
+  pub due_is : due_after contest stages ≡ due_after (contest_of e) (stages_of e)
+  pub drawn_is : due_by contest e.lots stages ≡ due_by (contest_of e) e.lots (stages_of e)
+  pub elected_are : elected_after contest stages ≡ elected_after (contest_of e) (stages_of e)
 
 -- ---- which counts a state may have
 

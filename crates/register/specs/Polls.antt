@@ -1,7 +1,8 @@
 -- The ballot papers of a ward: which are valid, and why the others are rejected.
-use Rattle.std.specs.Prelude.{ℕ, ◌+◌, Bool, false, ◌&&◌, ◌==◌, if◌then◌else◌, List, [], ◌∷◌, map, length, slice_index, find, Option, Some, None, Result, Ok, Err}
+use Rattle.std.specs.Prelude.{◌≡◌, ℕ, ◌+◌, Bool, false, ◌&&◌, ◌==◌, if◌then◌else◌, List, [], ◌∷◌, map, length, slice_index, find, Option, Some, None, Result, Ok, Err}
 use Rattle.std.specs.List.{filter, flat_map, list_all}
 use Rattle.votes.specs.Units.{quota_of}
+use Rattle.count.specs.Bundles.{Bundle, bundled}
 use Rattle.paper.specs.declared.marks.MarkFault.{MarkFault}
 use Rattle.paper.specs.declared.marked.Keyed.{Keyed}
 use Rattle.paper.specs.declared.marked.Keyed.TheVariants.{Doubtful, Marked}
@@ -124,9 +125,15 @@ poll_of seats ballots = record { valid = length ballots.papers; rejected = ballo
 abbrev pub all_rejected : List ℕ → ℕ
 all_rejected rejected = slice_index rejected 0 + (slice_index rejected 1 + (slice_index rejected 2 + (slice_index rejected 3 + slice_index rejected 4)))
 
--- what ballots stand for
-abbrev pub ballots_entry : Ballots → BallotsEntry
-ballots_entry ballots = record { papers = ballots.papers.items; rejected = ballots.rejected; settled = ballots.settled }
+-- bundles hold these papers, which came one after the other
+abbrev pub are_bundled : List Bundle → List (List ℕ) → Type 0
+are_bundled bundles papers = bundles ≡ bundled papers
+
+-- ballots stand for these: their papers are held, as something holds papers, and the rest is the same
+pub record StandFor {P : Type 0} (holds : P → List (List ℕ) → Type 0) (ballots : Ballots P) (entry : BallotsEntry) : Type 0 where
+  pub papers_held : holds ballots.papers entry.papers
+  pub rejected_are : ballots.rejected ≡ entry.rejected
+  pub settled_is : ballots.settled ≡ entry.settled
 
 -- what a poll stands for
 abbrev pub poll_entry : Poll → PollEntry

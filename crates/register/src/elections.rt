@@ -3,12 +3,13 @@
 ghost use Rattle.std.specs.Prelude.{◌≡◌, ◌+◌, ◌≤◌, true, length, map, sum_by, [], Some, IfOk, IfSome, IsSome};
 ghost use Rattle.std.specs.List.{list_all};
 ghost use Rattle.votes.specs.Units.{max_seats, max_papers};
+ghost use Rattle.count.specs.Bundles.{papers_of};
 ghost use Rattle.count.specs.Law.Contest.{contest_for, IsContest};
 ghost use Rattle.register.specs.Papers.{batches_of};
-ghost use Rattle.register.specs.Polls.{all_rejected, poll_of, poll_entry, ballots_entry};
+ghost use Rattle.register.specs.Polls.{all_rejected, poll_of, poll_entry};
 ghost use Rattle.register.specs.Offices.{WardEntry, OfficeState, MapsRise, lot_entry, ward_at, candidates_of};
 ghost use Rattle.register.specs.Nominations.{is_contested};
-ghost use Rattle.register.specs.Elections.{lot_pair, election_entry, election_of, has_count, contest_of, stages_of, due_of, elected_of};
+ghost use Rattle.register.specs.Elections.{ElectionEntry, IsElection, IsCounted, lot_pair, election_of, has_count, contest_of, due_of, elected_of};
 ghost use Rattle.register.specs.Items.{item1, item4, is_lot, IsState};
 
 use crate::candidates::Candidate;
@@ -17,10 +18,12 @@ use crate::marks::columns_of;
 use crate::polls::{Ballots, Poll};
 use crate::ranges::{is_candidate_number, is_lot_stage};
 use crate::wards::{Ward, is_contested};
-use count::{CountBook, Due, ParcelBook, count_to, due_by, is_contest};
-use paper::{Columns, Prefs};
+use count::{
+    BundleBook, Bundles, CountBook, Due, bundles_count_alike, count_to, due_by, is_bundled_contest,
+};
+use paper::Columns;
 use std::alloc::{AllocError, Global};
-use votes::{MAX_PAPERS, MAX_SEATS, quota};
+use votes::{MAX_SEATS, quota};
 
 /// The election in a ward: its candidates in the order of their numbers, its ballot papers as far as its
 /// batches are taken, and the lots that are recorded, each the stage (counted from 1) and the candidate
@@ -29,7 +32,7 @@ use votes::{MAX_PAPERS, MAX_SEATS, quota};
 pub struct Election {
     pub ward: Ward,
     pub candidates: Vec<Candidate>,
-    pub ballots: Ballots,
+    pub ballots: Ballots<Bundles>,
     pub lots: Vec<(u8, u8)>,
 }
 
@@ -82,43 +85,39 @@ pub fn lot_pairs(alloc: Global, lots: &[DrawnLot]) -> Result<Option<Vec<(u8, u8)
     Ok(Some(pairs))
 }
 
-/// A new book of some papers, where a count can be held on them, as it can in each contested ward of an
+/// A new book of some bundles, where a count can be held on them, as it can in each contested ward of an
 /// office. An error is want of memory.
 pub fn book_of<'a>(
     alloc: Global,
     columns: Columns,
     seats: u32,
-    papers: &'a [Prefs],
-) -> Result<Option<ParcelBook<'a>>, AllocError>
-    ensures is { IfOk result (λ found. IfSome found (λ book. book ≡ record { contest = contest_for columns seats papers.now; history = [] })) }
-    ensures some { IfOk result (λ found. IsContest (contest_for columns seats papers.now) → IsSome found) }
+    bundles: &'a Bundles,
+) -> Result<Option<BundleBook<'a>>, AllocError>
+    ensures is { IfOk result (λ found. IfSome found (λ book. book ≡ record { contest = contest_for columns seats (papers_of bundles.now); history = []; bundles = bundles.now })) }
+    ensures some { IfOk result (λ found. IsContest (contest_for columns seats (papers_of bundles.now)) → IsSome found) }
 {
     if seats > u32::from(MAX_SEATS) {
         return Ok(None);
     }
     let seats = seats as u8;
-    if !is_contest(&columns, seats, papers) {
+    if !is_bundled_contest(&columns, seats, bundles) {
         return Ok(None);
     }
-    let book = ParcelBook::new(alloc, columns, seats, papers)?;
+    let book = BundleBook::new(alloc, columns, seats, bundles)?;
     Ok(Some(book))
 }
 
 impl Election {
-    /// The poll of the ward; none where it has no seats, or more than a ward can have, or too many papers,
-    /// as no ward of an office has. Takes no memory.
+    /// The poll of the ward; none where it has no seats, or more than a ward can have, as no ward of an
+    /// office has. Takes no memory.
     pub fn poll(&self) -> Option<Poll>
-        ensures is { IfSome result (λ poll. poll_entry poll ≡ poll_of self.now.ward.seats (ballots_entry self.now.ballots)) }
-        ensures some { 1 ≤ self.now.ward.seats → self.now.ward.seats ≤ max_seats → length self.now.ballots.papers.items ≤ max_papers → IsSome result }
+        ensures is { IfSome result (λ poll. (e : ElectionEntry) → IsElection self.now e → poll_entry poll ≡ poll_of e.ward.seats e.ballots) }
+        ensures some { 1 ≤ self.now.ward.seats → self.now.ward.seats ≤ max_seats → IsSome result }
     {
-        let valid = self.ballots.papers.len();
-        if valid > MAX_PAPERS as usize
-            || self.ward.seats < 1
-            || self.ward.seats > u32::from(MAX_SEATS)
-        {
+        if self.ward.seats < 1 || self.ward.seats > u32::from(MAX_SEATS) {
             return None;
         }
-        let valid = valid as u32;
+        let valid = self.ballots.papers.papers();
         Some(Poll {
             valid,
             rejected: self.ballots.rejected,
@@ -128,10 +127,11 @@ impl Election {
     }
 
     /// A book with the stages done; none where no count can be held. An error is want of memory.
-    pub fn counted(&self, alloc: Global) -> Result<Option<ParcelBook<'_>>, AllocError>
-        ensures is { IfOk result (λ found. IfSome found (λ book. book ≡ record { contest = contest_of (election_entry self.now); history = stages_of (election_entry self.now) })) }
-        ensures some { IfOk result (λ found. IsContest (contest_of (election_entry self.now)) → IsSome found) }
+    pub fn counted(&self, alloc: Global) -> Result<Option<BundleBook<'_>>, AllocError>
+        ensures is { IfOk result (λ found. IfSome found (λ book. (e : ElectionEntry) → IsElection self.now e → IsCounted e book.contest book.history)) }
+        ensures some { IfOk result (λ found. (e : ElectionEntry) → IsElection self.now e → IsContest (contest_of e) → IsSome found) }
     {
+        bundles_count_alike();
         let columns = columns_of(&self.candidates);
         let Some(mut book) = book_of(alloc, columns, self.ward.seats, &self.ballots.papers)? else {
             return Ok(None);
@@ -144,8 +144,8 @@ impl Election {
     /// The count of an uncontested ward is finished, and all its candidates are elected. An error is want
     /// of memory.
     pub fn progress(&self, alloc: Global) -> Result<Option<Progress>, AllocError>
-        ensures is { IfOk result (λ found. IfSome found (λ progress. (progress.due ≡ due_of (election_entry self.now)) × (progress.elected ≡ elected_of (election_entry self.now)))) }
-        ensures some { IfOk result (λ found. (has_count (election_entry self.now) ≡ true → IsContest (contest_of (election_entry self.now))) → IsSome found) }
+        ensures is { IfOk result (λ found. IfSome found (λ progress. (e : ElectionEntry) → IsElection self.now e → (progress.due ≡ due_of e) × (progress.elected ≡ elected_of e))) }
+        ensures some { IfOk result (λ found. (e : ElectionEntry) → IsElection self.now e → (has_count e ≡ true → IsContest (contest_of e)) → IsSome found) }
     {
         if !is_contested(&self.ward, &self.candidates) {
             return Ok(Some(Progress {

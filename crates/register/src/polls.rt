@@ -1,19 +1,20 @@
 //! The ballot papers of a ward: which are valid, and why the others are rejected.
 
-ghost use Rattle.std.specs.Prelude.{◌≡◌, ◌++◌, ◌∷◌, [], ◌==◌, Ok, Some, find, map, fold, IfOk};
+ghost use Rattle.std.specs.Prelude.{◌≡◌, ℕ, List, ◌++◌, ◌∷◌, [], ◌==◌, Ok, Some, find, map, fold, IfOk};
 ghost use Rattle.std.specs.List.{flat_map};
 ghost use Rattle.paper.specs.MarksText.{reading};
 ghost use Rattle.paper.specs.Preferences.{rejection_of};
 ghost use Rattle.register.specs.Offices.{keyed_entry, judged_entry};
 ghost use Rattle.register.specs.Walks.{and_rejected};
-ghost use Rattle.register.specs.Polls.{Pile, by_rejection, by_reading, by_verdict, judgement_on, judgements_on, preferences_by, ballots_in, ballots_entry};
+ghost use Rattle.register.specs.Polls.{Pile, StandFor, are_bundled, by_rejection, by_reading, by_verdict, judgement_on, judgements_on, preferences_by, ballots_in};
 
 use crate::keyings::KeyedPaper;
 use crate::papers::{are_taken, count_open};
 use crate::verdicts::JudgedPaper;
+use count::Bundles;
 use paper::{Columns, Keyed, Marked, Marks, Prefs, judge};
 use std::alloc::{AllocError, Global};
-use votes::Votes;
+use votes::{MAX_PAPERS, Votes};
 
 /// How many codes of rejection there are, 1 to this one.
 pub const REJECTIONS: usize = 5;
@@ -30,12 +31,45 @@ pub enum Judgement {
     Open,
 }
 
-/// The ballot papers of a ward, as far as its batches are taken: the preferences of each valid one, in the
-/// order of batch and number, how many are rejected, by code 1 to 5, and whether each batch is taken and
-/// each doubtful paper has a verdict.
+/// What keeps the preferences of valid papers as they come, one after the other.
+pub trait KeepsPapers {
+    // It holds these papers, which came in this order.
+    ghost holds: { Self → List (List ℕ) → Type 0 };
+
+    /// Keeps a paper more. An error is want of memory, or a paper more than the `MAX_PAPERS` that an office
+    /// can have, and the papers before are spoilt then.
+    fn keep(&mut self, paper: Prefs) -> Result<(), AllocError>
+        ensures { IfOk result (λ _. (papers : List (List ℕ)) → holds self.old papers → holds self.new (papers ++ paper ∷ [])) };
+}
+
+// Each paper for itself, in the order in which they came.
+impl KeepsPapers for Vec<Prefs> {
+    ghost holds = { λ kept papers. kept.items ≡ papers };
+
+    fn keep(&mut self, paper: Prefs) -> Result<(), AllocError> {
+        self.push(paper)?;
+        Ok(())
+    }
+}
+
+// Equal papers once, with their number.
+impl KeepsPapers for Bundles {
+    ghost holds = { are_bundled };
+
+    fn keep(&mut self, paper: Prefs) -> Result<(), AllocError> {
+        if self.papers() >= MAX_PAPERS {
+            return Err(AllocError);
+        }
+        self.add(paper)
+    }
+}
+
+/// The ballot papers of a ward, as far as its batches are taken: the preferences of each valid one, which
+/// come in the order of batch and number, how many are rejected, by code 1 to 5, and whether each batch is
+/// taken and each doubtful paper has a verdict.
 #[derive(Debug, Drop)]
-pub struct Ballots {
-    pub papers: Vec<Prefs>,
+pub struct Ballots<P> {
+    pub papers: P,
     pub rejected: [u32; REJECTIONS],
     pub settled: bool,
 }
@@ -128,13 +162,14 @@ fn judgement_on(columns: Columns, verdicts: &[JudgedPaper], keyed: &KeyedPaper) 
     }
 }
 
-impl Ballots {
-    /// The ballot papers of no batch. Takes no memory.
-    pub fn new(alloc: Global) -> Ballots
-        ensures { (columns : _) → ballots_entry result ≡ ballots_in columns [] }
+impl<P: KeepsPapers> Ballots<P> {
+    /// The ballot papers of no batch, which are to be kept in what holds none yet. Takes no memory.
+    pub fn new(papers: P) -> Ballots<P>
+        requires { P.holds papers [] }
+        ensures { (columns : _) → StandFor P.holds result (ballots_in columns []) }
     {
         Ballots {
-            papers: Vec::new(alloc),
+            papers,
             rejected: [0; REJECTIONS],
             settled: true,
         }
@@ -150,8 +185,8 @@ impl Ballots {
         second: &[KeyedPaper],
         verdicts: &[JudgedPaper],
     ) -> Result<(), AllocError>
-        ensures { IfOk result (λ _. (piles : _) → ballots_entry self.old ≡ ballots_in columns piles
-            → ballots_entry self.new ≡ ballots_in columns (piles ++ (record { first = map keyed_entry first.now; second = map keyed_entry second.now; verdicts = map judged_entry verdicts.now } ∷ []))) }
+        ensures { IfOk result (λ _. (piles : _) → StandFor P.holds self.old (ballots_in columns piles)
+            → StandFor P.holds self.new (ballots_in columns (piles ++ (record { first = map keyed_entry first.now; second = map keyed_entry second.now; verdicts = map judged_entry verdicts.now } ∷ [])))) }
     {
         if !are_taken(first, second) {
             self.settled = false;
@@ -168,7 +203,8 @@ impl Ballots {
         verdicts: &[JudgedPaper],
         keying: &[KeyedPaper],
     ) -> Result<(), AllocError>
-        ensures papers { IfOk result (λ _. self.new.papers.items ≡ self.old.papers.items ++ flat_map preferences_by (judgements_on columns (map judged_entry verdicts.now) (map keyed_entry keying.now))) }
+        ensures papers { IfOk result (λ _. (papers : List (List ℕ)) → P.holds self.old.papers papers
+            → P.holds self.new.papers (papers ++ flat_map preferences_by (judgements_on columns (map judged_entry verdicts.now) (map keyed_entry keying.now)))) }
         ensures rejected { IfOk result (λ _. self.new.rejected ≡ fold and_rejected self.old.rejected (judgements_on columns (map judged_entry verdicts.now) (map keyed_entry keying.now))) }
         ensures settled { self.new.settled ≡ self.old.settled }
     {
@@ -180,13 +216,13 @@ impl Ballots {
 
     /// Counts a paper by the judgement on it.
     fn count(&mut self, judgement: Judgement) -> Result<(), AllocError>
-        ensures papers { IfOk result (λ _. self.new.papers.items ≡ self.old.papers.items ++ preferences_by judgement) }
+        ensures papers { IfOk result (λ _. (papers : List (List ℕ)) → P.holds self.old.papers papers → P.holds self.new.papers (papers ++ preferences_by judgement)) }
         ensures rejected { IfOk result (λ _. self.new.rejected ≡ and_rejected self.old.rejected judgement) }
         ensures settled { self.new.settled ≡ self.old.settled }
     {
         match judgement {
             Judgement::Valid(prefs) => {
-                self.papers.push(prefs)?;
+                self.papers.keep(prefs)?;
                 Ok(())
             }
             Judgement::Rejected(code) => self.reject(code),
