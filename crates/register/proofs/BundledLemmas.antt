@@ -1,13 +1,13 @@
 -- An election whose papers are kept in bundles has the poll and the count of its papers.
-use Rattle.std.proofs.Common.{◌≡◌, ℕ, Bool, List, length, refl, sym, ap, ◌∙◌}
+use Rattle.std.proofs.Common.{◌≡◌, ℕ, Bool, List, length, refl, sym, subst, ap, ◌∙◌}
 use Rattle.votes.specs.Units.{quota_of}
 use Rattle.count.specs.Bundles.{Bundle, papers_of, bundled}
-use Rattle.count.specs.Law.Contest.{Contest, History, contest_for}
+use Rattle.count.specs.Law.Contest.{Contest, History, contest_for, IsContest}
 use Rattle.count.specs.Law.Due.{due_after}
 use Rattle.count.specs.Law.Elected.{elected_after}
 use Rattle.count.specs.Law.Count.{stages_to, due_by}
 use Rattle.count.specs.Law.Right.{reordered}
-use Rattle.count.proofs.OrderLemmas.{bundled-length, contest-reordered, stages-bundled}
+use Rattle.count.proofs.OrderLemmas.{bundled-length, contest-bundled, contest-reordered, stages-bundled}
 use Rattle.register.specs.Marks.{columns_of}
 use Rattle.register.specs.Polls.{PollEntry, BallotsEntry, poll_of}
 use Rattle.register.specs.Elections.{ElectionEntry, IsCounted, contest_of, stages_of}
@@ -25,27 +25,38 @@ poll-alike e valid seats quota bundles rejected settled held number were was sat
         (let one : PollEntry = record { valid = v; rejected = r; quota = q; settled = t } in one) ≡ record { valid = w; rejected = s; quota = p; settled = u }
     same v w r s q p t u a b c d = rw (a, b, c, d) refl
 
--- what has counted so many stages on papers in bundles has counted them on the papers
-pub counted-alike : (e : ElectionEntry) (candidates : List ℕ) (seats done : ℕ) (bundles : List Bundle) (lots : List (ℕ × ℕ)) (contest : Contest) (stages : History) → candidates ≡ columns_of e.candidates → seats ≡ e.ward.seats →
-    done ≡ e.ward.done → bundles ≡ bundled e.ballots.papers → lots ≡ e.lots → contest ≡ contest_for candidates seats (papers_of bundles) → stages ≡ stages_to contest lots done → IsCounted e contest stages
-counted-alike e candidates seats done bundles lots contest stages columns sat were held drawn on counted =
-    let papers : List (List ℕ) = papers_of (bundled e.ballots.papers) in
-    let K : Contest = contest_of e in
-    let here : contest ≡ contest_for (columns_of e.candidates) e.ward.seats papers =
-    on
-    ∙ ap (λ cs. contest_for cs seats (papers_of bundles)) columns
-    ∙ ap (λ n. contest_for (columns_of e.candidates) n (papers_of bundles)) sat
-    ∙ ap (λ bs. contest_for (columns_of e.candidates) e.ward.seats (papers_of bs)) held in
-    let other : contest ≡ reordered K papers = here ∙ sym (contest-reordered (columns_of e.candidates) e.ward.seats e.ballots.papers) in
-    let are : stages ≡ stages_of e =
-    counted
-    ∙ ap (λ (c : Contest). stages_to c lots done) here
-    ∙ ap (λ ls. stages_to (contest_for (columns_of e.candidates) e.ward.seats papers) ls done) drawn
-    ∙ ap (stages_to (contest_for (columns_of e.candidates) e.ward.seats papers) e.lots) were
-    ∙ stages-bundled (columns_of e.candidates) e.ward.seats e.ballots.papers e.lots e.ward.done in
-    record {
-      stages_are = are;
-      due_is = ap (λ (c : Contest). due_after c stages) other ∙ ap (due_after K) are;
-      drawn_is = ap (λ (c : Contest). due_by c e.lots stages) other ∙ ap (due_by K e.lots) are;
-      elected_are = ap (λ (c : Contest). elected_after c stages) other ∙ ap (elected_after K) are;
-    }
+-- What stands on the papers of bundles of an election's papers.
+module _ (e : ElectionEntry) (candidates : List ℕ) (seats : ℕ) (bundles : List Bundle) (columns : candidates ≡ columns_of e.candidates) (sat : seats ≡ e.ward.seats) (held : bundles ≡ bundled e.ballots.papers) where
+  -- the contest on them
+  on_bundles : contest_for candidates seats (papers_of bundles) ≡ contest_for (columns_of e.candidates) e.ward.seats (papers_of (bundled e.ballots.papers))
+  on_bundles = rw (columns, sat, held) refl
+
+  -- can be held where it can on the papers,
+  pub fair-alike : IsContest (contest_of e) → IsContest (contest_for candidates seats (papers_of bundles))
+  fair-alike fair = subst IsContest (sym on_bundles) (contest-bundled (columns_of e.candidates) e.ward.seats e.ballots.papers fair)
+
+  module _ (lots : List (ℕ × ℕ)) (drawn : lots ≡ e.lots) (contest : Contest) (on : contest ≡ contest_for candidates seats (papers_of bundles)) where
+    pub other_order : contest ≡ reordered (contest_of e) (papers_of (bundled e.ballots.papers))
+    other_order = on ∙ on_bundles ∙ sym (contest-reordered (columns_of e.candidates) e.ward.seats e.ballots.papers)
+
+    -- and has the same stages,
+    pub stages-alike : (k : ℕ) → stages_to contest lots k ≡ stages_to (contest_of e) e.lots k
+    stages-alike k =
+        ap (λ (c : Contest). stages_to c lots k) (on ∙ on_bundles)
+        ∙ ap (λ ls. stages_to (contest_for (columns_of e.candidates) e.ward.seats (papers_of (bundled e.ballots.papers))) ls k) drawn
+        ∙ stages-bundled (columns_of e.candidates) e.ward.seats e.ballots.papers e.lots k
+
+    -- with the same due after each,
+    pub due-alike : (k : ℕ) → due_after contest (stages_to contest lots k) ≡ due_after (contest_of e) (stages_to (contest_of e) e.lots k)
+    due-alike k = ap (λ (c : Contest). due_after c (stages_to contest lots k)) other_order ∙ ap (due_after (contest_of e)) (stages-alike k)
+
+    -- so that who has counted those that are done there has counted them
+    pub counted-alike : (done : ℕ) (stages : History) → done ≡ e.ward.done → stages ≡ stages_to contest lots done → IsCounted e contest stages
+    counted-alike done stages were counted =
+        let are : stages ≡ stages_of e = counted ∙ ap (stages_to contest lots) were ∙ stages-alike e.ward.done in
+        record {
+          stages_are = are;
+          due_is = ap (λ (c : Contest). due_after c stages) other_order ∙ ap (due_after (contest_of e)) are;
+          drawn_is = ap (λ (c : Contest). due_by c e.lots stages) other_order ∙ ap (due_by (contest_of e) e.lots) are;
+          elected_are = ap (λ (c : Contest). elected_after c stages) other_order ∙ ap (elected_after (contest_of e)) are;
+        }

@@ -9,7 +9,9 @@ use Rattle.count.specs.declared.stages.Due.{Due}
 use Rattle.count.specs.declared.stages.Due.TheVariants.{Act, Lot, Finished}
 use Rattle.register.specs.declared.phase.Phase.{Phase}
 use Rattle.register.specs.declared.phase.Phase.TheVariants.{Nominations, Keying, Sealed, Declared}
+use Rattle.count.specs.Bundles.{Bundle}
 use Rattle.register.specs.declared.elections.Election.{Election}
+use Rattle.register.specs.declared.polls.Ballots.{Ballots}
 use Rattle.register.specs.Phases.{phase_number}
 use Rattle.register.specs.Offices.{WardEntry, CandidateEntry, LotEntry, OfficeState, candidates_of, lots_of, ward_entry, candidate_entry}
 use Rattle.register.specs.Nominations.{is_contested}
@@ -33,12 +35,16 @@ election_of s w =
     let candidates = candidates_of s w.number in
     record { ward = w; candidates = candidates; ballots = ballots_in (columns_of candidates) (piles_of s w.number); lots = map lot_pair (lots_of s w.number) }
 
--- an election, whose papers are kept in bundles, stands for this one
-pub record IsElection (e : Election) (entry : ElectionEntry) : Type 0 where
-  pub ward_is : ward_entry e.ward ≡ entry.ward
-  pub candidates_are : map candidate_entry e.candidates.items ≡ entry.candidates
-  pub ballots_are : StandFor are_bundled e.ballots entry.ballots
-  pub lots_are : e.lots.items ≡ entry.lots
+-- an election is made of these, its papers kept in bundles
+pub record IsMadeOf (entry : ElectionEntry) (ward : WardEntry) (candidates : List CandidateEntry) (ballots : Ballots (List Bundle)) (lots : List (ℕ × ℕ)) : Type 0 where
+  pub ward_is : ward ≡ entry.ward
+  pub candidates_are : candidates ≡ entry.candidates
+  pub ballots_are : StandFor are_bundled ballots entry.ballots
+  pub lots_are : lots ≡ entry.lots
+
+-- what stands for this election
+abbrev pub IsElection : Election → ElectionEntry → Type 0
+IsElection e entry = IsMadeOf entry (ward_entry e.ward) (map candidate_entry e.candidates.items) e.ballots e.lots.items
 
 -- ---- the count
 

@@ -13,7 +13,10 @@ use Rattle.count.specs.Law.Laws.{IsShort}
 use Rattle.count.specs.declared.stages.Action.{Action}
 use Rattle.count.specs.declared.stages.Due.{Due}
 use Rattle.count.specs.declared.stages.Due.TheVariants.{Finished}
-use Rattle.register.specs.Elections.{ElectionEntry, contest_of, is_finished, has_finished, is_declared, is_drawn_for, is_right_so_far}
+use Rattle.count.specs.Bundles.{Bundle}
+use Rattle.register.specs.declared.polls.Ballots.{Ballots}
+use Rattle.register.specs.Offices.{WardEntry, CandidateEntry}
+use Rattle.register.specs.Elections.{ElectionEntry, IsMadeOf, contest_of, is_finished, has_finished, is_declared, is_drawn_for, is_right_so_far}
 use Rattle.rowcheck.specs.Walks.Counts.{is_drawn_by}
 use Rattle.rowcheck.proofs.RunLemmas.{less_differs}
 
@@ -48,6 +51,18 @@ module _ (f : ℕ → Due) (n i : ℕ) where
 all_same : {X : Type 0} (p q : X → Bool) (xs : List X) → ((x : X) → p x ≡ q x) → list_all p xs ≡ list_all q xs
 all_same p q [] same = refl
 all_same p q (x ∷ xs) same = rw (same x, all_same p q xs same) refl
+
+pub map-alike : {X Y : Type 0} (f g : X → Y) (xs : List X) → ((x : X) → f x ≡ g x) → map f xs ≡ map g xs
+map-alike f g [] alike = refl
+map-alike f g (x ∷ xs) alike = rw (alike x, map-alike f g xs alike) refl
+
+-- an election with what it is made of is this one
+pub made-same : (e : ElectionEntry) (ward : WardEntry) (candidates : List CandidateEntry) (ballots : Ballots (List Bundle)) (lots : List (ℕ × ℕ)) → IsMadeOf e ward candidates ballots lots →
+    (let one : ElectionEntry = record { ward = ward; candidates = candidates; ballots = e.ballots; lots = lots } in one) ≡ e
+made-same e ward candidates ballots lots made =
+    ap (λ (w : WardEntry). let one : ElectionEntry = record { ward = w; candidates = candidates; ballots = e.ballots; lots = lots } in one) made.ward_is
+    ∙ ap (λ (cs : List CandidateEntry). let one : ElectionEntry = record { ward = e.ward; candidates = cs; ballots = e.ballots; lots = lots } in one) made.candidates_are
+    ∙ ap (λ (ls : List (ℕ × ℕ)). let one : ElectionEntry = record { ward = e.ward; candidates = e.candidates; ballots = e.ballots; lots = ls } in one) made.lots_are
 
 module _ (e : ElectionEntry) where
   abbrev due_at : ℕ → Due

@@ -3,19 +3,19 @@
 //! The stages of a count and what is due before each follow from its papers and lots, so they are counted
 //! again, and what the rows say of them is compared.
 
-ghost use Rattle.std.specs.Prelude.{◌≡◌, ◌≤◌, ◌<◌, true, slice_get, option_copied, is_some, IfOk};
+ghost use Rattle.std.specs.Prelude.{◌≡◌, ◌≤◌, ◌<◌, true, map, slice_get, option_copied, is_some, IfOk};
 ghost use Rattle.std.specs.List.{list_all, AllByRecursion};
 ghost use Rattle.count.specs.Law.Contest.{IsContest};
-ghost use Rattle.register.specs.Offices.{MapsRise, ward_entry, ward_at};
-ghost use Rattle.register.specs.Elections.{election_of, contest_of, is_declared, has_finished, is_among, is_right_so_far, is_uncounted, is_counted_right};
+ghost use Rattle.register.specs.Offices.{MapsRise, ward_entry, candidate_entry, ward_at};
+ghost use Rattle.register.specs.Elections.{ElectionEntry, IsMadeOf, election_of, contest_of, is_declared, has_finished, is_among, is_right_so_far, is_uncounted, is_counted_right};
 ghost use Rattle.register.specs.Items.{is_lot, item1, item4, item7};
 ghost use Rattle.rowcheck.specs.States.{state_of};
-ghost use Rattle.rowcheck.specs.Walks.Counts.{election_with, IsFair, is_drawn_by};
+ghost use Rattle.rowcheck.specs.Walks.Counts.{IsFair, is_drawn_by};
 
 use crate::finding::{candidates_of, has_ward, lots_of};
 use crate::polls::{ballots_of, is_in_count};
 use crate::rows::Rows;
-use count::{CountBook, Due, dues_to};
+use count::{Bundles, CountBook, Due, dues_to};
 use register::elections::{book_of, elections_are_fair, lot_pairs};
 use register::marks::columns_of;
 use register::ranges::LAST_LOT_STAGE;
@@ -84,11 +84,10 @@ fn is_right_by(
     alloc: Global,
     ward: &Ward,
     candidates: &[Candidate],
-    ballots: &Ballots,
+    ballots: &Ballots<Bundles>,
     lots: &[(u8, u8)],
 ) -> Result<bool, AllocError>
-    requires { IsContest (contest_of (election_with ward.now candidates.now ballots.now lots.now)) }
-    ensures { IfOk result (λ yes. yes ≡ is_right_so_far (election_with ward.now candidates.now ballots.now lots.now)) }
+    ensures { IfOk result (λ yes. (e : ElectionEntry) → IsMadeOf e (ward_entry ward.now) (map candidate_entry candidates.now) ballots.now lots.now → IsContest (contest_of e) → yes ≡ is_right_so_far e) }
 {
     let columns = columns_of(candidates);
     let Some(mut book) = book_of(alloc, columns, ward.seats, &ballots.papers)? else {

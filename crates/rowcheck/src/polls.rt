@@ -3,7 +3,7 @@
 ghost use Rattle.std.specs.Prelude.{◌≡◌, ◌++◌, ◌∷◌, [], map, IfOk};
 ghost use Rattle.std.specs.List.{list_all};
 ghost use Rattle.register.specs.Offices.{MapsRise, ward_entry, batch_entry};
-ghost use Rattle.register.specs.Polls.{pile_of, piles_of, is_settled, ballots_in, ballots_entry};
+ghost use Rattle.register.specs.Polls.{pile_of, piles_of, is_settled, ballots_in, StandFor, are_bundled};
 ghost use Rattle.register.specs.Elections.{election_of, is_counted, is_in_count, is_agreed};
 ghost use Rattle.register.specs.Items.{item6};
 ghost use Rattle.rowcheck.specs.States.{state_of};
@@ -11,6 +11,7 @@ ghost use Rattle.rowcheck.specs.Walks.Polls.{is_settled_for, piles_in};
 
 use crate::finding::{candidates_of, keying_of, verdicts_of};
 use crate::rows::Rows;
+use count::Bundles;
 use paper::Columns;
 use register::papers::{are_taken, count_open};
 use register::wards::is_contested;
@@ -99,12 +100,12 @@ pub fn item6(rows: &Rows) -> bool
 /// Adds the papers of a batch to those of its ward. An error is want of memory.
 fn add_batch(
     rows: &Rows,
-    ballots: &mut Ballots,
+    ballots: &mut Ballots<Bundles>,
     columns: Columns,
     batch: &Batch,
 ) -> Result<(), AllocError>
     requires { MapsRise (state_of rows.now) }
-    ensures { IfOk result (λ _. (piles : _) → ballots_entry ballots.old ≡ ballots_in columns piles → ballots_entry ballots.new ≡ ballots_in columns (piles ++ (pile_of (state_of rows.now) (batch_entry batch.now) ∷ []))) }
+    ensures { IfOk result (λ _. (piles : _) → StandFor are_bundled ballots.old (ballots_in columns piles) → StandFor are_bundled ballots.new (ballots_in columns (piles ++ (pile_of (state_of rows.now) (batch_entry batch.now) ∷ [])))) }
 {
     let first = keying_of(rows, batch.number, batch.round, batch.first_clerk);
     let second = keying_of(rows, batch.number, batch.round, batch.second_clerk);
@@ -119,11 +120,11 @@ fn ballots_among(
     columns: Columns,
     ward: u32,
     batches: &[Batch],
-) -> Result<Ballots, AllocError>
+) -> Result<Ballots<Bundles>, AllocError>
     requires { MapsRise (state_of rows.now) }
-    ensures { IfOk result (λ ballots. ballots_entry ballots ≡ ballots_in columns (piles_in (state_of rows.now) ward (map batch_entry batches.now))) }
+    ensures { IfOk result (λ ballots. StandFor are_bundled ballots (ballots_in columns (piles_in (state_of rows.now) ward (map batch_entry batches.now)))) }
 {
-    let mut ballots = Ballots::new(alloc);
+    let mut ballots = Ballots::new(Bundles::new(alloc));
     for batch in batches {
         if batch.ward == ward {
             add_batch(rows, &mut ballots, columns, batch)?;
@@ -138,9 +139,9 @@ pub(crate) fn ballots_of(
     rows: &Rows,
     columns: Columns,
     ward: u32,
-) -> Result<Ballots, AllocError>
+) -> Result<Ballots<Bundles>, AllocError>
     requires { MapsRise (state_of rows.now) }
-    ensures { IfOk result (λ ballots. ballots_entry ballots ≡ ballots_in columns (piles_of (state_of rows.now) ward)) }
+    ensures { IfOk result (λ ballots. StandFor are_bundled ballots (ballots_in columns (piles_of (state_of rows.now) ward))) }
 {
     ballots_among(alloc, rows, columns, ward, &rows.batches)
 }

@@ -16,5 +16,5 @@ returns-clause-is c e is =
     let counted : c.count_to.new.book.history ≡ stages_to c.count_to.new.book.contest c.args.self.now.lots.items c.args.self.now.ward.done =
     c.in_ok-count_to.ensures.is ∙ ap (λ (k : Contest). stages_to k c.deref-2.result.now c.args.self.now.ward.done) (sym c.in_ok-count_to.ensures.same)
     ∙ ap (λ ls. stages_to c.count_to.new.book.contest ls c.args.self.now.ward.done) c.deref-2.ensures.value in
-    counted-alike e c.columns_of-columns.result c.args.self.now.ward.seats c.args.self.now.ward.done c.args.self.now.ballots.papers c.args.self.now.lots.items c.count_to.new.book.contest c.count_to.new.book.history
-    columns (ap (λ (w : WardEntry). w.seats) is.ward_is) (ap (λ (w : WardEntry). w.done) is.ward_is) is.ballots_are.papers_held is.lots_are (c.in_ok-count_to.ensures.same ∙ on) counted
+    counted-alike e c.columns_of-columns.result c.args.self.now.ward.seats c.args.self.now.ballots.papers columns (ap (λ (w : WardEntry). w.seats) is.ward_is) is.ballots_are.papers_held
+    c.args.self.now.lots.items is.lots_are c.count_to.new.book.contest (c.in_ok-count_to.ensures.same ∙ on) c.args.self.now.ward.done c.count_to.new.book.history (ap (λ (w : WardEntry). w.done) is.ward_is) counted
