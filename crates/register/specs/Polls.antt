@@ -2,6 +2,7 @@
 use Rattle.std.specs.Prelude.{◌≡◌, ℕ, ◌+◌, Bool, false, ◌&&◌, ◌==◌, if◌then◌else◌, List, [], ◌∷◌, map, length, slice_index, find, Option, Some, None, Result, Ok, Err}
 use Rattle.std.specs.List.{filter, flat_map, list_all}
 use Rattle.votes.specs.Units.{quota_of}
+use Rattle.std.specs.Global.{Vec}
 use Rattle.count.specs.Bundles.{Bundle, bundled}
 use Rattle.paper.specs.declared.marks.MarkFault.{MarkFault}
 use Rattle.paper.specs.declared.marked.Keyed.{Keyed}
@@ -124,6 +125,10 @@ poll_of seats ballots = record { valid = length ballots.papers; rejected = ballo
 -- how many papers are rejected, by all five codes
 abbrev pub all_rejected : List ℕ → ℕ
 all_rejected rejected = slice_index rejected 0 + (slice_index rejected 1 + (slice_index rejected 2 + (slice_index rejected 3 + slice_index rejected 4)))
+
+-- a list holds these papers, each for itself
+abbrev pub are_listed : Vec (List ℕ) → List (List ℕ) → Type 0
+are_listed kept papers = kept.items ≡ papers
 
 -- bundles hold these papers, which came one after the other
 abbrev pub are_bundled : List Bundle → List (List ℕ) → Type 0

@@ -6,7 +6,7 @@ ghost use Rattle.paper.specs.MarksText.{reading};
 ghost use Rattle.paper.specs.Preferences.{rejection_of};
 ghost use Rattle.register.specs.Offices.{keyed_entry, judged_entry};
 ghost use Rattle.register.specs.Walks.{and_rejected};
-ghost use Rattle.register.specs.Polls.{Pile, StandFor, are_bundled, by_rejection, by_reading, by_verdict, judgement_on, judgements_on, preferences_by, ballots_in};
+ghost use Rattle.register.specs.Polls.{Pile, StandFor, are_listed, are_bundled, by_rejection, by_reading, by_verdict, judgement_on, judgements_on, preferences_by, ballots_in};
 
 use crate::keyings::KeyedPaper;
 use crate::papers::{are_taken, count_open};
@@ -44,7 +44,7 @@ pub trait KeepsPapers {
 
 // Each paper for itself, in the order in which they came.
 impl KeepsPapers for Vec<Prefs> {
-    ghost holds = { λ kept papers. kept.items ≡ papers };
+    ghost holds = { are_listed };
 
     fn keep(&mut self, paper: Prefs) -> Result<(), AllocError> {
         self.push(paper)?;

@@ -1,8 +1,8 @@
 -- What is read for the count of a ward is what the state has.
-use Rattle.std.proofs.Common.{◌≡◌, ◌≤◌, ℕ, Option, Some, None, MatchOption, option_map, length, true, refl, ap, subst, ◌∙◌}
+use Rattle.std.proofs.Common.{◌≡◌, ◌≤◌, ℕ, Option, Some, None, MatchOption, option_map, length, true, refl, ap, subst, arith}
 use Rattle.register.specs.Offices.{WardEntry, OfficeState, ward_at}
 use Rattle.register.specs.declared.elections.Election.{Election}
-use Rattle.register.specs.Elections.{ElectionEntry, election_of, election_entry, has_count, contest_of}
+use Rattle.register.specs.Elections.{ElectionEntry, IsElection, election_of, has_count, contest_of}
 use Rattle.register.specs.Items.{IsState}
 use Rattle.register.proofs.MapLemmas.{found_number}
 use Rattle.register.proofs.ContestLemmas.{seats_and_papers_are_few, contest_is_fair}
@@ -10,15 +10,7 @@ use Rattle.votes.specs.Units.{max_seats, max_papers}
 use Rattle.count.specs.Law.Contest.{IsContest}
 use Rattle.register.specs.Counts.{poll_for, due_for, elected_for}
 use Rattle.register.specs.Parts.{empty_part}
-use Rattle.store.specs.Elections.{polled_part, counted_part}
-
--- elections with the same fields are the same
-pub same_election : (x y : ElectionEntry) → x.ward ≡ y.ward → x.candidates ≡ y.candidates → x.ballots ≡ y.ballots → x.lots ≡ y.lots → x ≡ y
-same_election x y ward candidates ballots lots =
-    ap (λ v. record x { ward = v }) ward
-    ∙ ap (λ v. record x { ward = y.ward; candidates = v }) candidates
-    ∙ ap (λ v. record y { ballots = v; lots = x.lots }) ballots
-    ∙ ap (λ v. record y { lots = v }) lots
+use Rattle.store.specs.Elections.{IsFoundFor, polled_part, counted_part}
 
 -- the part with the poll, of a ward that may be there
 pub part_polled : (s : OfficeState) (ward : Option WardEntry) → polled_part (option_map (election_of s) ward) ≡ record empty_part { ward = ward; poll = poll_for s ward }
@@ -45,20 +37,24 @@ ward_is_sound s ward w is found =
     let few = seats_and_papers_are_few s w is.in_range is.keyed is.rise there in
     record { some_seats = few.0; few_seats = few.1; few_papers = few.2; fair = contest_is_fair s w is.in_range is.keyed is.rise there }
 
-found_is_sound : (s : OfficeState) (ward : ℕ) (e : Election) → IsState s → Some (election_entry e) ≡ option_map (election_of s) (ward_at s ward) → IsSound (election_entry e)
-found_is_sound s ward e is same = go (ward_at s ward) refl
-  where
-    go : (o : Option WardEntry) → ward_at s ward ≡ o → IsSound (election_entry e)
-    go None none = absurd (let no = same ∙ ap (option_map (election_of s)) none in cc)
-    go (Some w) there = subst IsSound (let yes = same ∙ ap (option_map (election_of s)) there in cc) (ward_is_sound s ward w is there)
-
 -- so what asks that of an election that was found has it
-pub sound_polled : {R : Type 0} (s : OfficeState) (ward : ℕ) (found : Option Election) → IsState s → option_map election_entry found ≡ option_map (election_of s) (ward_at s ward)
-    → MatchOption found R (λ e. 1 ≤ e.ward.seats → e.ward.seats ≤ max_seats → length e.ballots.papers.items ≤ max_papers → R) → R
-sound_polled s ward None is same r = r
-sound_polled s ward (Some e) is same r = let it = found_is_sound s ward e is same in r it.some_seats it.few_seats it.few_papers
+pub sound_polled : {R : Type 0} (s : OfficeState) (ward : ℕ) (found : Option Election) → IsState s → IsFoundFor found (option_map (election_of s) (ward_at s ward))
+    → MatchOption found R (λ e. 1 ≤ e.ward.seats → e.ward.seats ≤ max_seats → R) → R
+sound_polled s ward None is there r = r
+sound_polled {R = R} s ward (Some e) is there r = by_ward (ward_at s ward) refl there
+  where
+    by_ward : (o : Option WardEntry) → ward_at s ward ≡ o → IsFoundFor (Some e) (option_map (election_of s) o) → R
+    by_ward None none gone = absurd gone
+    by_ward (Some w) at made =
+        let it = ward_is_sound s ward w is at in
+        let seats : e.ward.seats ≡ w.seats = ap (λ (x : WardEntry). x.seats) made.ward_is in
+        r (omega (arith, seats, it.some_seats)) (omega (arith, seats, it.few_seats))
 
-pub sound_counted : {Q R : Type 0} (s : OfficeState) (ward : ℕ) (found : Option Election) → IsState s → option_map election_entry found ≡ option_map (election_of s) (ward_at s ward)
-    → MatchOption found Q (λ e. (has_count (election_entry e) ≡ true → IsContest (contest_of (election_entry e))) → R) → (Q → R) → R
-sound_counted s ward None is same r other = other r
-sound_counted s ward (Some e) is same r other = r (found_is_sound s ward e is same).fair
+pub sound_counted : {Q R : Type 0} (s : OfficeState) (ward : ℕ) (found : Option Election) → IsState s → IsFoundFor found (option_map (election_of s) (ward_at s ward))
+    → MatchOption found Q (λ e. (entry : ElectionEntry) → IsElection e entry → (has_count entry ≡ true → IsContest (contest_of entry)) → R) → (Q → R) → R
+sound_counted s ward None is there r other = other r
+sound_counted {R = R} s ward (Some e) is there r other = by_ward (ward_at s ward) refl there
+  where
+    by_ward : (o : Option WardEntry) → ward_at s ward ≡ o → IsFoundFor (Some e) (option_map (election_of s) o) → R
+    by_ward None none gone = absurd gone
+    by_ward (Some w) at made = r (election_of s w) made (ward_is_sound s ward w is at).fair

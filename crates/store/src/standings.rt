@@ -5,8 +5,11 @@ ghost use Rattle.sqlite.specs.State.{HasCleanDisk};
 ghost use Rattle.sqlite.specs.Held.{state};
 ghost use Rattle.register.specs.Offices.{OfficeState, ward_entry, batch_entry, ward_at, candidates_of, lots_of};
 ghost use Rattle.register.specs.Marks.{columns_of};
-ghost use Rattle.register.specs.Polls.{piles_of, ballots_in, ballots_entry};
-ghost use Rattle.register.specs.Elections.{lot_pair, election_of, election_entry};
+ghost use Rattle.std.specs.List.Sorted.{IsPermutation};
+ghost use Rattle.count.specs.Bundles.{papers_of};
+ghost use Rattle.register.specs.Polls.{piles_of, ballots_in, StandFor, are_listed, are_bundled};
+ghost use Rattle.register.specs.Elections.{lot_pair, election_of};
+ghost use Rattle.store.specs.Elections.{IsFoundFor};
 ghost use Rattle.register.specs.Standings.{status_entry, status_of, status_at, columns_at};
 ghost use Rattle.tables.specs.Reading.{OnlyReads, FailsBy};
 ghost use Rattle.store.specs.Offices.{IsAt};
@@ -19,7 +22,8 @@ use crate::views::candidates::list_candidates;
 use crate::views::elections::{find_ballots, find_election, recorded_lots};
 use crate::views::papers::{Keyings, keyings_of, list_verdicts};
 use crate::views::wards::find_ward;
-use paper::Columns;
+use count::{Bundles, bundles_count_alike};
+use paper::{Columns, Prefs};
 use register::marks::columns_of;
 use register::papers::{are_taken, count_open, differ};
 use register::{Ballots, Batch, Election, JudgedPaper, Status, Ward};
@@ -191,7 +195,7 @@ impl<S: Alter> Store<S> {
     /// out from. It changes nothing, and adds nothing to what a stop may leave. `Memory` or `Store` where
     /// a row can't be read.
     pub fn load_election(&mut self, ward: u32) -> Result<Option<Election>, Fault>
-        ensures shows { HasCleanDisk (state S.Store self.new) → (s : OfficeState) → IsAt s (state S.Store self.old) → IfOk result (λ found. option_map election_entry found ≡ option_map (election_of s) (ward_at s ward)) }
+        ensures shows { HasCleanDisk (state S.Store self.new) → (s : OfficeState) → IsAt s (state S.Store self.old) → IfOk result (λ found. IsFoundFor found (option_map (election_of s) (ward_at s ward))) }
         ensures cause { HasCleanDisk (state S.Store self.new) → (s : OfficeState) → IsAt s (state S.Store self.old) → IfErr result (FailsBy (state S.Store self.old) (state S.Store self.new)) }
         ensures opens { HasCleanDisk (state S.Store self.new) → OnOk result (IsTrue (state S.Store self.new).is_open) }
         ensures reads { OnlyReads (state S.Store self.old) (state S.Store self.new) }
@@ -203,14 +207,30 @@ impl<S: Alter> Store<S> {
     /// What the papers of a ward come to: the preferences of each valid paper of the batches that are
     /// taken, by batch and paper, and how many are rejected for each of the five reasons. It changes
     /// nothing, and adds nothing to what a stop may leave. `Memory` or `Store` where a row can't be read.
-    pub fn load_papers(&mut self, ward: u32) -> Result<Ballots, Fault>
-        ensures shows { HasCleanDisk (state S.Store self.new) → (s : OfficeState) → IsAt s (state S.Store self.old) → IfOk result (λ found. ballots_entry found ≡ ballots_in (columns_of (candidates_of s ward)) (piles_of s ward)) }
+    pub fn load_papers(&mut self, ward: u32) -> Result<Ballots<Vec<Prefs>>, Fault>
+        ensures shows { HasCleanDisk (state S.Store self.new) → (s : OfficeState) → IsAt s (state S.Store self.old) → IfOk result (λ found. StandFor are_listed found (ballots_in (columns_of (candidates_of s ward)) (piles_of s ward))) }
         ensures cause { HasCleanDisk (state S.Store self.new) → (s : OfficeState) → IsAt s (state S.Store self.old) → IfErr result (FailsBy (state S.Store self.old) (state S.Store self.new)) }
         ensures opens { HasCleanDisk (state S.Store self.new) → OnOk result (IsTrue (state S.Store self.new).is_open) }
         ensures reads { OnlyReads (state S.Store self.old) (state S.Store self.new) }
         ensures keeps { HasCleanDisk (state S.Store self.new) → (s : OfficeState) → IsAt s (state S.Store self.old) → IsAt s (state S.Store self.new) }
     {
-        find_ballots(self.alloc, &mut self.conn, ward)
+        find_ballots(self.alloc, &mut self.conn, Vec::new(self.alloc), ward)
+    }
+
+    /// The same with equal papers kept once: each list of preferences with the number of valid papers that
+    /// have it, which stand for those of `load_papers`, up to their order. It changes
+    /// nothing, and adds nothing to what a stop may leave. `Memory` or `Store` where a row can't be read.
+    pub fn load_bundles(&mut self, ward: u32) -> Result<Ballots<Bundles>, Fault>
+        ensures shows { HasCleanDisk (state S.Store self.new) → (s : OfficeState) → IsAt s (state S.Store self.old) → IfOk result (λ found. StandFor are_bundled found (ballots_in (columns_of (candidates_of s ward)) (piles_of s ward))) }
+        ensures same { HasCleanDisk (state S.Store self.new) → (s : OfficeState) → IsAt s (state S.Store self.old)
+            → IfOk result (λ found. IsPermutation (ballots_in (columns_of (candidates_of s ward)) (piles_of s ward)).papers (papers_of found.papers)) }
+        ensures cause { HasCleanDisk (state S.Store self.new) → (s : OfficeState) → IsAt s (state S.Store self.old) → IfErr result (FailsBy (state S.Store self.old) (state S.Store self.new)) }
+        ensures opens { HasCleanDisk (state S.Store self.new) → OnOk result (IsTrue (state S.Store self.new).is_open) }
+        ensures reads { OnlyReads (state S.Store self.old) (state S.Store self.new) }
+        ensures keeps { HasCleanDisk (state S.Store self.new) → (s : OfficeState) → IsAt s (state S.Store self.old) → IsAt s (state S.Store self.new) }
+    {
+        bundles_count_alike();
+        find_ballots(self.alloc, &mut self.conn, Bundles::new(self.alloc), ward)
     }
 
     /// The lots for the count of a ward: each stage and the candidate who was drawn, in the order of the

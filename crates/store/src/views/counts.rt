@@ -1,14 +1,14 @@
 //! What the commands about a ward's count need, read for a request.
 
-ghost use Rattle.std.specs.Prelude.{◌≡◌, ◌⊎◌, ◌≤◌, true, false, length, option_map, MatchOption, IfOk, IfErr, IsOk};
+ghost use Rattle.std.specs.Prelude.{◌≡◌, ◌⊎◌, ◌≤◌, true, false, Option, MatchOption, IfOk, IfErr, IsOk};
 ghost use Rattle.sqlite.specs.Held.{state};
-ghost use Rattle.votes.specs.Units.{max_seats, max_papers};
+ghost use Rattle.votes.specs.Units.{max_seats};
 ghost use Rattle.count.specs.Law.Contest.{IsContest};
 ghost use Rattle.register.specs.Offices.{ward_at, candidate_at};
-ghost use Rattle.register.specs.Elections.{election_entry, has_count, contest_of};
+ghost use Rattle.register.specs.Elections.{ElectionEntry, IsElection, has_count, contest_of};
 ghost use Rattle.register.specs.Counts.{poll_for, due_for, elected_for};
 ghost use Rattle.register.specs.Parts.{empty_part, part_entries};
-ghost use Rattle.store.specs.Elections.{polled_part, counted_part};
+ghost use Rattle.store.specs.Elections.{IsFoundFor, polled_part, counted_part};
 ghost use Rattle.store.specs.Reads.{Reads};
 
 use crate::views::candidates::find_candidate;
@@ -19,11 +19,11 @@ use std::alloc::Global;
 use tables::Fault;
 
 /// The part of a command that needs the poll of an election, if it is there. It fails only where the ward
-/// has no seats, or more seats or papers than it can have, as none of an office has.
+/// has no seats, or more than it can have, as none of an office has.
 fn polled(alloc: Global, found: Option<Election>) -> Result<Part, Fault>
-    ensures part { IfOk result (λ part. part_entries part ≡ polled_part (option_map election_entry found)) }
+    ensures part { IfOk result (λ part. (entry : Option ElectionEntry) → IsFoundFor found entry → part_entries part ≡ polled_part entry) }
     ensures cause { IfErr result (λ f. f ≡ Fault.Store) }
-    ensures some { MatchOption found (IsOk result) (λ election. 1 ≤ election.ward.seats → election.ward.seats ≤ max_seats → length election.ballots.papers.items ≤ max_papers → IsOk result) }
+    ensures some { MatchOption found (IsOk result) (λ election. 1 ≤ election.ward.seats → election.ward.seats ≤ max_seats → IsOk result) }
 {
     let Some(election) = found else {
         return Ok(Part::empty(alloc));
@@ -43,9 +43,9 @@ fn polled(alloc: Global, found: Option<Election>) -> Result<Part, Fault>
 /// elected. Only want of memory fails it where a count can be held, as it can in each contested ward of an
 /// office.
 fn counted(alloc: Global, found: Option<Election>) -> Result<Part, Fault>
-    ensures part { IfOk result (λ part. part_entries part ≡ counted_part (option_map election_entry found)) }
+    ensures part { IfOk result (λ part. (entry : Option ElectionEntry) → IsFoundFor found entry → part_entries part ≡ counted_part entry) }
     ensures cause { IfErr result (λ f. (f ≡ Fault.Memory) ⊎ (f ≡ Fault.Store)) }
-    ensures some { MatchOption found (IsOk result) (λ election. (has_count (election_entry election) ≡ true → IsContest (contest_of (election_entry election))) → IfErr result (λ f. f ≡ Fault.Memory)) }
+    ensures some { MatchOption found (IsOk result) (λ election. (entry : ElectionEntry) → IsElection election entry → (has_count entry ≡ true → IsContest (contest_of entry)) → IfErr result (λ f. f ≡ Fault.Memory)) }
 {
     let Some(election) = found else {
         return Ok(Part::empty(alloc));

@@ -5,9 +5,9 @@ ghost use Rattle.sqlite.specs.State.{HasCleanDisk};
 ghost use Rattle.sqlite.specs.Held.{state};
 ghost use Rattle.register.specs.Offices.{ward_entry, batch_entry, lot_entry, ward_at, candidates_of, lots_of};
 ghost use Rattle.register.specs.Marks.{columns_of};
-ghost use Rattle.register.specs.Polls.{pile_of, piles_of, ballots_in, ballots_entry};
-ghost use Rattle.register.specs.Elections.{lot_pair, election_of, election_entry};
-ghost use Rattle.store.specs.Elections.{pile_by};
+ghost use Rattle.register.specs.Polls.{pile_of, piles_of, ballots_in, StandFor};
+ghost use Rattle.register.specs.Elections.{IsElection, lot_pair, election_of};
+ghost use Rattle.store.specs.Elections.{pile_by, IsFoundFor};
 ghost use Rattle.store.specs.Reads.{Reads};
 
 use crate::entries::lots::Lots;
@@ -15,10 +15,11 @@ use crate::views::batches::list_batches;
 use crate::views::candidates::list_candidates;
 use crate::views::papers::{Keyings, keyings_of, list_verdicts};
 use crate::views::wards::find_ward;
+use count::Bundles;
 use paper::Columns;
 use register::elections::lot_pairs;
 use register::marks::columns_of;
-use register::{Ballots, Batch, DrawnLot, Election, JudgedPaper, Ward};
+use register::{Ballots, Batch, DrawnLot, Election, JudgedPaper, KeepsPapers, Ward};
 use sqlite::{Alter, Connection};
 use std::alloc::Global;
 use tables::Fault;
@@ -76,8 +77,12 @@ fn papers_of<S: Alter>(
 }
 
 /// Adds the papers of a batch to those of others. An error is `Memory`, and the others are spoilt then.
-fn add_papers(ballots: &mut Ballots, columns: Columns, papers: &BatchPapers) -> Result<(), Fault>
-    ensures adds { IfOk result (λ _. (piles : _) → ballots_entry ballots.old ≡ ballots_in columns piles → ballots_entry ballots.new ≡ ballots_in columns (piles ++ pile_by papers.now ∷ [])) }
+fn add_papers<P: KeepsPapers>(
+    ballots: &mut Ballots<P>,
+    columns: Columns,
+    papers: &BatchPapers,
+) -> Result<(), Fault>
+    ensures adds { IfOk result (λ _. (piles : _) → StandFor P.holds ballots.old (ballots_in columns piles) → StandFor P.holds ballots.new (ballots_in columns (piles ++ pile_by papers.now ∷ []))) }
     ensures cause { IfErr result (λ f. f ≡ Fault.Memory) }
 {
     let Keyings { first, second } = &papers.keyings;
@@ -87,18 +92,20 @@ fn add_papers(ballots: &mut Ballots, columns: Columns, papers: &BatchPapers) -> 
     }
 }
 
-/// What the papers of batches come to, read one batch after the other.
-fn ballots_of<S: Alter>(
+/// What the papers of batches come to, read one batch after the other, and kept in what holds none yet.
+fn ballots_of<S: Alter, P: KeepsPapers + Drop>(
     alloc: Global,
     conn: &mut Connection<S>,
+    kept: P,
     columns: Columns,
     batches: &[Batch],
-) -> Result<Ballots, Fault>
+) -> Result<Ballots<P>, Fault>
+    requires none { P.holds kept [] }
     requires outside { conn.old.in_transaction ≡ false }
     requires is_open { HasCleanDisk (state S.Store conn.old) → IsTrue (state S.Store conn.old).is_open }
-    ensures { Reads (state S.Store conn.old) (state S.Store conn.new) result (λ s ballots. ballots_entry ballots ≡ ballots_in columns (map (pile_of s) (map batch_entry batches.now))) }
+    ensures { Reads (state S.Store conn.old) (state S.Store conn.new) result (λ s ballots. StandFor P.holds ballots (ballots_in columns (map (pile_of s) (map batch_entry batches.now)))) }
 {
-    let mut ballots = Ballots::new(alloc);
+    let mut ballots = Ballots::new(kept);
     for batch in batches {
         let papers = papers_of(alloc, conn, batch)?;
         add_papers(&mut ballots, columns, &papers)?;
@@ -107,31 +114,36 @@ fn ballots_of<S: Alter>(
 }
 
 /// What the papers of a ward come to, whose columns these are.
-fn ward_ballots<S: Alter>(
+fn ward_ballots<S: Alter, P: KeepsPapers + Drop>(
     alloc: Global,
     conn: &mut Connection<S>,
+    kept: P,
     ward: u32,
     columns: Columns,
-) -> Result<Ballots, Fault>
-    requires { conn.old.in_transaction ≡ false }
-    ensures { Reads (state S.Store conn.old) (state S.Store conn.new) result (λ s ballots. ballots_entry ballots ≡ ballots_in columns (piles_of s ward)) }
+) -> Result<Ballots<P>, Fault>
+    requires none { P.holds kept [] }
+    requires outside { conn.old.in_transaction ≡ false }
+    ensures { Reads (state S.Store conn.old) (state S.Store conn.new) result (λ s ballots. StandFor P.holds ballots (ballots_in columns (piles_of s ward))) }
 {
     let batches = list_batches(alloc, conn, ward)?;
-    let ballots = ballots_of(alloc, conn, columns, &batches)?;
+    let ballots = ballots_of(alloc, conn, kept, columns, &batches)?;
     Ok(ballots)
 }
 
-/// What the papers of the ward of this number come to, by the columns of its candidates.
-pub(crate) fn find_ballots<S: Alter>(
+/// What the papers of the ward of this number come to, by the columns of its candidates, kept in what holds
+/// none yet.
+pub(crate) fn find_ballots<S: Alter, P: KeepsPapers + Drop>(
     alloc: Global,
     conn: &mut Connection<S>,
+    kept: P,
     ward: u32,
-) -> Result<Ballots, Fault>
-    requires { conn.old.in_transaction ≡ false }
-    ensures { Reads (state S.Store conn.old) (state S.Store conn.new) result (λ s ballots. ballots_entry ballots ≡ ballots_in (columns_of (candidates_of s ward)) (piles_of s ward)) }
+) -> Result<Ballots<P>, Fault>
+    requires none { P.holds kept [] }
+    requires outside { conn.old.in_transaction ≡ false }
+    ensures { Reads (state S.Store conn.old) (state S.Store conn.new) result (λ s ballots. StandFor P.holds ballots (ballots_in (columns_of (candidates_of s ward)) (piles_of s ward))) }
 {
     let candidates = list_candidates(alloc, conn, ward)?;
-    let ballots = ward_ballots(alloc, conn, ward, columns_of(&candidates))?;
+    let ballots = ward_ballots(alloc, conn, kept, ward, columns_of(&candidates))?;
     Ok(ballots)
 }
 
@@ -142,10 +154,11 @@ fn ward_election<S: Alter>(
     ward: Ward,
 ) -> Result<Election, Fault>
     requires { conn.old.in_transaction ≡ false }
-    ensures { Reads (state S.Store conn.old) (state S.Store conn.new) result (λ s found. election_entry found ≡ election_of s (ward_entry ward)) }
+    ensures { Reads (state S.Store conn.old) (state S.Store conn.new) result (λ s found. IsElection found (election_of s (ward_entry ward))) }
 {
     let candidates = list_candidates(alloc, conn, ward.number)?;
-    let ballots = ward_ballots(alloc, conn, ward.number, columns_of(&candidates))?;
+    let none = Bundles::new(alloc);
+    let ballots = ward_ballots(alloc, conn, none, ward.number, columns_of(&candidates))?;
     let lots = recorded_lots(alloc, conn, ward.number)?;
     Ok(Election {
         ward,
@@ -162,7 +175,7 @@ pub(crate) fn find_election<S: Alter>(
     ward: u32,
 ) -> Result<Option<Election>, Fault>
     requires { conn.old.in_transaction ≡ false }
-    ensures { Reads (state S.Store conn.old) (state S.Store conn.new) result (λ s found. option_map election_entry found ≡ option_map (election_of s) (ward_at s ward)) }
+    ensures { Reads (state S.Store conn.old) (state S.Store conn.new) result (λ s found. IsFoundFor found (option_map (election_of s) (ward_at s ward))) }
 {
     let found = find_ward(conn, ward)?;
     match found {

@@ -1,13 +1,13 @@
 -- Why `seal_part` keeps its promise.
-use Rattle.std.proofs.Common.{sym, ap, ◌∙◌, true≢false}
+use Rattle.std.proofs.Common.{option_map, sym, ◌∙◌, true≢false}
 use Rattle.register.specs.Offices.{ward_at}
-use Rattle.store.specs.Elections.{polled_part}
+use Rattle.register.specs.Elections.{election_of}
 use Rattle.store.proofs.ElectionLemmas.{part_polled, sound_polled}
 use Rattle.store.proofs.ReadsLemmas.{reads_as, reads_stopped}
 use Rattle.store.proofs.views.counts.seal_part.Goals as goal
 
 pub returns : goal.returns
-returns g c = reads_as c.in_ok-found.ensures (λ s is found. c.in_ok-part.ensures.part ∙ ap polled_part found ∙ part_polled s (ward_at s c.args.ward))
+returns g c = reads_as c.in_ok-found.ensures (λ s is found. c.in_ok-part.ensures.part (option_map (election_of s) (ward_at s c.args.ward)) found ∙ part_polled s (ward_at s c.args.ward))
 
 pub returns-in_err-part : goal.returns-in_err-part
 returns-in_err-part g c =

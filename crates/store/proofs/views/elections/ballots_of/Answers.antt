@@ -1,8 +1,8 @@
 -- Why `ballots_of` keeps its promise.
-use Rattle.std.proofs.Common.{List, map, take, sym, ap, ◌∙◌, ◌++◌, ◌∷◌, []}
+use Rattle.std.proofs.Common.{List, map, take, sym, subst, ap, ◌∙◌, ◌++◌, ◌∷◌, []}
 use Rattle.std.proofs.lemmas.List.{map-append}
 use Rattle.register.specs.Offices.{BatchEntry, batch_entry}
-use Rattle.register.specs.Polls.{Pile, pile_of, ballots_in}
+use Rattle.register.specs.Polls.{Pile, pile_of, StandFor, ballots_in}
 use Rattle.store.proofs.ReadsLemmas.{reads_none, reads_as, reads_both, reads_cut, reads_stopped, entries_more, entries_all, no_batch}
 use Rattle.store.proofs.views.elections.ballots_of.Goals as goal
 
@@ -17,8 +17,9 @@ loop-batch-preserved g c =
     (λ s is told.
     let bs = take k (map batch_entry c.args.batches.now) in
     let piles = map (pile_of s) bs in
-    c.in_ok-add_papers.ensures.adds piles told.0
-    ∙ ap (ballots_in c.args.columns) (ap (λ (p : Pile). piles ++ p ∷ []) told.1 ∙ sym (ap (map (pile_of s)) next ∙ map-append (pile_of s) bs (_ ∷ []))))
+    subst (StandFor g.P.KeepsPapers.holds c.add_papers.new.ballots)
+    (ap (ballots_in c.args.columns) (ap (λ (p : Pile). piles ++ p ∷ []) told.1 ∙ sym (ap (map (pile_of s)) next ∙ map-append (pile_of s) bs (_ ∷ []))))
+    (c.in_ok-add_papers.ensures.adds piles told.0))
 
 pub returns-in_err-papers : goal.returns-in_err-papers
 returns-in_err-papers g c = reads_cut c.from_residual.ensures.1 c.loop-batch.invariant c.in_err-papers.ensures
@@ -29,4 +30,5 @@ returns-in_err-add_papers g c = reads_stopped c.from_residual-in_err-add_papers.
 pub returns : goal.returns
 returns g c =
     reads_as c.loop-batch.invariant
-    (λ s is told. told ∙ ap (λ (bs : List BatchEntry). ballots_in c.args.columns (map (pile_of s) bs)) (entries_all batch_entry c.args.batches.now _ c.loop-batch-test.false))
+    (λ s is told. subst (λ (bs : List BatchEntry). StandFor g.P.KeepsPapers.holds c.loop-batch.ballots (ballots_in c.args.columns (map (pile_of s) bs)))
+    (entries_all batch_entry c.args.batches.now _ c.loop-batch-test.false) told)

@@ -1,8 +1,8 @@
 -- Why `find_ballots` keeps its promise.
-use Rattle.std.proofs.Common.{ℕ, List, map, ap, ◌∙◌}
+use Rattle.std.proofs.Common.{ℕ, List, map, subst, ap, ◌∙◌}
 use Rattle.register.specs.Offices.{candidate_entry}
 use Rattle.register.specs.Marks.{columns_of}
-use Rattle.register.specs.Polls.{piles_of, ballots_in}
+use Rattle.register.specs.Polls.{piles_of, StandFor, ballots_in}
 use Rattle.store.proofs.ReadsLemmas.{reads_as, reads_both, reads_cut}
 use Rattle.store.proofs.views.elections.find_ballots.Goals as goal
 
@@ -11,7 +11,7 @@ returns g c =
     reads_as (reads_both c.in_ok-candidates.ensures c.in_ok-ballots.ensures)
     (λ s is told.
     let columns = c.columns_of.ensures.is ∙ ap columns_of (ap (map candidate_entry) c.deref.ensures.value ∙ told.0) in
-    told.1 ∙ ap (λ (columns : List ℕ). ballots_in columns (piles_of s c.args.ward)) columns)
+    subst (λ (columns : List ℕ). StandFor g.P.KeepsPapers.holds c.in_ok-ballots.ballots (ballots_in columns (piles_of s c.args.ward))) columns told.1)
 
 pub returns-in_err-ballots : goal.returns-in_err-ballots
 returns-in_err-ballots g c = reads_cut c.from_residual-in_err-ballots.ensures.1 c.in_ok-candidates.ensures c.in_err-ballots.ensures

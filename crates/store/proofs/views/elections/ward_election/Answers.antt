@@ -1,9 +1,8 @@
 -- Why `ward_election` keeps its promise.
-use Rattle.std.proofs.Common.{ℕ, List, map, refl, ap, ◌∙◌}
+use Rattle.std.proofs.Common.{ℕ, List, map, refl, subst, ap, ◌∙◌}
 use Rattle.register.specs.Offices.{candidate_entry}
 use Rattle.register.specs.Marks.{columns_of}
-use Rattle.register.specs.Polls.{piles_of, ballots_in}
-use Rattle.store.proofs.ElectionLemmas.{same_election}
+use Rattle.register.specs.Polls.{piles_of, StandFor, are_bundled, ballots_in}
 use Rattle.store.proofs.ReadsLemmas.{reads_as, reads_both, reads_cut}
 use Rattle.store.proofs.views.elections.ward_election.Goals as goal
 
@@ -13,7 +12,12 @@ returns g c =
     (λ s is told.
     let candidates = told.0.0 in
     let columns = c.columns_of.ensures.is ∙ ap columns_of (ap (map candidate_entry) c.deref.ensures.value ∙ candidates) in
-    same_election _ _ refl candidates (told.0.1 ∙ ap (λ (columns : List ℕ). ballots_in columns (piles_of s c.args.ward.number)) columns) told.1)
+    record {
+      ward_is = refl;
+      candidates_are = candidates;
+      ballots_are = subst (λ (columns : List ℕ). StandFor are_bundled c.in_ok-ballots.ballots (ballots_in columns (piles_of s c.args.ward.number))) columns told.0.1;
+      lots_are = told.1;
+    })
 
 pub returns-in_err-ballots : goal.returns-in_err-ballots
 returns-in_err-ballots g c = reads_cut c.from_residual-in_err-ballots.ensures.1 c.in_ok-candidates.ensures c.in_err-ballots.ensures
