@@ -1,9 +1,10 @@
 -- A read that is refused, or stopped by want of memory.
-use Rattle.std.proofs.Common.{◌≡◌, inl, ℕ, Option, Some, None, option_map, Result, Ok, Err, IfErr, refl, ap, subst, ◌∙◌}
+use Rattle.std.proofs.Common.{◌≡◌, inl, ℕ, Option, Some, None, option_map, Result, Ok, Err, IfErr, refl, subst}
 use Rattle.sqlite.specs.State.{State}
 use Rattle.register.specs.declared.elections.Election.{Election}
 use Rattle.register.specs.Offices.{WardEntry, OfficeState, ward_at}
-use Rattle.register.specs.Elections.{election_of, election_entry}
+use Rattle.register.specs.Elections.{ElectionEntry, IsElection, election_of}
+use Rattle.store.specs.Elections.{IsFoundFor}
 use Rattle.register.proofs.MapLemmas.{found_number}
 use Rattle.office.specs.declared.answers.Stop.{Stop}
 use Rattle.office.specs.declared.answers.Stop.TheVariants.{Refused, Fault as Failed}
@@ -19,11 +20,11 @@ if_of_memory old new (Ok x) h = tt
 if_of_memory old new (Err stop) h = stops_of_memory old new stop h
 
 -- the election that was found is that of a ward of the state, so its texts can be written
-pub found_is_textual : (s : OfficeState) (ward : ℕ) (e : Election) → ((w : WardEntry) → ward_at s w.number ≡ Some w → IsTextual (election_of s w)) → Some (election_entry e) ≡ option_map (election_of s) (ward_at s ward) → IsTextual (election_entry e)
-found_is_textual s ward e law same = go (ward_at s ward) refl
+pub found_is_textual : {R : Type 0} (s : OfficeState) (ward : ℕ) (e : Election) → ((w : WardEntry) → ward_at s w.number ≡ Some w → IsTextual (election_of s w)) → IsFoundFor (Some e) (option_map (election_of s) (ward_at s ward))
+    → ((entry : ElectionEntry) → IsElection e entry → IsTextual entry → R) → R
+found_is_textual {R = R} s ward e law made so = by_ward (ward_at s ward) refl made
   where
-    go : (o : Option WardEntry) → ward_at s ward ≡ o → IsTextual (election_entry e)
-    go None none = absurd (let no = same ∙ ap (option_map (election_of s)) none in cc)
-    go (Some w) found =
-        let there : ward_at s w.number ≡ Some w = subst (λ (n : ℕ). ward_at s n ≡ Some w) (found_number (λ (x : WardEntry). x.number) s.wards ward w found) found in
-        subst IsTextual (let yes = same ∙ ap (option_map (election_of s)) found in cc) (law w there)
+    by_ward : (o : Option WardEntry) → ward_at s ward ≡ o → IsFoundFor (Some e) (option_map (election_of s) o) → R
+    by_ward None none gone = absurd gone
+    by_ward (Some w) found is =
+        so (election_of s w) is (law w (subst (λ (n : ℕ). ward_at s n ≡ Some w) (found_number (λ (x : WardEntry). x.number) s.wards ward w found) found))

@@ -6,7 +6,7 @@ ghost use Rattle.register.specs.Standings.{status_entry, work_entry, work_of};
 ghost use Rattle.register.specs.Seen.{seen_by};
 ghost use Rattle.register.specs.declared.refusal.Reason.{Reason};
 ghost use Rattle.tables.specs.Reading.{OnlyReads};
-ghost use Rattle.register.specs.Elections.{election_entry};
+ghost use Rattle.register.specs.Elections.{ElectionEntry, IsElection};
 ghost use Rattle.office.specs.Answers.{WhenOpenAt};
 ghost use Rattle.office.specs.Reads.{Read, status_told, columns_told, work_told, StopsFor, StopsBy, ClosesAt};
 ghost use Rattle.office.specs.Sheets.{is_told_in, text_shown, text_told, StopsText, IsTextual, IsOfMemory};
@@ -189,10 +189,10 @@ impl<S: Alter> Office<S> {
     /// A text of the ward of an election that was read. Only want of memory fails it where its texts can be
     /// written, as those of each ward of an office can.
     fn text_of(&mut self, election: &Election, text: Text) -> Result<String, Stop>
-        ensures told { IfOk result (λ told. (is_told_in text election.now.ward.phase ≡ true) × (string_bytes told ≡ text_shown text (election_entry election.now))) }
+        ensures told { IfOk result (λ told. (is_told_in text election.now.ward.phase ≡ true) × ((e : ElectionEntry) → IsElection election.now e → string_bytes told ≡ text_shown text e)) }
         ensures stopped { self.old.closed ≡ false → IfErr result (λ stop. StopsText text election.now.ward.phase self.new.closed stop) }
         ensures closes { IfErr result (ClosesAt self.new.closed) }
-        ensures cause { IsTextual (election_entry election.now) → IfErr result IsOfMemory }
+        ensures cause { (e : ElectionEntry) → IsElection election.now e → IsTextual e → IfErr result IsOfMemory }
         ensures held { self.new.held ≡ self.old.held }
         ensures open_still { OnOk result (self.new.closed ≡ self.old.closed) }
     {

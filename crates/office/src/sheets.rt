@@ -1,12 +1,12 @@
 //! The stage sheet and the declaration of a ward, written from its election.
 
-ghost use Rattle.std.specs.Prelude.{◌≡◌, ◌≤◌, true, length, map, Some, IfOk, IfSome, IsSome, string_bytes};
+ghost use Rattle.std.specs.Prelude.{◌≡◌, ◌≤◌, true, map, Some, IfOk, IfSome, IsSome, string_bytes};
 ghost use Rattle.std.specs.List.{list_all};
-ghost use Rattle.votes.specs.Units.{max_seats, max_papers};
+ghost use Rattle.votes.specs.Units.{max_seats};
 ghost use Rattle.register.specs.Ranges.{is_candidate_number};
 ghost use Rattle.register.specs.Offices.{WardEntry, OfficeState, ward_at, candidate_entry};
 ghost use Rattle.register.specs.Items.{IsState};
-ghost use Rattle.register.specs.Elections.{election_entry, election_of, elected_of};
+ghost use Rattle.register.specs.Elections.{ElectionEntry, IsElection, election_of, elected_of};
 ghost use Rattle.sheet.specs.Entries.{shown};
 ghost use Rattle.sheet.specs.Wards.{CanBePrinted};
 ghost use Rattle.office.specs.Sheets.{is_numbered, CanBeCounted, IsTextual, candidate_shown, poll_shown, election_shown, sheet_of, declaration_of, is_told_in, text_shown};
@@ -78,11 +78,11 @@ fn candidate_lines(
     Ok(Some(lines))
 }
 
-/// What is told of the papers of a contested ward; none where they are too many to be counted, as no
-/// ward's of an office are.
+/// What is told of the papers of a contested ward; none where it has no seats, or more than a ward can have,
+/// as no ward of an office has.
 fn poll_of(election: &Election) -> Option<Option<Poll>>
-    ensures is { IfSome result (λ poll. poll ≡ poll_shown (election_entry election.now)) }
-    ensures some { 1 ≤ election.now.ward.seats → election.now.ward.seats ≤ max_seats → length election.now.ballots.papers.items ≤ max_papers → IsSome result }
+    ensures is { IfSome result (λ poll. (e : ElectionEntry) → IsElection election.now e → poll ≡ poll_shown e) }
+    ensures some { 1 ≤ election.now.ward.seats → election.now.ward.seats ≤ max_seats → IsSome result }
 {
     if !is_contested(&election.ward, &election.candidates) {
         return Some(None);
@@ -99,9 +99,9 @@ fn poll_of(election: &Election) -> Option<Option<Poll>>
 /// The ward of an election, as the texts show it, with these lines of its candidates; none where a number
 /// is out of range, as none of an office is.
 fn ward_of<'a>(election: &'a Election, candidates: &'a [(u8, String)]) -> Option<Ward<'a>>
-    ensures is { map (λ line. (line.0, string_bytes line.1)) candidates.now ≡ map candidate_shown (election_entry election.now).candidates
-        → IfSome result (λ ward. shown ward ≡ election_shown (election_entry election.now)) }
-    ensures some { IsTextual (election_entry election.now) → IsSome result }
+    ensures is { (e : ElectionEntry) → IsElection election.now e → map (λ line. (line.0, string_bytes line.1)) candidates.now ≡ map candidate_shown e.candidates
+        → IfSome result (λ ward. shown ward ≡ election_shown e) }
+    ensures some { (e : ElectionEntry) → IsElection election.now e → IsTextual e → IsSome result }
 {
     let Ok(number) = u8::try_from(election.ward.number) else {
         return None;
@@ -129,8 +129,8 @@ fn stage_sheet(
     ward: &Ward<'_>,
 ) -> Result<Option<String>, AllocError>
     requires { CanBePrinted ward.now }
-    ensures is { IfOk result (λ found. shown ward.now ≡ election_shown (election_entry election.now) → IfSome found (λ text. string_bytes text ≡ sheet_of (election_entry election.now))) }
-    ensures some { IfOk result (λ found. CanBeCounted (election_entry election.now) → IsSome found) }
+    ensures is { IfOk result (λ found. (e : ElectionEntry) → IsElection election.now e → shown ward.now ≡ election_shown e → IfSome found (λ text. string_bytes text ≡ sheet_of e)) }
+    ensures some { IfOk result (λ found. (e : ElectionEntry) → IsElection election.now e → CanBeCounted e → IsSome found) }
 {
     if !is_contested(&election.ward, &election.candidates) {
         return Ok(Some(sheet_text(alloc, ward, &[])?));
@@ -144,8 +144,8 @@ fn stage_sheet(
 /// Who is elected; none where no count can be held, as it can in each contested ward of an office. An
 /// error is want of memory.
 fn elected_in(alloc: Global, election: &Election) -> Result<Option<Columns>, AllocError>
-    ensures is { IfOk result (λ found. IfSome found (λ elected. elected ≡ elected_of (election_entry election.now))) }
-    ensures some { IfOk result (λ found. CanBeCounted (election_entry election.now) → IsSome found) }
+    ensures is { IfOk result (λ found. IfSome found (λ elected. (e : ElectionEntry) → IsElection election.now e → elected ≡ elected_of e)) }
+    ensures some { IfOk result (λ found. (e : ElectionEntry) → IsElection election.now e → CanBeCounted e → IsSome found) }
 {
     if !is_contested(&election.ward, &election.candidates) {
         return Ok(Some(columns_of(&election.candidates)));
@@ -164,9 +164,8 @@ fn declaration(
     ward: &Ward<'_>,
 ) -> Result<Option<String>, AllocError>
     requires { CanBePrinted ward.now }
-    ensures is { IfOk result (λ found. shown ward.now ≡ election_shown (election_entry election.now)
-        → IfSome found (λ text. string_bytes text ≡ declaration_of (election_entry election.now))) }
-    ensures some { IfOk result (λ found. CanBeCounted (election_entry election.now) → IsSome found) }
+    ensures is { IfOk result (λ found. (e : ElectionEntry) → IsElection election.now e → shown ward.now ≡ election_shown e → IfSome found (λ text. string_bytes text ≡ declaration_of e)) }
+    ensures some { IfOk result (λ found. (e : ElectionEntry) → IsElection election.now e → CanBeCounted e → IsSome found) }
 {
     let Some(elected) = elected_in(alloc, election)? else {
         return Ok(None);
@@ -180,8 +179,8 @@ pub(crate) fn text_of(
     election: &Election,
     text: Text,
 ) -> Result<Option<String>, AllocError>
-    ensures is { IfOk result (λ found. IfSome found (λ told. string_bytes told ≡ text_shown text (election_entry election.now))) }
-    ensures some { IfOk result (λ found. IsTextual (election_entry election.now) → IsSome found) }
+    ensures is { IfOk result (λ found. IfSome found (λ told. (e : ElectionEntry) → IsElection election.now e → string_bytes told ≡ text_shown text e)) }
+    ensures some { IfOk result (λ found. (e : ElectionEntry) → IsElection election.now e → IsTextual e → IsSome found) }
 {
     let Some(candidates) = candidate_lines(alloc, &election.candidates)? else {
         return Ok(None);
