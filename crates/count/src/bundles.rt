@@ -65,7 +65,7 @@ impl Bundles {
         ensures adds { OnOk result (IsPermutation (replicate papers list ++ papers_of self.old) (papers_of self.new)) }
         ensures err { OnErr result (self.new ≡ self.old) }
     {
-        // the list is one of candidates, each once
+        // its clauses tell the proof that the list has some candidates, each once
         let _ = list.as_slice();
         add_to(&mut self.lists, list, papers)?;
         self.papers += papers;
