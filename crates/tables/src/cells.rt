@@ -3,8 +3,8 @@
 ghost use Rattle.std.specs.Prelude.{◌≡◌, ◌≢◌, ◌⊎◌, pos, IfOk, IfErr, string_bytes};
 ghost use Rattle.sqlite.specs.Value.{owned};
 ghost use Rattle.sqlite.specs.Order.{column};
-ghost use Rattle.sqlite.specs.declared.types.Value.TheVariants.{Int as Number, Text as Words};
-ghost use Rattle.tables.specs.Cells.{IsNumber, IsText};
+ghost use Rattle.sqlite.specs.declared.types.Value.TheVariants.{Int as Number, Text as Words, Blob as Bytes};
+ghost use Rattle.tables.specs.Cells.{IsNumber, IsText, IsBytes};
 ghost use Rattle.tables.specs.Faults.{value_fault};
 
 use crate::fault::Fault;
@@ -23,6 +23,13 @@ pub fn text(s: &str) -> ValueRef<'_>
     ensures { owned result ≡ Words s.now }
 {
     ValueRef::Text(s.as_bytes())
+}
+
+/// Bytes as a parameter.
+pub fn bytes(b: &[u8]) -> ValueRef<'_>
+    ensures { owned result ≡ Bytes b.now }
+{
+    ValueRef::Blob(b)
 }
 
 /// Why a value did not read: `Memory` for want of memory, else `Damaged`.
@@ -64,6 +71,17 @@ pub fn text_at(row: &Row, place: usize) -> Result<String, Fault>
 {
     match row.get::<String>(place) {
         Ok(s) => Ok(s),
+        Err(e) => Err(value_fault(e)),
+    }
+}
+
+/// The bytes in a column; `Damaged` where there are none, as where it has a text.
+pub fn bytes_at(row: &Row, place: usize) -> Result<Vec<u8>, Fault>
+    ensures bytes { IfOk result (λ b. column row.now place ≡ Bytes b.items) }
+    ensures cause { IfErr result (λ f. (f ≡ Fault.Memory) ⊎ ((f ≡ Fault.Damaged) × ¬ IsBytes (column row.now place))) }
+{
+    match row.get::<Vec<u8>>(place) {
+        Ok(b) => Ok(b),
         Err(e) => Err(value_fault(e)),
     }
 }
