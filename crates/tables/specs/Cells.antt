@@ -8,6 +8,10 @@ use Rattle.sqlite.specs.declared.types.Value.TheVariants.{Int, Text, Blob}
 abbrev pub IsNumber : Value → Type 0
 IsNumber v = (n : ℕ) × (n < 2 ^ 32) × (v ≡ Int (pos n))
 
+-- a number from 0 on
+abbrev pub IsAmount : Value → Type 0
+IsAmount v = (n : ℕ) × (v ≡ Int (pos n))
+
 -- a text that is UTF-8
 abbrev pub IsText : Value → Type 0
 IsText v = (t : List ℕ) × IsUtf8 t × (v ≡ Text t)

@@ -1,10 +1,10 @@
 //! Values on their way into a row and out of it.
 
-ghost use Rattle.std.specs.Prelude.{◌≡◌, ◌≢◌, ◌⊎◌, pos, IfOk, IfErr, string_bytes};
+ghost use Rattle.std.specs.Prelude.{◌≡◌, ◌≢◌, ◌⊎◌, ◌<◌, ◌^◌, pos, IfOk, IfErr, string_bytes};
 ghost use Rattle.sqlite.specs.Value.{owned};
 ghost use Rattle.sqlite.specs.Order.{column};
 ghost use Rattle.sqlite.specs.declared.types.Value.TheVariants.{Int as Number, Text as Words, Blob as Bytes};
-ghost use Rattle.tables.specs.Cells.{IsNumber, IsText, IsBytes};
+ghost use Rattle.tables.specs.Cells.{IsNumber, IsAmount, IsText, IsBytes};
 ghost use Rattle.tables.specs.Faults.{value_fault};
 
 use crate::fault::Fault;
@@ -16,6 +16,17 @@ pub fn number<'a>(n: u32) -> ValueRef<'a>
     ensures { owned result ≡ Number (pos n) }
 {
     ValueRef::Int(i64::from(n))
+}
+
+/// A number below 2^63 as a parameter.
+pub fn amount<'a>(n: u64) -> ValueRef<'a>
+    requires { n < 2 ^ 63 }
+    ensures { owned result ≡ Number (pos n) }
+{
+    match i64::try_from(n) {
+        Ok(n) => ValueRef::Int(n),
+        Err(_) => unreachable!(),
+    }
 }
 
 /// A text as a parameter.
@@ -48,6 +59,17 @@ pub fn number_at(row: &Row, place: usize) -> Result<u32, Fault>
     ensures cause { IfErr result (λ f. (f ≡ Fault.Memory) ⊎ ((f ≡ Fault.Damaged) × ¬ IsNumber (column row.now place))) }
 {
     match row.get::<u32>(place) {
+        Ok(n) => Ok(n),
+        Err(e) => Err(value_fault(e)),
+    }
+}
+
+/// The number in a column; `Damaged` where there is none, or one below 0.
+pub fn amount_at(row: &Row, place: usize) -> Result<u64, Fault>
+    ensures amount { IfOk result (λ n. column row.now place ≡ Number (pos n)) }
+    ensures cause { IfErr result (λ f. (f ≡ Fault.Memory) ⊎ ((f ≡ Fault.Damaged) × ¬ IsAmount (column row.now place))) }
+{
+    match row.get::<u64>(place) {
         Ok(n) => Ok(n),
         Err(e) => Err(value_fault(e)),
     }
