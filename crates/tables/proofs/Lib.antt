@@ -22,6 +22,7 @@ pub mod CauseLemmas
 pub mod ListingLemmas
 pub mod HoldLemmas
 pub mod FindLemmas
+pub mod WalkLemmas
 pub mod RowidLemmas
 pub mod MakeLemmas
 pub mod StopLemmas

@@ -1,5 +1,5 @@
 -- Elements of mapped, permuted and filtered lists.
-use Rattle.std.proofs.Common.{◌≡◌, inl, inr, ℕ, zero, suc, ◌+◌, ◌<◌, List, [], ◌∷◌, map, filter, length, get_or, slice_get, Some, Bool, true, false, cond, refl, sym, ap, ◌∙◌, arith, Ordering}
+use Rattle.std.proofs.Common.{◌≡◌, inl, inr, ℕ, zero, suc, ◌+◌, ◌<◌, List, [], ◌∷◌, ◌++◌, map, filter, length, get_or, slice_get, Some, Bool, true, false, cond, refl, sym, ap, ◌∙◌, arith, Ordering}
 use Rattle.std.specs.List.{AllByRecursion, list_all}
 use Rattle.std.proofs.lemmas.Bool.{and_from}
 use Rattle.std.specs.Ordering.{is_lt}
@@ -64,6 +64,15 @@ pub has_at : {X : Type 0} (xs : List X) (k : ℕ) (d : X) → k < length xs → 
 has_at [] k d h = absurd (omega (arith, h))
 has_at (x ∷ xs) zero d h = inl refl
 has_at (x ∷ xs) (suc k) d h = inr (has_at xs k d (omega (arith, h)))
+
+pub front_has : {X : Type 0} (xs ys : List X) (x : X) → Has xs x → Has (xs ++ ys) x
+front_has [] ys x h = absurd h
+front_has (z ∷ xs) ys x (inl same) = inl same
+front_has (z ∷ xs) ys x (inr later) = inr (front_has xs ys x later)
+
+pub last_has : {X : Type 0} (xs : List X) (x : X) → Has (xs ++ x ∷ []) x
+last_has [] x = inl refl
+last_has (z ∷ xs) x = inr (last_has xs x)
 
 pub get_any : {X : Type 0} (xs : List X) (k : ℕ) (d e : X) → k < length xs → get_or xs k d ≡ get_or xs k e
 get_any [] k d e h = absurd (omega (arith, h))

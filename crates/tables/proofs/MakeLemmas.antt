@@ -1,5 +1,5 @@
 -- The tables, made one after the other.
-use Rattle.std.proofs.Common.{◌≡◌, inl, inr, ℕ, zero, suc, ◌+◌, ◌<◌, List, [], ◌∷◌, ◌++◌, map, drop, take, slice_get, Some, false, None, Ok, Err, Result, OnOk, IsTrue, refl, sym, ap, subst, ◌∙◌, arith}
+use Rattle.std.proofs.Common.{◌≡◌, inl, inr, ℕ, zero, suc, ◌+◌, ◌<◌, List, [], ◌∷◌, map, drop, take, slice_get, Some, false, None, Ok, Err, Result, OnOk, IsTrue, refl, sym, ap, subst, ◌∙◌, arith}
 use Rattle.std.specs.List.{AllByRecursion}
 use Rattle.std.specs.List.Sorted.{IsPermutation}
 use Rattle.std.proofs.lemmas.Bool.{cases_lt}
@@ -25,7 +25,7 @@ use Rattle.tables.specs.Schema.{Definition, schema_from, no_schema, definition, 
 use Rattle.tables.specs.Rows.{Keyed}
 use Rattle.tables.specs.Contents.{HoldsTable, IsOffice, Sees}
 use Rattle.tables.specs.Making.{no_contents, SeesMade}
-use Rattle.tables.proofs.ListLemmas.{mapped_has}
+use Rattle.tables.proofs.ListLemmas.{mapped_has, front_has}
 use Rattle.tables.proofs.TableLemmas.{same_place, place_below}
 use Rattle.tables.proofs.WentLemmas.{went, same_value}
 
@@ -61,11 +61,6 @@ taken_has [] n k x low at = absurd cc
 taken_has (y ∷ ys) zero k x low at = absurd (omega (arith, low))
 taken_has (y ∷ ys) (suc n) zero x low at = inl cc
 taken_has (y ∷ ys) (suc n) (suc k) x low at = inr (taken_has ys n k x (omega (arith, low)) at)
-
-front_has : {X : Type 0} (xs ys : List X) (x : X) → Has xs x → Has (xs ++ ys) x
-front_has [] ys x h = absurd h
-front_has (z ∷ xs) ys x (inl same) = inl same
-front_has (z ∷ xs) ys x (inr later) = inr (front_has xs ys x later)
 
 at_place : (t : Table) → slice_get all_tables (place_of t) ≡ Some t
 at_place Office = refl

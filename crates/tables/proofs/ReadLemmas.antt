@@ -32,30 +32,35 @@ left : {X : Type 0} (sql : List ℕ) (params : Row) (old new : State) (rows : X 
 left sql params old new rows (Ok x) query shown failed = inl (shown_same sql params old new (rows x) query shown)
 left sql params old new rows (Err e) query shown failed = failed_query sql params old new e query failed
 
-never_commits : (sql : List ℕ) (params : Row) (s : State) (trees : Trees) → IsQuery sql → CommitsShowing sql params s trees → ⊥
+pub never_commits : (sql : List ℕ) (params : Row) (s : State) (trees : Trees) → IsQuery sql → CommitsShowing sql params s trees → ⊥
 unfolding CommitsShowing
 never_commits sql params s trees query h = absurd (let some = rw (query s.now.schema h.0 h.1.is) at h.2 in cc)
 
-pub only_reads : {X : Type 0} (sql : List ℕ) (params : Row) (old new : State) (rows : X → List Row) (r : Result X Error) → IsQuery sql
-    → (HasCleanDisk new → IfOk r (λ x. Shown sql params old new (rows x))) → (HasCleanDisk new → IfErr r (FailsToQuery sql params old new)) → Survives old new (CommitsShowing sql params old) → OnlyReads old new
-only_reads sql params old new rows r query shown failed survives = record {
+-- what leaves a connection as it was, or rolls back, and commits nothing, only reads
+pub reads_left : (Commits : Trees → Type 0) (old new : State) → ((trees : Trees) → Commits trees → ⊥) → (HasCleanDisk new → IsUnchanged old new ⊎ IsRolledBack old new) → Survives old new Commits → OnlyReads old new
+reads_left Commits old new never which survives = record {
   limit = survives.limit;
   counts = survives.counts;
   closes = survives.closes;
   clean = λ honest. let low = survives.clean in omega (arith, low, honest);
-  was_open = λ honest is_open. elim (left sql params old new rows r query (shown honest) (failed honest)) [
+  was_open = λ honest is_open. elim (which honest) [
     | inl same ↦ same.0.was_open
     | inr undone ↦ undone.was_open is_open
   ];
-  rests = λ honest is_open db at. elim (left sql params old new rows r query (shown honest) (failed honest)) [
+  rests = λ honest is_open db at. elim (which honest) [
     | inl same ↦ record { is_open = is_open; outside = same.0.mode ∙ at.outside; now = same.0.now_is ∙ at.now; committed = same.0.committed_is ∙ at.committed }
     | inr undone ↦ let both = undone.undone is_open in record { is_open = is_open; outside = undone.autocommit; now = both.0 ∙ at.committed; committed = both.1 ∙ at.committed }
   ];
   leaves = λ honest trees may. elim (survives.crash honest trees may) [
     | inl was ↦ was
-    | inr made ↦ absurd (never_commits sql params old trees query made)
+    | inr made ↦ absurd (never trees made)
   ];
 }
+
+pub only_reads : {X : Type 0} (sql : List ℕ) (params : Row) (old new : State) (rows : X → List Row) (r : Result X Error) → IsQuery sql
+    → (HasCleanDisk new → IfOk r (λ x. Shown sql params old new (rows x))) → (HasCleanDisk new → IfErr r (FailsToQuery sql params old new)) → Survives old new (CommitsShowing sql params old) → OnlyReads old new
+only_reads sql params old new rows r query shown failed survives =
+    reads_left (CommitsShowing sql params old) old new (λ trees. never_commits sql params old trees query) (λ honest. left sql params old new rows r query (shown honest) (failed honest)) survives
 
 -- a query that answers leaves the connection open
 pub query_opens : {X : Type 0} (sql : List ℕ) (params : Row) (old new : State) (rows : X → List Row) (r : Result X Error) → IsQuery sql → IfOk r (λ x. Shown sql params old new (rows x)) → OnOk r (IsTrue new.is_open)

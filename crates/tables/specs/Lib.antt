@@ -7,3 +7,4 @@ pub mod Faults
 pub mod Making
 pub mod Presence
 pub mod Reading
+pub mod Walking

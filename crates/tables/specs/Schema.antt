@@ -4,7 +4,7 @@ use Rattle.std.specs.List.{AllByRecursion}
 use Rattle.sqlite.specs.declared.types.Value.TheVariants.{Null, Int}
 use Rattle.sqlite.specs.Collation.TheVariants.{Binary}
 use Rattle.sqlite.specs.Kind.{Kind}
-use Rattle.sqlite.specs.Kind.TheVariants.{Integer, Text}
+use Rattle.sqlite.specs.Kind.TheVariants.{Integer, Text, Blob}
 use Rattle.sqlite.specs.Term.{Term, lit, col, op2}
 use Rattle.sqlite_sql.specs.declared.ops.BinaryOp.TheVariants.{And, Compare}
 use Rattle.sqlite_sql.specs.declared.ops.CompareOp.TheVariants.{Ge, Le}
@@ -28,7 +28,7 @@ Definition = sqlite_table.Table
 
 -- ---- what tells the tables apart
 
--- a column as the text of its table has it: whole numbers or texts, and the range that they are held to
+-- a column as the text of its table has it: whole numbers, texts or bytes, and the range that they are held to
 pub record Field : Type 0 where
   pub name : List ℕ
   pub kind : Kind
@@ -45,6 +45,10 @@ within name low high = record { name = name; kind = Integer; range = Some (low, 
 -- texts
 abbrev pub words : List ℕ → Field
 words name = record { name = name; kind = Text; range = None }
+
+-- bytes
+abbrev pub bytes : List ℕ → Field
+bytes name = record { name = name; kind = Blob; range = None }
 
 -- A table's name and columns; the first columns, so many, are the key.
 pub record Shape : Type 0 where

@@ -1,7 +1,7 @@
 -- The texts of the statements, made from the tables' shapes.
 use Rattle.std.specs.Prelude.{ℕ, zero, suc, ◌+◌, ◌/◌, ◌%◌, ◌==◌, nat_lt, ◌++◌, List, [], ◌∷◌, codes, map, take, length, slice_index_or, if◌then◌else◌, Option, None, Some}
 use Rattle.sqlite.specs.Kind.{Kind}
-use Rattle.sqlite.specs.Kind.TheVariants.{Text}
+use Rattle.sqlite.specs.Kind.TheVariants.{Text, Blob}
 use Rattle.tables.specs.declared.table.Table.{Table}
 use Rattle.tables.specs.declared.table.Reference.{Reference}
 use Rattle.tables.specs.declared.table.Setting.{Setting}
@@ -46,6 +46,7 @@ select_where t conditions = codes "SELECT " ++ joined comma (names_of t) ++ code
 
 abbrev pub kind_text : Kind → List ℕ
 kind_text Text = codes " TEXT NOT NULL"
+kind_text Blob = codes " BLOB NOT NULL"
 kind_text _ = codes " INT NOT NULL"
 
 -- the digits of a number that has at most so many

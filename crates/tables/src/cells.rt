@@ -1,10 +1,10 @@
 //! Values on their way into a row and out of it.
 
-ghost use Rattle.std.specs.Prelude.{◌≡◌, ◌≢◌, ◌⊎◌, pos, IfOk, IfErr, string_bytes};
+ghost use Rattle.std.specs.Prelude.{◌≡◌, ◌≢◌, ◌⊎◌, ◌<◌, ◌^◌, pos, IfOk, IfErr, string_bytes};
 ghost use Rattle.sqlite.specs.Value.{owned};
 ghost use Rattle.sqlite.specs.Order.{column};
-ghost use Rattle.sqlite.specs.declared.types.Value.TheVariants.{Int as Number, Text as Words};
-ghost use Rattle.tables.specs.Cells.{IsNumber, IsText};
+ghost use Rattle.sqlite.specs.declared.types.Value.TheVariants.{Int as Number, Text as Words, Blob as Bytes};
+ghost use Rattle.tables.specs.Cells.{IsNumber, IsAmount, IsText, IsBytes};
 ghost use Rattle.tables.specs.Faults.{value_fault};
 
 use crate::fault::Fault;
@@ -18,11 +18,29 @@ pub fn number<'a>(n: u32) -> ValueRef<'a>
     ValueRef::Int(i64::from(n))
 }
 
+/// A number below 2^63 as a parameter.
+pub fn amount<'a>(n: u64) -> ValueRef<'a>
+    requires { n < 2 ^ 63 }
+    ensures { owned result ≡ Number (pos n) }
+{
+    match i64::try_from(n) {
+        Ok(n) => ValueRef::Int(n),
+        Err(_) => unreachable!(),
+    }
+}
+
 /// A text as a parameter.
 pub fn text(s: &str) -> ValueRef<'_>
     ensures { owned result ≡ Words s.now }
 {
     ValueRef::Text(s.as_bytes())
+}
+
+/// Bytes as a parameter.
+pub fn bytes(b: &[u8]) -> ValueRef<'_>
+    ensures { owned result ≡ Bytes b.now }
+{
+    ValueRef::Blob(b)
 }
 
 /// Why a value did not read: `Memory` for want of memory, else `Damaged`.
@@ -46,6 +64,17 @@ pub fn number_at(row: &Row, place: usize) -> Result<u32, Fault>
     }
 }
 
+/// The number in a column; `Damaged` where there is none, or one below 0.
+pub fn amount_at(row: &Row, place: usize) -> Result<u64, Fault>
+    ensures amount { IfOk result (λ n. column row.now place ≡ Number (pos n)) }
+    ensures cause { IfErr result (λ f. (f ≡ Fault.Memory) ⊎ ((f ≡ Fault.Damaged) × ¬ IsAmount (column row.now place))) }
+{
+    match row.get::<u64>(place) {
+        Ok(n) => Ok(n),
+        Err(e) => Err(value_fault(e)),
+    }
+}
+
 /// The integer in a column; `Damaged` where there is none.
 pub fn integer_at(row: &Row, place: usize) -> Result<i64, Fault>
     ensures integer { IfOk result (λ n. column row.now place ≡ Number n) }
@@ -64,6 +93,17 @@ pub fn text_at(row: &Row, place: usize) -> Result<String, Fault>
 {
     match row.get::<String>(place) {
         Ok(s) => Ok(s),
+        Err(e) => Err(value_fault(e)),
+    }
+}
+
+/// The bytes in a column; `Damaged` where there are none, as where it has a text.
+pub fn bytes_at(row: &Row, place: usize) -> Result<Vec<u8>, Fault>
+    ensures bytes { IfOk result (λ b. column row.now place ≡ Bytes b.items) }
+    ensures cause { IfErr result (λ f. (f ≡ Fault.Memory) ⊎ ((f ≡ Fault.Damaged) × ¬ IsBytes (column row.now place))) }
+{
+    match row.get::<Vec<u8>>(place) {
+        Ok(b) => Ok(b),
         Err(e) => Err(value_fault(e)),
     }
 }

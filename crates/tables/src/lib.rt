@@ -6,8 +6,8 @@
 //! name. Their clauses say what the tables hold afterwards and what a stop may leave of them.
 //!
 //! An `impl` of `Entries` says what the rows of a table stand for; `listing`, `finding` and `writing` are
-//! those statements over entries. One more table asks for one more `impl`. `Fault` says why a call gave
-//! up.
+//! those statements over entries, and `walking` hands entries on without ever holding them all. One more
+//! table asks for one more `impl`. `Fault` says why a call gave up.
 //!
 //! ```text
 //! add_entry::<Wards, S>(alloc, &mut tx, &ward)?;
@@ -33,6 +33,7 @@ pub mod texts;
 pub mod entry;
 pub mod finding;
 pub mod listing;
+pub mod walking;
 pub mod writing;
 
 pub use entry::Entries;
