@@ -1,25 +1,23 @@
 -- Bundles are a function of the papers, in whatever order those come.
-use Rattle.std.proofs.Common.{◌≡◌, ℕ, ◌+◌, ◌*◌, ◌≤◌, Bool, true, false, cond, List, [], ◌∷◌, ◌++◌, length, replicate, Option, Some, None, unwrap_or, refl, sym, ap, ◌∙◌, subst, arith}
-use mathlib.Core.Logic.{inl}
+use Rattle.std.proofs.Common.{◌≡◌, ℕ, ◌+◌, ◌*◌, ◌≤◌, Bool, true, false, cond, List, [], ◌∷◌, replicate, Option, Some, None, unwrap_or, refl, sym, ap, ◌∙◌, arith}
 use Rattle.std.specs.List.{sum_by}
 use Rattle.std.specs.List.Sorted.{IsStrictlySortedBy, IsPermutation}
 use Rattle.std.specs.Map.{keys_of, lookup}
-use Rattle.std.specs.BTreeMap.{BTreeMap, is_at}
-use Rattle.std_collections.specs.Layout.BTreeMap.{btree_map}
+use Rattle.std.specs.BTreeMap.{is_at}
 use Rattle.std.specs.Option.{IfSome}
-use Rattle.std.specs.Ordering.{is_eq, eq_by_cmp}
+use Rattle.std.specs.Ordering.{is_eq, eq_by_cmp, ordering_reverse}
 use Rattle.std.specs.declared.cmp.Ordering.{Ordering}
 use Rattle.std.specs.declared.cmp.Ordering.TheVariants.{Less, Equal, Greater}
 use Rattle.std.specs.Cmp.Lexicographic.{nat_list_cmp_total}
-use Rattle.std.proofs.lemmas.Cmp.{eq_by_cmp_equiv}
+use Rattle.std.proofs.lemmas.Cmp.{eq_by_cmp_equiv, tied_itself}
 use Rattle.std.proofs.lemmas.List.Elements.{All-from_recursion}
 use Rattle.std.proofs.lemmas.List.Folds.{sum_by-replicate}
 use Rattle.std.proofs.lemmas.List.Sums.{sum_by-append}
 use Rattle.std.proofs.lemmas.List.Sorted.{sum_by-IsPermutation}
 use Rattle.std.proofs.lemmas.Map.{lookup-none}
-use Rattle.std.proofs.lemmas.Map.Entries.{none_past_head, All-lookup}
+use Rattle.std.proofs.lemmas.Map.Entries.{none_past_head, none_below_head, lookup_head, lookup_tail, All-lookup}
 use Rattle.std.proofs.lemmas.Map.Keys.{sorted_tail, IsDistinct-from_sorted}
-use Rattle.std.proofs.lemmas.Map.Lookups.{exact_bytes, btree_map_from_get}
+use Rattle.std.proofs.lemmas.Map.Lookups.{exact_bytes}
 use Rattle.count.specs.Bundles.{Bundle, list_cmp, papers_of, IsBundle, AreBundles}
 use Rattle.count.proofs.BundleLemmas.{number_of}
 
@@ -56,10 +54,59 @@ same_number (Some n) (Some m) some others same = ap (λ k. Some k) same
 some_number : (list : List ℕ) (bs : List Bundle) → AreBundles bs → IfSome (lookup (is_at (list_cmp list)) bs) (λ n. 1 ≤ n)
 some_number list bs all = All-lookup (λ n. 1 ≤ n) (is_at (list_cmp list)) bs (λ k d l. (All-from_recursion IsBundle bs all.each k d l).0)
 
+-- the number with which a list is found, if it is
+abbrev found : List Bundle → List ℕ → Option ℕ
+found bs list = lookup (is_at (list_cmp list)) bs
+
+some-none : (n : ℕ) → Some n ≡ None → ⊥
+some-none n same = cc
+
+-- the first is found by its list
+first_found : (b : Bundle) (bs : List Bundle) → found (b ∷ bs) b.0 ≡ Some b.1
+first_found b bs = lookup_head (is_at (list_cmp b.0)) b bs (ap is_eq (tied_itself nat_list_cmp_total b.0))
+
+-- its list isn't found behind it
+not_behind : (list : List ℕ) (b : Bundle) (bs : List Bundle) → IsStrictlySortedBy list_cmp (keys_of (b ∷ bs)) → eq_by_cmp list_cmp list b.0 ≡ true → found bs list ≡ None
+not_behind list b bs rise is =
+    lookup-none (is_at (list_cmp list)) bs (none_past_head {eq = eq_by_cmp list_cmp} (eq_by_cmp_equiv nat_list_cmp_total) list b bs (IsDistinct-from_sorted list_cmp (keys_of (b ∷ bs)) rise) is)
+
+-- a list below the first isn't found
+not_below : (list : List ℕ) (b : Bundle) (bs : List Bundle) → IsStrictlySortedBy list_cmp (keys_of (b ∷ bs)) → list_cmp list b.0 ≡ Less → found (b ∷ bs) list ≡ None
+not_below list b bs rise is = lookup-none (is_at (list_cmp list)) (b ∷ bs) (none_below_head nat_list_cmp_total list b bs rise is)
+
+-- where the same lists are found, with the same numbers, the first lists are equal
+same_heads : (b c : Bundle) (bs cs : List Bundle) (o : Ordering) → list_cmp b.0 c.0 ≡ o →
+    IsStrictlySortedBy list_cmp (keys_of (b ∷ bs)) → IsStrictlySortedBy list_cmp (keys_of (c ∷ cs)) →
+    ((list : List ℕ) → found (b ∷ bs) list ≡ found (c ∷ cs) list) → b.0 ≡ c.0
+same_heads b c bs cs Less is rise others same = absurd (some-none b.1 (sym (first_found b bs) ∙ same b.0 ∙ not_below b.0 c cs others is))
+same_heads b c bs cs Equal is rise others same = exact_bytes b.0 c.0 is
+same_heads b c bs cs Greater is rise others same =
+    absurd (some-none c.1 (sym (first_found c cs) ∙ sym (same c.0) ∙ not_below c.0 b bs rise (nat_list_cmp_total.antisymm c.0 b.0 ∙ ap ordering_reverse is)))
+
+-- and what is found behind them is the same
+same_tails : (b c : Bundle) (bs cs : List Bundle) (list : List ℕ) (here : Bool) → eq_by_cmp list_cmp list b.0 ≡ here → b.0 ≡ c.0 →
+    IsStrictlySortedBy list_cmp (keys_of (b ∷ bs)) → IsStrictlySortedBy list_cmp (keys_of (c ∷ cs)) →
+    found (b ∷ bs) list ≡ found (c ∷ cs) list → found bs list ≡ found cs list
+same_tails b c bs cs list true is heads rise others same =
+    not_behind list b bs rise is ∙ sym (not_behind list c cs others (ap (eq_by_cmp list_cmp list) (sym heads) ∙ is))
+same_tails b c bs cs list false is heads rise others same =
+    sym (lookup_tail (is_at (list_cmp list)) b bs is) ∙ same ∙ lookup_tail (is_at (list_cmp list)) c cs (ap (eq_by_cmp list_cmp list) (sym heads) ∙ is)
+
+same_found : (bs cs : List Bundle) → IsStrictlySortedBy list_cmp (keys_of bs) → IsStrictlySortedBy list_cmp (keys_of cs) → ((list : List ℕ) → found bs list ≡ found cs list) → bs ≡ cs
+same_found [] [] rise others same = refl
+same_found [] (c ∷ cs) rise others same = absurd (some-none c.1 (sym (first_found c cs) ∙ sym (same c.0)))
+same_found (b ∷ bs) [] rise others same = absurd (some-none b.1 (sym (first_found b bs) ∙ same b.0))
+same_found (b ∷ bs) (c ∷ cs) rise others same =
+    let heads : b.0 ≡ c.0 = same_heads b c bs cs (list_cmp b.0 c.0) refl rise others same in
+    let at : found (b ∷ bs) b.0 ≡ found (c ∷ cs) c.0 = same b.0 ∙ ap (found (c ∷ cs)) heads in
+    let numbers : b.1 ≡ c.1 = ap (λ o. unwrap_or o 0) (sym (first_found b bs) ∙ at ∙ first_found c cs) in
+    let behind : bs ≡ cs = same_found bs cs (sorted_tail list_cmp b.0 (keys_of bs) rise) (sorted_tail list_cmp c.0 (keys_of cs) others)
+    (λ list. same_tails b c bs cs list (eq_by_cmp list_cmp list b.0) refl heads rise others (same list)) in
+    λ i. (heads i, numbers i) ∷ behind i
+
 -- bundles of the same papers, in whatever order, are the same
 pub same-bundles : (bs cs : List Bundle) → AreBundles bs → AreBundles cs → IsPermutation (papers_of bs) (papers_of cs) → bs ≡ cs
 same-bundles bs cs all others moved =
-    btree_map_from_get nat_list_cmp_total (btree_map bs (inl tt)) (btree_map cs (inl tt)) all.rise others.rise
-    (λ list. same_number (lookup (is_at (list_cmp list)) bs) (lookup (is_at (list_cmp list)) cs) (some_number list bs all) (some_number list cs others)
+    same_found bs cs all.rise others.rise
+    (λ list. same_number (found bs list) (found cs list) (some_number list bs all) (some_number list cs others)
     (sym (counted list bs all.rise) ∙ sym (sum_by-IsPermutation (one_for list) (papers_of bs) (papers_of cs) moved) ∙ counted list cs others.rise))
-    exact_bytes

@@ -1,5 +1,5 @@
 -- On bundles: how a tree's change adds papers, and what papers bundles stand for.
-use Rattle.std.proofs.Common.{◌≡◌, ℕ, ◌+◌, ◌*◌, ◌≤◌, Bool, true, false, cond, List, [], ◌∷◌, ◌++◌, length, replicate, Option, Some, None, unwrap_or, refl, sym, ap, ◌∙◌, subst, append_assoc, length-append, arith}
+use Rattle.std.proofs.Common.{◌≡◌, ℕ, ◌+◌, ◌≤◌, Bool, true, false, cond, List, [], ◌∷◌, ◌++◌, length, replicate, Option, Some, unwrap_or, refl, sym, ap, ◌∙◌, subst, append_assoc, length-append, arith}
 use Rattle.std.specs.List.{AllByRecursion}
 use Rattle.std.specs.List.Sorted.{IsStrictlySortedBy, IsPermutation}
 use Rattle.std.specs.Map.{keys_of, lookup}
@@ -21,16 +21,14 @@ abbrev pub number_of : List ℕ → List Bundle → ℕ
 number_of list bs = unwrap_or (lookup (is_at (list_cmp list)) bs) 0
 
 -- the number of one list's papers is no more than all papers
+number_at : (b : Bundle) (bs : List Bundle) (found : Option ℕ) (here : Bool) → unwrap_or found 0 ≤ length (papers_of bs) →
+    unwrap_or (cond here (Some b.1) found) 0 ≤ length (papers_of (b ∷ bs))
+number_at b bs found true behind = omega (arith, length-append (replicate b.1 b.0) (papers_of bs), length-replicate b.1 b.0)
+number_at b bs found false behind = omega (arith, length-append (replicate b.1 b.0) (papers_of bs), behind)
+
 pub number-le-papers : (list : List ℕ) (bs : List Bundle) → number_of list bs ≤ length (papers_of bs)
 number-le-papers list [] = omega arith
-number-le-papers list (b ∷ bs) = at (is_at (list_cmp list) b.0)
-  where
-    all : length (replicate b.1 b.0 ++ papers_of bs) ≡ b.1 + length (papers_of bs)
-    all = length-append (replicate b.1 b.0) (papers_of bs) ∙ ap (λ n. n + length (papers_of bs)) (length-replicate b.1 b.0)
-
-    at : (here : Bool) → unwrap_or (cond here (Some b.1) (lookup (is_at (list_cmp list)) bs)) 0 ≤ length (replicate b.1 b.0 ++ papers_of bs)
-    at true = omega (arith, all)
-    at false = omega (arith, all, number-le-papers list bs)
+number-le-papers list (b ∷ bs) = number_at b bs (lookup (is_at (list_cmp list)) bs) (is_at (list_cmp list) b.0) (number-le-papers list bs)
 
 -- a list's number that rises by n, or n put at its place, is n papers more of it
 inserted_at : (list : List ℕ) (n : ℕ) (b : Bundle) (bs : List Bundle) (o : Ordering) → list_cmp list b.0 ≡ o → IsStrictlySortedBy list_cmp (keys_of (b ∷ bs)) →

@@ -67,7 +67,7 @@ impl Bundles {
     {
         // the list is one of candidates, each once
         let _ = list.as_slice();
-        *self.lists.entry(list)?.or_insert(0) += papers;
+        add_to(&mut self.lists, list, papers)?;
         self.papers += papers;
         Ok(())
     }
@@ -106,4 +106,14 @@ impl Bundles {
     {
         self.lists.iter()
     }
+}
+
+/// So many papers more of a list in a tree. Where memory is refused, all is as it was.
+fn add_to(lists: &mut BTreeMap<Prefs, u32>, list: Prefs, papers: u32) -> Result<(), AllocError>
+    requires { length (papers_of lists.old.entries) + papers ≤ max_papers }
+    ensures ok { OnOk result (lists.new.entries ≡ with_papers lists.old.entries list papers) }
+    ensures err { OnErr result (lists.new.entries ≡ lists.old.entries) }
+{
+    *lists.entry(list)?.or_insert(0) += papers;
+    Ok(())
 }
