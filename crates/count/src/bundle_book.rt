@@ -140,7 +140,6 @@ impl<'a> CountBook for BundleBook<'a> {
         elected_with(&self.terms, &self.stages)
     }
 
-    #[tactic(auto, using(crate::proofs::BundleBookLemmas::book_facts))]
     fn action_by(&self, lot: Option<u8>) -> Result<Action, AdvanceError> {
         action_by(&self.terms, &self.stages, lot)
     }
