@@ -62,7 +62,7 @@ impl<'a> BundleBook<'a> {
     /// A count with no stage yet.
     ///
     /// There are to be more candidates than seats, 1 to `MAX_SEATS` seats, and preferences for candidates
-    /// only.
+    /// only: `is_bundled_contest` is the test.
     pub fn new(
         alloc: Global,
         candidates: Columns,
@@ -110,6 +110,14 @@ impl<'a> BundleBook<'a> {
             places,
             stages,
         })
+    }
+
+    /// Where the papers of each bundle lie after the stages so far, in the order of the bundles: with these
+    /// and its stages another book goes on.
+    pub fn places(&self) -> &[Placed]
+        ensures { result.now ≡ map (λ b. placed (place_of self.now.contest self.now.history b.0)) self.now.bundles }
+    {
+        &self.places
     }
 
     /// Where the papers of a bundle lie after the stages so far.

@@ -49,7 +49,7 @@ mod weights;
 pub use book::{AdvanceError, CountBook};
 pub use bundle_book::BundleBook;
 pub use bundles::Bundles;
-pub use contest::is_contest;
+pub use contest::{is_bundled_contest, is_contest};
 pub use parcel_book::ParcelBook;
 pub use placed::Placed;
 pub use run::{CountEnd, run_count};
