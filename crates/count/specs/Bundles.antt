@@ -1,7 +1,7 @@
 -- Equal papers kept once: each list of preferences with the number of papers that have it.
-use Rattle.std.specs.Prelude.{ℕ, ◌+◌, ◌≤◌, List, [], ◌∷◌, length, map, fold, replicate}
+use Rattle.std.specs.Prelude.{◌≡◌, ℕ, ◌+◌, ◌≤◌, List, [], ◌∷◌, length, map, fold, replicate}
 use Rattle.std.specs.List.{AllByRecursion, flat_map}
-use Rattle.std.specs.List.Sorted.{IsStrictlySortedBy}
+use Rattle.std.specs.List.Sorted.{IsStrictlySortedBy, IsPermutation}
 use Rattle.std.specs.Ordering.{nat_cmp, match_ordering}
 use Rattle.std.specs.declared.cmp.Ordering.{Ordering}
 use Rattle.std.specs.Cmp.Lexicographic.{slice_cmp}
@@ -36,3 +36,7 @@ IsBundle b = (1 ≤ b.1) × (1 ≤ length b.0) × IsRanking b.0
 pub record AreBundles (bundles : List Bundle) : Type 0 where
   pub rise : IsStrictlySortedBy list_cmp (map (λ (b : Bundle). b.0) bundles)
   pub each : AllByRecursion IsBundle bundles
+
+-- the order of the papers doesn't matter: no other bundles stand for the same papers
+abbrev pub AreToldByPapers : List Bundle → Type 0
+AreToldByPapers bundles = (others : List Bundle) → AreBundles others → IsPermutation (papers_of others) (papers_of bundles) → others ≡ bundles

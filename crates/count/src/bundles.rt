@@ -6,7 +6,7 @@ ghost use Rattle.std.specs.Prelude.{◌≡◌, ℕ, ◌+◌, ◌<◌, ◌≤◌,
 ghost use Rattle.std.specs.List.Sorted.{IsPermutation};
 ghost use Rattle.std.specs.Map.Iter.{ShowsInOrder, deref_pair};
 ghost use Rattle.votes.specs.Units.{max_papers};
-ghost use Rattle.count.specs.Bundles.{AreBundles, papers_of, with_papers};
+ghost use Rattle.count.specs.Bundles.{AreBundles, AreToldByPapers, papers_of, with_papers};
 
 use paper::Prefs;
 use std::alloc::{AllocError, Global};
@@ -98,11 +98,13 @@ impl Bundles {
         (list, *papers)
     }
 
-    /// The bundles in the order of their lists, lent.
+    /// The bundles in the order of their lists, lent. They are the same in whatever order their papers
+    /// were added.
     pub fn iter(&self) -> Iter<'_, Prefs, u32>
         ensures rest { result ≡ self.now }
         ensures runs { ShowsInOrder (deref_pair {K = List ℕ} {X = ℕ}) }
         ensures bundles { AreBundles self.now }
+        ensures told { AreToldByPapers self.now }
     {
         self.lists.iter()
     }

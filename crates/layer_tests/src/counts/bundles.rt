@@ -50,7 +50,8 @@ fn equal_papers_are_kept_once(rt: HostRuntime) -> Result<(), Fail> {
     }
     if bundles.len() > 4 {
         let (list, papers) = bundles.get(4);
-        assert!(&rt; list.as_slice() == [4] && papers == 2, "{list:?}: {papers}");
+        let (expected, number) = &BUNDLES[4];
+        assert!(&rt; list.as_slice() == *expected && papers == *number, "{list:?}: {papers}");
     }
     Ok(())
 }
