@@ -46,12 +46,18 @@ fn equal_papers_are_kept_once(rt: HostRuntime) -> Result<(), Fail> {
     assert_eq!(&rt; bundles.papers(), 15);
     assert_eq!(&rt; bundles.len(), 6);
     for ((list, papers), (expected, number)) in bundles.iter().zip(&BUNDLES) {
-        assert!(&rt; list.as_slice() == *expected && papers == number, "{list:?}: {papers}");
+        assert!(&rt;
+            list.as_slice() == *expected && papers == number,
+            "{list:?}: {papers}"
+        );
     }
     if bundles.len() > 4 {
         let (list, papers) = bundles.get(4);
         let (expected, number) = &BUNDLES[4];
-        assert!(&rt; list.as_slice() == *expected && papers == *number, "{list:?}: {papers}");
+        assert!(&rt;
+            list.as_slice() == *expected && papers == *number,
+            "{list:?}: {papers}"
+        );
     }
     Ok(())
 }
