@@ -1,18 +1,18 @@
 -- The laws of a count hold of each book by bundles, and one that advances stays one.
-use Rattle.std.proofs.Common.{◌≡◌, ℕ, suc, zero, ◌+◌, ◌<◌, List, [], ◌∷◌, ◌++◌, length, map, replicate, reverse, get_or, Option, refl, sym, ap, ◌∙◌, arith, subst, Some}
+use Rattle.std.proofs.Common.{◌≡◌, ℕ, suc, zero, ◌+◌, ◌<◌, List, [], ◌∷◌, ◌++◌, length, map, replicate, reverse, Option, sym, ap, ◌∙◌, arith, subst, Some}
 use Rattle.std.specs.List.{AllByRecursion}
 use Rattle.std.proofs.lemmas.List.{length-reverse}
 use Rattle.paper.proofs.ColumnSets.{length_columns}
 use Rattle.paper.specs.Ranking.{IsRanking}
-use Rattle.count.specs.Advance.{Adds, Advances, IsDue}
-use Rattle.count.specs.Books.{contest_of, AreRankings}
-use Rattle.count.specs.Bundles.{Bundle, papers_of, IsBundle, AreBundles}
-use Rattle.count.specs.Law.Contest.{Contest, History, IsContest, numbers}
+use Rattle.count.specs.Advance.{Adds}
+use Rattle.count.specs.Books.{AreRankings}
+use Rattle.count.specs.Bundles.{Bundle, papers_of, IsBundle}
+use Rattle.count.specs.Law.Contest.{Contest, History, numbers}
 use Rattle.count.specs.Law.Count.{begun}
 use Rattle.count.specs.Law.Due.{drawn, due_after, lot_for}
 use Rattle.count.specs.Law.Figures.{votes_after, non_transferable_after, lost_after}
 use Rattle.count.specs.Law.Laws.{IsConserved, IsShort, FillsSeats, OnlyCandidatesHaveVotes, IsAmongSeveral}
-use Rattle.count.specs.Law.Right.{IsRight, IsRightBy, IsRightByItself, IsRightForSome, candidate_of}
+use Rattle.count.specs.Law.Right.{IsRightBy, IsRightByItself, IsRightForSome, candidate_of}
 use Rattle.count.specs.Inside.Keeping.{with_newly, IsAdded}
 use Rattle.count.specs.Inside.Placing.{contest_on, places_of, IsBundled, IsFigured}
 use Rattle.count.specs.declared.placed.Placed.{Placed}
@@ -110,7 +110,7 @@ some-own contest stages right = own_lots contest (λ before s. lot_for right.lot
 
 pub ruleset book_laws = (bundled-conserved, bundled-others, bundled-short)
 
-pub ruleset book_facts = (bundled-few, bundled-several, bundled-filled, adds-advances, drawn-due)
+pub ruleset book_facts = (bundled-filled, adds-advances)
 
 -- a lot that is due is among several, over stages that are lent
 pub due-several : (contest : Contest) (lent stages : List Stage) (bundles : List Bundle) (places : List Placed) (due : Due) → lent ≡ stages → due ≡ due_after contest (reverse lent) → IsBundled contest (reverse stages) bundles places → IsAmongSeveral due

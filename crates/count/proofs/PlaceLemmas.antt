@@ -1,20 +1,20 @@
 -- Where bundles lie: each place is sound, and an action brings it to where the law has it.
-use Rattle.std.proofs.Common.{◌≡◌, ℕ, ◌*◌, ◌<◌, ◌≤◌, Bool, true, false, cond, eqb, List, [], ◌∷◌, ◌++◌, length, drop, map, append_assoc, refl, sym, ap, ◌∙◌, arith, subst}
+use Rattle.std.proofs.Common.{◌≡◌, ℕ, ◌≤◌, Bool, true, false, cond, eqb, List, [], ◌∷◌, ◌++◌, drop, refl, sym, ap, ◌∙◌, arith}
 use Rattle.std.specs.List.{AllByRecursion}
 use Rattle.std.proofs.lemmas.List.{append-nil}
 use Rattle.std.proofs.Math.Nat.{div-le_of_le-mul, mul-le-mul_right}
 use Rattle.votes.specs.Units.{one_vote, cut}
-use Rattle.paper.specs.Columns.{max_candidates, IsColumn}
+use Rattle.paper.specs.Columns.{max_candidates}
 use Rattle.paper.specs.Ranking.{IsRanking}
 use Rattle.paper.specs.Standing.{from_first}
-use Rattle.count.specs.Bundles.{Bundle, papers_of, IsBundle}
+use Rattle.count.specs.Bundles.{Bundle, IsBundle}
 use Rattle.count.specs.Books.{placed}
 use Rattle.count.specs.Law.Contest.{Contest, History, IsContest, newest_votes}
 use Rattle.count.specs.Law.Count.{begun}
-use Rattle.count.specs.Law.Elected.{is_continuing, is_elected, is_excluded, continuing_after}
+use Rattle.count.specs.Law.Elected.{is_continuing, continuing_after}
 use Rattle.count.specs.Law.Places.{Place, place, moved, passed_on, first_of, after, next_available, surplus_of}
-use Rattle.count.specs.Inside.Holdings.{new_value, passed_to, OnlyColumns}
-use Rattle.count.specs.Inside.Placing.{places_of, IsSound, nowhere, first_places, passed_at, passed_places}
+use Rattle.count.specs.Inside.Holdings.{new_value}
+use Rattle.count.specs.Inside.Placing.{places_of, IsSound, passed_at, passed_places}
 use Rattle.count.specs.declared.parcel.TransferRule.{TransferRule}
 use Rattle.count.specs.declared.parcel.TransferRule.TheVariants.{AsReceived, Share}
 use Rattle.count.specs.declared.placed.Placed.{Placed}
@@ -74,18 +74,6 @@ pub sound-places : (contest : Contest) (stages : History) (bundles : List Bundle
 sound-places contest stages [] fair each = tt
 sound-places contest stages (b ∷ bs) fair each = ((holder-few contest stages b.0 fair each.0.2, value-small contest stages b.0), sound-places contest stages bs fair each.1)
 
--- before the first stage all papers are with no one
-pub nowhere-places : (contest : Contest) (bundles : List Bundle) → map (λ (b : Bundle). nowhere) bundles ≡ places_of contest [] bundles
-nowhere-places contest bundles = refl
-
--- the first stage brings all papers to their first preferences,
-pub first-places : (contest : Contest) (before : History) (bundles : List Bundle) → first_places bundles ≡ places_of contest (begun First [] ∷ before) bundles
-first-places contest before bundles = refl
-
--- an exclusion that fills the last vacancies leaves them,
-pub last-places : (contest : Contest) (before : History) (c : ℕ) (bundles : List Bundle) → places_of contest before bundles ≡ places_of contest (begun (ExcludeLast c) [] ∷ before) bundles
-last-places contest before c bundles = refl
-
 passed_choice : (b : Bool) (h w : ℕ) (at : Place) → (let m : Placed = record { holder = h; value = w } in cond b m (placed at)) ≡ placed (let m : Place = record { holder = h; value = w } in cond b m at)
 passed_choice true h w at = refl
 passed_choice false h w at = refl
@@ -94,7 +82,7 @@ passed-one : (contest : Contest) (before : History) (c : ℕ) (rule : TransferRu
     passed_at (is_continuing contest before) rule c p (placed at) ≡ placed (passed_on contest before c p at (new_value rule at.value))
 passed-one contest before c rule p at = passed_choice (eqb at.holder c) (next_available contest before c p) (new_value rule at.value) at
 
--- and another action passes a candidate's papers on
+-- an action that passes a candidate's papers on brings bundles to where the law has them
 passed-all : (contest : Contest) (before : History) (c : ℕ) (rule : TransferRule) (action : Action) (bundles : List Bundle) →
     ((p : List ℕ) (at : Place) → passed_on contest before c p at (new_value rule at.value) ≡ moved contest before action p at) →
     passed_places (is_continuing contest before) rule c (places_of contest before bundles) bundles ≡ places_of contest (begun action [] ∷ before) bundles
@@ -135,26 +123,7 @@ pub passed-none : (continues : ℕ → Bool) (rule : TransferRule) (c : ℕ) (pl
 passed-none continues rule c [] = refl
 passed-none continues rule c (at ∷ places) = refl
 
--- one bundle more is passed on
-pub passed-step : (continues : ℕ → Bool) (rule : TransferRule) (c : ℕ) (made more all rest others : List Placed) (left behind : List Bundle) (at x : Placed) (b : Bundle) → rest ≡ at ∷ others → left ≡ b ∷ behind →
-    made ++ passed_places continues rule c rest left ≡ all → x ≡ passed_at continues rule c b.0 at → more ≡ made ++ x ∷ [] → more ++ passed_places continues rule c others behind ≡ all
-passed-step continues rule c made more all rest others left behind at x b rest_is left_is so_far here pushed =
-    let go : List Placed → List Bundle → List Placed = passed_places continues rule c in
-    ap (λ (l : List Placed). l ++ go others behind) pushed
-    ∙ append_assoc made (x ∷ []) (go others behind)
-    ∙ ap (λ (y : Placed). made ++ (y ∷ go others behind)) here
-    ∙ ap (λ (l : List Bundle). made ++ go (at ∷ others) l) (sym left_is)
-    ∙ ap (λ (l : List Placed). made ++ go l left) (sym rest_is)
-    ∙ so_far
-
--- where no place is left, no bundle is passed on
-pub passed-stop : (continues : ℕ → Bool) (rule : TransferRule) (c : ℕ) (made all rest : List Placed) (left behind : List Bundle) → rest ≡ [] →
-    made ++ passed_places continues rule c rest left ≡ all → made ++ passed_places continues rule c rest behind ≡ all
-passed-stop continues rule c made all rest left behind none so_far =
-    ap (λ (l : List Placed). made ++ passed_places continues rule c l behind) none
-    ∙ ap (λ (l : List Placed). made ++ passed_places continues rule c l left) (sym none)
-    ∙ so_far
-
+-- once no bundle is left, all are made
 pub passed-end : (continues : ℕ → Bool) (rule : TransferRule) (c : ℕ) (made all rest : List Placed) (left : List Bundle) → left ≡ [] →
     made ++ passed_places continues rule c rest left ≡ all → made ≡ all
 passed-end continues rule c made all rest left none so_far =
@@ -162,15 +131,3 @@ passed-end continues rule c made all rest left none so_far =
     ∙ ap (λ (l : List Placed). made ++ l) (sym (passed-none continues rule c rest))
     ∙ ap (λ (l : List Bundle). made ++ passed_places continues rule c rest l) (sym none)
     ∙ so_far
-
--- the same of a list that is made bundle by bundle
-pub mapped-step : (f : Bundle → Placed) (made more all : List Placed) (left behind : List Bundle) (x : Placed) (b : Bundle) → left ≡ b ∷ behind → made ++ map f left ≡ all → x ≡ f b → more ≡ made ++ x ∷ [] → more ++ map f behind ≡ all
-mapped-step f made more all left behind x b left_is so_far here pushed =
-    ap (λ (l : List Placed). l ++ map f behind) pushed
-    ∙ append_assoc made (x ∷ []) (map f behind)
-    ∙ ap (λ (y : Placed). made ++ (y ∷ map f behind)) here
-    ∙ ap (λ (l : List Bundle). made ++ map f l) (sym left_is)
-    ∙ so_far
-
-pub mapped-end : (f : Bundle → Placed) (made all : List Placed) (left : List Bundle) → left ≡ [] → made ++ map f left ≡ all → made ≡ all
-mapped-end f made all left none so_far = sym (append-nil made) ∙ ap (λ (l : List Bundle). made ++ map f l) (sym none) ∙ so_far

@@ -1,15 +1,14 @@
 -- What the papers of bundles are worth is what the law adds up over all papers.
-use Rattle.std.proofs.Common.{◌≡◌, ℕ, suc, zero, ◌+◌, ◌-◌, ◌*◌, ◌<◌, ◌≤◌, ◌||◌, Bool, true, false, cond, eqb, List, [], ◌∷◌, ◌++◌, length, map, replicate, slice_index, Option, refl, sym, ap, ◌∙◌, arith, subst}
-use Rattle.std.specs.List.{sum_by, AllByRecursion}
+use Rattle.std.proofs.Common.{◌≡◌, ℕ, suc, zero, ◌+◌, ◌*◌, ◌≤◌, ◌||◌, cond, List, [], ◌∷◌, map, replicate, slice_index, Option, refl, sym, ap, ◌∙◌, arith}
+use Rattle.std.specs.List.{sum_by}
 use Rattle.std.proofs.lemmas.List.Sums.{sum_by-append}
 use Rattle.std.proofs.lemmas.List.Folds.{sum_by-replicate}
-use Rattle.votes.specs.Units.{one_vote, max_units}
-use Rattle.paper.specs.Columns.{max_candidates, IsColumn}
-use Rattle.paper.specs.Ranking.{IsRanking}
+use Rattle.votes.specs.Units.{max_units}
+use Rattle.paper.specs.Columns.{max_candidates}
 use Rattle.count.specs.Advance.{IsDue}
-use Rattle.count.specs.Books.{AreRankings, placed}
-use Rattle.count.specs.Bundles.{Bundle, papers_of, IsBundle}
-use Rattle.count.specs.Law.Contest.{Contest, History, IsContest, newest_votes, numbers}
+use Rattle.count.specs.Books.{placed}
+use Rattle.count.specs.Bundles.{Bundle, papers_of}
+use Rattle.count.specs.Law.Contest.{Contest, History, IsContest, numbers}
 use Rattle.count.specs.Law.Count.{begun}
 use Rattle.count.specs.Law.Elected.{transfers, is_transferred}
 use Rattle.count.specs.Law.Figures.{votes_after, non_transferable_after, lost_after, lost_by}
@@ -124,16 +123,7 @@ pub worth-none : (f : Placed → ℕ) (places : List Placed) → worth_placed f 
 worth-none f [] = refl
 worth-none f (at ∷ places) = refl
 
--- one bundle more, and what is left
-pub worth-step : (f : Placed → ℕ) (rest others : List Placed) (left behind : List Bundle) (at : Placed) (b : Bundle) → rest ≡ at ∷ others → left ≡ b ∷ behind →
-    worth_placed f rest left ≡ b.1 * f at + worth_placed f others behind
-worth-step f rest others left behind at b rest_is left_is =
-    ap (λ (l : List Placed). worth_placed f l left) rest_is ∙ ap (worth_placed f (at ∷ others)) left_is
-
--- where no place is left, or no bundle is, nothing is worth anything
-pub worth-stop : (f : Placed → ℕ) (rest : List Placed) (left : List Bundle) → rest ≡ [] → worth_placed f rest left ≡ 0
-worth-stop f rest left none = ap (λ (l : List Placed). worth_placed f l left) none
-
+-- once no bundle is left, nothing is
 pub worth-end : (f : Placed → ℕ) (rest : List Placed) (left : List Bundle) → left ≡ [] → worth_placed f rest left ≡ 0
 worth-end f rest left none = ap (worth_placed f rest) none ∙ worth-none f rest
 

@@ -125,19 +125,20 @@ impl<'a> BundleBook<'a> {
         })
     }
 
+    /// Where the papers of each bundle lie after the stages so far, in the order of the bundles: with these
+    /// and its stages another book goes on.
+    pub fn places(&self) -> &[Placed]
+        ensures { result.now ≡ map (λ b. placed (place_of self.now.contest self.now.history b.0)) self.now.bundles }
+    {
+        &self.places
+    }
+
     /// Where the papers of a bundle lie after the stages so far.
     pub fn place(&self, i: usize) -> Placed
         requires { i < length self.now.bundles }
         ensures { result ≡ placed (place_of self.now.contest self.now.history (slice_index_or self.now.bundles i ([], 0)).0) }
     {
         self.places[i]
-    }
-
-    /// Where the papers of each bundle lie, in the order of the bundles.
-    pub fn places(&self) -> &[Placed]
-        ensures { result.now ≡ map (λ b. placed (place_of self.now.contest self.now.history b.0)) self.now.bundles }
-    {
-        &self.places
     }
 }
 
@@ -160,7 +161,6 @@ impl<'a> CountBook for BundleBook<'a> {
         elected_with(&self.terms, &self.stages)
     }
 
-    #[tactic(auto, using(crate::proofs::BundleBookLemmas::book_facts))]
     fn action_by(&self, lot: Option<u8>) -> Result<Action, AdvanceError> {
         action_by(&self.terms, &self.stages, lot)
     }

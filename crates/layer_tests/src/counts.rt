@@ -1,5 +1,6 @@
 //! Worked elections, stage by stage; lots; and growths that are refused.
 
+mod books;
 mod bundles;
 mod worked;
 
@@ -43,27 +44,6 @@ fn records(stage: &Stage, expected: &Expected) -> bool {
         && sums == expected.sums
         && stage.elected.as_slice() == expected.elected
         && votes.all(|(votes, units)| votes.units() == *units)
-}
-
-#[test]
-fn worked_elections(rt: HostRuntime) -> Result<(), Fail> {
-    for worked in &WORKED {
-        let candidates = first_columns(worked.candidates);
-        let papers = papers_of(rt.alloc(), worked.papers)?;
-        assert!(rt;
-            is_contest(&candidates, worked.seats, &papers),
-            "{}",
-            worked.name
-        );
-        let mut book = ParcelBook::new(rt.alloc(), candidates, worked.seats, &papers)?;
-        let end = run_count(&mut book, worked.lots)?;
-        assert!(rt; end == CountEnd::Finished, "{}", worked.name);
-        assert_eq!(rt; book.stages().len(), worked.stages.len(), "{}", worked.name);
-        for (stage, expected) in book.stages().iter().zip(worked.stages) {
-            assert!(rt; records(stage, expected), "{}: {stage:?}", worked.name);
-        }
-    }
-    Ok(())
 }
 
 /// A set with some numbers more.

@@ -1,5 +1,5 @@
 -- Of the proof of `moved_places`: what is shown by hand.
-use Rattle.std.proofs.Common.{◌≡◌, ◌∙◌, ℕ, ◌-◌, List, [], ◌∷◌, ap, sym, subst, reverse, arith}
+use Rattle.std.proofs.Common.{◌≡◌, ◌∙◌, ℕ, ◌-◌, [], ◌∷◌, ap, sym, subst, reverse, arith}
 use Rattle.std.specs.List.{AllByRecursion}
 use Rattle.paper.specs.Standing.{is_continuing}
 use Rattle.count.specs.Advance.{IsDue}

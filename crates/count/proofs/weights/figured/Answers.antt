@@ -1,10 +1,9 @@
 -- Of the proof of `figured`: what is shown by hand.
-use Rattle.std.proofs.Common.{◌≡◌, ◌∙◌, ◌≤◌, List, [], ◌∷◌, reverse, ap, sym, subst, arith, refl}
+use Rattle.std.proofs.Common.{◌∙◌, [], ◌∷◌, reverse, sym, subst, arith, refl}
 use Rattle.std.specs.List.{AllByRecursion}
 use Rattle.count.specs.Law.Contest.{Contest, History}
 use Rattle.count.specs.Law.Count.{begun}
 use Rattle.count.specs.Inside.Placing.{contest_on, IsSound}
-use Rattle.count.specs.declared.placed.Placed.{Placed}
 use Rattle.count.proofs.PlaceLemmas.{sound-places}
 use Rattle.count.proofs.WeightLemmas.{old-few, new-few, held-few, lost-few, votes-figured, none-figured, lost-figured}
 use Rattle.count.proofs.weights.figured.Goals as goal

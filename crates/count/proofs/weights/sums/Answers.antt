@@ -1,5 +1,5 @@
 -- Of the proof of `sums`: what is shown by hand.
-use Rattle.std.proofs.Common.{rules, ◌≡◌, ℕ, List, [], ap, refl, arith}
+use Rattle.std.proofs.Common.{rules, ◌≡◌, List, [], ap, refl, arith}
 use Rattle.count.specs.Bundles.{Bundle}
 use Rattle.count.specs.Inside.Placing.{value_to, worth_placed}
 use Rattle.count.proofs.WeightLemmas.{worth-end, no-sums}

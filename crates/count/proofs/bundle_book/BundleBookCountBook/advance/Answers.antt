@@ -1,5 +1,5 @@
 -- Of the proof of `advance`: what is shown by hand.
-use Rattle.std.proofs.Common.{◌≡◌, ◌<◌, List, length, reverse, Option, ℕ, Some, ap, sym, subst, ◌∙◌}
+use Rattle.std.proofs.Common.{◌≡◌, ◌<◌, List, length, reverse, Some, sym, subst}
 use Rattle.count.specs.Bundles.{papers_of}
 use Rattle.count.specs.Law.Contest.{Contest}
 use Rattle.count.specs.Law.Due.{drawn, due_after}

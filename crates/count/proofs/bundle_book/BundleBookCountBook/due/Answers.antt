@@ -1,5 +1,5 @@
 -- Of the proof of `due`: what is shown by hand.
-use Rattle.std.proofs.Common.{◌<◌, List, length, reverse, sym, subst}
+use Rattle.std.proofs.Common.{◌<◌, List, length, sym, subst}
 use Rattle.count.specs.Bundles.{papers_of}
 use Rattle.count.specs.Inside.Placing.{contest_on}
 use Rattle.count.specs.declared.stages.Stage.{Stage}
