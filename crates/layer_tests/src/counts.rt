@@ -1,5 +1,6 @@
 //! Worked elections, stage by stage; lots; and growths that are refused.
 
+mod bundle_books;
 mod bundles;
 mod worked;
 
