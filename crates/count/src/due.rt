@@ -89,7 +89,7 @@ pub fn elected_with(terms: &Terms, stages: &[Stage]) -> Columns
 /// The action that is due, where a lot is handed, whatever the papers: they aren't read.
 pub fn action_by(terms: &Terms, stages: &[Stage], lot: Option<u8>) -> Result<Action, AdvanceError>
     requires few { length stages.now < 255 }
-    ensures ok { IfOk result (λ action. (papers : List (List ℕ)) → drawn (contest_of terms.now papers) (reverse stages.now) lot (due_after (contest_of terms.now papers) (reverse stages.now)) ≡ Some action) }
+    ensures ok { IfOk result (λ a. (papers : List (List ℕ)) → drawn (contest_of terms.now papers) (reverse stages.now) lot (due_after (contest_of terms.now papers) (reverse stages.now)) ≡ Some a) }
     ensures err { IfErr result (λ e. (papers : List (List ℕ)) → refusal lot (due_after (contest_of terms.now papers) (reverse stages.now)) ≡ Some e) }
 {
     match due(terms, stages) {

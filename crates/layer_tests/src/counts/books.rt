@@ -3,7 +3,7 @@
 use super::worked::{WORKED, Worked};
 use super::{first_columns, papers_of, records};
 use count::{
-    BundleBook, Bundles, CountBook, CountEnd, ParcelBook, Placed, is_bundled_contest, is_contest,
+    BundleBook, Bundles, CountBook, CountEnd, ParcelBook, count_to, is_bundled_contest, is_contest,
     run_count,
 };
 use paper::Prefs;
