@@ -1,15 +1,14 @@
 -- Papers kept in bundles are the same papers, and their count is the same count.
-use Rattle.std.proofs.Common.{◌≡◌, ℕ, ◌≤◌, List, [], ◌∷◌, ◌++◌, length, fold, refl, sym, ap, ◌∙◌, ◌+◌, subst, append-nil, append_assoc, arith}
+use Rattle.std.proofs.Common.{◌≡◌, ℕ, List, [], ◌∷◌, ◌++◌, length, fold, refl, sym, ap, ◌∙◌, ◌+◌, subst, append-nil, append_assoc, arith}
 use Rattle.std.specs.List.{AllByRecursion}
 use Rattle.std.specs.List.Sorted.{IsPermutation}
 use Rattle.std.specs.Ordering.{match_ordering}
 use Rattle.std.specs.declared.cmp.Ordering.{Ordering}
 use Rattle.std.specs.declared.cmp.Ordering.TheVariants.{Less, Equal, Greater}
 use Rattle.std.proofs.lemmas.List.Sorted.{IsPermutation-refl, IsPermutation-trans, IsPermutation-append_left, IsPermutation-append_comm, length_permutation}
-use Rattle.std.proofs.lemmas.Map.Lookups.{exact_bytes}
 use Rattle.votes.specs.Units.{quota_of}
 use Rattle.count.specs.Bundles.{Bundle, list_cmp, papers_of, with_papers, bundled}
-use Rattle.count.specs.Law.Contest.{Contest, History, In, contest_for, IsContest, AreForCandidates}
+use Rattle.count.specs.Law.Contest.{Contest, In, contest_for, IsContest}
 use Rattle.count.specs.Law.Right.{reordered}
 use Rattle.count.specs.Law.Count.{stages_to}
 use Rattle.count.proofs.BundleLemmas.{papers-with_papers}

@@ -9,7 +9,7 @@ use Rattle.count.specs.Law.Count.{stages_to, due_by}
 use Rattle.count.specs.Law.Right.{reordered}
 use Rattle.count.proofs.OrderLemmas.{bundled-length, contest-bundled, contest-reordered, stages-bundled}
 use Rattle.register.specs.Marks.{columns_of}
-use Rattle.register.specs.Polls.{PollEntry, BallotsEntry, poll_of}
+use Rattle.register.specs.Polls.{PollEntry, poll_of}
 use Rattle.register.specs.Elections.{ElectionEntry, IsCounted, contest_of, stages_of}
 
 -- the poll of papers in bundles is that of the papers

@@ -1,5 +1,5 @@
 -- Why `is_right_by` keeps its promise.
-use Rattle.std.proofs.Common.{rules, ◌≡◌, ◌+◌, ℕ, IfSome, IsSome, [], map, reverse, refl, ap, subst, sym, ◌∙◌}
+use Rattle.std.proofs.Common.{rules, ◌≡◌, ◌+◌, IsSome, map, reverse, refl, ap, subst, sym, ◌∙◌}
 use Rattle.std.specs.List.{range_with_len}
 use Rattle.std.proofs.lemmas.List.{length-reverse}
 use Rattle.count.specs.Bundles.{papers_of}
@@ -9,7 +9,7 @@ use Rattle.count.specs.Law.Count.{stages_to}
 use Rattle.count.specs.Law.Laws.{IsShort}
 use Rattle.register.specs.Marks.{columns_of}
 use Rattle.register.specs.Offices.{WardEntry, ward_entry, candidate_entry}
-use Rattle.register.specs.Elections.{ElectionEntry, contest_of, is_right_so_far}
+use Rattle.register.specs.Elections.{ElectionEntry, contest_of}
 use Rattle.register.proofs.BundledLemmas.{fair-alike, other_order, stages-alike, due-alike}
 use Rattle.rowcheck.proofs.CountLemmas.{map-alike, made-same, told_right}
 use Rattle.rowcheck.proofs.counts.is_right_by.Goals as goal

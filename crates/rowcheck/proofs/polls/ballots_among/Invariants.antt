@@ -1,5 +1,5 @@
 -- What the loop of `ballots_among` keeps.
-use Rattle.std.proofs.Common.{◌≡◌, map, take}
+use Rattle.std.proofs.Common.{map, take}
 use Rattle.register.specs.Offices.{batch_entry}
 use Rattle.register.specs.Polls.{ballots_in, StandFor, are_bundled}
 use Rattle.rowcheck.specs.States.{state_of}

@@ -1,7 +1,6 @@
 -- Why `view_of` keeps its promise.
-use Rattle.std.proofs.Common.{◌≡◌, Bool, true, false, Option, None, is_some, option_map, sym, ap, ◌∙◌, true≢false}
-use Rattle.register.specs.declared.receipt.Receipt.{Receipt}
-use Rattle.register.specs.Offices.{receipt_entry, receipt_at}
+use Rattle.std.proofs.Common.{◌≡◌, true, is_some, sym, ap, ◌∙◌, true≢false}
+use Rattle.register.specs.Offices.{receipt_entry}
 use Rattle.store.proofs.WorkLemmas.{found_alike}
 use Rattle.store.proofs.ReadsLemmas.{reads_as, reads_both, reads_cut}
 use Rattle.store.proofs.views.view_of.Goals as goal

@@ -1,5 +1,5 @@
 -- Why `text` keeps its promise.
-use Rattle.std.proofs.Common.{◌≡◌, Some, option_map, sym, subst}
+use Rattle.std.proofs.Common.{Some, option_map, sym, subst}
 use Rattle.sqlite.specs.Held.{state}
 use Rattle.sqlite.specs.State.{HasCleanDisk}
 use Rattle.register.specs.Offices.{ward_at}

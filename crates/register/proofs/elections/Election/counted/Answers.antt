@@ -1,5 +1,5 @@
 -- Why `Election::counted` keeps its promise.
-use Rattle.std.proofs.Common.{rules, ◌≡◌, List, ℕ, map, ap, sym, ◌∙◌}
+use Rattle.std.proofs.Common.{rules, ◌≡◌, map, ap, sym, ◌∙◌}
 use Rattle.count.specs.Law.Contest.{Contest, contest_for}
 use Rattle.count.specs.Law.Count.{stages_to}
 use Rattle.count.specs.Bundles.{papers_of}
