@@ -6,7 +6,8 @@ use Rattle.paper.proofs.ColumnSets.{length_columns}
 use Rattle.paper.specs.Ranking.{IsRanking}
 use Rattle.count.specs.Advance.{Adds}
 use Rattle.count.specs.Books.{AreRankings}
-use Rattle.count.specs.Bundles.{Bundle, papers_of, IsBundle}
+use Rattle.std.specs.List.Sorted.{IsPermutation}
+use Rattle.count.specs.Bundles.{Bundle, papers_of, IsBundle, AreBundles}
 use Rattle.count.specs.Law.Contest.{Contest, History, numbers}
 use Rattle.count.specs.Law.Count.{begun}
 use Rattle.count.specs.Law.Due.{drawn, due_after, lot_for}
@@ -22,6 +23,7 @@ use Rattle.count.specs.declared.stages.Due.TheVariants.{Finished}
 use Rattle.count.specs.declared.stages.Stage.{Stage}
 use Rattle.count.specs.declared.terms.Terms.{Terms}
 use Rattle.count.proofs.BookLemmas.{adds-advances, adds-right, drawn-due}
+use Rattle.count.proofs.BundleLaws.{same-bundles}
 use Rattle.count.proofs.Law.ActionLemmas.{stages-bound}
 use Rattle.count.proofs.Law.ConservedLemmas.{all-conserved}
 use Rattle.count.proofs.Law.FinishLemmas.{finished-elected, lots-several}
@@ -107,6 +109,10 @@ own_lots contest handed (s ∷ before) right =
 -- stages that are right for some lots are right for those that they name themselves
 pub some-own : (contest : Contest) (stages : History) → IsRightForSome contest stages → IsRightByItself contest stages
 some-own contest stages right = own_lots contest (λ before s. lot_for right.lots (length before + 1)) stages right.right
+
+-- the bundles of a book are those of its papers
+pub own-bundles : (contest : Contest) (history : History) (own bundles : List Bundle) (places : List Placed) → IsBundled contest history own places → AreBundles bundles → IsPermutation (papers_of bundles) contest.papers → bundles ≡ own
+own-bundles contest history own bundles places is are order = same-bundles bundles own are is.bundles_are (subst (IsPermutation (papers_of bundles)) is.papers_are order)
 
 pub ruleset book_laws = (bundled-conserved, bundled-others, bundled-short)
 

@@ -3,7 +3,7 @@
 ghost use Rattle.std.specs.Prelude.{◌≡◌, ◌<◌, ℕ, List, [], map, reverse, length, slice_index_or, IfOk};
 ghost use Rattle.count.specs.Books.{placed};
 ghost use Rattle.std.specs.List.Sorted.{IsPermutation};
-ghost use Rattle.count.specs.Bundles.{papers_of, bundled, AreBundles};
+ghost use Rattle.count.specs.Bundles.{Bundle, papers_of, bundled, AreBundles};
 ghost use Rattle.count.specs.Law.Count.{stages_to};
 ghost use Rattle.count.specs.Inside.Placing.{contest_on};
 ghost use Rattle.count.specs.Law.Contest.{contest_for, IsContest};
@@ -126,9 +126,10 @@ impl<'a> BundleBook<'a> {
     }
 
     /// Where the papers of each bundle lie after the stages so far, in the order of the bundles: with these
-    /// and its stages another book goes on.
+    /// and its stages another book goes on. The bundles are still those of its papers.
     pub fn places(&self) -> &[Placed]
-        ensures { result.now ≡ map (λ b. placed (place_of self.now.contest self.now.history b.0)) self.now.bundles }
+        ensures places { result.now ≡ map (λ b. placed (place_of self.now.contest self.now.history b.0)) self.now.bundles }
+        ensures bundles { (bundles : List Bundle) → AreBundles bundles → IsPermutation (papers_of bundles) self.now.contest.papers → bundles ≡ self.now.bundles }
     {
         &self.places
     }
