@@ -24,11 +24,7 @@ pub fn bundles_of(alloc: Global, papers: &[Prefs]) -> Result<Bundles, Fail> {
 }
 
 /// Counts a worked election to its end in a new book, and compares each stage.
-fn comes_as_worked<B: CountBook>(
-    rt: &impl Abort,
-    book: &mut B,
-    worked: &Worked,
-) -> Result<(), Fail>
+fn comes_as_worked<B: CountBook>(rt: &impl Abort, book: &mut B, worked: &Worked) -> Result<(), Fail>
     requires { B.history book.old ≡ [] }
 {
     let end = run_count(book, worked.lots)?;
@@ -78,7 +74,12 @@ fn bundles_lie_where_their_papers_do(rt: HostRuntime) -> Result<(), Fail> {
     assert_eq!(rt; book.places().len(), PLACES.len());
     let lying = bundles.iter().zip(book.places());
     for (((list, papers), placed), expected) in lying.zip(&PLACES) {
-        let found = (list.as_slice(), *papers, placed.holder, placed.value.units());
+        let found = (
+            list.as_slice(),
+            *papers,
+            placed.holder,
+            placed.value.units(),
+        );
         assert!(rt; found == *expected, "{found:?}");
     }
     Ok(())
