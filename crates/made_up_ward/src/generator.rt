@@ -14,7 +14,7 @@ impl Generator {
     }
 
     /// A number below a bound.
-    fn below(&mut self, bound: u32) -> u32
+    pub fn below(&mut self, bound: u32) -> u32
         requires { 0 < bound }
         ensures { result < bound }
     {

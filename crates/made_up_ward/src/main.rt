@@ -1,21 +1,37 @@
 //! Counts a made-up ward of 10 candidates and 4 seats.
 //!
-//! The one argument is how many papers the ward has. Equal numbers give equal papers: they come
-//! from a fixed generator, in which lower numbers are named earlier more often.
+//! ```text
+//! made_up_ward PAPERS [parcels|bundles [LISTS [STAGES]]]
+//! ```
+//!
+//! So many papers are made up, each for itself, or drawn from so many lists where LISTS isn't 0. They are
+//! counted in parcels, as where nothing else is said, or in bundles, to so many stages or to the end. Equal
+//! words give equal papers: they come from a fixed generator, in which lower numbers are named earlier more
+//! often.
 #![tactic(auto)]
 
+ghost use Rattle.std.specs.Prelude.{◌≡◌, []};
+
 mod generator;
+mod source;
 
 use anyhow::{Result, bail};
-use count::{CountBook, CountEnd, ParcelBook, Stage, is_contest, run_count};
-use generator::Generator;
+use count::{
+    BundleBook, Bundles, CountBook, Due, ParcelBook, Stage, count_to, is_bundled_contest,
+    is_contest,
+};
 use paper::{Columns, Prefs};
+use source::Source;
 use std::alloc::{AllocError, Global};
 use std::env;
+use votes::MAX_PAPERS;
 
 const CANDIDATES: u8 = 10;
 
 const SEATS: u8 = 4;
+
+/// As many stages as a count of so many candidates can have.
+const ALL_STAGES: u32 = 11;
 
 /// The candidates 1 to 10.
 fn candidates() -> Columns {
@@ -26,17 +42,28 @@ fn candidates() -> Columns {
     columns
 }
 
-/// So many papers of the generator.
-fn made_up_papers(alloc: Global, count: u32) -> Result<Vec<Prefs>, AllocError> {
-    let mut generator = Generator::new();
+/// So many papers of a source, each for itself.
+fn listed(alloc: Global, source: &mut Source, count: u32) -> Result<Vec<Prefs>, AllocError> {
     let mut papers = Vec::new(alloc);
     for _ in 0..count {
-        let (order, len) = generator.next_paper();
-        if let Some(prefs) = Prefs::from_slice(&order[..len]) {
+        if let Some(prefs) = source.next_paper() {
             papers.push(prefs)?;
         }
     }
     Ok(papers)
+}
+
+/// So many papers of a source, equal ones kept once.
+fn bundled(alloc: Global, source: &mut Source, count: u32) -> Result<Bundles, AllocError> {
+    let mut bundles = Bundles::new(alloc);
+    for _ in 0..count {
+        if let Some(prefs) = source.next_paper() {
+            if bundles.papers() < MAX_PAPERS {
+                bundles.add(prefs)?;
+            }
+        }
+    }
+    Ok(bundles)
 }
 
 /// Prints who was elected at which stage, and how many stages there were.
@@ -50,20 +77,44 @@ fn print_stages(rt: &impl Print, stages: &[Stage]) -> Result<()> {
     Ok(())
 }
 
+/// Counts so many stages in a new book, and prints them.
+fn count_in<B: CountBook>(rt: &impl Print, book: &mut B, stages: u32) -> Result<()>
+    requires { B.history book.old ≡ [] }
+{
+    count_to(book, &[], stages as usize)?;
+    if let Due::Lot { stage, .. } = book.due() {
+        bail!("a lot is needed at stage {stage}");
+    }
+    print_stages(rt, book.stages())
+}
+
+/// The number that a word is; another where there is no word.
+fn number_or(word: Option<&String>, other: u32) -> Result<u32> {
+    match word {
+        Some(word) => Ok(word.as_str().parse::<u32>()?),
+        None => Ok(other),
+    }
+}
+
 fn main(rt: HostRuntime) -> Result<()> {
-    let count = match env::args(&rt)?.nth(1) {
-        Some(word) => word.as_str().parse::<u32>()?,
-        None => bail!("how many papers?"),
-    };
-    let papers = made_up_papers(rt.alloc(), count)?;
+    let words: Vec<String> = env::args(&rt)?.skip(1).collect(rt.alloc())?;
+    let count = number_or(words.first(), 0)?;
+    let lists = number_or(words.get(2), 0)?;
+    let stages = number_or(words.get(3), ALL_STAGES)?;
+    let mut source = Source::new(rt.alloc(), lists)?;
     let candidates = candidates();
+    if words.get(1).is_some_and(|word| word.as_str() == "bundles") {
+        let bundles = bundled(rt.alloc(), &mut source, count)?;
+        if !is_bundled_contest(&candidates, SEATS, &bundles) {
+            bail!("no contest");
+        }
+        let mut book = BundleBook::new(rt.alloc(), candidates, SEATS, &bundles)?;
+        return count_in(&rt, &mut book, stages);
+    }
+    let papers = listed(rt.alloc(), &mut source, count)?;
     if !is_contest(&candidates, SEATS, &papers) {
         bail!("too many papers");
     }
     let mut book = ParcelBook::new(rt.alloc(), candidates, SEATS, &papers)?;
-    match run_count(&mut book, &[])? {
-        CountEnd::Finished => print_stages(&rt, book.stages()),
-        CountEnd::LotNeeded { stage, .. } => bail!("a lot is needed at stage {stage}"),
-        CountEnd::LotNotAmong { stage } => bail!("no such lot at stage {stage}"),
-    }
+    count_in(&rt, &mut book, stages)
 }

@@ -1,5 +1,7 @@
 //! The same elections in both books: papers in parcels, and equal papers kept once.
 
+ghost use Rattle.std.specs.Prelude.{◌≡◌, []};
+
 use super::worked::{WORKED, Worked};
 use super::{first_columns, papers_of, records};
 use count::{
@@ -81,6 +83,42 @@ fn bundles_lie_where_their_papers_do(rt: HostRuntime) -> Result<(), Fail> {
             placed.value.units(),
         );
         assert!(rt; found == *expected, "{found:?}");
+    }
+    Ok(())
+}
+
+/// Takes a worked election up from where it stood after so many stages, and counts it to its end.
+fn goes_on_from(
+    rt: &impl Abort,
+    alloc: Global,
+    worked: &Worked,
+    bundles: &Bundles,
+    stages: usize,
+) -> Result<(), Fail> {
+    let candidates = first_columns(worked.candidates);
+    assert!(rt; is_bundled_contest(&candidates, worked.seats, bundles));
+    let mut stood = BundleBook::new(alloc, candidates, worked.seats, bundles)?;
+    count_to(&mut stood, worked.lots, stages)?;
+    let (places, made) = (stood.places(), stood.stages());
+    assert_eq!(rt; places.len(), bundles.len(), "{}", worked.name);
+    let mut book = BundleBook::resume(alloc, candidates, worked.seats, bundles, places, made)?;
+    assert_eq!(rt; book.stages().len(), stages, "{}", worked.name);
+    let end = run_count(&mut book, worked.lots)?;
+    assert!(rt; end == CountEnd::Finished, "{}", worked.name);
+    for (stage, expected) in book.stages().iter().zip(worked.stages) {
+        assert!(rt; records(stage, expected), "{}: {stage:?}", worked.name);
+    }
+    Ok(())
+}
+
+#[test]
+fn counts_go_on_from_each_stage(rt: HostRuntime) -> Result<(), Fail> {
+    for worked in &WORKED {
+        let papers = papers_of(rt.alloc(), worked.papers)?;
+        let bundles = bundles_of(rt.alloc(), &papers)?;
+        for stages in 0..worked.stages.len() {
+            goes_on_from(&rt, rt.alloc(), worked, &bundles, stages)?;
+        }
     }
     Ok(())
 }
