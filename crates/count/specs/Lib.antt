@@ -3,4 +3,6 @@ pub mod Law
 pub mod Advance
 pub mod Bundles
 pub mod Books
+pub mod Kept
+pub mod Marks
 pub mod Inside

@@ -1,0 +1,48 @@
+-- What a stage shows of each candidate: his votes, and how he stands.
+use Rattle.std.specs.Prelude.{ℕ, ◌==◌, ◌||◌, Bool, nat_eq, if◌then◌else◌, List, [], ◌∷◌, ◌++◌, map}
+use Rattle.std.specs.List.{list_any}
+use Rattle.count.specs.Law.Contest.{History, votes_at}
+use Rattle.count.specs.Law.Elected.{is_excluded}
+use Rattle.count.specs.declared.figures.Figure.{Figure}
+use Rattle.count.specs.declared.stages.Action.{Action}
+use Rattle.count.specs.declared.stages.Action.TheVariants.{First, Surplus, Exclude, ExcludeLast}
+use Rattle.count.specs.declared.stages.Stage.{Stage}
+
+-- the number under which the non-transferable stands, and the one under which stands what is lost by fractions
+abbrev pub no_candidate : ℕ
+no_candidate = 0
+
+abbrev pub fractions : ℕ
+fractions = 99
+
+-- whether c was named as elected at some stage
+abbrev pub is_named : History → ℕ → Bool
+is_named stages c = list_any (λ (s : Stage). list_any (nat_eq c) s.elected) stages
+
+-- how c stands at a stage that doesn't act on him: 1 elected, 2 excluded earlier, 0 continuing
+abbrev pub standing_mark : History → ℕ → ℕ
+standing_mark stages c = if is_named stages c then 1 else if is_excluded stages c then 2 else 0
+
+-- how c stands at a stage of an action: 3 his surplus is transferred, 4 he is excluded and his papers are transferred, 5 he is
+-- excluded and nothing is; else the other mark
+abbrev pub mark_by : Action → ℕ → ℕ → ℕ
+mark_by First c other = other
+mark_by (Surplus d) c other = if d == c then 3 else other
+mark_by (Exclude d) c other = if d == c then 4 else other
+mark_by (ExcludeLast d) c other = if d == c then 5 else other
+
+-- the figure of c at the newest of some stages
+abbrev pub figure_of : Stage → History → ℕ → Figure
+figure_of s before c = record { candidate = c; units = votes_at s c; mark = mark_by s.action c (standing_mark (s ∷ before) c) }
+
+-- the figures of the newest of some stages: of the non-transferable, of each candidate in ascending order, and of what is lost
+abbrev pub figures_at : List ℕ → History → List Figure
+figures_at candidates [] = []
+figures_at candidates (s ∷ before) =
+    record { candidate = no_candidate; units = s.non_transferable; mark = 0 }
+    ∷ map (figure_of s before) candidates ++ record { candidate = fractions; units = s.lost; mark = 0 } ∷ []
+
+-- the figures of all stages, from the first on
+abbrev pub all_figures : List ℕ → History → List Figure
+all_figures candidates [] = []
+all_figures candidates (s ∷ before) = all_figures candidates before ++ figures_at candidates (s ∷ before)

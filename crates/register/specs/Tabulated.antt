@@ -1,0 +1,152 @@
+-- What an office tabulates of its counts: where each bundle of equal ballot papers lies, and every figure of every stage.
+use Rattle.std.specs.Prelude.{◌≡◌, ⊤, ℕ, ◌+◌, Bool, true, not, ◌&&◌, ◌==◌, if◌then◌else◌, List, [], ◌∷◌, ◌++◌, map, fold, length, Option, Some, None}
+use Rattle.std.specs.List.{flat_map}
+use Rattle.std.specs.List.Sorted.{IsPermutation}
+use Rattle.std.specs.Ordering.{nat_cmp, on, then_cmp, is_eq}
+use Rattle.std.specs.Cmp.Lexicographic.{slice_cmp}
+use Rattle.std.specs.declared.cmp.Ordering.{Ordering}
+use Rattle.count.specs.Bundles.{Bundle, bundled}
+use Rattle.count.specs.Kept.{IsKeptOf}
+use Rattle.count.specs.Marks.{figures_at}
+use Rattle.count.specs.Law.Contest.{History}
+use Rattle.count.specs.Law.Places.{Place, place}
+use Rattle.count.specs.declared.figures.Figure.{Figure}
+use Rattle.register.specs.declared.command.Command.{Command}
+use Rattle.register.specs.declared.command.Command.TheVariants.{Ward, Candidate, Batch, Keying, Verdict, Count}
+use Rattle.register.specs.declared.counts.CountCommand.TheVariants.{Advance}
+use Rattle.register.specs.declared.decision.Decision.{Decision}
+use Rattle.register.specs.declared.decision.Decision.TheVariants.{Accepted, Kept, Refused}
+use Rattle.register.specs.declared.decision.Change.{Change}
+use Rattle.register.specs.declared.tabulated.PlacedBundle.{PlacedBundle}
+use Rattle.register.specs.declared.tabulated.StageFigure.{StageFigure}
+use Rattle.register.specs.declared.tabulated.Tabulation.{Tabulation}
+use Rattle.register.specs.declared.tabulated.Addition.{Addition}
+use Rattle.register.specs.declared.elections.Count.{Count as CountValue}
+use Rattle.register.specs.Offices.{WardEntry, OfficeState, ward_at}
+use Rattle.register.specs.Marks.{columns_of}
+use Rattle.register.specs.Effects.{change_entry, with_change}
+use Rattle.register.specs.Elections.{ElectionEntry, election_of, has_count, contest_of, stages_of}
+
+-- ---- entries
+
+-- a bundle of equal ballot papers of a ward: their list of preferences, how many they are, who holds them, 0 for no one, and the
+-- value in units at which each was received
+pub record PlacedEntry : Type 0 where
+  pub ward : ℕ
+  pub list : List ℕ
+  pub papers : ℕ
+  pub holder : ℕ
+  pub value : ℕ
+
+-- a figure of a stage of a ward's count, in units, with its mark
+pub record FigureEntry : Type 0 where
+  pub ward : ℕ
+  pub stage : ℕ
+  pub candidate : ℕ
+  pub units : ℕ
+  pub mark : ℕ
+
+-- all of them
+pub record TabulationEntries : Type 0 where
+  pub bundles : List PlacedEntry
+  pub figures : List FigureEntry
+
+-- the order of bundles: by ward, and then by list
+abbrev pub placed_cmp : PlacedEntry → PlacedEntry → Ordering
+placed_cmp = then_cmp (on (λ (b : PlacedEntry). b.ward) nat_cmp) (on (λ (b : PlacedEntry). b.list) (slice_cmp nat_cmp))
+
+-- the order of figures: by ward, by stage, and then by candidate
+abbrev pub figure_cmp : FigureEntry → FigureEntry → Ordering
+figure_cmp = then_cmp (on (λ (f : FigureEntry). f.ward) nat_cmp) (then_cmp (on (λ (f : FigureEntry). f.stage) nat_cmp) (on (λ (f : FigureEntry). f.candidate) nat_cmp))
+
+-- ---- what a state has of them
+
+-- an election whose count has a stage at least
+abbrev pub has_stages : ElectionEntry → Bool
+has_stages e = has_count e && not (e.ward.done == 0)
+
+-- a bundle of a ward at a place
+abbrev pub placed_at : ℕ → Bundle → Place → PlacedEntry
+placed_at ward b at = record { ward = ward; list = b.0; papers = b.1; holder = at.holder; value = at.value }
+
+-- a bundle of a ward where its papers lie after the stages done
+abbrev pub placed_in : ElectionEntry → Bundle → PlacedEntry
+placed_in e b = placed_at e.ward.number b (place (contest_of e) (stages_of e) b.0)
+
+-- all bundles of a ward, once its count has a stage
+abbrev pub bundles_in : ElectionEntry → List PlacedEntry
+bundles_in e = if has_stages e then map (placed_in e) (bundled e.ballots.papers) else []
+
+-- a figure of this stage of a ward's count
+abbrev pub figure_at : ℕ → ℕ → Figure → FigureEntry
+figure_at ward stage f = record { ward = ward; stage = stage; candidate = f.candidate; units = f.units; mark = f.mark }
+
+-- the figures of all stages of a ward's count, from the first on
+abbrev pub figures_to : ℕ → List ℕ → History → List FigureEntry
+figures_to ward candidates [] = []
+figures_to ward candidates (s ∷ before) = figures_to ward candidates before ++ map (figure_at ward (length before + 1)) (figures_at candidates (s ∷ before))
+
+-- all figures of the stages done in a ward
+abbrev pub figures_in : ElectionEntry → List FigureEntry
+figures_in e = if has_stages e then figures_to e.ward.number (columns_of e.candidates) (stages_of e) else []
+
+-- the tabulation of a state: ward by ward
+unfoldable pub tabulation_of : OfficeState → TabulationEntries
+tabulation_of s = record { bundles = flat_map (λ (w : WardEntry). bundles_in (election_of s w)) s.wards; figures = flat_map (λ (w : WardEntry). figures_in (election_of s w)) s.wards }
+
+-- ---- what a request adds to it
+
+-- bundles that come into it, bundles that lie elsewhere than before, and the figures of a stage more
+pub record AdditionEntries : Type 0 where
+  pub placed : List PlacedEntry
+  pub moved : List PlacedEntry
+  pub figures : List FigureEntry
+
+-- the bundles, this one where it lies now
+abbrev pub moved_to : PlacedEntry → List PlacedEntry → List PlacedEntry
+moved_to b bundles = map (λ x. if is_eq (placed_cmp b x) then b else x) bundles
+
+-- a tabulation with an addition
+abbrev pub with_addition : AdditionEntries → TabulationEntries → TabulationEntries
+with_addition a t = record { bundles = a.placed ++ fold (λ bundles b. moved_to b bundles) t.bundles a.moved; figures = a.figures ++ t.figures }
+
+-- the same entries, in some order
+pub record SameTabulation (t u : TabulationEntries) : Type 0 where
+  pub bundles : IsPermutation t.bundles u.bundles
+  pub figures : IsPermutation t.figures u.figures
+
+-- ---- what values stand for
+
+abbrev pub placed_entry : PlacedBundle → PlacedEntry
+placed_entry b = record { ward = b.ward; list = b.list.items; papers = b.papers; holder = b.holder; value = b.value }
+
+abbrev pub figure_entry : StageFigure → FigureEntry
+figure_entry f = record { ward = f.ward; stage = f.stage; candidate = f.candidate; units = f.units; mark = f.mark }
+
+abbrev pub tabulation_entries : Tabulation → TabulationEntries
+tabulation_entries t = record { bundles = map placed_entry t.bundles.items; figures = map figure_entry t.figures.items }
+
+abbrev pub addition_entries : Addition → AdditionEntries
+addition_entries a = record { placed = map placed_entry a.placed.items; moved = map placed_entry a.moved.items; figures = map figure_entry a.figures.items }
+
+-- the addition of a change makes of the tabulation before it the one after it
+abbrev pub IsTabulated : OfficeState → Change → Type 0
+IsTabulated s change = SameTabulation (with_addition (addition_entries change.addition) (tabulation_of s)) (tabulation_of (with_change (change_entry change) s))
+
+-- so does that of an accepted request
+abbrev pub AddsWhatIsCounted : OfficeState → Decision → Type 0
+AddsWhatIsCounted s (Accepted change reply) = IsTabulated s change
+AddsWhatIsCounted s (Kept reply) = ⊤
+AddsWhatIsCounted s (Refused why) = ⊤
+
+-- ---- the count that a view shows
+
+-- this is kept of the count of an election, with its lots
+pub record IsCountOf (e : ElectionEntry) (count : CountValue) : Type 0 where
+  pub kept_is : IsKeptOf (contest_of e) (stages_of e) count.kept
+  pub lots_are : count.lots.items ≡ e.lots
+
+-- where a stage is to be counted in a contested ward, its count is shown
+abbrev pub IsCountFor : OfficeState → Command → Option CountValue → Type 0
+IsCountFor s (Count (Advance ward)) shown = (w : WardEntry) → ward_at s ward ≡ Some w → has_count (election_of s w) ≡ true → (c : CountValue) × (shown ≡ Some c) × IsCountOf (election_of s w) c
+IsCountFor s command shown = ⊤
