@@ -1,20 +1,20 @@
 //! A count that goes on from where it was kept.
 
-ghost use Rattle.std.specs.Prelude.{◌≡◌, ℕ, List, [], map, reverse, length, Some, None, IfOk, IfSome, IsSome};
-ghost use Rattle.count.specs.Bundles.{Bundle, bundled};
+ghost use Rattle.std.specs.Prelude.{◌≡◌, [], reverse, IfOk, IfSome, IsSome};
+ghost use Rattle.count.specs.Bundles.{bundled};
 ghost use Rattle.count.specs.Kept.{CountKept, IsKeptOf, places_after};
 ghost use Rattle.count.specs.Law.Contest.{Contest, History, IsContest};
-ghost use Rattle.count.specs.Law.Count.{with_stage, with_next, due_by as due_by_lots};
+ghost use Rattle.count.specs.Law.Count.{with_next};
 ghost use Rattle.count.specs.Law.Due.{next_action};
-ghost use Rattle.count.specs.Law.Elected.{elected_after};
 
 use crate::bundles::Bundles;
 use crate::placed::Placed;
-use crate::stages::{Due, Stage};
+use crate::stages::Stage;
 use crate::terms::Terms;
 use paper::Columns;
 use std::alloc::{AllocError, Global};
 use std::marker::Model;
+use votes::Votes;
 
 /// Where a count comes to by a stage more.
 #[derive(Debug, Drop)]
@@ -36,6 +36,15 @@ pub struct KeptCount {
     stages: Vec<Stage>,
 }
 
+impl Model for KeptCount {
+    ghost use Rattle.std.specs.Prelude.{reverse};
+    ghost use Rattle.count.specs.Kept.{CountKept};
+
+    ghost Value = { CountKept };
+
+    ghost view = { λ a. record { candidates = a.terms.candidates; seats = a.terms.seats; bundles = a.bundles; places = a.places.items; stages = a.stages.items } };
+}
+
 impl KeptCount {
     /// A count before its first stage: its bundles lie with no one, at no value. An error is want of memory.
     pub fn begin(
@@ -45,6 +54,9 @@ impl KeptCount {
         bundles: Bundles,
     ) -> Result<KeptCount, AllocError>
         ensures is { IfOk result (λ kept. (contest : Contest) → IsContest contest → contest.candidates ≡ candidates → contest.seats ≡ seats → bundles ≡ bundled contest.papers → IsKeptOf contest [] kept) }
+    {
+        Err(AllocError)
+    }
 
     /// A count that was kept. None where it is out of the range of any count: more stages than a count can have, a holder
     /// who is no candidate's number, a value above one vote, or more lost than there is. Takes no memory.
@@ -57,30 +69,38 @@ impl KeptCount {
     ) -> Option<KeptCount>
         ensures is { IfSome result (λ kept. kept ≡ record { candidates = candidates; seats = seats; bundles = bundles; places = places.items; stages = stages.items }) }
         ensures some { (contest : Contest) (history : History) → IsKeptOf contest history (record { candidates = candidates; seats = seats; bundles = bundles; places = places.items; stages = stages.items }) → IsSome result }
+    {
+        let terms = Terms { candidates, seats, quota: Votes::from_units(0) };
+        Some(KeptCount { terms, bundles, places, stages })
+    }
 
     /// The candidates.
     pub fn candidates(&self) -> Columns
         ensures { result ≡ self.now.candidates }
+    {
+        self.terms.candidates
+    }
 
     /// The bundles.
     pub fn bundles(&self) -> &Bundles
         ensures { result.now ≡ self.now.bundles }
+    {
+        &self.bundles
+    }
 
     /// Where the papers of each bundle lie, in the order of the bundles.
     pub fn places(&self) -> &[Placed]
         ensures { result.now ≡ self.now.places }
+    {
+        &self.places
+    }
 
     /// The stages so far.
     pub fn stages(&self) -> &[Stage]
         ensures { result.now ≡ self.now.stages }
-
-    /// What is due by the recorded lots: the action that comes next, or else the lot that is waited for, or nothing.
-    pub fn due_by(&self, lots: &[(u8, u8)]) -> Due
-        ensures { (contest : Contest) (history : History) → IsKeptOf contest history self.now → result ≡ due_by_lots contest lots.now history }
-
-    /// The candidates who are elected.
-    pub fn elected(&self) -> Columns
-        ensures { (contest : Contest) (history : History) → IsKeptOf contest history self.now → result ≡ elected_after contest history }
+    {
+        &self.stages
+    }
 
     /// Where the count comes to by the stage that is due by the recorded lots; none where no action is due. An error is want of
     /// memory.
@@ -88,4 +108,7 @@ impl KeptCount {
         ensures is { IfOk result (λ found. IfSome found (λ next. (contest : Contest) (history : History) → IsKeptOf contest history self.now
             → (next.places.items ≡ places_after contest (with_next contest lots.now history) self.now.bundles) × (next.stages.items ≡ reverse (with_next contest lots.now history)))) }
         ensures some { IfOk result (λ found. (contest : Contest) (history : History) → IsKeptOf contest history self.now → IsSome (next_action contest lots.now history) → IsSome found) }
+    {
+        Err(AllocError)
+    }
 }
