@@ -22,6 +22,7 @@ pub mod Keyings
 pub mod Verdicts
 pub mod Counts
 pub mod Machine
+pub mod Tabulated
 pub mod Views
 pub mod WorkedOffice
 pub mod Walks

@@ -1,7 +1,7 @@
 -- What an office tabulates of its counts: where each bundle of equal ballot papers lies, and every figure of every stage.
 use Rattle.std.specs.Prelude.{◌≡◌, ⊤, ℕ, ◌+◌, Bool, true, not, ◌&&◌, ◌==◌, if◌then◌else◌, List, [], ◌∷◌, ◌++◌, map, fold, length, Option, Some, None}
 use Rattle.std.specs.List.{flat_map}
-use Rattle.std.specs.List.Sorted.{IsPermutation}
+use Rattle.std.specs.List.Sorted.{IsStrictlySortedBy, IsPermutation}
 use Rattle.std.specs.Ordering.{nat_cmp, on, then_cmp, is_eq}
 use Rattle.std.specs.Cmp.Lexicographic.{slice_cmp}
 use Rattle.std.specs.declared.cmp.Ordering.{Ordering}
@@ -94,6 +94,15 @@ figures_in e = if has_stages e then figures_to e.ward.number (columns_of e.candi
 unfoldable pub tabulation_of : OfficeState → TabulationEntries
 tabulation_of s = record { bundles = flat_map (λ (w : WardEntry). bundles_in (election_of s w)) s.wards; figures = flat_map (λ (w : WardEntry). figures_in (election_of s w)) s.wards }
 
+-- bundles and figures in the order of their keys, no key twice
+pub record TabulationRises (t : TabulationEntries) : Type 0 where
+  pub bundles : IsStrictlySortedBy placed_cmp t.bundles
+  pub figures : IsStrictlySortedBy figure_cmp t.figures
+
+-- the eighth condition: what is tabulated is the tabulation of the state
+abbrev pub item8 : TabulationEntries → OfficeState → Type 0
+item8 t s = t ≡ tabulation_of s
+
 -- ---- what a request adds to it
 
 -- bundles that come into it, bundles that lie elsewhere than before, and the figures of a stage more
@@ -101,6 +110,10 @@ pub record AdditionEntries : Type 0 where
   pub placed : List PlacedEntry
   pub moved : List PlacedEntry
   pub figures : List FigureEntry
+
+-- nothing
+abbrev pub no_addition : AdditionEntries
+no_addition = record { placed = []; moved = []; figures = [] }
 
 -- the bundles, this one where it lies now
 abbrev pub moved_to : PlacedEntry → List PlacedEntry → List PlacedEntry

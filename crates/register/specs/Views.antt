@@ -14,12 +14,15 @@ use Rattle.register.specs.Effects.{change_entry}
 use Rattle.register.specs.Parts.{part_entries}
 use Rattle.register.specs.Elections.{election_of, contest_of, stages_of, due_of}
 use Rattle.register.specs.Keyings.{reply_to}
+use Rattle.register.specs.Tabulated.{IsCountFor}
 use Rattle.register.specs.Machine.{Ruling, accepts, keeps, refuses, Outcome, accepted, outcome_at, decided, part_of}
 
--- the view shows what the state has for this command: its receipt, and where there is none the part of the state
+-- the view shows what the state has for this command: its receipt, and where there is none the part of the state, and the count that
+-- a stage is to be added to
 pub record IsViewOf (s : OfficeState) (command : Command) (view : View) : Type 0 where
   pub receipt : option_map receipt_entry view.receipt ≡ receipt_at s view.actor view.id.now
   pub part : receipt_at s view.actor view.id.now ≡ None → part_entries view.part ≡ part_of s view.actor command
+  pub count : receipt_at s view.actor view.id.now ≡ None → IsCountFor s command view.part.count
 
 -- what is decided on a view
 abbrev pub decided_on : View → Command → Ruling

@@ -7,6 +7,7 @@ use crate::keyings::KeyedPaper;
 use crate::phase::Phase;
 use crate::receipt::Receipt;
 use crate::refusal::Refusal;
+use crate::tabulated::Addition;
 use crate::verdicts::JudgedPaper;
 use crate::wards::Ward;
 
@@ -42,6 +43,8 @@ pub enum Effect {
 #[derive(Debug, Drop)]
 pub struct Change {
     pub effect: Effect,
+    /// What it adds to the tabulation of the counts: nothing, but where a stage is counted.
+    pub addition: Addition,
     pub receipt: Receipt,
 }
 

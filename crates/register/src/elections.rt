@@ -19,7 +19,8 @@ use crate::polls::{Ballots, Poll};
 use crate::ranges::{is_candidate_number, is_lot_stage};
 use crate::wards::{Ward, is_contested};
 use count::{
-    BundleBook, Bundles, CountBook, Due, bundles_count_alike, count_to, due_by, is_bundled_contest,
+    BundleBook, Bundles, CountBook, Due, KeptCount, bundles_count_alike, count_to, due_by,
+    is_bundled_contest,
 };
 use paper::Columns;
 use std::alloc::{AllocError, Global};
@@ -33,6 +34,14 @@ pub struct Election {
     pub ward: Ward,
     pub candidates: Vec<Candidate>,
     pub ballots: Ballots<Bundles>,
+    pub lots: Vec<(u8, u8)>,
+}
+
+/// The count of a ward that goes on from where it was kept, and the lots that are recorded, each the stage
+/// (counted from 1) and the candidate that it names, in the order of the stages.
+#[derive(Debug, Drop)]
+pub struct Count {
+    pub kept: KeptCount,
     pub lots: Vec<(u8, u8)>,
 }
 

@@ -32,6 +32,8 @@ pub mod papers;
 pub mod elections;
 pub mod polls;
 pub mod status;
+// What is kept of the counts.
+pub mod tabulated;
 // Numbers and actions in words.
 mod texts;
 // The commands, by subject.
@@ -49,7 +51,7 @@ pub use candidates::{Candidate, CandidateCommand};
 pub use command::{Command, Request};
 pub use counts::{CountCommand, DrawnLot};
 pub use decision::{Change, Decision, Effect, Reply};
-pub use elections::Election;
+pub use elections::{Count, Election};
 pub use keyings::{KeyedPaper, KeyingCommand};
 pub use machine::{decide, lists_make_states, rows_are_worked, work_is_seen};
 pub use phase::Phase;
@@ -57,6 +59,7 @@ pub use polls::{Ballots, Judgement, KeepsPapers, Poll};
 pub use receipt::Receipt;
 pub use refusal::{Reason, Refusal};
 pub use status::{Status, Work};
+pub use tabulated::{Addition, PlacedBundle, StageFigure, Tabulation};
 pub use verdicts::{JudgedPaper, Verdict, VerdictCommand};
 pub use view::{Part, View};
 pub use wards::{Ward, WardCommand};

@@ -19,6 +19,7 @@ use crate::decision::{Change, Decision, Effect};
 use crate::ranges::is_id;
 use crate::receipt::Receipt;
 use crate::refusal::{Reason, Refusal};
+use crate::tabulated::Addition;
 use crate::view::{Part, View};
 use crate::{batches, candidates, counts, keyings, verdicts, wards};
 use std::alloc::{AllocError, Global};
@@ -104,6 +105,7 @@ fn accepted(
     ensures { IfOk result (λ decision. string_bytes subject ≡ subject_of command.now → ruling_of decision ≡ judged view.now.actor view.now.id.now command.now (part_entries view.now.part) None) }
 {
     let effect = effect_of(alloc, view.actor, command, &view.part)?;
+    let addition = Addition::none(alloc);
     let reply = reply_to(alloc, command, &view.part)?;
     let receipt = Receipt {
         actor: view.actor,
@@ -111,7 +113,7 @@ fn accepted(
         subject,
         reply: reply.clone()?,
     };
-    Ok(Decision::Accepted(Change { effect, receipt }, reply))
+    Ok(Decision::Accepted(Change { effect, addition, receipt }, reply))
 }
 
 #[tactic(auto, unfolding(crate::specs::Machine::decided))]

@@ -1,6 +1,20 @@
 //! What an office tabulates of its counts: where each bundle of equal ballot papers lies, and every figure of
 //! every stage.
 
+ghost use Rattle.std.specs.Prelude.{◌≡◌, [], ◌++◌, ℕ, List, map, reverse, length, true, IfOk, IfSome, IsSome, OnOk};
+ghost use Rattle.count.specs.Books.{placed};
+ghost use Rattle.count.specs.Bundles.{Bundle};
+ghost use Rattle.count.specs.Kept.{IsKeptOf};
+ghost use Rattle.count.specs.Law.Contest.{IsContest};
+ghost use Rattle.count.specs.Law.Places.{Place};
+ghost use Rattle.register.specs.Marks.{columns_of};
+ghost use Rattle.register.specs.Elections.{ElectionEntry, contest_of, stages_of, is_counted_right};
+ghost use Rattle.register.specs.Tabulated.{placed_entry, figure_entry, addition_entries, no_addition, placed_at, figures_to, has_stages, bundles_in, figures_in};
+
+use count::{Bundles, KeptCount, Placed, Stage};
+use paper::Columns;
+use std::alloc::{AllocError, Global};
+
 /// A bundle of equal ballot papers of a ward, where it lies after the stages done: the preferences, one
 /// candidate's number (1 to 30) a byte; how many papers there are, 1 or more; who holds them, a candidate's
 /// number or 0 for no one; and the value of each, in units.
@@ -38,4 +52,67 @@ pub struct Addition {
     pub placed: Vec<PlacedBundle>,
     pub moved: Vec<PlacedBundle>,
     pub figures: Vec<StageFigure>,
+}
+
+impl Addition {
+    /// No addition. Takes no memory.
+    pub fn none(alloc: Global) -> Addition
+        ensures { addition_entries result ≡ no_addition }
+    {
+        Addition {
+            placed: Vec::new(alloc),
+            moved: Vec::new(alloc),
+            figures: Vec::new(alloc),
+        }
+    }
+}
+
+impl Tabulation {
+    /// Of no count. Takes no memory.
+    pub fn empty(alloc: Global) -> Tabulation
+        ensures bundles { result.bundles.items ≡ [] }
+        ensures figures { result.figures.items ≡ [] }
+    {
+        Tabulation {
+            bundles: Vec::new(alloc),
+            figures: Vec::new(alloc),
+        }
+    }
+
+    /// Adds what there is of the count of a ward: its bundles where they lie, and the figures of its stages.
+    /// An error is want of memory, and a part may be added then.
+    pub fn add(
+        &mut self,
+        alloc: Global,
+        ward: u32,
+        candidates: &Columns,
+        bundles: &Bundles,
+        places: &[Placed],
+        stages: &[Stage],
+    ) -> Result<(), AllocError>
+        ensures bundles { OnOk result ((at : List ℕ → Place) → places.now ≡ map (λ (b : Bundle). placed (at b.0)) bundles.now
+            → map placed_entry self.new.bundles.items ≡ map placed_entry self.old.bundles.items ++ map (λ (b : Bundle). placed_at ward b (at b.0)) bundles.now) }
+        ensures figures { OnOk result (map figure_entry self.new.figures.items ≡ map figure_entry self.old.figures.items ++ figures_to ward candidates.now (reverse stages.now)) }
+    {
+        Err(AllocError)
+    }
+}
+
+/// The count of a ward as its tabulated bundles and figures have it; none where they are those of no count. An
+/// error is want of memory.
+pub fn count_of(
+    alloc: Global,
+    candidates: Columns,
+    seats: u32,
+    bundles: &[PlacedBundle],
+    figures: &[StageFigure],
+) -> Result<Option<KeptCount>, AllocError>
+    ensures is { IfOk result (λ found. IfSome found (λ kept. (e : ElectionEntry) → IsContest (contest_of e) → is_counted_right e ≡ true → has_stages e ≡ true
+        → candidates ≡ columns_of e.candidates → seats ≡ e.ward.seats → map placed_entry bundles.now ≡ bundles_in e → map figure_entry figures.now ≡ figures_in e
+        → IsKeptOf (contest_of e) (stages_of e) kept)) }
+    ensures some { IfOk result (λ found. (e : ElectionEntry) → IsContest (contest_of e) → is_counted_right e ≡ true → has_stages e ≡ true
+        → candidates ≡ columns_of e.candidates → seats ≡ e.ward.seats → map placed_entry bundles.now ≡ bundles_in e → map figure_entry figures.now ≡ figures_in e
+        → IsSome found) }
+{
+    Err(AllocError)
 }

@@ -5,6 +5,7 @@ ghost use Rattle.register.specs.Parts.{part_entries, empty_part};
 
 use crate::batches::Batch;
 use crate::candidates::Candidate;
+use crate::elections::Count;
 use crate::keyings::KeyedPaper;
 use crate::polls::Poll;
 use crate::receipt::Receipt;
@@ -19,7 +20,7 @@ use std::alloc::Global;
 /// the ward's candidates in the order of their numbers; the batch that it names; the actor's own keying
 /// of it; the first and the second clerk's keyings of its current round; the verdict on the paper that it
 /// names; the poll of the ward; what is due in the ward's count by the recorded lots, and who is elected
-/// after the stages done. A keying is in the order of its papers.
+/// after the stages done; and the count that a stage is to be added to. A keying is in the order of its papers.
 #[derive(Debug, Drop)]
 pub struct Part {
     pub ward: Option<Ward>,
@@ -33,6 +34,7 @@ pub struct Part {
     pub poll: Option<Poll>,
     pub due: Option<Due>,
     pub elected: Columns,
+    pub count: Option<Count>,
 }
 
 impl Part {
@@ -52,6 +54,7 @@ impl Part {
             poll: None,
             due: None,
             elected: Columns::empty(),
+            count: None,
         }
     }
 }
