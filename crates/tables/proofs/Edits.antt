@@ -14,7 +14,7 @@ use Rattle.sqlite_schema.specs.declared.schema.Keys.TheVariants.{Enforced}
 use Rattle.sqlite_rules.specs.Action.{works}
 use Rattle.sqlite_tied.specs.Compute.{everything}
 use Rattle.tables.specs.declared.table.Table.{Table}
-use Rattle.tables.specs.declared.table.Table.TheVariants.{Office, Ward, Candidate, Batch, Keying, Verdict, Lot, Receipt}
+use Rattle.tables.specs.declared.table.Table.TheVariants.{Office, Ward, Candidate, Batch, Keying, Verdict, Lot, Receipt, Bundle, Vote}
 use Rattle.tables.specs.declared.table.Setting.{Setting}
 use Rattle.tables.specs.declared.table.Setting.TheVariants.{PhaseOfWard, DoneOfWard, RoundOfBatch}
 use Rattle.tables.specs.Texts.{set_text, delete_text}
@@ -33,7 +33,7 @@ setting_changes RoundOfBatch = refl
 
 module _ (rest : List Definition) (others : List Index) (views : List View) where
   abbrev schema : Schema
-  schema = schema_from 8 rest others views
+  schema = schema_from 10 rest others views
 
   -- what the statement of a table has to be that goes by the key
   pub record EditsRow (t : Table) : Type 0 where
@@ -53,6 +53,8 @@ module _ (rest : List Definition) (others : List Index) (views : List View) wher
   edits_row Verdict changes = absurd (true≢false (sym changes))
   edits_row Lot changes = absurd (true≢false (sym changes))
   edits_row Receipt changes = absurd (true≢false (sym changes))
+  edits_row Bundle changes = record { place = refl; deletes = refl; plain_delete = (refl, refl); low = λ db. refl; alone = λ free olds news. none_from schema 16 olds news rest free }
+  edits_row Vote changes = absurd (true≢false (sym changes))
 
   -- what the statement has to be that sets one column
   pub record SetsValue (g : Setting) : Type 0 where
