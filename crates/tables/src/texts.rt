@@ -2,7 +2,7 @@
 
 ghost use Rattle.std.specs.Prelude.{◌≡◌, ◌≤◌, true};
 ghost use Rattle.tables.specs.Schema.{shape, changes_rows};
-ghost use Rattle.tables.specs.Texts.{create_text, insert_text, select_text, select_by_reference_text, select_rowids_text, set_text, delete_text};
+ghost use Rattle.tables.specs.Texts.{create_text, insert_text, select_text, select_by_reference_text, select_rowids_text, update_text, set_text, delete_text};
 
 use crate::table::{Reference, Setting, Table};
 
@@ -148,6 +148,24 @@ pub fn select_rowids_text(table: Table) -> &'static str
         Table::Candidate => "SELECT rowid FROM candidate ORDER BY rowid",
         Table::Batch => "SELECT rowid FROM batch ORDER BY rowid",
         Table::Bundle => "SELECT rowid FROM bundle ORDER BY rowid",
+        _ => unreachable!(),
+    }
+}
+
+#[tactic(auto, unfolding(crate::specs::Texts::update_text))]
+/// The text that replaces the row with a key, with the values of all columns as its parameters.
+pub fn update_text(table: Table) -> &'static str
+    requires { changes_rows table ≡ true }
+    ensures { result.now ≡ update_text table }
+{
+    match table {
+        Table::Ward =>
+            "UPDATE ward SET seats = ?2, phase = ?3, done = ?4, name = ?5 WHERE ward = ?1",
+        Table::Candidate => "UPDATE candidate SET name = ?3 WHERE ward = ?1 AND candidate = ?2",
+        Table::Batch =>
+            "UPDATE batch SET ward = ?2, size = ?3, clerk_a = ?4, clerk_b = ?5, round = ?6 WHERE batch = ?1",
+        Table::Bundle =>
+            "UPDATE bundle SET papers = ?3, holder = ?4, value = ?5 WHERE ward = ?1 AND prefs = ?2",
         _ => unreachable!(),
     }
 }
