@@ -17,9 +17,9 @@ use Rattle.sqlite.specs.State.{State, ExecutesInside}
 use Rattle.tables.specs.declared.table.Table.{Table}
 use Rattle.tables.specs.declared.table.Setting.{Setting}
 use Rattle.tables.specs.Texts.{update_text, set_text, delete_text}
-use Rattle.tables.specs.Schema.{schema_from, shape, columns_of, places_from, changes_rows, table_set, place_set}
+use Rattle.tables.specs.Schema.{schema_from, place_of, shape, columns_of, places_from, changes_rows, table_set, place_set}
 use Rattle.tables.specs.Rows.{tuples, at, has_key, is_of, are_of, is_row_of, takes_from, value_set, is_setting, with_value}
-use Rattle.tables.specs.Contents.{Contents, SameContents, added, added_all, replaced, replaced_all, value_put, removed, Sees}
+use Rattle.tables.specs.Contents.{Contents, SameContents, changed, added, added_all, replaced, replaced_all, value_put, removed, Sees}
 use Rattle.tables.proofs.ListLemmas.{filtered_same, has_mapped, permuted_all}
 use Rattle.tables.proofs.SameLemmas.{sees_same}
 use Rattle.tables.proofs.TableLemmas.{which_table}
@@ -191,6 +191,24 @@ replaced_rows t row same y alike (x ∷ xs) = ap (λ b. cond b (row y) (row x) �
         → cond b (row y) (row x) ∷ map (λ r. cond (has_key t (row y) r) (row y) r) (map row xs) ≡ row (cond b y x) ∷ map row (map (λ z. cond (same z) y z) xs)
     one true later = ap (λ l. row y ∷ l) later
     one false later = ap (λ l. row x ∷ l) later
+
+-- the rows with each of these rows, in turn, in the place of the one with its key
+abbrev pub all_replaced : Table → List Row → List Row → List Row
+all_replaced t = fold (λ rows row. map (λ r. cond (has_key t row r) row r) rows)
+
+-- that is what many UPDATEs make of one table, and they leave the others
+pub replaced_all_there : (t : Table) (news : List Row) (c : Contents) (u : Table) → replaced_all t news c u ≡ changed t (λ rows. all_replaced t rows news) c u
+unfolding replaced_all replaced
+replaced_all_there t [] c u = elim (place_of u == place_of t) as (λ b. c u ≡ cond b (c u) (c u)) [ true ↦ refl | false ↦ refl ]
+replaced_all_there t (row ∷ news) c u =
+    replaced_all_there t news (replaced t row c) u
+    ∙ elim (place_of u == place_of t) as (λ b. cond b (all_replaced t (cond b (map (λ r. cond (has_key t row r) row r) (c u)) (c u)) news) (cond b (map (λ r. cond (has_key t row r) row r) (c u)) (c u)) ≡ cond b (all_replaced t (map (λ r. cond (has_key t row r) row r) (c u)) news) (c u)) [ true ↦ refl | false ↦ refl ]
+
+-- The rows of some entries, in turn, in the places of the rows with their keys are these entries in the places of those with their keys.
+pub replaced_each : {X : Type 0} (t : Table) (row : X → Row) (same : X → X → Bool) → ((y x : X) → has_key t (row y) (row x) ≡ same y x) → (ys xs : List X)
+    → all_replaced t (map row xs) (map row ys) ≡ map row (fold (λ zs y. map (λ z. cond (same y z) y z) zs) xs ys)
+replaced_each t row same alike [] xs = refl
+replaced_each t row same alike (y ∷ ys) xs = ap (λ rows. all_replaced t rows (map row ys)) (replaced_rows t row (same y) y (alike y) xs) ∙ replaced_each t row same alike ys (map (λ z. cond (same y z) y z) xs)
 
 -- A value in the column of the row with a key is a change of the entry with it.
 pub rows_set : {X : Type 0} (g : Setting) (values : Row) (row : X → Row) (same : X → Bool) (change : X → X) → ((x : X) → has_key (table_set g) values (row x) ≡ same x) → ((x : X) → with_value g (value_set g values) (row x) ≡ row (change x))
