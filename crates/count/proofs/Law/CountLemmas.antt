@@ -60,7 +60,7 @@ stage_reordered contest papers before action order =
     let s : Stage = stage_of (reordered contest papers) before action in
     is_told contest before s (same_tells contest papers before s order (told_of (reordered contest papers) before action))
 
-next_reordered : (contest : Contest) (papers : List (List ℕ)) (before : History) (o : Option Action) → IsPermutation contest.papers papers →
+pub next_reordered : (contest : Contest) (papers : List (List ℕ)) (before : History) (o : Option Action) → IsPermutation contest.papers papers →
     with_stage (reordered contest papers) before o ≡ with_stage contest before o
 next_reordered contest papers before None order = refl
 next_reordered contest papers before (Some action) order = ap (λ (s : Stage). s ∷ before) (stage_reordered contest papers before action order)
@@ -88,7 +88,7 @@ ended_none contest stages (Some c) (Lot stage kind tied) e is = by_tied (list_an
     by_tied false h = refl
 
 -- what is due by the lots, where a lot is due: the action that it draws, or still the lot where it is refused
-refused_none : (contest : Contest) (stages : History) (lot : Option ℕ) (due : Due) (e : AdvanceError) → refusal lot due ≡ Some e → drawn contest stages lot due ≡ None
+pub refused_none : (contest : Contest) (stages : History) (lot : Option ℕ) (due : Due) (e : AdvanceError) → refusal lot due ≡ Some e → drawn contest stages lot due ≡ None
 refused_none contest stages lot (Act action) e is = cc
 refused_none contest stages None Finished e is = refl
 refused_none contest stages (Some c) Finished e is = refl
