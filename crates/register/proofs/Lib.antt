@@ -28,3 +28,5 @@ mod WorkedRows
 mod NominationRows
 mod BatchRows
 mod CountRows
+mod TabulatedLemmas
+mod TabulatedRows

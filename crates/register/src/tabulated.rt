@@ -1,15 +1,19 @@
 //! What an office tabulates of its counts: where each bundle of equal ballot papers lies, and every figure of
 //! every stage.
 
-ghost use Rattle.std.specs.Prelude.{◌≡◌, [], ◌++◌, ℕ, List, map, reverse, length, true, IfOk, IfSome, IsSome, OnOk};
+ghost use Rattle.std.specs.Prelude.{◌≡◌, ◌==◌, [], ◌++◌, ℕ, List, map, reverse, length, true, Some, IfOk, IfSome, IsSome, OnOk};
+ghost use Rattle.std.specs.List.{filter};
 ghost use Rattle.count.specs.Books.{placed};
 ghost use Rattle.count.specs.Bundles.{Bundle};
 ghost use Rattle.count.specs.Kept.{IsKeptOf};
 ghost use Rattle.count.specs.Law.Contest.{IsContest};
 ghost use Rattle.count.specs.Law.Places.{Place};
 ghost use Rattle.register.specs.Marks.{columns_of};
-ghost use Rattle.register.specs.Elections.{ElectionEntry, contest_of, stages_of, is_counted_right};
-ghost use Rattle.register.specs.Tabulated.{placed_entry, figure_entry, addition_entries, no_addition, placed_at, figures_to, has_stages, bundles_in, figures_in};
+ghost use Rattle.register.specs.Offices.{OfficeState, WardEntry, ward_at};
+ghost use Rattle.register.specs.Elections.{ElectionEntry, election_of, contest_of, stages_of, is_counted_right};
+ghost use Rattle.register.specs.Items.{IsState};
+ghost use Rattle.register.specs.Tabulated.{PlacedEntry, FigureEntry, TabulationRises, placed_entry, figure_entry, addition_entries, no_addition, placed_at, figures_to, has_stages, bundles_in, figures_in, tabulation_of};
+ghost use Rattle.register.specs.WorkedTabulation.{WorkedTabulation};
 
 use count::{Bundles, KeptCount, Placed, Stage};
 use paper::Columns;
@@ -97,6 +101,17 @@ impl Tabulation {
         Err(AllocError)
     }
 }
+
+/// The laws of what is tabulated, for its callers. At a state the bundles stand in the order of ward and list,
+/// the figures in that of ward, stage and candidate, none twice; and those of a ward are what its election has.
+/// Of an election worked by hand they are those that were worked out: before the first stage none, after two of
+/// them each bundle where it lies, at its value, and each stage's figures.
+pub fn tabulations_are_ordered()
+    ensures rise { (s : OfficeState) → IsState s → TabulationRises (tabulation_of s) }
+    ensures bundles { (s : OfficeState) (w : WardEntry) → IsState s → ward_at s w.number ≡ Some w → filter (λ (b : PlacedEntry). b.ward == w.number) (tabulation_of s).bundles ≡ bundles_in (election_of s w) }
+    ensures figures { (s : OfficeState) (w : WardEntry) → IsState s → ward_at s w.number ≡ Some w → filter (λ (f : FigureEntry). f.ward == w.number) (tabulation_of s).figures ≡ figures_in (election_of s w) }
+    ensures worked { WorkedTabulation }
+{}
 
 /// The count of a ward as its tabulated bundles and figures have it; none where they are those of no count. An
 /// error is want of memory.
