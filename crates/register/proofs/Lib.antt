@@ -29,4 +29,5 @@ mod NominationRows
 mod BatchRows
 mod CountRows
 mod TabulatedLemmas
+mod AddedLemmas
 mod TabulatedRows

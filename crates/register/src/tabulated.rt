@@ -12,11 +12,11 @@ ghost use Rattle.register.specs.Marks.{columns_of};
 ghost use Rattle.register.specs.Offices.{OfficeState, WardEntry, ward_at};
 ghost use Rattle.register.specs.Elections.{ElectionEntry, election_of, contest_of, stages_of, is_counted_right};
 ghost use Rattle.register.specs.Items.{IsState};
-ghost use Rattle.register.specs.Tabulated.{PlacedEntry, FigureEntry, TabulationRises, placed_entry, figure_entry, addition_entries, no_addition, placed_at, figures_to, has_stages, bundles_in, figures_in, tabulation_of};
+ghost use Rattle.register.specs.Tabulated.{PlacedEntry, FigureEntry, TabulationRises, placed_entry, figure_entry, addition_entries, no_addition, placed_at, figure_at, figures_to, has_stages, bundles_in, figures_in, tabulation_of};
 ghost use Rattle.register.specs.WorkedTabulation.{WorkedTabulation};
 
-use count::{Bundles, KeptCount, Placed, Stage};
-use paper::Columns;
+use count::{Bundles, Figure, KeptCount, Placed, Stage, figures_of};
+use paper::{Columns, Prefs};
 use std::alloc::{AllocError, Global};
 
 /// A bundle of equal ballot papers of a ward, where it lies after the stages done: the preferences, one
@@ -98,8 +98,93 @@ impl Tabulation {
             → map placed_entry self.new.bundles.items ≡ map placed_entry self.old.bundles.items ++ map (λ (b : Bundle). placed_at ward b (at b.0)) bundles.now) }
         ensures figures { OnOk result (map figure_entry self.new.figures.items ≡ map figure_entry self.old.figures.items ++ figures_to ward candidates.now (reverse stages.now)) }
     {
-        Err(AllocError)
+        add_bundles(alloc, &mut self.bundles, ward, bundles, places)?;
+        add_figures(alloc, &mut self.figures, ward, candidates, stages)?;
+        Ok(())
     }
+}
+
+/// A bundle of a ward, where it lies. An error is want of memory.
+fn placed_bundle(
+    alloc: Global,
+    ward: u32,
+    list: &Prefs,
+    papers: u32,
+    at: &Placed,
+) -> Result<PlacedBundle, AllocError>
+    ensures { IfOk result (λ bundle. (place : Place) → at.now ≡ placed place → placed_entry bundle ≡ placed_at ward (list.now, papers) place) }
+{
+    let list = Vec::from_slice(alloc, list.as_slice())?;
+    Ok(PlacedBundle {
+        ward,
+        list,
+        papers,
+        holder: u32::from(at.holder),
+        value: at.value.units(),
+    })
+}
+
+/// Adds the bundles of a ward, each where it lies.
+fn add_bundles(
+    alloc: Global,
+    to: &mut Vec<PlacedBundle>,
+    ward: u32,
+    bundles: &Bundles,
+    places: &[Placed],
+) -> Result<(), AllocError>
+    ensures { OnOk result ((at : List ℕ → Place) → places.now ≡ map (λ (b : Bundle). placed (at b.0)) bundles.now
+        → map placed_entry to.new.items ≡ map placed_entry to.old.items ++ map (λ (b : Bundle). placed_at ward b (at b.0)) bundles.now) }
+{
+    let mut rest = places;
+    for (list, papers) in bundles.iter() {
+        if let Some((at, others)) = rest.split_first() {
+            to.push(placed_bundle(alloc, ward, list, *papers, at)?)?;
+            rest = others;
+        }
+    }
+    Ok(())
+}
+
+/// Adds the figures of one stage of a ward.
+fn add_stage(
+    to: &mut Vec<StageFigure>,
+    ward: u32,
+    stage: u32,
+    figures: &[Figure],
+) -> Result<(), AllocError>
+    ensures { OnOk result (map figure_entry to.new.items ≡ map figure_entry to.old.items ++ map (figure_at ward stage) figures.now) }
+{
+    for figure in figures {
+        to.push(StageFigure {
+            ward,
+            stage,
+            candidate: figure.candidate,
+            units: figure.units,
+            mark: figure.mark,
+        })?;
+    }
+    Ok(())
+}
+
+/// Adds the figures of all stages of a ward, from the first on.
+fn add_figures(
+    alloc: Global,
+    to: &mut Vec<StageFigure>,
+    ward: u32,
+    candidates: &Columns,
+    stages: &[Stage],
+) -> Result<(), AllocError>
+    ensures { OnOk result (map figure_entry to.new.items ≡ map figure_entry to.old.items ++ figures_to ward candidates.now (reverse stages.now)) }
+{
+    for done in 0..stages.len() {
+        // no machine has the memory for so many stages
+        let Ok(stage) = u32::try_from(done + 1) else {
+            return Err(AllocError);
+        };
+        let figures = figures_of(alloc, candidates, &stages[..=done])?;
+        add_stage(to, ward, stage, &figures)?;
+    }
+    Ok(())
 }
 
 /// The laws of what is tabulated, for its callers. At a state the bundles stand in the order of ward and list,
