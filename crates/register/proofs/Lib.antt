@@ -28,3 +28,7 @@ mod WorkedRows
 mod NominationRows
 mod BatchRows
 mod CountRows
+mod TabulatedLemmas
+mod AddedLemmas
+mod ReadBackLemmas
+mod TabulatedRows

@@ -1,19 +1,25 @@
 //! What an office tabulates of its counts: where each bundle of equal ballot papers lies, and every figure of
 //! every stage.
 
-ghost use Rattle.std.specs.Prelude.{◌≡◌, [], ◌++◌, ℕ, List, map, reverse, length, true, IfOk, IfSome, IsSome, OnOk};
+ghost use Rattle.std.specs.Prelude.{◌≡◌, ◌==◌, ◌+◌, ◌≤◌, [], ◌++◌, ℕ, List, map, reverse, length, true, Some, IfOk, IfSome, IsSome, OnOk};
+ghost use Rattle.std.specs.List.{AllByRecursion, filter};
+ghost use Rattle.votes.specs.Units.{max_papers};
+ghost use Rattle.paper.specs.Columns.{max_candidates};
 ghost use Rattle.count.specs.Books.{placed};
-ghost use Rattle.count.specs.Bundles.{Bundle};
+ghost use Rattle.count.specs.Bundles.{Bundle, IsBundle, AreBundles, papers_of, with_papers};
 ghost use Rattle.count.specs.Kept.{IsKeptOf};
-ghost use Rattle.count.specs.Law.Contest.{IsContest};
 ghost use Rattle.count.specs.Law.Places.{Place};
 ghost use Rattle.register.specs.Marks.{columns_of};
-ghost use Rattle.register.specs.Elections.{ElectionEntry, contest_of, stages_of, is_counted_right};
-ghost use Rattle.register.specs.Tabulated.{placed_entry, figure_entry, addition_entries, no_addition, placed_at, figures_to, has_stages, bundles_in, figures_in};
+ghost use Rattle.register.specs.Offices.{OfficeState, WardEntry, ward_at, candidates_of};
+ghost use Rattle.register.specs.Elections.{ElectionEntry, election_of, contest_of, stages_of};
+ghost use Rattle.register.specs.Items.{IsState};
+ghost use Rattle.register.specs.Tabulated.{PlacedEntry, FigureEntry, TabulationRises, AreOfCount, placed_entry, figure_entry, bundle_of, placed_of, shown_of, addition_entries, no_addition, placed_at, figure_at, figures_to, has_stages, bundles_in, figures_in, tabulation_of};
+ghost use Rattle.register.specs.WorkedTabulation.{WorkedTabulation};
 
-use count::{Bundles, KeptCount, Placed, Stage};
-use paper::Columns;
+use count::{Bundles, Figure, KeptCount, Placed, Stage, figures_of, stages_of_figures};
+use paper::{Columns, Prefs};
 use std::alloc::{AllocError, Global};
+use votes::{MAX_PAPERS, Votes};
 
 /// A bundle of equal ballot papers of a ward, where it lies after the stages done: the preferences, one
 /// candidate's number (1 to 30) a byte; how many papers there are, 1 or more; who holds them, a candidate's
@@ -94,8 +100,171 @@ impl Tabulation {
             → map placed_entry self.new.bundles.items ≡ map placed_entry self.old.bundles.items ++ map (λ (b : Bundle). placed_at ward b (at b.0)) bundles.now) }
         ensures figures { OnOk result (map figure_entry self.new.figures.items ≡ map figure_entry self.old.figures.items ++ figures_to ward candidates.now (reverse stages.now)) }
     {
-        Err(AllocError)
+        add_bundles(alloc, &mut self.bundles, ward, bundles, places)?;
+        add_figures(alloc, &mut self.figures, ward, candidates, stages)?;
+        Ok(())
     }
+}
+
+/// A bundle of a ward, where it lies. An error is want of memory.
+fn placed_bundle(
+    alloc: Global,
+    ward: u32,
+    list: &Prefs,
+    papers: u32,
+    at: &Placed,
+) -> Result<PlacedBundle, AllocError>
+    ensures { IfOk result (λ bundle. (place : Place) → at.now ≡ placed place → placed_entry bundle ≡ placed_at ward (list.now, papers) place) }
+{
+    let list = Vec::from_slice(alloc, list.as_slice())?;
+    Ok(PlacedBundle {
+        ward,
+        list,
+        papers,
+        holder: u32::from(at.holder),
+        value: at.value.units(),
+    })
+}
+
+/// Adds the bundles of a ward, each where it lies.
+fn add_bundles(
+    alloc: Global,
+    to: &mut Vec<PlacedBundle>,
+    ward: u32,
+    bundles: &Bundles,
+    places: &[Placed],
+) -> Result<(), AllocError>
+    ensures { OnOk result ((at : List ℕ → Place) → places.now ≡ map (λ (b : Bundle). placed (at b.0)) bundles.now
+        → map placed_entry to.new.items ≡ map placed_entry to.old.items ++ map (λ (b : Bundle). placed_at ward b (at b.0)) bundles.now) }
+{
+    let mut rest = places;
+    for (list, papers) in bundles.iter() {
+        if let Some((at, others)) = rest.split_first() {
+            to.push(placed_bundle(alloc, ward, list, *papers, at)?)?;
+            rest = others;
+        }
+    }
+    Ok(())
+}
+
+/// Adds the figures of one stage of a ward.
+fn add_stage(
+    to: &mut Vec<StageFigure>,
+    ward: u32,
+    stage: u32,
+    figures: &[Figure],
+) -> Result<(), AllocError>
+    ensures { OnOk result (map figure_entry to.new.items ≡ map figure_entry to.old.items ++ map (figure_at ward stage) figures.now) }
+{
+    for figure in figures {
+        to.push(StageFigure {
+            ward,
+            stage,
+            candidate: figure.candidate,
+            units: figure.units,
+            mark: figure.mark,
+        })?;
+    }
+    Ok(())
+}
+
+/// Adds the figures of all stages of a ward, from the first on.
+fn add_figures(
+    alloc: Global,
+    to: &mut Vec<StageFigure>,
+    ward: u32,
+    candidates: &Columns,
+    stages: &[Stage],
+) -> Result<(), AllocError>
+    ensures { OnOk result (map figure_entry to.new.items ≡ map figure_entry to.old.items ++ figures_to ward candidates.now (reverse stages.now)) }
+{
+    for done in 0..stages.len() {
+        // no machine has the memory for so many stages
+        let Ok(stage) = u32::try_from(done + 1) else {
+            return Err(AllocError);
+        };
+        let figures = figures_of(alloc, candidates, &stages[..=done])?;
+        add_stage(to, ward, stage, &figures)?;
+    }
+    Ok(())
+}
+
+/// The laws of what is tabulated, for its callers. At a state the bundles stand in the order of ward and list,
+/// the figures in that of ward, stage and candidate, none twice; and those of a ward are what its election has.
+/// Where a ward's count has a stage, they are those that its count is read back from. Of an election worked by hand they are those that were worked out: before the first stage none, after two of
+/// them each bundle where it lies, at its value, and each stage's figures.
+pub fn tabulations_are_ordered()
+    ensures rise { (s : OfficeState) → IsState s → TabulationRises (tabulation_of s) }
+    ensures bundles { (s : OfficeState) (w : WardEntry) → IsState s → ward_at s w.number ≡ Some w → filter (λ (b : PlacedEntry). b.ward == w.number) (tabulation_of s).bundles ≡ bundles_in (election_of s w) }
+    ensures figures { (s : OfficeState) (w : WardEntry) → IsState s → ward_at s w.number ≡ Some w → filter (λ (f : FigureEntry). f.ward == w.number) (tabulation_of s).figures ≡ figures_in (election_of s w) }
+    ensures counted { (s : OfficeState) (w : WardEntry) → IsState s → ward_at s w.number ≡ Some w → has_stages (election_of s w) ≡ true
+        → AreOfCount (election_of s w) (columns_of (candidates_of s w.number)) w.seats (bundles_in (election_of s w)) (figures_in (election_of s w)) }
+    ensures worked { WorkedTabulation }
+{}
+
+/// Adds a bundle to others, and says whether it could: whether its list is one of preferences, it has a paper,
+/// and they are `MAX_PAPERS` at most with it. Where it couldn't, and on want of memory, the others are as they
+/// were.
+fn add_bundle(bundles: &mut Bundles, bundle: &PlacedBundle) -> Result<bool, AllocError>
+    ensures ok { IfOk result (λ added. added ≡ true → bundles.new ≡ with_papers bundles.old bundle.now.list.items bundle.now.papers) }
+    ensures fits { IfOk result (λ added. IsBundle (bundle_of (placed_entry bundle.now)) → length (papers_of bundles.old) + bundle.now.papers ≤ max_papers → added ≡ true) }
+{
+    let Some(list) = Prefs::from_slice(&bundle.list) else {
+        return Ok(false);
+    };
+    let room = MAX_PAPERS - bundles.papers();
+    if bundle.papers < 1 || bundle.papers > room {
+        return Ok(false);
+    }
+    bundles.add_papers(list, bundle.papers)?;
+    Ok(true)
+}
+
+/// The bundles of a ward; none where they are no bundles, or of too many papers. An error is want of memory.
+fn bundles_of(alloc: Global, tabulated: &[PlacedBundle]) -> Result<Option<Bundles>, AllocError>
+    ensures is { IfOk result (λ found. IfSome found (λ bundles. AreBundles (map bundle_of (map placed_entry tabulated.now)) → bundles ≡ map bundle_of (map placed_entry tabulated.now))) }
+    ensures some { IfOk result (λ found. AreBundles (map bundle_of (map placed_entry tabulated.now)) → length (papers_of (map bundle_of (map placed_entry tabulated.now))) ≤ max_papers → IsSome found) }
+{
+    let mut bundles = Bundles::new(alloc);
+    for bundle in tabulated {
+        if !add_bundle(&mut bundles, bundle)? {
+            return Ok(None);
+        }
+    }
+    Ok(Some(bundles))
+}
+
+/// Where the bundles of a ward lie; none where a holder is no candidate's number. An error is want of memory.
+fn places_of(alloc: Global, tabulated: &[PlacedBundle]) -> Result<Option<Vec<Placed>>, AllocError>
+    ensures is { IfOk result (λ found. IfSome found (λ places. places.items ≡ map placed_of (map placed_entry tabulated.now))) }
+    ensures some { IfOk result (λ found. AllByRecursion (λ (at : Placed). at.holder ≤ max_candidates) (map placed_of (map placed_entry tabulated.now)) → IsSome found) }
+{
+    let mut places = Vec::with_capacity(alloc, tabulated.len())?;
+    for bundle in tabulated {
+        let Ok(holder) = u8::try_from(bundle.holder) else {
+            return Ok(None);
+        };
+        places.push(Placed {
+            holder,
+            value: Votes::from_units(bundle.value),
+        })?;
+    }
+    Ok(Some(places))
+}
+
+/// The figures of a ward, as the count has them, stage by stage. An error is want of memory.
+fn figures_shown(alloc: Global, tabulated: &[StageFigure]) -> Result<Vec<Figure>, AllocError>
+    ensures { IfOk result (λ figures. figures.items ≡ map shown_of (map figure_entry tabulated.now)) }
+{
+    let mut figures = Vec::with_capacity(alloc, tabulated.len())?;
+    for figure in tabulated {
+        figures.push(Figure {
+            candidate: figure.candidate,
+            units: figure.units,
+            mark: figure.mark,
+        })?;
+    }
+    Ok(figures)
 }
 
 /// The count of a ward as its tabulated bundles and figures have it; none where they are those of no count. An
@@ -107,12 +276,21 @@ pub fn count_of(
     bundles: &[PlacedBundle],
     figures: &[StageFigure],
 ) -> Result<Option<KeptCount>, AllocError>
-    ensures is { IfOk result (λ found. IfSome found (λ kept. (e : ElectionEntry) → IsContest (contest_of e) → is_counted_right e ≡ true → has_stages e ≡ true
-        → candidates ≡ columns_of e.candidates → seats ≡ e.ward.seats → map placed_entry bundles.now ≡ bundles_in e → map figure_entry figures.now ≡ figures_in e
-        → IsKeptOf (contest_of e) (stages_of e) kept)) }
-    ensures some { IfOk result (λ found. (e : ElectionEntry) → IsContest (contest_of e) → is_counted_right e ≡ true → has_stages e ≡ true
-        → candidates ≡ columns_of e.candidates → seats ≡ e.ward.seats → map placed_entry bundles.now ≡ bundles_in e → map figure_entry figures.now ≡ figures_in e
-        → IsSome found) }
+    ensures is { IfOk result (λ found. IfSome found (λ kept. (e : ElectionEntry) → AreOfCount e candidates seats (map placed_entry bundles.now) (map figure_entry figures.now) → IsKeptOf (contest_of e) (stages_of e) kept)) }
+    ensures some { IfOk result (λ found. (e : ElectionEntry) → AreOfCount e candidates seats (map placed_entry bundles.now) (map figure_entry figures.now) → IsSome found) }
 {
-    Err(AllocError)
+    let Ok(seats) = u8::try_from(seats) else {
+        return Ok(None);
+    };
+    let Some(kept) = bundles_of(alloc, bundles)? else {
+        return Ok(None);
+    };
+    let Some(places) = places_of(alloc, bundles)? else {
+        return Ok(None);
+    };
+    let figures = figures_shown(alloc, figures)?;
+    let Some(stages) = stages_of_figures(alloc, &candidates, &figures)? else {
+        return Ok(None);
+    };
+    Ok(KeptCount::resume(candidates, seats, kept, places, stages))
 }

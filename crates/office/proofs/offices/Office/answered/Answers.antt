@@ -4,6 +4,8 @@ use Rattle.sqlite.specs.State.{HasCleanDisk}
 use Rattle.register.specs.Items.{IsState}
 use Rattle.register.specs.Machine.{Outcome, accepted, kept, refused, state_after, step}
 use Rattle.register.specs.Effects.{with_change, change_entry}
+use Rattle.register.specs.Tabulated.{AddsWhatIsCounted}
+use Rattle.register.specs.declared.decision.Decision.TheVariants.{Accepted}
 use Rattle.store.specs.Offices.{IsAt}
 use Rattle.office.specs.Values.{OfficeValue}
 use Rattle.office.specs.declared.answers.Answer.TheVariants.{Done, Kept, Refused}
@@ -32,7 +34,8 @@ returns-in-Ok-Accepted-clause-handled g c clean is_open s at =
     let was_open = c.in-Ok-Accepted.ensures.opens before in
     let kept_at = c.decision_of.ensures.keeps before s here in
     let is : IsState (with_change (change_entry c.in-Ok-Accepted.change) s) = subst (λ (o : Outcome). IsState (state_after s o)) (sym same) (c.in-Ok-Accepted.ensures.stays s here.is) in
-    handled_err s (step s c.args.actor c.args.id.now c.args.command.now) (accepted (with_change (change_entry c.in-Ok-Accepted.change) s) (string_bytes c.in-Ok-Accepted.reply)) c.in-Err-commit.fault true (state g.S.Store c.commit.new.self) same refl c.in-Err-commit.ensures.cause (λ _. refl) (c.commit.ensures.leaves clean was_open s kept_at is)
+    let tabulated : AddsWhatIsCounted s (Accepted c.in-Ok-Accepted.change c.in-Ok-Accepted.reply) = rw c.in-Ok-Accepted.field-0-is at (c.in-Ok-Accepted.ensures.tabulates before s here) in
+    handled_err s (step s c.args.actor c.args.id.now c.args.command.now) (accepted (with_change (change_entry c.in-Ok-Accepted.change) s) (string_bytes c.in-Ok-Accepted.reply)) c.in-Err-commit.fault true (state g.S.Store c.commit.new.self) same refl c.in-Err-commit.ensures.cause (λ _. refl) (c.commit.ensures.leaves clean was_open s kept_at tabulated is)
 
 pub returns-in-Ok-clause-handled : goal.returns-in-Ok-clause-handled
 returns-in-Ok-clause-handled g c clean is_open s at =
@@ -43,4 +46,5 @@ returns-in-Ok-clause-handled g c clean is_open s at =
     let was_open = c.in-Ok-Accepted.ensures.opens before in
     let kept_at = c.decision_of.ensures.keeps before s here in
     let is : IsState (with_change (change_entry c.in-Ok-Accepted.change) s) = subst (λ (o : Outcome). IsState (state_after s o)) (sym same) (c.in-Ok-Accepted.ensures.stays s here.is) in
-    handled_ok s (step s c.args.actor c.args.id.now c.args.command.now) (accepted (with_change (change_entry c.in-Ok-Accepted.change) s) (string_bytes c.in-Ok-Accepted.reply)) (Done c.in-Ok-Accepted.reply) c.self.inside.closed (state g.S.Store c.commit.new.self) same refl opened (c.in-Ok.ensures.done clean was_open s kept_at is)
+    let tabulated : AddsWhatIsCounted s (Accepted c.in-Ok-Accepted.change c.in-Ok-Accepted.reply) = rw c.in-Ok-Accepted.field-0-is at (c.in-Ok-Accepted.ensures.tabulates before s here) in
+    handled_ok s (step s c.args.actor c.args.id.now c.args.command.now) (accepted (with_change (change_entry c.in-Ok-Accepted.change) s) (string_bytes c.in-Ok-Accepted.reply)) (Done c.in-Ok-Accepted.reply) c.self.inside.closed (state g.S.Store c.commit.new.self) same refl opened (c.in-Ok.ensures.done clean was_open s kept_at tabulated is)
