@@ -5,11 +5,7 @@ ghost use Rattle.count.specs.Bundles.{Bundle, bundled};
 ghost use Rattle.count.specs.Kept.{CountKept, IsKeptOf, places_after};
 ghost use Rattle.count.specs.Law.Contest.{Contest, History, IsContest};
 ghost use Rattle.count.specs.Law.Count.{with_stage, with_next, due_by as due_by_lots};
-<<<<<<< HEAD
 ghost use Rattle.count.specs.Law.Due.{next_action as next_action_of};
-=======
-ghost use Rattle.count.specs.Law.Due.{next_action};
->>>>>>> ddac7df8b59f5ad012b9da5d0846bef3bf39bce9
 ghost use Rattle.count.specs.Law.Elected.{elected_after};
 ghost use Rattle.std.specs.List.{AllByRecursion};
 ghost use Rattle.std.specs.Prelude.{◌↔◌, ◌+◌, ◌*◌, ◌<◌, ◌≤◌, IsTrue};
