@@ -9,9 +9,9 @@ use std::io::ErrorKind;
 /// A log of fewer bytes holds no page: the smallest has 512.
 const MIN_LOG: u64 = 512;
 
-/// A database and its log of fewer bytes together hold no office: each of its eight tables and of their keys
+/// A database and its log of fewer bytes together hold no office: each of its ten tables and of their keys
 /// has a page of 4096.
-const MIN_OFFICE: u64 = 16 * 4096;
+const MIN_OFFICE: u64 = 20 * 4096;
 
 /// The length of the file at a path: none where none is there, and the greatest where it can't be looked at.
 fn length_at(rt: &HostRuntime, path: &str) -> Option<u64> {
