@@ -45,11 +45,14 @@ mod bundle_book;
 mod placed;
 mod places;
 mod weights;
+// the figures that a stage shows
+mod figures;
 
 pub use book::{AdvanceError, CountBook};
 pub use bundle_book::{BundleBook, bundles_count_alike};
 pub use bundles::Bundles;
 pub use contest::{is_bundled_contest, is_contest};
+pub use figures::{FRACTIONS, Figure, NO_CANDIDATE, figures_of, stages_of_figures};
 pub use parcel_book::ParcelBook;
 pub use placed::Placed;
 pub use run::{CountEnd, run_count};
