@@ -1,11 +1,14 @@
 //! The figures that a stage shows, of each candidate one, and stages read back from them.
 
-ghost use Rattle.std.specs.Prelude.{◌≡◌, ℕ, List, ◌≤◌, length, reverse, IfOk, IfSome, IsSome};
-ghost use Rattle.count.specs.Law.Contest.{Contest, History, IsContest};
+ghost use Rattle.std.specs.Prelude.{◌≡◌, ℕ, ◌+◌, ◌≤◌, List, ◌<◌, length, map, reverse, IfOk, IfSome, IsSome, if◌then◌else◌};
+ghost use Rattle.std.specs.List.{list_any};
+ghost use Rattle.paper.specs.Columns.{max_candidates};
+ghost use Rattle.count.specs.Law.Contest.{Contest, History, IsContest, votes_at};
 ghost use Rattle.count.specs.Law.Right.{IsRightForSome};
-ghost use Rattle.count.specs.Marks.{figures_at, all_figures};
+ghost use Rattle.count.specs.Marks.{is_named as is_named_of, standing_mark as standing_mark_of, mark_by as mark_by_of, figure_of as figure_of_stage, figures_at, all_figures};
 
-use crate::stages::Stage;
+use crate::elected::{is_excluded, votes_after};
+use crate::stages::{Action, Stage};
 use paper::Columns;
 use std::alloc::{AllocError, Global};
 
@@ -26,6 +29,57 @@ pub struct Figure {
     pub mark: u32,
 }
 
+/// Whether a candidate was named as elected at some stage.
+fn is_named(stages: &[Stage], c: u8) -> bool
+    ensures { result ≡ is_named_of (reverse stages.now) c }
+{
+    for stage in stages {
+        if stage.elected.has(c) {
+            return true;
+        }
+    }
+    false
+}
+
+/// The mark of a candidate at a stage that doesn't act on him.
+fn standing_mark(stages: &[Stage], c: u8) -> u32
+    ensures { result ≡ standing_mark_of (reverse stages.now) c }
+{
+    if is_named(stages, c) {
+        return 1;
+    }
+    if is_excluded(stages, c) {
+        return 2;
+    }
+    0
+}
+
+/// The mark of a candidate at a stage of an action, where he would have another if it weren't on him.
+fn mark_by(action: &Action, c: u8, other: u32) -> u32
+    ensures { result ≡ mark_by_of action.now c other }
+{
+    let (d, mark) = match action {
+        Action::First => return other,
+        Action::Surplus(d) => (*d, 3),
+        Action::Exclude(d) => (*d, 4),
+        Action::ExcludeLast(d) => (*d, 5),
+    };
+    if d == c { mark } else { other }
+}
+
+/// The figure of a candidate at the newest of some stages.
+fn figure_of(newest: &Stage, stages: &[Stage], c: u8) -> Figure
+    requires some { 1 ≤ c }
+    requires few { c ≤ max_candidates }
+    ensures { result ≡ figure_of_stage newest.now (reverse stages.now) c }
+{
+    Figure {
+        candidate: u32::from(c),
+        units: votes_after(newest, c).units(),
+        mark: mark_by(&newest.action, c, standing_mark(stages, c)),
+    }
+}
+
 /// The figures of the last of some stages: of the non-transferable, of each candidate in ascending order, and
 /// of what is lost. None where there is no stage. An error is want of memory.
 pub fn figures_of(
@@ -35,7 +89,24 @@ pub fn figures_of(
 ) -> Result<Vec<Figure>, AllocError>
     ensures { IfOk result (λ figures. figures.items ≡ figures_at candidates.now (reverse stages.now)) }
 {
-    Err(AllocError)
+    let mut figures = Vec::new(alloc);
+    let Some((newest, _)) = stages.split_last() else {
+        return Ok(figures);
+    };
+    figures.push(Figure {
+        candidate: NO_CANDIDATE,
+        units: newest.non_transferable.units(),
+        mark: 0,
+    })?;
+    for c in candidates.as_slice() {
+        figures.push(figure_of(newest, stages, *c))?;
+    }
+    figures.push(Figure {
+        candidate: FRACTIONS,
+        units: newest.lost.units(),
+        mark: 0,
+    })?;
+    Ok(figures)
 }
 
 /// The stages whose figures these are, from the first one's on; none where they are those of no stages. Of
