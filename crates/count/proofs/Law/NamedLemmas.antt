@@ -1,10 +1,10 @@
 -- Who was named as elected is elected, and the marks of a stage tell who is.
-use Rattle.std.proofs.Common.{◌≡◌, ℕ, ◌+◌, ◌<◌, ◌≤◌, ◌==◌, ◌||◌, ◌&&◌, ◌⊎◌, inl, inr, Bool, true, false, not, cond, eqb, nat_eq, nat_le, List, [], ◌∷◌, length, map, refl, sym, ap, ◌∙◌, arith, Option}
+use Rattle.std.proofs.Common.{◌≡◌, ℕ, ◌+◌, ◌-◌, ◌<◌, ◌≤◌, ◌==◌, ◌||◌, ◌&&◌, ◌⊎◌, inl, inr, Bool, true, false, not, cond, eqb, nat_eq, nat_le, List, [], ◌∷◌, length, map, refl, sym, ap, ◌∙◌, arith, Option}
 use Rattle.std.specs.List.{list_any, filter, sum_by}
-use Rattle.std.proofs.lemmas.Bool.{eqb-true, eq-eqb, leb-true, ne_eqb}
+use Rattle.std.proofs.lemmas.Bool.{eqb-true, leb-false, lt-leb, ne_eqb}
 use Rattle.std.proofs.lemmas.List.Sums.{sum_by-le-sum_by}
 use Rattle.count.specs.Law.Contest.{Contest, History, IsContest, In, votes_at, newest_votes}
-use Rattle.count.specs.Law.Elected.{is_elected, elected_after, has_reached, is_excluded, is_transferred, undecided_fill, transfers, excludes}
+use Rattle.count.specs.Law.Elected.{is_elected, elected_after, continuing_after, vacancies_after, has_reached, is_excluded, is_transferred, undecided_fill, transfers, excludes}
 use Rattle.count.specs.Law.Figures.{votes_after, value_with}
 use Rattle.count.specs.Law.Places.{Place, place, moved, next_available}
 use Rattle.count.specs.Law.Due.{exclusion}
@@ -13,7 +13,7 @@ use Rattle.count.specs.Marks.{is_named, standing_mark, mark_by}
 use Rattle.count.specs.declared.stages.Stage.{Stage}
 use Rattle.count.specs.declared.stages.Action.{Action}
 use Rattle.count.specs.declared.stages.Action.TheVariants.{First, Surplus, Exclude, ExcludeLast}
-use Rattle.count.proofs.ChoiceLemmas.{within_value}
+use Rattle.count.proofs.ChoiceLemmas.{within_value, or_false}
 use Rattle.count.proofs.FilterLemmas.{filter-cong}
 use Rattle.count.proofs.Law.ActionLemmas.{in-filter, column-in}
 use Rattle.count.proofs.Law.FinishLemmas.{vacant-unfilled}
@@ -84,3 +84,88 @@ named-elected contest handed (s ∷ before) c fair right known =
     ∙ ap (λ b. b || is_named before c) (filtered_choice c (λ d. not (is_elected contest before d)) (is_elected contest (s ∷ before)) contest.candidates _ _ refl refl known)
     ∙ ap (λ b. (is_elected contest (s ∷ before) c && not (is_elected contest before c)) || b) (named-elected contest handed before c fair right.0 known)
     ∙ named_choice (is_elected contest (s ∷ before) c) (is_elected contest before c) (elected-stays contest handed s before c fair right)
+
+-- ---- who is acted on
+
+-- an exclusion gives nothing to the excluded
+still_at : (d next : ℕ) (at : Place) (b : Bool) → eqb at.holder d ≡ b →
+    value_with d (let new : Place = cond b (record { holder = next; value = at.value }) at in new) ≤ value_with d at
+still_at d next at true e =
+    let own : value_with d at ≡ at.value = ap (λ b. cond b at.value 0) e in
+    omega (arith, own, within_value (eqb next d) at.value)
+still_at d next at false e = omega arith
+
+held-excluded : (contest : Contest) (s : Stage) (before : History) (d : ℕ) (b : Bool) → s.action ≡ cond b (ExcludeLast d) (Exclude d) → held contest (s ∷ before) d ≤ held contest before d
+held-excluded contest s before d true is =
+    let same : held contest (s ∷ before) d ≡ held contest before d = ap (λ a. sum_by (λ p. value_with d (moved contest before a p (place contest before p))) contest.papers) is in
+    omega (arith, same)
+held-excluded contest s before d false is =
+    let same : held contest (s ∷ before) d ≡ sum_by (λ p. value_with d (moved contest before (Exclude d) p (place contest before p))) contest.papers =
+    ap (λ a. sum_by (λ p. value_with d (moved contest before a p (place contest before p))) contest.papers) is in
+    let less = sum_by-le-sum_by (λ p. value_with d (moved contest before (Exclude d) p (place contest before p))) (λ p. value_with d (place contest before p)) contest.papers
+    (λ p. still_at d (next_available contest before d p) (place contest before p) _ refl) in
+    omega (arith, same, less)
+
+untransferred_by : (b : Bool) (d c : ℕ) → transfers (cond b (ExcludeLast d) (Exclude d)) c ≡ false
+untransferred_by true d c = refl
+untransferred_by false d c = refl
+
+excludes_one : (b : Bool) (c d : ℕ) → excludes (cond b (ExcludeLast c) (Exclude c)) d ≡ eqb c d
+excludes_one true c d = refl
+excludes_one false c d = refl
+
+not_gone : (contest : Contest) (handed : History → Stage → Option ℕ) (stages : History) (d : ℕ) (b : Bool) → is_transferred stages d ≡ b → IsRightBy contest handed stages → is_elected contest stages d ≡ false → b ≡ false
+not_gone contest handed stages d true gone right out = let k = reached-elected contest stages d (transferred-reached contest handed stages d right gone) in cc
+not_gone contest handed stages d false gone right out = refl
+
+not_reached : (contest : Contest) (stages : History) (d : ℕ) (b : Bool) → has_reached contest stages d ≡ b → is_elected contest stages d ≡ false → b ≡ false
+not_reached contest stages d true e out = let k = reached-elected contest stages d e in cc
+not_reached contest stages d false e out = refl
+
+-- whoever is excluded isn't elected then: his votes are no more than before, and those were below the quota
+excluded_step : (contest : Contest) (handed : History → Stage → Option ℕ) (s s' : Stage) (before : History) (d : ℕ) → IsContest contest → IsRightBy contest handed (s ∷ s' ∷ before) →
+    IsSurplus contest (s' ∷ before) s.action ⊎ IsExclusion contest (s' ∷ before) s.action → excludes s.action d ≡ true → is_elected contest (s ∷ s' ∷ before) d ≡ false
+excluded_step contest handed s s' before d fair right (inl on) h = let none : false ≡ true = ap (λ a. excludes a d) (sym on.is) ∙ h in cc
+excluded_step contest handed s s' before d fair right (inr on) h =
+    let stages : History = s' ∷ before in
+    let b : Bool = length (continuing_after contest stages) - 1 == vacancies_after contest stages in
+    let same : on.c ≡ d = eqb-true on.c d (sym (excludes_one b on.c d) ∙ ap (λ a. excludes a d) (sym on.is) ∙ h) in
+    let is : s.action ≡ cond b (ExcludeLast d) (Exclude d) = on.is ∙ ap (exclusion contest stages) same in
+    let out : is_elected contest stages d ≡ false = ap (is_elected contest stages) (sym same) ∙ on.not_elected in
+    let column = column-in d contest.candidates fair.candidate_set (ap (λ c. list_any (nat_eq c) contest.candidates) (sym same) ∙ on.is_candidate) in
+    let stays : is_transferred stages d ≡ false = not_gone contest handed stages d _ refl right.0 out in
+    let now_stays : is_transferred (s ∷ stages) d ≡ false = ap (λ a. transfers a d || is_transferred stages d) is ∙ ap (λ t. t || is_transferred stages d) (untransferred_by b d d) ∙ stays in
+    let below = or_false (nat_le contest.quota (votes_at s' d)) (has_reached contest before d) (not_reached contest stages d _ refl out) in
+    let less : votes_at s d < contest.quota =
+    omega (arith, leb-false contest.quota (votes_at s' d) below.0, told-votes contest s' before d right.0.1.tells column, told-votes contest s stages d right.1.tells column,
+    votes-held contest stages d stays, votes-held contest (s ∷ stages) d now_stays, held-excluded contest s stages d b is) in
+    let reached : has_reached contest (s ∷ stages) d ≡ false = ap (λ t. t || has_reached contest stages d) (lt-leb contest.quota (votes_at s d) less) ∙ not_reached contest stages d _ refl out in
+    ap (λ t. t || (undecided_fill contest (s ∷ stages) && not (excludes s.action d || is_excluded stages d))) reached
+    ∙ ap (λ t. undecided_fill contest (s ∷ stages) && not (t || is_excluded stages d)) h
+    ∙ and_false (undecided_fill contest (s ∷ stages))
+  where
+    and_false : (t : Bool) → (t && false) ≡ false
+    and_false true = refl
+    and_false false = refl
+
+pub excluded-unelected : (contest : Contest) (handed : History → Stage → Option ℕ) (s : Stage) (before : History) (d : ℕ) → IsContest contest → IsRightBy contest handed (s ∷ before) →
+    excludes s.action d ≡ true → is_elected contest (s ∷ before) d ≡ false
+excluded-unelected contest handed s [] d fair right h = let none : false ≡ true = ap (λ a. excludes a d) (sym (step-first contest (handed [] s) s.action right.1.was_due)) ∙ h in cc
+excluded-unelected contest handed s (s' ∷ before) d fair right h =
+    excluded_step contest handed s s' before d fair right (step-is contest s' before (handed (s' ∷ before) s) s.action right.1.was_due) h
+
+-- whoever's surplus is transferred is elected
+surplus_step : (contest : Contest) (handed : History → Stage → Option ℕ) (s s' : Stage) (before : History) (d : ℕ) → IsContest contest → IsRightBy contest handed (s ∷ s' ∷ before) →
+    IsSurplus contest (s' ∷ before) s.action ⊎ IsExclusion contest (s' ∷ before) s.action → transfers s.action d ≡ true → is_elected contest (s ∷ s' ∷ before) d ≡ true
+surplus_step contest handed s s' before d fair right (inl on) h =
+    let same : on.c ≡ d = eqb-true on.c d (ap (λ a. transfers a d) (sym on.is) ∙ h) in
+    elected-stays contest handed s (s' ∷ before) d fair right (ap (is_elected contest (s' ∷ before)) (sym same) ∙ on.elected)
+surplus_step contest handed s s' before d fair right (inr on) h =
+    let b : Bool = length (continuing_after contest (s' ∷ before)) - 1 == vacancies_after contest (s' ∷ before) in
+    let none : false ≡ true = sym (untransferred_by b on.c d) ∙ ap (λ a. transfers a d) (sym on.is) ∙ h in cc
+
+pub surplus-elected : (contest : Contest) (handed : History → Stage → Option ℕ) (s : Stage) (before : History) (d : ℕ) → IsContest contest → IsRightBy contest handed (s ∷ before) →
+    transfers s.action d ≡ true → is_elected contest (s ∷ before) d ≡ true
+surplus-elected contest handed s [] d fair right h = let none : false ≡ true = ap (λ a. transfers a d) (sym (step-first contest (handed [] s) s.action right.1.was_due)) ∙ h in cc
+surplus-elected contest handed s (s' ∷ before) d fair right h =
+    surplus_step contest handed s s' before d fair right (step-is contest s' before (handed (s' ∷ before) s) s.action right.1.was_due) h
