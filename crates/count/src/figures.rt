@@ -1,16 +1,17 @@
 //! The figures that a stage shows, of each candidate one, and stages read back from them.
 
-ghost use Rattle.std.specs.Prelude.{◌≡◌, ℕ, ◌+◌, ◌≤◌, List, ◌<◌, length, map, reverse, IfOk, IfSome, IsSome, if◌then◌else◌};
-ghost use Rattle.std.specs.List.{list_any};
+ghost use Rattle.std.specs.Prelude.{◌≡◌, ℕ, ◌+◌, ◌≤◌, ◌∷◌, length, map, reverse, IfOk, IfSome, IsSome};
 ghost use Rattle.paper.specs.Columns.{max_candidates};
-ghost use Rattle.count.specs.Law.Contest.{Contest, History, IsContest, votes_at};
+ghost use Rattle.count.specs.Law.Contest.{Contest, History, IsContest};
+ghost use Rattle.count.specs.Inside.Reading.{is_elected_mark as is_elected_mark_of, elected_shown, votes_shown, action_by as action_by_mark, action_shown, stage_shown};
 ghost use Rattle.count.specs.Law.Right.{IsRightForSome};
 ghost use Rattle.count.specs.Marks.{is_named as is_named_of, standing_mark as standing_mark_of, mark_by as mark_by_of, figure_of as figure_of_stage, figures_at, all_figures};
 
 use crate::elected::{is_excluded, votes_after};
 use crate::stages::{Action, Stage};
-use paper::Columns;
+use paper::{Columns, MAX_CANDIDATES};
 use std::alloc::{AllocError, Global};
+use votes::Votes;
 
 /// The number under which the non-transferable stands among a stage's figures.
 pub const NO_CANDIDATE: u32 = 0;
@@ -107,6 +108,81 @@ pub fn figures_of(
         mark: 0,
     })?;
     Ok(figures)
+}
+
+/// Whether a mark is that of one who is elected.
+fn is_elected_mark(mark: u32) -> bool
+    ensures { result ≡ is_elected_mark_of mark }
+{
+    mark == 1 || mark == 3
+}
+
+/// The candidates who are marked as elected.
+fn elected_in(candidates: &Columns, figures: &[Figure]) -> Columns
+    requires { length figures.now ≡ length candidates.now }
+    ensures { (f : ℕ → Figure) → figures.now ≡ map f candidates.now → result ≡ elected_shown f candidates.now }
+{
+    let mut chosen = Columns::empty();
+    for (i, c) in candidates.as_slice().iter().enumerate() {
+        if is_elected_mark(figures[i].mark) {
+            chosen = chosen.with(*c);
+        }
+    }
+    chosen
+}
+
+/// The votes of all numbers, none for those that are no candidates.
+fn votes_in(candidates: &Columns, figures: &[Figure]) -> [Votes; MAX_CANDIDATES]
+    requires { length figures.now ≡ length candidates.now }
+    ensures { (f : ℕ → Figure) → figures.now ≡ map f candidates.now → result ≡ votes_shown f candidates.now }
+{
+    let mut votes = [Votes::from_units(0); MAX_CANDIDATES];
+    for (i, c) in candidates.as_slice().iter().enumerate() {
+        votes[usize::from(*c - 1)] = Votes::from_units(figures[i].units);
+    }
+    votes
+}
+
+/// The action on a candidate that his mark tells, where it tells one.
+fn action_by(mark: u32, c: u8) -> Option<Action>
+    ensures { result ≡ action_by_mark mark c }
+{
+    match mark {
+        3 => Some(Action::Surplus(c)),
+        4 => Some(Action::Exclude(c)),
+        5 => Some(Action::ExcludeLast(c)),
+        _ => None,
+    }
+}
+
+/// The action that the candidates' marks tell; where none does, the first stage's.
+fn action_in(candidates: &Columns, figures: &[Figure]) -> Action
+    requires { length figures.now ≡ length candidates.now }
+    ensures { (f : ℕ → Figure) → figures.now ≡ map f candidates.now → result ≡ action_shown f candidates.now }
+{
+    for (i, c) in candidates.as_slice().iter().enumerate() {
+        match action_by(figures[i].mark, *c) {
+            Some(action) => return action,
+            None => {}
+        }
+    }
+    Action::First
+}
+
+/// The stage that its figures show, with those who are newly elected.
+fn stage_in(candidates: &Columns, figures: &[Figure], newly: Columns) -> Stage
+    requires { length figures.now ≡ length candidates.now + 2 }
+    ensures { (s : Stage) (before : History) → figures.now ≡ figures_at candidates.now (s ∷ before) → result ≡ stage_shown candidates.now s before newly }
+{
+    let last = candidates.len() + 1;
+    let shown = &figures[1..last];
+    Stage {
+        action: action_in(candidates, shown),
+        votes: votes_in(candidates, shown),
+        elected: newly,
+        non_transferable: Votes::from_units(figures[0].units),
+        lost: Votes::from_units(figures[last].units),
+    }
 }
 
 /// The stages whose figures these are, from the first one's on; none where they are those of no stages. Of
