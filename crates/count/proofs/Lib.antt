@@ -13,6 +13,7 @@ pub mod TransferLemmas
 pub mod ParcelTotals
 pub mod MoveLemmas
 pub mod OrderLemmas
+pub mod ReadBackLemmas
 pub mod ReadingLemmas
 pub mod RecordLemmas
 pub mod RestLemmas

@@ -1,0 +1,147 @@
+-- The figures of a right stage tell the stage back.
+use Rattle.std.proofs.Common.{◌≡◌, ℕ, ◌||◌, ◌⊎◌, inl, inr, Bool, true, false, not, cond, eqb, nat_eq, List, [], ◌∷◌, map, Option, Some, None, refl, sym, ap, ◌∙◌}
+use Rattle.std.specs.List.{list_any, filter}
+use Rattle.std.proofs.lemmas.Bool.{eqb-true}
+use Rattle.paper.specs.Columns.{IsColumn}
+use Rattle.count.specs.Law.Contest.{Contest, History, IsContest, In, votes_at}
+use Rattle.count.specs.Law.Elected.{elected_after, is_elected, is_excluded, transfers, excludes}
+use Rattle.count.specs.Law.Figures.{votes_after}
+use Rattle.count.specs.Law.Right.{IsRightBy}
+use Rattle.count.specs.Marks.{is_named, standing_mark, mark_by, figure_of}
+use Rattle.count.specs.Inside.Reading.{is_elected_mark, elected_shown, units_shown, votes_shown, action_by, action_or, action_shown, stage_shown}
+use Rattle.count.specs.declared.figures.Figure.{Figure}
+use Rattle.count.specs.declared.stages.Stage.{Stage}
+use Rattle.count.specs.declared.stages.Action.{Action}
+use Rattle.count.specs.declared.stages.Action.TheVariants.{First, Surplus, Exclude, ExcludeLast}
+use Rattle.count.proofs.FilterLemmas.{filter-cong}
+use Rattle.count.proofs.ReadingLemmas.{stage-made}
+use Rattle.count.proofs.TallyLemmas.{map-numbers}
+use Rattle.count.proofs.Law.NamedLemmas.{named-elected, excluded-unelected, surplus-elected}
+use Rattle.count.proofs.Law.NewlyLemmas.{newly-elected}
+use Rattle.count.proofs.Law.StepLemmas.{IsSurplus, IsExclusion, step-is, step-first, told-votes}
+use Rattle.count.proofs.Law.VotelessLemmas.{others-voteless}
+
+-- ---- who is elected
+
+standing_elected : (named gone : Bool) → is_elected_mark (cond named 1 (cond gone 2 0)) ≡ named
+standing_elected true gone = refl
+standing_elected false true = refl
+standing_elected false false = refl
+
+-- a mark tells who is elected, whatever the action
+elected_by : (a : Action) (c : ℕ) (named gone : Bool) → (transfers a c ≡ true → named ≡ true) → (excludes a c ≡ true → named ≡ false) → is_elected_mark (mark_by a c (cond named 1 (cond gone 2 0))) ≡ named
+elected_by First c named gone on out = standing_elected named gone
+elected_by (Surplus d) c named gone on out = by_test (eqb d c) on
+  where
+    by_test : (b : Bool) → (b ≡ true → named ≡ true) → is_elected_mark (cond b 3 (cond named 1 (cond gone 2 0))) ≡ named
+    by_test true h = sym (h refl)
+    by_test false h = standing_elected named gone
+elected_by (Exclude d) c named gone on out = by_test (eqb d c) out
+  where
+    by_test : (b : Bool) → (b ≡ true → named ≡ false) → is_elected_mark (cond b 4 (cond named 1 (cond gone 2 0))) ≡ named
+    by_test true h = sym (h refl)
+    by_test false h = standing_elected named gone
+elected_by (ExcludeLast d) c named gone on out = by_test (eqb d c) out
+  where
+    by_test : (b : Bool) → (b ≡ true → named ≡ false) → is_elected_mark (cond b 5 (cond named 1 (cond gone 2 0))) ≡ named
+    by_test true h = sym (h refl)
+    by_test false h = standing_elected named gone
+
+pub elected-back : (contest : Contest) (handed : History → Stage → Option ℕ) (s : Stage) (before : History) → IsContest contest → IsRightBy contest handed (s ∷ before) →
+    elected_shown (figure_of s (s ∷ before)) contest.candidates ≡ elected_after contest (s ∷ before)
+elected-back contest handed s before fair right =
+    filter-cong (λ c. is_elected_mark (figure_of s (s ∷ before) c).mark) (is_elected contest (s ∷ before)) contest.candidates (λ c known.
+    let named = named-elected contest handed (s ∷ before) c fair right known in
+    elected_by s.action c (is_named (s ∷ before) c) (is_excluded (s ∷ before) c)
+    (λ t. named ∙ surplus-elected contest handed s before c fair right t) (λ e. named ∙ excluded-unelected contest handed s before c fair right e)
+    ∙ named)
+
+-- ---- the action
+
+acts_on : Action → ℕ → Bool
+acts_on First c = false
+acts_on (Surplus d) c = eqb d c
+acts_on (Exclude d) c = eqb d c
+acts_on (ExcludeLast d) c = eqb d c
+
+standing_none : (c : ℕ) (named gone : Bool) → action_by (cond named 1 (cond gone 2 0)) c ≡ None
+standing_none c true gone = refl
+standing_none c false true = refl
+standing_none c false false = refl
+
+-- a mark tells the action on whom it acts, and no other
+action_at : (a : Action) (c : ℕ) (named gone : Bool) → action_by (mark_by a c (cond named 1 (cond gone 2 0))) c ≡ cond (acts_on a c) (Some a) None
+unfolding acts_on
+action_at First c named gone = standing_none c named gone
+action_at (Surplus d) c named gone = by_test _ refl
+  where
+    by_test : (b : Bool) → eqb d c ≡ b → action_by (cond b 3 (cond named 1 (cond gone 2 0))) c ≡ cond b (Some (Surplus d)) None
+    by_test true e = ap (λ n. Some (Surplus n)) (sym (eqb-true d c e))
+    by_test false e = standing_none c named gone
+action_at (Exclude d) c named gone = by_test _ refl
+  where
+    by_test : (b : Bool) → eqb d c ≡ b → action_by (cond b 4 (cond named 1 (cond gone 2 0))) c ≡ cond b (Some (Exclude d)) None
+    by_test true e = ap (λ n. Some (Exclude n)) (sym (eqb-true d c e))
+    by_test false e = standing_none c named gone
+action_at (ExcludeLast d) c named gone = by_test _ refl
+  where
+    by_test : (b : Bool) → eqb d c ≡ b → action_by (cond b 5 (cond named 1 (cond gone 2 0))) c ≡ cond b (Some (ExcludeLast d)) None
+    by_test true e = ap (λ n. Some (ExcludeLast n)) (sym (eqb-true d c e))
+    by_test false e = standing_none c named gone
+
+shown_choice : (a later : Action) (b any : Bool) → later ≡ cond any a First → action_or later (cond b (Some a) None) ≡ cond (b || any) a First
+shown_choice a later true any h = refl
+shown_choice a later false any h = h
+
+-- the marks tell an action on one of the candidates
+action_told : (f : ℕ → Figure) (a : Action) (xs : List ℕ) → ((c : ℕ) → action_by (f c).mark c ≡ cond (acts_on a c) (Some a) None) → action_shown f xs ≡ cond (list_any (acts_on a) xs) a First
+action_told f a [] h = refl
+action_told f a (x ∷ xs) h = ap (action_or (action_shown f xs)) (h x) ∙ shown_choice a (action_shown f xs) (acts_on a x) (list_any (acts_on a) xs) (action_told f a xs h)
+
+either_first : (b : Bool) → cond b First First ≡ First
+either_first true = refl
+either_first false = refl
+
+known_action : (contest : Contest) (handed : History → Stage → Option ℕ) (s s' : Stage) (before : History) → IsSurplus contest (s' ∷ before) s.action ⊎ IsExclusion contest (s' ∷ before) s.action →
+    cond (list_any (acts_on s.action) contest.candidates) s.action First ≡ s.action
+unfolding acts_on
+known_action contest handed s s' before (inl on) =
+    ap (λ a. cond (list_any (acts_on a) contest.candidates) a First) on.is ∙ ap (λ b. cond b (Surplus on.c) First) on.is_candidate ∙ sym on.is
+known_action contest handed s s' before (inr on) = ap (λ a. cond (list_any (acts_on a) contest.candidates) a First) on.is ∙ by_test _ ∙ sym on.is
+  where
+    by_test : (b : Bool) → let a : Action = cond b (ExcludeLast on.c) (Exclude on.c) in cond (list_any (acts_on a) contest.candidates) a First ≡ a
+    by_test true = ap (λ b. cond b (ExcludeLast on.c) First) on.is_candidate
+    by_test false = ap (λ b. cond b (Exclude on.c) First) on.is_candidate
+
+is_known : (contest : Contest) (handed : History → Stage → Option ℕ) (s : Stage) (before : History) → IsRightBy contest handed (s ∷ before) → cond (list_any (acts_on s.action) contest.candidates) s.action First ≡ s.action
+is_known contest handed s [] right =
+    let is = step-first contest (handed [] s) s.action right.1.was_due in
+    ap (λ a. cond (list_any (acts_on s.action) contest.candidates) a First) is ∙ either_first (list_any (acts_on s.action) contest.candidates) ∙ sym is
+is_known contest handed s (s' ∷ before) right = known_action contest handed s s' before (step-is contest s' before (handed (s' ∷ before) s) s.action right.1.was_due)
+
+action-back : (contest : Contest) (handed : History → Stage → Option ℕ) (s : Stage) (before : History) → IsRightBy contest handed (s ∷ before) → action_shown (figure_of s (s ∷ before)) contest.candidates ≡ s.action
+action-back contest handed s before right =
+    action_told (figure_of s (s ∷ before)) s.action contest.candidates (λ c. action_at s.action c (is_named (s ∷ before) c) (is_excluded (s ∷ before) c)) ∙ is_known contest handed s before right
+
+-- ---- the votes
+
+units_at : (contest : Contest) (s : Stage) (before : History) (c : ℕ) (b : Bool) → list_any (nat_eq c) contest.candidates ≡ b → (list_any (nat_eq c) contest.candidates ≡ false → votes_at s c ≡ 0) → votes_at s c ≡ votes_after contest (s ∷ before) c →
+    cond b (votes_at s c) 0 ≡ votes_after contest (s ∷ before) c
+units_at contest s before c true e none told = told
+units_at contest s before c false e none told = sym (none e) ∙ told
+
+votes-back : (contest : Contest) (handed : History → Stage → Option ℕ) (s : Stage) (before : History) → IsContest contest → IsRightBy contest handed (s ∷ before) → votes_shown (figure_of s (s ∷ before)) contest.candidates ≡ s.votes
+votes-back contest handed s before fair right =
+    map-numbers (units_shown (figure_of s (s ∷ before)) contest.candidates) (votes_after contest (s ∷ before)) (λ c column.
+    units_at contest s before c _ refl ((others-voteless contest handed (s ∷ before) fair right).0 c column) (told-votes contest s before c right.1.tells column))
+    ∙ sym right.1.tells.votes_told
+
+-- ---- the stage
+
+-- with those who are elected now and weren't before
+pub stage-back : (contest : Contest) (handed : History → Stage → Option ℕ) (s : Stage) (before : History) (newly : List ℕ) → IsContest contest → IsRightBy contest handed (s ∷ before) →
+    newly ≡ filter (λ c. not (list_any (nat_eq c) (elected_after contest before))) (elected_after contest (s ∷ before)) → stage_shown contest.candidates s before newly ≡ s
+stage-back contest handed s before newly fair right are =
+    let told : newly ≡ s.elected = are ∙ newly-elected contest before (s ∷ before) ∙ sym right.1.tells.elected_told in
+    ap (stage_shown contest.candidates s before) told
+    ∙ stage-made _ _ _ _ s.elected s.non_transferable s.non_transferable s.lost s.lost (action-back contest handed s before right) (votes-back contest handed s before fair right) refl refl
