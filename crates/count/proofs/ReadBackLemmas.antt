@@ -1,5 +1,6 @@
 -- The figures of a right stage tell the stage back.
-use Rattle.std.proofs.Common.{◌≡◌, ℕ, ◌||◌, ◌⊎◌, inl, inr, Bool, true, false, not, cond, eqb, nat_eq, List, [], ◌∷◌, map, Option, Some, None, refl, sym, ap, ◌∙◌}
+use Rattle.std.proofs.Common.{◌≡◌, ℕ, ◌+◌, ◌≤◌, ◌||◌, ◌⊎◌, inl, inr, Bool, true, false, not, cond, eqb, nat_eq, List, [], ◌∷◌, ◌++◌, length, map, take, drop, reverse, Option, Some, None, refl, sym, ap, ◌∙◌, arith, subst, append-nil, append_assoc, length-append}
+use Rattle.std.proofs.lemmas.List.{reverse-append, reverse-reverse, length-map}
 use Rattle.std.specs.List.{list_any, filter}
 use Rattle.std.proofs.lemmas.Bool.{eqb-true}
 use Rattle.paper.specs.Columns.{IsColumn}
@@ -7,7 +8,7 @@ use Rattle.count.specs.Law.Contest.{Contest, History, IsContest, In, votes_at}
 use Rattle.count.specs.Law.Elected.{elected_after, is_elected, is_excluded, transfers, excludes}
 use Rattle.count.specs.Law.Figures.{votes_after}
 use Rattle.count.specs.Law.Right.{IsRightBy}
-use Rattle.count.specs.Marks.{is_named, standing_mark, mark_by, figure_of}
+use Rattle.count.specs.Marks.{fractions, is_named, mark_by, figure_of, figures_at, all_figures}
 use Rattle.count.specs.Inside.Reading.{is_elected_mark, elected_shown, units_shown, votes_shown, action_by, action_or, action_shown, stage_shown}
 use Rattle.count.specs.declared.figures.Figure.{Figure}
 use Rattle.count.specs.declared.stages.Stage.{Stage}
@@ -16,7 +17,7 @@ use Rattle.count.specs.declared.stages.Action.TheVariants.{First, Surplus, Exclu
 use Rattle.count.proofs.FilterLemmas.{filter-cong}
 use Rattle.count.proofs.ReadingLemmas.{stage-made}
 use Rattle.count.proofs.TallyLemmas.{map-numbers}
-use Rattle.count.proofs.Law.NamedLemmas.{named-elected, excluded-unelected, surplus-elected}
+use Rattle.count.proofs.Law.NamedLemmas.{none-elected, named-elected, excluded-unelected, surplus-elected}
 use Rattle.count.proofs.Law.NewlyLemmas.{newly-elected}
 use Rattle.count.proofs.Law.StepLemmas.{IsSurplus, IsExclusion, step-is, step-first, told-votes}
 use Rattle.count.proofs.Law.VotelessLemmas.{others-voteless}
@@ -145,3 +146,70 @@ stage-back contest handed s before newly fair right are =
     let told : newly ≡ s.elected = are ∙ newly-elected contest before (s ∷ before) ∙ sym right.1.tells.elected_told in
     ap (stage_shown contest.candidates s before) told
     ∙ stage-made _ _ _ _ s.elected s.non_transferable s.non_transferable s.lost s.lost (action-back contest handed s before right) (votes-back contest handed s before fair right) refl refl
+
+-- ---- all stages
+
+-- the figures of some stages, the first of them first, which come after others
+pub figures_from : List ℕ → History → List Stage → List Figure
+figures_from candidates before [] = []
+figures_from candidates before (s ∷ later) = figures_at candidates (s ∷ before) ++ figures_from candidates (s ∷ before) later
+
+reverse-more : (xs : List Stage) (s : Stage) → reverse (xs ++ s ∷ []) ≡ s ∷ reverse xs
+reverse-more xs s = reverse-append xs (s ∷ [])
+
+-- one stage more at the end
+from-more : (candidates : List ℕ) (before : History) (xs : List Stage) (s : Stage) →
+    figures_from candidates before (xs ++ s ∷ []) ≡ figures_from candidates before xs ++ figures_at candidates (s ∷ (reverse xs ++ before))
+unfolding figures_from
+from-more candidates before [] s = append-nil (figures_at candidates (s ∷ before))
+from-more candidates before (x ∷ xs) s =
+    let turned : reverse xs ++ (x ∷ before) ≡ reverse (x ∷ xs) ++ before = sym (ap (λ (l : History). l ++ before) (reverse-append (x ∷ []) xs) ∙ append_assoc (reverse xs) (x ∷ []) before) in
+    ap (λ (l : List Figure). figures_at candidates (x ∷ before) ++ l) (from-more candidates (x ∷ before) xs s)
+    ∙ sym (append_assoc (figures_at candidates (x ∷ before)) (figures_from candidates (x ∷ before) xs) (figures_at candidates (s ∷ (reverse xs ++ (x ∷ before)))))
+    ∙ ap (λ (b : History). (figures_at candidates (x ∷ before) ++ figures_from candidates (x ∷ before) xs) ++ figures_at candidates (s ∷ b)) turned
+
+-- all figures are those of the stages from the first on
+all-from : (candidates : List ℕ) (stages : History) → all_figures candidates stages ≡ figures_from candidates [] (reverse stages)
+unfolding figures_from
+all-from candidates [] = refl
+all-from candidates (s ∷ before) =
+    let turned : reverse (reverse before) ++ [] ≡ before = append-nil (reverse (reverse before)) ∙ reverse-reverse before in
+    ap (λ (l : List Figure). l ++ figures_at candidates (s ∷ before)) (all-from candidates before)
+    ∙ ap (λ (b : History). figures_from candidates [] (reverse before) ++ figures_at candidates (s ∷ b)) (sym turned)
+    ∙ sym (from-more candidates [] (reverse before) s)
+    ∙ ap (figures_from candidates []) (sym (reverse-append (s ∷ []) before))
+
+-- how far stages are read: those read, who is elected after them, and the figures that are left
+pub record AreRead (contest : Contest) (history : History) (stages : List Stage) (elected : List ℕ) (rest : List Figure) : Type 0 where
+  pub later : List Stage
+  pub whole : stages ++ later ≡ reverse history
+  pub rest_is : rest ≡ figures_from contest.candidates (reverse stages) later
+  pub elected_is : elected ≡ elected_after contest (reverse stages)
+
+none-first : (contest : Contest) (xs : List ℕ) → IsContest contest → filter (is_elected contest []) xs ≡ []
+none-first contest [] fair = refl
+none-first contest (x ∷ xs) fair = ap (λ b. cond b (x ∷ filter (is_elected contest []) xs) (filter (is_elected contest []) xs)) (none-elected contest x fair) ∙ none-first contest xs fair
+
+pub none-read : (contest : Contest) (history : History) (figures : List Figure) → IsContest contest → figures ≡ all_figures contest.candidates history → AreRead contest history [] [] figures
+none-read contest history figures fair are = record {
+  later = reverse history;
+  whole = refl;
+  rest_is = are ∙ all-from contest.candidates history;
+  elected_is = sym (none-first contest contest.candidates fair);
+}
+
+-- the first stages of a right history are right
+right-first : (contest : Contest) (handed : History → Stage → Option ℕ) (newer before : History) → IsRightBy contest handed (newer ++ before) → IsRightBy contest handed before
+right-first contest handed [] before right = right
+right-first contest handed (s ∷ newer) before right = right-first contest handed newer before right.0
+
+right-to : (contest : Contest) (handed : History → Stage → Option ℕ) (history : History) (stages : List Stage) (s : Stage) (later : List Stage) → IsRightBy contest handed history → stages ++ s ∷ later ≡ reverse history →
+    IsRightBy contest handed (s ∷ reverse stages)
+right-to contest handed history stages s later right whole =
+    let parts : reverse later ++ (s ∷ reverse stages) ≡ history =
+    ap (λ (b : History). reverse later ++ b) (sym (reverse-more stages s)) ∙ sym (reverse-append (stages ++ s ∷ []) later) ∙ ap reverse (append_assoc stages (s ∷ []) later ∙ whole) ∙ reverse-reverse history in
+    right-first contest handed (reverse later) (s ∷ reverse stages) (subst (IsRightBy contest handed) (sym parts) right)
+
+length-stage : (candidates : List ℕ) (s : Stage) (before : History) → length (figures_at candidates (s ∷ before)) ≡ length candidates + 2
+length-stage candidates s before =
+    omega (arith, length-append (map (figure_of s (s ∷ before)) candidates) (record { candidate = fractions; units = s.lost; mark = 0 } ∷ []), length-map candidates (figure_of s (s ∷ before)))
