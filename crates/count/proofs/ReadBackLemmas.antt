@@ -1,5 +1,6 @@
 -- The figures of a right stage tell the stage back.
-use Rattle.std.proofs.Common.{◌≡◌, ℕ, ◌+◌, ◌≤◌, ◌||◌, ◌⊎◌, inl, inr, Bool, true, false, not, cond, eqb, nat_eq, List, [], ◌∷◌, ◌++◌, length, map, take, drop, reverse, Option, Some, None, refl, sym, ap, ◌∙◌, arith, subst, append-nil, append_assoc, length-append}
+use Rattle.std.proofs.Common.{◌≡◌, ℕ, ◌+◌, ◌-◌, ◌<◌, ◌≤◌, ◌||◌, ◌⊎◌, inl, inr, Bool, true, false, not, cond, eqb, nat_eq, List, [], ◌∷◌, ◌++◌, length, map, take, drop, reverse, Option, Some, None, refl, sym, ap, ◌∙◌, arith, subst, append-nil, append_assoc, length-append}
+use Rattle.std.proofs.Math.Seq.{take-append_seam, drop-append_seam}
 use Rattle.std.proofs.lemmas.List.{reverse-append, reverse-reverse, length-map}
 use Rattle.std.specs.List.{list_any, filter}
 use Rattle.std.proofs.lemmas.Bool.{eqb-true}
@@ -15,7 +16,7 @@ use Rattle.count.specs.declared.stages.Stage.{Stage}
 use Rattle.count.specs.declared.stages.Action.{Action}
 use Rattle.count.specs.declared.stages.Action.TheVariants.{First, Surplus, Exclude, ExcludeLast}
 use Rattle.count.proofs.FilterLemmas.{filter-cong}
-use Rattle.count.proofs.ReadingLemmas.{stage-made}
+use Rattle.count.proofs.ReadingLemmas.{between, stage-made}
 use Rattle.count.proofs.TallyLemmas.{map-numbers}
 use Rattle.count.proofs.Law.NamedLemmas.{none-elected, named-elected, excluded-unelected, surplus-elected}
 use Rattle.count.proofs.Law.NewlyLemmas.{newly-elected}
@@ -213,3 +214,64 @@ right-to contest handed history stages s later right whole =
 length-stage : (candidates : List ℕ) (s : Stage) (before : History) → length (figures_at candidates (s ∷ before)) ≡ length candidates + 2
 length-stage candidates s before =
     omega (arith, length-append (map (figure_of s (s ∷ before)) candidates) (record { candidate = fractions; units = s.lost; mark = 0 } ∷ []), length-map candidates (figure_of s (s ∷ before)))
+
+-- what one round reads of some figures: who is elected, the stage, and the figures behind it
+pub record IsRound (candidates elected now newly : List ℕ) (shown rest others : List Figure) (n : ℕ) (stage : Stage) : Type 0 where
+  pub size : n ≡ length candidates
+  pub enough : n + 2 ≤ length rest
+  pub shown_is : shown ≡ take (n + 2) rest
+  pub others_is : others ≡ drop (n + 2) rest
+  pub now_is : (f : ℕ → Figure) → take (n + 1 - 1) (drop 1 shown) ≡ map f candidates → now ≡ elected_shown f candidates
+  pub newly_is : newly ≡ filter (λ c. not (list_any (nat_eq c) elected)) now
+  pub stage_is : (s : Stage) (before : History) → shown ≡ figures_at candidates (s ∷ before) → stage ≡ stage_shown candidates s before newly
+
+round_read : (contest : Contest) (handed : History → Stage → Option ℕ) (history : History) (stages later : List Stage) (elected now newly : List ℕ) (shown rest others : List Figure) (n : ℕ) (stage : Stage) →
+    IsContest contest → IsRightBy contest handed history → IsRound contest.candidates elected now newly shown rest others n stage → stages ++ later ≡ reverse history →
+    rest ≡ figures_from contest.candidates (reverse stages) later → elected ≡ elected_after contest (reverse stages) → AreRead contest history (stages ++ stage ∷ []) now others
+unfolding figures_from
+round_read contest handed history stages [] elected now newly shown rest others n stage fair right round whole left before =
+    absurd (omega (arith, round.enough, ap length left))
+round_read contest handed history stages (s ∷ later) elected now newly shown rest others n stage fair right round whole left before =
+    let cs : List ℕ = contest.candidates in
+    let old : History = reverse stages in
+    let front : List Figure = figures_at cs (s ∷ old) in
+    let size : n + 2 ≡ length front = omega (arith, round.size, length-stage cs s old) in
+    let is_shown : shown ≡ front = round.shown_is ∙ ap (λ k. take k rest) size ∙ ap (take (length front)) left ∙ take-append_seam front (figures_from cs (s ∷ old) later) in
+    let is_left : others ≡ figures_from cs (s ∷ old) later = round.others_is ∙ ap (λ k. drop k rest) size ∙ ap (drop (length front)) left ∙ drop-append_seam front (figures_from cs (s ∷ old) later) in
+    let right_now = right-to contest handed history stages s later right whole in
+    let is_now : now ≡ elected_after contest (s ∷ old) =
+    round.now_is (figure_of s (s ∷ old)) (between (figure_of s (s ∷ old)) cs _ _ shown n is_shown round.size) ∙ elected-back contest handed s old fair right_now in
+    let is_newly : newly ≡ filter (λ c. not (list_any (nat_eq c) (elected_after contest old))) (elected_after contest (s ∷ old)) =
+    round.newly_is ∙ ap (λ (e : List ℕ). filter (λ c. not (list_any (nat_eq c) e)) now) before ∙ ap (filter (λ c. not (list_any (nat_eq c) (elected_after contest old)))) is_now in
+    let is_stage : stage ≡ s = round.stage_is s old is_shown ∙ stage-back contest handed s old newly fair right_now is_newly in
+    let turned : reverse (stages ++ stage ∷ []) ≡ s ∷ old = reverse-more stages stage ∙ ap (λ (t : Stage). t ∷ old) is_stage in
+    record {
+      later = later;
+      whole = append_assoc stages (stage ∷ []) later ∙ ap (λ (t : Stage). stages ++ t ∷ later) is_stage ∙ whole;
+      rest_is = is_left ∙ ap (λ (b : History). figures_from cs b later) (sym turned);
+      elected_is = is_now ∙ ap (elected_after contest) (sym turned);
+    }
+
+pub read-more : (contest : Contest) (handed : History → Stage → Option ℕ) (history : History) (stages : List Stage) (elected now newly : List ℕ) (shown rest others : List Figure) (n : ℕ) (stage : Stage) →
+    IsContest contest → IsRightBy contest handed history → IsRound contest.candidates elected now newly shown rest others n stage → AreRead contest history stages elected rest → AreRead contest history (stages ++ stage ∷ []) now others
+read-more contest handed history stages elected now newly shown rest others n stage fair right round read =
+    round_read contest handed history stages read.later elected now newly shown rest others n stage fair right round read.whole read.rest_is read.elected_is
+
+-- where fewer figures are left than a stage has, none is, and all stages are read
+few_left : (candidates : List ℕ) (before : History) (later : List Stage) → length (figures_from candidates before later) < length candidates + 2 → later ≡ []
+unfolding figures_from
+few_left candidates before [] few = refl
+few_left candidates before (s ∷ later) few =
+    absurd (omega (arith, few, length-stage candidates s before, length-append (figures_at candidates (s ∷ before)) (figures_from candidates (s ∷ before) later)))
+
+none-later : (contest : Contest) (history : History) (stages : List Stage) (elected : List ℕ) (rest : List Figure) → (read : AreRead contest history stages elected rest) → length rest < length contest.candidates + 2 → read.later ≡ []
+none-later contest history stages elected rest read few = few_left contest.candidates (reverse stages) read.later (omega (arith, few, ap length read.rest_is))
+
+pub all-read : (contest : Contest) (history : History) (stages : List Stage) (elected : List ℕ) (rest : List Figure) → AreRead contest history stages elected rest → length rest < length contest.candidates + 2 → stages ≡ reverse history
+all-read contest history stages elected rest read few =
+    sym (append-nil stages) ∙ ap (λ (l : List Stage). stages ++ l) (sym (none-later contest history stages elected rest read few)) ∙ read.whole
+
+pub none-left : (contest : Contest) (history : History) (stages : List Stage) (elected : List ℕ) (rest : List Figure) → AreRead contest history stages elected rest → length rest < length contest.candidates + 2 → rest ≡ []
+unfolding figures_from
+none-left contest history stages elected rest read few =
+    read.rest_is ∙ ap (figures_from contest.candidates (reverse stages)) (none-later contest history stages elected rest read few)

@@ -7,7 +7,7 @@ ghost use Rattle.count.specs.Inside.Reading.{is_elected_mark as is_elected_mark_
 ghost use Rattle.count.specs.Law.Right.{IsRightForSome};
 ghost use Rattle.count.specs.Marks.{is_named as is_named_of, standing_mark as standing_mark_of, mark_by as mark_by_of, figure_of as figure_of_stage, figures_at, all_figures};
 
-use crate::elected::{is_excluded, votes_after};
+use crate::elected::{is_excluded, votes_after, without};
 use crate::stages::{Action, Stage};
 use paper::{Columns, MAX_CANDIDATES};
 use std::alloc::{AllocError, Global};
@@ -197,5 +197,20 @@ pub fn stages_of_figures(
     ensures some { IfOk result (λ found. (contest : Contest) (history : History) → IsContest contest → IsRightForSome contest history
         → contest.candidates ≡ candidates.now → figures.now ≡ all_figures candidates.now history → IsSome found) }
 {
-    Err(AllocError)
+    let last = candidates.len() + 1;
+    let mut stages = Vec::new(alloc);
+    let mut elected = Columns::empty();
+    let mut rest = figures;
+    while rest.len() > last {
+        let (shown, others) = rest.split_at(last + 1);
+        let now = elected_in(candidates, &shown[1..last]);
+        stages.push(stage_in(candidates, shown, without(&now, &elected)))?;
+        elected = now;
+        rest = others;
+    }
+    if rest.is_empty() {
+        Ok(Some(stages))
+    } else {
+        Ok(None)
+    }
 }
