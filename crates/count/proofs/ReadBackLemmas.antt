@@ -10,13 +10,13 @@ use Rattle.count.specs.Law.Elected.{elected_after, is_elected, is_excluded, tran
 use Rattle.count.specs.Law.Figures.{votes_after}
 use Rattle.count.specs.Law.Right.{IsRightBy}
 use Rattle.count.specs.Marks.{fractions, is_named, mark_by, figure_of, figures_at, all_figures}
-use Rattle.count.specs.Inside.Reading.{is_elected_mark, elected_shown, units_shown, votes_shown, action_by, action_or, action_shown, stage_shown}
+use Rattle.count.specs.Inside.Reading.{is_elected_mark, elected_shown, units_shown, votes_shown, action_by, action_or, action_shown}
 use Rattle.count.specs.declared.figures.Figure.{Figure}
 use Rattle.count.specs.declared.stages.Stage.{Stage}
 use Rattle.count.specs.declared.stages.Action.{Action}
 use Rattle.count.specs.declared.stages.Action.TheVariants.{First, Surplus, Exclude, ExcludeLast}
 use Rattle.count.proofs.FilterLemmas.{filter-cong}
-use Rattle.count.proofs.ReadingLemmas.{between, stage-made}
+use Rattle.count.proofs.ReadingLemmas.{stage-made}
 use Rattle.count.proofs.TallyLemmas.{map-numbers}
 use Rattle.count.proofs.Law.NamedLemmas.{none-elected, named-elected, excluded-unelected, surplus-elected}
 use Rattle.count.proofs.Law.NewlyLemmas.{newly-elected}
@@ -140,13 +140,25 @@ votes-back contest handed s before fair right =
 
 -- ---- the stage
 
--- with those who are elected now and weren't before
-pub stage-back : (contest : Contest) (handed : History → Stage → Option ℕ) (s : Stage) (before : History) (newly : List ℕ) → IsContest contest → IsRightBy contest handed (s ∷ before) →
-    newly ≡ filter (λ c. not (list_any (nat_eq c) (elected_after contest before))) (elected_after contest (s ∷ before)) → stage_shown contest.candidates s before newly ≡ s
-stage-back contest handed s before newly fair right are =
-    let told : newly ≡ s.elected = are ∙ newly-elected contest before (s ∷ before) ∙ sym right.1.tells.elected_told in
-    ap (stage_shown contest.candidates s before) told
-    ∙ stage-made _ _ _ _ s.elected s.non_transferable s.non_transferable s.lost s.lost (action-back contest handed s before right) (votes-back contest handed s before fair right) refl refl
+-- what a round reads of the figures of a stage: who is elected, and what it records
+pub record IsReadOf (candidates elected : List ℕ) (s : Stage) (before : History) (now : List ℕ) (made : Stage) : Type 0 where
+  pub now_is : now ≡ elected_shown (figure_of s (s ∷ before)) candidates
+  pub action_is : made.action ≡ action_shown (figure_of s (s ∷ before)) candidates
+  pub votes_are : made.votes ≡ votes_shown (figure_of s (s ∷ before)) candidates
+  pub newly_are : made.elected ≡ filter (λ c. not (list_any (nat_eq c) elected)) now
+  pub none_is : made.non_transferable ≡ s.non_transferable
+  pub lost_is : made.lost ≡ s.lost
+
+pub stage-read : (contest : Contest) (handed : History → Stage → Option ℕ) (s : Stage) (before : History) (elected now : List ℕ) (made : Stage) → IsContest contest → IsRightBy contest handed (s ∷ before) →
+    elected ≡ elected_after contest before → IsReadOf contest.candidates elected s before now made → made ≡ s
+stage-read contest handed s before elected now made fair right known read =
+    let newly : made.elected ≡ s.elected =
+    read.newly_are
+    ∙ ap (λ (e : List ℕ). filter (λ c. not (list_any (nat_eq c) e)) now) known
+    ∙ ap (filter (λ c. not (list_any (nat_eq c) (elected_after contest before)))) (read.now_is ∙ elected-back contest handed s before fair right)
+    ∙ newly-elected contest before (s ∷ before) ∙ sym right.1.tells.elected_told in
+    stage-made s made.action made.votes made.elected made.non_transferable made.lost
+    (read.action_is ∙ action-back contest handed s before right) (read.votes_are ∙ votes-back contest handed s before fair right) newly read.none_is read.lost_is
 
 -- ---- all stages
 
@@ -191,12 +203,13 @@ none-first : (contest : Contest) (xs : List ℕ) → IsContest contest → filte
 none-first contest [] fair = refl
 none-first contest (x ∷ xs) fair = ap (λ b. cond b (x ∷ filter (is_elected contest []) xs) (filter (is_elected contest []) xs)) (none-elected contest x fair) ∙ none-first contest xs fair
 
-pub none-read : (contest : Contest) (history : History) (figures : List Figure) → IsContest contest → figures ≡ all_figures contest.candidates history → AreRead contest history [] [] figures
-none-read contest history figures fair are = record {
+pub none-read : (contest : Contest) (history : History) (figures : List Figure) (stages : List Stage) (elected : List ℕ) → IsContest contest → figures ≡ all_figures contest.candidates history → stages ≡ [] → elected ≡ [] →
+    AreRead contest history stages elected figures
+none-read contest history figures stages elected fair are none nobody = record {
   later = reverse history;
-  whole = refl;
-  rest_is = are ∙ all-from contest.candidates history;
-  elected_is = sym (none-first contest contest.candidates fair);
+  whole = ap (λ (l : List Stage). l ++ reverse history) none;
+  rest_is = are ∙ all-from contest.candidates history ∙ ap (λ (l : List Stage). figures_from contest.candidates (reverse l) (reverse history)) (sym none);
+  elected_is = nobody ∙ sym (none-first contest contest.candidates fair) ∙ ap (λ (l : List Stage). elected_after contest (reverse l)) (sym none);
 }
 
 -- the first stages of a right history are right
@@ -215,47 +228,33 @@ length-stage : (candidates : List ℕ) (s : Stage) (before : History) → length
 length-stage candidates s before =
     omega (arith, length-append (map (figure_of s (s ∷ before)) candidates) (record { candidate = fractions; units = s.lost; mark = 0 } ∷ []), length-map candidates (figure_of s (s ∷ before)))
 
--- what one round reads of some figures: who is elected, the stage, and the figures behind it
-pub record IsRound (candidates elected now newly : List ℕ) (shown rest others : List Figure) (n : ℕ) (stage : Stage) : Type 0 where
-  pub size : n ≡ length candidates
-  pub enough : n + 2 ≤ length rest
-  pub shown_is : shown ≡ take (n + 2) rest
-  pub others_is : others ≡ drop (n + 2) rest
-  pub now_is : (f : ℕ → Figure) → take (n + 1 - 1) (drop 1 shown) ≡ map f candidates → now ≡ elected_shown f candidates
-  pub newly_is : newly ≡ filter (λ c. not (list_any (nat_eq c) elected)) now
-  pub stage_is : (s : Stage) (before : History) → shown ≡ figures_at candidates (s ∷ before) → stage ≡ stage_shown candidates s before newly
-
-round_read : (contest : Contest) (handed : History → Stage → Option ℕ) (history : History) (stages later : List Stage) (elected now newly : List ℕ) (shown rest others : List Figure) (n : ℕ) (stage : Stage) →
-    IsContest contest → IsRightBy contest handed history → IsRound contest.candidates elected now newly shown rest others n stage → stages ++ later ≡ reverse history →
-    rest ≡ figures_from contest.candidates (reverse stages) later → elected ≡ elected_after contest (reverse stages) → AreRead contest history (stages ++ stage ∷ []) now others
+-- a stage more
+read_stage : (contest : Contest) (handed : History → Stage → Option ℕ) (history : History) (stages later : List Stage) (rest : List Figure) (now more : List ℕ) (grown : List Stage) (n : ℕ) → IsRightBy contest handed history → n ≡ length contest.candidates + 2 → n ≤ length rest →
+    stages ++ later ≡ reverse history → rest ≡ figures_from contest.candidates (reverse stages) later →
+    ((s : Stage) → IsRightBy contest handed (s ∷ reverse stages) → take n rest ≡ figures_at contest.candidates (s ∷ reverse stages) → (grown ≡ stages ++ s ∷ []) × (more ≡ elected_after contest (s ∷ reverse stages))) →
+    AreRead contest history grown more (drop n rest)
 unfolding figures_from
-round_read contest handed history stages [] elected now newly shown rest others n stage fair right round whole left before =
-    absurd (omega (arith, round.enough, ap length left))
-round_read contest handed history stages (s ∷ later) elected now newly shown rest others n stage fair right round whole left before =
-    let cs : List ℕ = contest.candidates in
-    let old : History = reverse stages in
-    let front : List Figure = figures_at cs (s ∷ old) in
-    let size : n + 2 ≡ length front = omega (arith, round.size, length-stage cs s old) in
-    let is_shown : shown ≡ front = round.shown_is ∙ ap (λ k. take k rest) size ∙ ap (take (length front)) left ∙ take-append_seam front (figures_from cs (s ∷ old) later) in
-    let is_left : others ≡ figures_from cs (s ∷ old) later = round.others_is ∙ ap (λ k. drop k rest) size ∙ ap (drop (length front)) left ∙ drop-append_seam front (figures_from cs (s ∷ old) later) in
-    let right_now = right-to contest handed history stages s later right whole in
-    let is_now : now ≡ elected_after contest (s ∷ old) =
-    round.now_is (figure_of s (s ∷ old)) (between (figure_of s (s ∷ old)) cs _ _ shown n is_shown round.size) ∙ elected-back contest handed s old fair right_now in
-    let is_newly : newly ≡ filter (λ c. not (list_any (nat_eq c) (elected_after contest old))) (elected_after contest (s ∷ old)) =
-    round.newly_is ∙ ap (λ (e : List ℕ). filter (λ c. not (list_any (nat_eq c) e)) now) before ∙ ap (filter (λ c. not (list_any (nat_eq c) (elected_after contest old)))) is_now in
-    let is_stage : stage ≡ s = round.stage_is s old is_shown ∙ stage-back contest handed s old newly fair right_now is_newly in
-    let turned : reverse (stages ++ stage ∷ []) ≡ s ∷ old = reverse-more stages stage ∙ ap (λ (t : Stage). t ∷ old) is_stage in
+read_stage contest handed history stages [] rest now more grown n right size enough whole left told = absurd (omega (arith, size, enough, ap length left))
+read_stage contest handed history stages (s ∷ later) rest now more grown n right size enough whole left told =
+    let front : List Figure = figures_at contest.candidates (s ∷ reverse stages) in
+    let behind : List Figure = figures_from contest.candidates (s ∷ reverse stages) later in
+    let all : n ≡ length front = omega (arith, size, length-stage contest.candidates s (reverse stages)) in
+    let shown : take n rest ≡ front = ap (λ k. take k rest) all ∙ ap (take (length front)) left ∙ take-append_seam front behind in
+    let is = told s (right-to contest handed history stages s later right whole) shown in
+    let turned : reverse grown ≡ s ∷ reverse stages = ap reverse is.0 ∙ reverse-more stages s in
     record {
       later = later;
-      whole = append_assoc stages (stage ∷ []) later ∙ ap (λ (t : Stage). stages ++ t ∷ later) is_stage ∙ whole;
-      rest_is = is_left ∙ ap (λ (b : History). figures_from cs b later) (sym turned);
-      elected_is = is_now ∙ ap (elected_after contest) (sym turned);
+      whole = ap (λ (l : List Stage). l ++ later) is.0 ∙ append_assoc stages (s ∷ []) later ∙ whole;
+      rest_is = ap (λ k. drop k rest) all ∙ ap (drop (length front)) left ∙ drop-append_seam front behind ∙ ap (λ (b : History). figures_from contest.candidates b later) (sym turned);
+      elected_is = is.1 ∙ ap (elected_after contest) (sym turned);
     }
 
-pub read-more : (contest : Contest) (handed : History → Stage → Option ℕ) (history : History) (stages : List Stage) (elected now newly : List ℕ) (shown rest others : List Figure) (n : ℕ) (stage : Stage) →
-    IsContest contest → IsRightBy contest handed history → IsRound contest.candidates elected now newly shown rest others n stage → AreRead contest history stages elected rest → AreRead contest history (stages ++ stage ∷ []) now others
-read-more contest handed history stages elected now newly shown rest others n stage fair right round read =
-    round_read contest handed history stages read.later elected now newly shown rest others n stage fair right round read.whole read.rest_is read.elected_is
+pub read-more : (contest : Contest) (handed : History → Stage → Option ℕ) (history : History) (stages : List Stage) (rest : List Figure) (elected more : List ℕ) (grown : List Stage) (n : ℕ) → IsRightBy contest handed history → n ≡ length contest.candidates + 2 → n ≤ length rest →
+    AreRead contest history stages elected rest →
+    ((s : Stage) → IsRightBy contest handed (s ∷ reverse stages) → take n rest ≡ figures_at contest.candidates (s ∷ reverse stages) → (grown ≡ stages ++ s ∷ []) × (more ≡ elected_after contest (s ∷ reverse stages))) →
+    AreRead contest history grown more (drop n rest)
+read-more contest handed history stages rest elected more grown n right size enough read told =
+    read_stage contest handed history stages read.later rest elected more grown n right size enough read.whole read.rest_is told
 
 -- where fewer figures are left than a stage has, none is, and all stages are read
 few_left : (candidates : List ℕ) (before : History) (later : List Stage) → length (figures_from candidates before later) < length candidates + 2 → later ≡ []

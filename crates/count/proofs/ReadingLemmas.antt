@@ -91,14 +91,14 @@ last-shown f xs first last d figures n are size =
     ap (λ (l : List Figure). get_or l (n + 1) d) are ∙ ap (λ k. get_or (first ∷ (map f xs ++ last ∷ [])) k d) e ∙ get_or-append_seam (map f xs) last [] d
 
 -- a stage is what it is made of
-pub stage-made : (a b : Action) (v w e : List ℕ) (n m l k : ℕ) → a ≡ b → v ≡ w → n ≡ m → l ≡ k →
-    let one : Stage = record { action = a; votes = v; elected = e; non_transferable = n; lost = l } in
-    let other : Stage = record { action = b; votes = w; elected = e; non_transferable = m; lost = k } in one ≡ other
-stage-made a b v w e n m l k of votes none lost =
+pub stage-made : (s : Stage) (a : Action) (v e : List ℕ) (n l : ℕ) → a ≡ s.action → v ≡ s.votes → e ≡ s.elected → n ≡ s.non_transferable → l ≡ s.lost →
+    let made : Stage = record { action = a; votes = v; elected = e; non_transferable = n; lost = l } in made ≡ s
+stage-made s a v e n l of votes elected none lost =
     ap (λ (x : Action). let t : Stage = record { action = x; votes = v; elected = e; non_transferable = n; lost = l } in t) of
-    ∙ ap (λ (x : List ℕ). let t : Stage = record { action = b; votes = x; elected = e; non_transferable = n; lost = l } in t) votes
-    ∙ ap (λ (x : ℕ). let t : Stage = record { action = b; votes = w; elected = e; non_transferable = x; lost = l } in t) none
-    ∙ ap (λ (x : ℕ). let t : Stage = record { action = b; votes = w; elected = e; non_transferable = m; lost = x } in t) lost
+    ∙ ap (λ (x : List ℕ). let t : Stage = record { action = s.action; votes = x; elected = e; non_transferable = n; lost = l } in t) votes
+    ∙ ap (λ (x : List ℕ). let t : Stage = record { action = s.action; votes = s.votes; elected = x; non_transferable = n; lost = l } in t) elected
+    ∙ ap (λ (x : ℕ). let t : Stage = record { action = s.action; votes = s.votes; elected = s.elected; non_transferable = x; lost = l } in t) none
+    ∙ ap (λ (x : ℕ). let t : Stage = record { action = s.action; votes = s.votes; elected = s.elected; non_transferable = s.non_transferable; lost = x } in t) lost
 
 -- those who are marked as elected among the first candidates, and one more who is, or isn't
 pub elected-yes : (f : ℕ → Figure) (xs chosen more : List ℕ) (i mark : ℕ) → IsColumnSet xs → i < length xs → mark ≡ (f (slice_index xs i)).mark → is_elected_mark mark ≡ true → chosen ≡ elected_shown f (take i xs) →

@@ -1,9 +1,10 @@
 //! The figures that a stage shows, of each candidate one, and stages read back from them.
 
-ghost use Rattle.std.specs.Prelude.{◌≡◌, ℕ, ◌+◌, ◌≤◌, ◌∷◌, length, map, reverse, IfOk, IfSome, IsSome};
+ghost use Rattle.std.specs.Prelude.{◌≡◌, ℕ, ◌+◌, ◌≤◌, [], ◌∷◌, ◌++◌, length, map, reverse, IfOk, IfSome, IsSome, OnOk};
 ghost use Rattle.paper.specs.Columns.{max_candidates};
 ghost use Rattle.count.specs.Law.Contest.{Contest, History, IsContest};
-ghost use Rattle.count.specs.Inside.Reading.{is_elected_mark as is_elected_mark_of, elected_shown, votes_shown, action_by as action_by_mark, action_shown, stage_shown};
+ghost use Rattle.count.specs.Law.Elected.{elected_after};
+ghost use Rattle.count.specs.Inside.Reading.{is_elected_mark as is_elected_mark_of, elected_shown, votes_shown, action_by as action_by_mark, action_shown};
 ghost use Rattle.count.specs.Law.Right.{IsRightForSome};
 ghost use Rattle.count.specs.Marks.{is_named as is_named_of, standing_mark as standing_mark_of, mark_by as mark_by_of, figure_of as figure_of_stage, figures_at, all_figures};
 
@@ -169,20 +170,31 @@ fn action_in(candidates: &Columns, figures: &[Figure]) -> Action
     Action::First
 }
 
-/// The stage that its figures show, with those who are newly elected.
-fn stage_in(candidates: &Columns, figures: &[Figure], newly: Columns) -> Stage
+/// Reads the stage that its figures show, and puts it behind those before it, after which these are elected.
+fn push_stage(
+    candidates: &Columns,
+    figures: &[Figure],
+    elected: &mut Columns,
+    stages: &mut Vec<Stage>,
+) -> Result<(), AllocError>
     requires { length figures.now ≡ length candidates.now + 2 }
-    ensures { (s : Stage) (before : History) → figures.now ≡ figures_at candidates.now (s ∷ before) → result ≡ stage_shown candidates.now s before newly }
+    ensures stage { OnOk result ((contest : Contest) (s : Stage) (before : History) → IsContest contest → IsRightForSome contest (s ∷ before) → contest.candidates ≡ candidates.now
+        → figures.now ≡ figures_at candidates.now (s ∷ before) → elected.old ≡ elected_after contest before → stages.new.items ≡ stages.old.items ++ s ∷ []) }
+    ensures elected { OnOk result ((contest : Contest) (s : Stage) (before : History) → IsContest contest → IsRightForSome contest (s ∷ before) → contest.candidates ≡ candidates.now
+        → figures.now ≡ figures_at candidates.now (s ∷ before) → elected.new ≡ elected_after contest (s ∷ before)) }
 {
     let last = candidates.len() + 1;
     let shown = &figures[1..last];
-    Stage {
+    let now = elected_in(candidates, shown);
+    stages.push(Stage {
         action: action_in(candidates, shown),
         votes: votes_in(candidates, shown),
-        elected: newly,
+        elected: without(&now, elected),
         non_transferable: Votes::from_units(figures[0].units),
         lost: Votes::from_units(figures[last].units),
-    }
+    })?;
+    *elected = now;
+    Ok(())
 }
 
 /// The stages whose figures these are, from the first one's on; none where they are those of no stages. Of
@@ -197,15 +209,13 @@ pub fn stages_of_figures(
     ensures some { IfOk result (λ found. (contest : Contest) (history : History) → IsContest contest → IsRightForSome contest history
         → contest.candidates ≡ candidates.now → figures.now ≡ all_figures candidates.now history → IsSome found) }
 {
-    let last = candidates.len() + 1;
+    let size = candidates.len() + 2;
     let mut stages = Vec::new(alloc);
     let mut elected = Columns::empty();
     let mut rest = figures;
-    while rest.len() > last {
-        let (shown, others) = rest.split_at(last + 1);
-        let now = elected_in(candidates, &shown[1..last]);
-        stages.push(stage_in(candidates, shown, without(&now, &elected)))?;
-        elected = now;
+    while rest.len() >= size {
+        let (shown, others) = rest.split_at(size);
+        push_stage(candidates, shown, &mut elected, &mut stages)?;
         rest = others;
     }
     if rest.is_empty() {

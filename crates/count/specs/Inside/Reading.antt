@@ -1,12 +1,10 @@
 -- What figures tell, candidate by candidate, where those of the candidates are told by a function.
 use Rattle.std.specs.Prelude.{ℕ, ◌==◌, ◌||◌, Bool, nat_eq, if◌then◌else◌, List, [], ◌∷◌, map, Option, Some, None}
 use Rattle.std.specs.List.{filter, list_any}
-use Rattle.count.specs.Law.Contest.{History, numbers}
-use Rattle.count.specs.Marks.{figure_of}
+use Rattle.count.specs.Law.Contest.{numbers}
 use Rattle.count.specs.declared.figures.Figure.{Figure}
 use Rattle.count.specs.declared.stages.Action.{Action}
 use Rattle.count.specs.declared.stages.Action.TheVariants.{First, Surplus, Exclude, ExcludeLast}
-use Rattle.count.specs.declared.stages.Stage.{Stage}
 
 -- whether a mark is that of one who is elected
 abbrev pub is_elected_mark : ℕ → Bool
@@ -37,14 +35,3 @@ action_or other (Some action) = action
 abbrev pub action_shown : (ℕ → Figure) → List ℕ → Action
 action_shown f [] = First
 action_shown f (c ∷ candidates) = action_or (action_shown f candidates) (action_by (f c).mark c)
-
--- the stage that the figures of a stage tell, with those who are newly elected
-abbrev pub stage_shown : List ℕ → Stage → History → List ℕ → Stage
-stage_shown candidates s before newly =
-    record {
-      action = action_shown (figure_of s (s ∷ before)) candidates;
-      votes = votes_shown (figure_of s (s ∷ before)) candidates;
-      elected = newly;
-      non_transferable = s.non_transferable;
-      lost = s.lost;
-    }
