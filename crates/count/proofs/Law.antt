@@ -7,6 +7,7 @@ pub mod CutLemmas
 pub mod DueLemmas
 pub mod FinishLemmas
 pub mod LengthLemmas
+pub mod NamedLemmas
 pub mod NewlyLemmas
 pub mod OwnLotLemmas
 pub mod PassedLemmas

@@ -13,6 +13,8 @@ pub mod TransferLemmas
 pub mod ParcelTotals
 pub mod MoveLemmas
 pub mod OrderLemmas
+pub mod ReadBackLemmas
+pub mod ReadingLemmas
 pub mod RecordLemmas
 pub mod RestLemmas
 pub mod SumLemmas

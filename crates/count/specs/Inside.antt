@@ -1,5 +1,6 @@
--- How a book by parcels, and one by bundles, works within: what private functions promise one another. No public promise rests on these words.
+-- How books work within, how a kept count is looked at, and how stages are read back: what private functions promise one another. No public promise rests on these words.
 pub mod Holdings
 pub mod Keeping
 pub mod Placing
 pub mod Resuming
+pub mod Reading

@@ -31,16 +31,16 @@ mark_by (Surplus d) c other = if d == c then 3 else other
 mark_by (Exclude d) c other = if d == c then 4 else other
 mark_by (ExcludeLast d) c other = if d == c then 5 else other
 
--- the figure of c at the newest of some stages
+-- the figure of c at a stage that is the newest of some
 abbrev pub figure_of : Stage → History → ℕ → Figure
-figure_of s before c = record { candidate = c; units = votes_at s c; mark = mark_by s.action c (standing_mark (s ∷ before) c) }
+figure_of newest stages c = record { candidate = c; units = votes_at newest c; mark = mark_by newest.action c (standing_mark stages c) }
 
 -- the figures of the newest of some stages: of the non-transferable, of each candidate in ascending order, and of what is lost
 abbrev pub figures_at : List ℕ → History → List Figure
 figures_at candidates [] = []
 figures_at candidates (s ∷ before) =
     record { candidate = no_candidate; units = s.non_transferable; mark = 0 }
-    ∷ map (figure_of s before) candidates ++ record { candidate = fractions; units = s.lost; mark = 0 } ∷ []
+    ∷ map (figure_of s (s ∷ before)) candidates ++ record { candidate = fractions; units = s.lost; mark = 0 } ∷ []
 
 -- the figures of all stages, from the first on
 abbrev pub all_figures : List ℕ → History → List Figure

@@ -64,7 +64,7 @@ fn excludes(action: &Action, c: u8) -> bool
 }
 
 /// Whether a candidate has been excluded.
-fn is_excluded(stages: &[Stage], c: u8) -> bool
+pub fn is_excluded(stages: &[Stage], c: u8) -> bool
     ensures { result ≡ is_excluded_of (reverse stages.now) c }
 {
     for stage in stages {

@@ -1,13 +1,18 @@
 //! The figures that a stage shows, of each candidate one, and stages read back from them.
 
-ghost use Rattle.std.specs.Prelude.{◌≡◌, ℕ, List, ◌≤◌, length, reverse, IfOk, IfSome, IsSome};
+ghost use Rattle.std.specs.Prelude.{◌≡◌, ℕ, ◌+◌, ◌≤◌, [], ◌∷◌, ◌++◌, length, map, reverse, IfOk, IfSome, IsSome, OnOk};
+ghost use Rattle.paper.specs.Columns.{max_candidates};
 ghost use Rattle.count.specs.Law.Contest.{Contest, History, IsContest};
+ghost use Rattle.count.specs.Law.Elected.{elected_after};
+ghost use Rattle.count.specs.Inside.Reading.{is_elected_mark as is_elected_mark_of, elected_shown, votes_shown, action_by as action_by_mark, action_shown};
 ghost use Rattle.count.specs.Law.Right.{IsRightForSome};
-ghost use Rattle.count.specs.Marks.{figures_at, all_figures};
+ghost use Rattle.count.specs.Marks.{is_named as is_named_of, standing_mark as standing_mark_of, mark_by as mark_by_of, figure_of as figure_of_stage, figures_at, all_figures};
 
-use crate::stages::Stage;
-use paper::Columns;
+use crate::elected::{is_excluded, votes_after, without};
+use crate::stages::{Action, Stage};
+use paper::{Columns, MAX_CANDIDATES};
 use std::alloc::{AllocError, Global};
+use votes::Votes;
 
 /// The number under which the non-transferable stands among a stage's figures.
 pub const NO_CANDIDATE: u32 = 0;
@@ -26,6 +31,57 @@ pub struct Figure {
     pub mark: u32,
 }
 
+/// Whether a candidate was named as elected at some stage.
+fn is_named(stages: &[Stage], c: u8) -> bool
+    ensures { result ≡ is_named_of (reverse stages.now) c }
+{
+    for stage in stages {
+        if stage.elected.has(c) {
+            return true;
+        }
+    }
+    false
+}
+
+/// The mark of a candidate at a stage that doesn't act on him.
+fn standing_mark(stages: &[Stage], c: u8) -> u32
+    ensures { result ≡ standing_mark_of (reverse stages.now) c }
+{
+    if is_named(stages, c) {
+        return 1;
+    }
+    if is_excluded(stages, c) {
+        return 2;
+    }
+    0
+}
+
+/// The mark of a candidate at a stage of an action, where he would have another if it weren't on him.
+fn mark_by(action: &Action, c: u8, other: u32) -> u32
+    ensures { result ≡ mark_by_of action.now c other }
+{
+    let (d, mark) = match action {
+        Action::First => return other,
+        Action::Surplus(d) => (*d, 3),
+        Action::Exclude(d) => (*d, 4),
+        Action::ExcludeLast(d) => (*d, 5),
+    };
+    if d == c { mark } else { other }
+}
+
+/// The figure of a candidate at the newest of some stages.
+fn figure_of(newest: &Stage, stages: &[Stage], c: u8) -> Figure
+    requires some { 1 ≤ c }
+    requires few { c ≤ max_candidates }
+    ensures { result ≡ figure_of_stage newest.now (reverse stages.now) c }
+{
+    Figure {
+        candidate: u32::from(c),
+        units: votes_after(newest, c).units(),
+        mark: mark_by(&newest.action, c, standing_mark(stages, c)),
+    }
+}
+
 /// The figures of the last of some stages: of the non-transferable, of each candidate in ascending order, and
 /// of what is lost. None where there is no stage. An error is want of memory.
 pub fn figures_of(
@@ -35,7 +91,110 @@ pub fn figures_of(
 ) -> Result<Vec<Figure>, AllocError>
     ensures { IfOk result (λ figures. figures.items ≡ figures_at candidates.now (reverse stages.now)) }
 {
-    Err(AllocError)
+    let mut figures = Vec::new(alloc);
+    let Some((newest, _)) = stages.split_last() else {
+        return Ok(figures);
+    };
+    figures.push(Figure {
+        candidate: NO_CANDIDATE,
+        units: newest.non_transferable.units(),
+        mark: 0,
+    })?;
+    for c in candidates.as_slice() {
+        figures.push(figure_of(newest, stages, *c))?;
+    }
+    figures.push(Figure {
+        candidate: FRACTIONS,
+        units: newest.lost.units(),
+        mark: 0,
+    })?;
+    Ok(figures)
+}
+
+/// Whether a mark is that of one who is elected.
+fn is_elected_mark(mark: u32) -> bool
+    ensures { result ≡ is_elected_mark_of mark }
+{
+    mark == 1 || mark == 3
+}
+
+/// The candidates who are marked as elected.
+fn elected_in(candidates: &Columns, figures: &[Figure]) -> Columns
+    requires { length figures.now ≡ length candidates.now }
+    ensures { (f : ℕ → Figure) → figures.now ≡ map f candidates.now → result ≡ elected_shown f candidates.now }
+{
+    let mut chosen = Columns::empty();
+    for (i, c) in candidates.as_slice().iter().enumerate() {
+        if is_elected_mark(figures[i].mark) {
+            chosen = chosen.with(*c);
+        }
+    }
+    chosen
+}
+
+/// The votes of all numbers, none for those that are no candidates.
+fn votes_in(candidates: &Columns, figures: &[Figure]) -> [Votes; MAX_CANDIDATES]
+    requires { length figures.now ≡ length candidates.now }
+    ensures { (f : ℕ → Figure) → figures.now ≡ map f candidates.now → result ≡ votes_shown f candidates.now }
+{
+    let mut votes = [Votes::from_units(0); MAX_CANDIDATES];
+    for (i, c) in candidates.as_slice().iter().enumerate() {
+        votes[usize::from(*c - 1)] = Votes::from_units(figures[i].units);
+    }
+    votes
+}
+
+/// The action on a candidate that his mark tells, where it tells one.
+fn action_by(mark: u32, c: u8) -> Option<Action>
+    ensures { result ≡ action_by_mark mark c }
+{
+    match mark {
+        3 => Some(Action::Surplus(c)),
+        4 => Some(Action::Exclude(c)),
+        5 => Some(Action::ExcludeLast(c)),
+        _ => None,
+    }
+}
+
+/// The action that the candidates' marks tell; where none does, the first stage's.
+fn action_in(candidates: &Columns, figures: &[Figure]) -> Action
+    requires { length figures.now ≡ length candidates.now }
+    ensures { (f : ℕ → Figure) → figures.now ≡ map f candidates.now → result ≡ action_shown f candidates.now }
+{
+    for (i, c) in candidates.as_slice().iter().enumerate() {
+        match action_by(figures[i].mark, *c) {
+            Some(action) => return action,
+            None => {}
+        }
+    }
+    Action::First
+}
+
+/// Reads the stage that its figures show, and puts it behind those before it, after which these are elected.
+fn push_stage(
+    candidates: &Columns,
+    figures: &[Figure],
+    elected: &mut Columns,
+    stages: &mut Vec<Stage>,
+) -> Result<(), AllocError>
+    requires { length figures.now ≡ length candidates.now + 2 }
+    ensures stage { OnOk result ((contest : Contest) (s : Stage) (before : History) → IsContest contest → IsRightForSome contest (s ∷ before) → contest.candidates ≡ candidates.now
+        → figures.now ≡ figures_at candidates.now (s ∷ before) → elected.old ≡ elected_after contest before → stages.new.items ≡ stages.old.items ++ s ∷ []) }
+    ensures elected { OnOk result ((contest : Contest) (s : Stage) (before : History) → IsContest contest → IsRightForSome contest (s ∷ before) → contest.candidates ≡ candidates.now
+        → figures.now ≡ figures_at candidates.now (s ∷ before) → elected.new ≡ elected_after contest (s ∷ before)) }
+{
+    let last = candidates.len() + 1;
+    let shown = &figures[1..last];
+    let now = elected_in(candidates, shown);
+    stages.push(Stage {
+        action: action_in(candidates, shown),
+        votes: votes_in(candidates, shown),
+        elected: without(&now, elected),
+        non_transferable: Votes::from_units(figures[0].units),
+        lost: Votes::from_units(figures[last].units),
+    })?;
+    *elected = now;
+    Ok(())
 }
 
 /// The stages whose figures these are, from the first one's on; none where they are those of no stages. Of
@@ -50,5 +209,18 @@ pub fn stages_of_figures(
     ensures some { IfOk result (λ found. (contest : Contest) (history : History) → IsContest contest → IsRightForSome contest history
         → contest.candidates ≡ candidates.now → figures.now ≡ all_figures candidates.now history → IsSome found) }
 {
-    Err(AllocError)
+    let size = candidates.len() + 2;
+    let mut stages = Vec::new(alloc);
+    let mut elected = Columns::empty();
+    let mut rest = figures;
+    while rest.len() >= size {
+        let (shown, others) = rest.split_at(size);
+        push_stage(candidates, shown, &mut elected, &mut stages)?;
+        rest = others;
+    }
+    if rest.is_empty() {
+        Ok(Some(stages))
+    } else {
+        Ok(None)
+    }
 }

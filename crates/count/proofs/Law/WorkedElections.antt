@@ -3,6 +3,8 @@ use Rattle.std.proofs.Common.{◌≡◌, ◌-◌, ℕ, List, [], ◌∷◌, ◌+
 use Rattle.count.specs.Law.Contest.{Contest, History, contest_for}
 use Rattle.count.specs.Law.Count.{stages_to}
 use Rattle.count.specs.Law.Right.{IsRight, IsCount}
+use Rattle.count.specs.Marks.{figures_at}
+use Rattle.count.specs.declared.figures.Figure.{Figure}
 use Rattle.count.specs.declared.stages.Stage.{Stage}
 use Rattle.count.specs.declared.stages.Action.{Action}
 use Rattle.count.specs.declared.stages.Action.TheVariants.{First, Surplus, Exclude, ExcludeLast}
@@ -15,6 +17,10 @@ times n paper = replicate n paper
 abbrev stage : Action → List ℕ → List ℕ → ℕ → ℕ → Stage
 stage action votes elected non_transferable lost =
     record { action = action; votes = votes ++ replicate (30 - length votes) 0; elected = elected; non_transferable = non_transferable; lost = lost }
+
+-- a figure that a stage shows
+abbrev figure : ℕ → ℕ → ℕ → Figure
+figure candidate units mark = record { candidate = candidate; units = units; mark = mark }
 
 -- Two seats: a surplus whose values are cut to 0.33333, and an exclusion that fills the last vacancy.
 abbrev fractions : Contest
@@ -44,6 +50,16 @@ fractions_right_3 = (fractions_right_2, record { was_due = refl; tells = record 
 
 fractions_count : IsCount fractions fractions_lots fractions_3
 fractions_count = (fractions_right_3, refl)
+
+-- what its stages show: a surplus is marked 3 at its own stage, and 1 before and after
+fractions_shown_1 : figures_at (1 ∷ 2 ∷ 3 ∷ []) fractions_1 ≡ figure 0 0 0 ∷ figure 1 600000 1 ∷ figure 2 100000 0 ∷ figure 3 200000 0 ∷ figure 99 0 0 ∷ []
+fractions_shown_1 = refl
+
+fractions_shown_2 : figures_at (1 ∷ 2 ∷ 3 ∷ []) fractions_2 ≡ figure 0 0 0 ∷ figure 1 400000 3 ∷ figure 2 233332 0 ∷ figure 3 266666 0 ∷ figure 99 2 0 ∷ []
+fractions_shown_2 = refl
+
+fractions_shown_3 : figures_at (1 ∷ 2 ∷ 3 ∷ []) fractions_3 ≡ figure 0 0 0 ∷ figure 1 400000 1 ∷ figure 2 233332 5 ∷ figure 3 266666 1 ∷ figure 99 2 0 ∷ []
+fractions_shown_3 = refl
 
 -- Three seats: a second surplus cuts each paper at the value at which it came, 1.00000 or 0.50000.
 abbrev two_surpluses : Contest
@@ -85,6 +101,15 @@ two_surpluses_right_5 = (two_surpluses_right_4, record { was_due = refl; tells =
 
 two_surpluses_count : IsCount two_surpluses two_surpluses_lots two_surpluses_5
 two_surpluses_count = (two_surpluses_right_5, refl)
+
+-- what its last stages show: an exclusion with transfer is marked 4 at its own stage, and 2 after it
+two_surpluses_shown_4 : figures_at (1 ∷ 2 ∷ 3 ∷ 4 ∷ 5 ∷ []) two_surpluses_4 ≡
+    figure 0 100000 0 ∷ figure 1 400000 1 ∷ figure 2 400000 1 ∷ figure 3 349993 0 ∷ figure 4 250000 0 ∷ figure 5 0 4 ∷ figure 99 7 0 ∷ []
+two_surpluses_shown_4 = refl
+
+two_surpluses_shown_5 : figures_at (1 ∷ 2 ∷ 3 ∷ 4 ∷ 5 ∷ []) two_surpluses_5 ≡
+    figure 0 100000 0 ∷ figure 1 400000 1 ∷ figure 2 400000 1 ∷ figure 3 349993 1 ∷ figure 4 250000 5 ∷ figure 5 0 2 ∷ figure 99 7 0 ∷ []
+two_surpluses_shown_5 = refl
 
 -- One seat: a tie for exclusion is settled by the first stage, at which the two differed.
 abbrev earlier_stage : Contest
