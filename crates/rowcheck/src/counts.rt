@@ -132,7 +132,7 @@ fn add_stages(
 /// Adds what there is of the count of a ward to what is tabulated, and tells whether it is right: whether it
 /// has the stages done, each lot was needed, and in a declared ward nothing is due any more. An error is want
 /// of memory.
-fn add_by(
+fn add_from_ballots(
     alloc: Global,
     ward: &Ward,
     candidates: &[Candidate],
@@ -172,7 +172,7 @@ fn add_in_count(
     let candidates = candidates_of(rows, ward.number);
     let ballots = ballots_of(alloc, rows, columns_of(candidates), ward.number)?;
     match lot_pairs(alloc, lots_of(rows, ward.number))? {
-        Some(lots) => add_by(alloc, ward, candidates, &ballots, &lots, tabulation),
+        Some(lots) => add_from_ballots(alloc, ward, candidates, &ballots, &lots, tabulation),
         None => Ok(false),
     }
 }
@@ -208,7 +208,11 @@ fn add_count(
 
 /// What is tabulated of the counts of some wards, where they are right; none where one isn't. An error is
 /// want of memory.
-fn counted(alloc: Global, rows: &Rows, wards: &[Ward]) -> Result<Option<Tabulation>, AllocError>
+fn tabulation_in(
+    alloc: Global,
+    rows: &Rows,
+    wards: &[Ward],
+) -> Result<Option<Tabulation>, AllocError>
     requires rise { MapsRise (state_of rows.now) }
     requires in_range { list_all is_lot (state_of rows.now).lots ≡ true }
     requires fair { AllByRecursion (λ w. IsFair (state_of rows.now) (ward_entry w)) wards.now }
@@ -251,5 +255,5 @@ pub fn item7(alloc: Global, rows: &Rows) -> Result<Option<Tabulation>, AllocErro
         return Ok(None);
     }
     elections_are_fair();
-    counted(alloc, rows, &rows.wards)
+    tabulation_in(alloc, rows, &rows.wards)
 }

@@ -19,4 +19,4 @@ pub returns-in-Some-clause-added : goal.returns-in-Some-clause-added
 returns-in-Some-clause-added c =
     let e = election_of (state_of c.args.rows.now) (ward_entry c.args.ward.now) in
     let made : IsMadeOf e (ward_entry c.args.ward.now) (map candidate_entry c.candidates_of-candidates.result.now) c.in_ok-ballots.ballots c.deref.result.now = search rules in
-    IfOk-weaker c.add_by.result _ _ (λ x added right. added e made c.requires.fair c.requires.contested right) c.add_by.ensures.added
+    IfOk-weaker c.add_from_ballots.result _ _ (λ x added right. added e made c.requires.fair c.requires.contested right) c.add_from_ballots.ensures.added

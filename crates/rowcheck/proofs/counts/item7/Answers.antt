@@ -26,11 +26,11 @@ returns-then-not-are_of_wards-clause-is c =
     )
     refl
 
-pub counted-requires-clause-in_range : goal.counted-requires-clause-in_range
-counted-requires-clause-in_range c = lots_in_range (state_of c.args.rows.now) c.requires.in_range
+pub tabulation_in-requires-clause-in_range : goal.tabulation_in-requires-clause-in_range
+tabulation_in-requires-clause-in_range c = lots_in_range (state_of c.args.rows.now) c.requires.in_range
 
-pub counted-requires-clause-fair : goal.counted-requires-clause-fair
-counted-requires-clause-fair c =
+pub tabulation_in-requires-clause-fair : goal.tabulation_in-requires-clause-fair
+tabulation_in-requires-clause-fair c =
     rw c.deref-2.ensures.value (
     all_fair c.args.rows.now c.requires.rise.wards (λ w there contested. c.elections_are_fair.ensures.fair (state_of c.args.rows.now) w c.requires.in_range c.requires.keyed c.requires.rise there contested)
     )
@@ -41,7 +41,7 @@ returns-clause-is c =
     let placed = ap (list_all (λ (l : DrawnLot). is_some (ward_at (state_of rows) l.ward))) (sym c.deref.ensures.value) ∙ (sym c.are_of_wards.ensures ∙ c.if-not-are_of_wards.false) in
     let whole : item7 (state_of rows) ≡ list_all (λ (w : Ward). is_counted_right (election_of (state_of rows) (ward_entry w))) c.deref-2.result.now =
     by_ward rows placed ∙ ap (list_all (λ (w : Ward). is_counted_right (election_of (state_of rows) (ward_entry w)))) (sym c.deref-2.ensures.value) in
-    subst (λ b. IfOk c.counted.result (λ (found : Option Tabulation). is_some found ≡ b)) (sym whole) c.counted.ensures.is
+    subst (λ b. IfOk c.tabulation_in.result (λ (found : Option Tabulation). is_some found ≡ b)) (sym whole) c.tabulation_in.ensures.is
 
 both_some : {T E : Type 0} {P Q R : T → Type 0} (r : Result (Option T) E) → ((t : T) → P t → Q t → R t) → IfOk r (λ found. IfSome found P) → IfOk r (λ found. IfSome found Q) → IfOk r (λ found. IfSome found R)
 both_some (Ok None) join p q = tt
@@ -50,4 +50,4 @@ both_some (Err e) join p q = tt
 
 pub returns-clause-counted : goal.returns-clause-counted
 returns-clause-counted c =
-    both_some c.counted.result (λ t bundles figures. tabulation-by_ward c.args.rows.now (tabulation_entries t) c.deref-2.result.now c.deref-2.ensures.value bundles figures) c.counted.ensures.bundles c.counted.ensures.figures
+    both_some c.tabulation_in.result (λ t bundles figures. tabulation-by_ward c.args.rows.now (tabulation_entries t) c.deref-2.result.now c.deref-2.ensures.value bundles figures) c.tabulation_in.ensures.bundles c.tabulation_in.ensures.figures

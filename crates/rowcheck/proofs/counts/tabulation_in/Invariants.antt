@@ -1,4 +1,4 @@
--- What the loop of `counted` keeps.
+-- What the loop of `tabulation_in` keeps.
 use Rattle.std.proofs.Common.{◌≡◌, take, drop}
 use Rattle.std.specs.List.{list_all, flat_map, AllByRecursion}
 use Rattle.register.specs.declared.wards.Ward.{Ward}
@@ -7,7 +7,7 @@ use Rattle.register.specs.Elections.{election_of, is_counted_right}
 use Rattle.register.specs.Tabulated.{bundles_in, figures_in, tabulation_entries}
 use Rattle.rowcheck.specs.States.{state_of}
 use Rattle.rowcheck.specs.Walks.Counts.{IsFair}
-use Rattle.rowcheck.proofs.counts.counted.Given as goal
+use Rattle.rowcheck.proofs.counts.tabulation_in.Given as goal
 
 abbrev pub invariant-loop-ward : goal.invariant-loop-ward
 invariant-loop-ward l =
