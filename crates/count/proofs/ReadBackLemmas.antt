@@ -1,11 +1,10 @@
 -- The figures of a right stage tell the stage back.
-use Rattle.std.proofs.Common.{◌≡◌, ℕ, ◌+◌, ◌-◌, ◌<◌, ◌≤◌, ◌||◌, ◌⊎◌, inl, inr, Bool, true, false, not, cond, eqb, nat_eq, List, [], ◌∷◌, ◌++◌, length, map, take, drop, reverse, Option, Some, None, refl, sym, ap, ◌∙◌, arith, subst, append-nil, append_assoc, length-append}
+use Rattle.std.proofs.Common.{◌≡◌, ℕ, ◌+◌, ◌<◌, ◌≤◌, ◌||◌, ◌⊎◌, inl, inr, Bool, true, false, not, cond, eqb, nat_eq, List, [], ◌∷◌, ◌++◌, length, map, take, drop, reverse, Option, Some, None, refl, sym, ap, ◌∙◌, arith, subst, append-nil, append_assoc, length-append}
 use Rattle.std.proofs.Math.Seq.{take-append_seam, drop-append_seam}
 use Rattle.std.proofs.lemmas.List.{reverse-append, reverse-reverse, length-map}
 use Rattle.std.specs.List.{list_any, filter}
 use Rattle.std.proofs.lemmas.Bool.{eqb-true}
-use Rattle.paper.specs.Columns.{IsColumn}
-use Rattle.count.specs.Law.Contest.{Contest, History, IsContest, In, votes_at}
+use Rattle.count.specs.Law.Contest.{Contest, History, IsContest, votes_at}
 use Rattle.count.specs.Law.Elected.{elected_after, is_elected, is_excluded, transfers, excludes}
 use Rattle.count.specs.Law.Figures.{votes_after}
 use Rattle.count.specs.Law.Right.{IsRightBy}

@@ -1,5 +1,5 @@
 -- Stages read back from the figures that they show.
-use Rattle.std.proofs.Common.{◌≡◌, ℕ, suc, ◌+◌, ◌-◌, ◌<◌, ◌≤◌, ◌||◌, Bool, true, false, cond, eqb, nat_eq, List, [], ◌∷◌, ◌++◌, length, map, take, drop, set, get_or, inl, inr, Some, None, refl, sym, ap, ◌∙◌, arith, slice_index, get_or-set_same, get_or-set_other, length-set, append-nil}
+use Rattle.std.proofs.Common.{◌≡◌, ℕ, suc, ◌+◌, ◌-◌, ◌<◌, ◌||◌, Bool, true, false, cond, nat_eq, List, [], ◌∷◌, ◌++◌, length, map, take, drop, set, get_or, inl, inr, Some, None, refl, sym, ap, ◌∙◌, arith, slice_index, get_or-set_same, get_or-set_other, length-set, append-nil}
 use Rattle.std.specs.List.{filter, list_any}
 use Rattle.paper.specs.Columns.{IsColumnSet}
 use Rattle.std.proofs.Math.Seq.{drop-cons, take-append_seam, get_or-append_seam}
@@ -43,6 +43,7 @@ votes-more f xs votes i j v within at column own so_far =
   where
     size : length votes ≡ 30
     size = ap length so_far
+
     each : (k : ℕ) → k < 30 → get_or (set votes j v) k 0 ≡ get_or (votes_shown f (take (i + 1) xs)) k 0
     each k small =
         elim (cases_eq k j) as (λ _. get_or (set votes j v) k 0 ≡ get_or (votes_shown f (take (i + 1) xs)) k 0) [

@@ -1,5 +1,5 @@
 -- What a stage shows of each candidate: his votes, and how he stands.
-use Rattle.std.specs.Prelude.{ℕ, ◌==◌, ◌||◌, Bool, nat_eq, if◌then◌else◌, List, [], ◌∷◌, ◌++◌, map}
+use Rattle.std.specs.Prelude.{ℕ, ◌==◌, Bool, nat_eq, if◌then◌else◌, List, [], ◌∷◌, ◌++◌, map}
 use Rattle.std.specs.List.{list_any}
 use Rattle.count.specs.Law.Contest.{History, votes_at}
 use Rattle.count.specs.Law.Elected.{is_excluded}

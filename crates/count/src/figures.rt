@@ -60,13 +60,12 @@ fn standing_mark(stages: &[Stage], c: u8) -> u32
 fn mark_by(action: &Action, c: u8, other: u32) -> u32
     ensures { result ≡ mark_by_of action.now c other }
 {
-    let (d, mark) = match action {
-        Action::First => return other,
-        Action::Surplus(d) => (*d, 3),
-        Action::Exclude(d) => (*d, 4),
-        Action::ExcludeLast(d) => (*d, 5),
-    };
-    if d == c { mark } else { other }
+    match action {
+        Action::Surplus(d) if *d == c => 3,
+        Action::Exclude(d) if *d == c => 4,
+        Action::ExcludeLast(d) if *d == c => 5,
+        _ => other,
+    }
 }
 
 /// The figure of a candidate at the newest of some stages.
@@ -83,7 +82,7 @@ fn figure_of(newest: &Stage, stages: &[Stage], c: u8) -> Figure
 }
 
 /// The figures of the last of some stages: of the non-transferable, of each candidate in ascending order, and
-/// of what is lost. None where there is no stage. An error is want of memory.
+/// of what is lost. No figure where there is no stage. An error is want of memory.
 pub fn figures_of(
     alloc: Global,
     candidates: &Columns,
@@ -170,7 +169,8 @@ fn action_in(candidates: &Columns, figures: &[Figure]) -> Action
     Action::First
 }
 
-/// Reads the stage that its figures show, and puts it behind those before it, after which these are elected.
+/// Reads the stage that its figures show, and puts it behind those before it. The elected are those after the
+/// stages before, and then those after this one.
 fn push_stage(
     candidates: &Columns,
     figures: &[Figure],
@@ -189,6 +189,7 @@ fn push_stage(
     stages.push(Stage {
         action: action_in(candidates, shown),
         votes: votes_in(candidates, shown),
+        // the elected stay elected, so whoever wasn't before is newly elected
         elected: without(&now, elected),
         non_transferable: Votes::from_units(figures[0].units),
         lost: Votes::from_units(figures[last].units),
@@ -197,8 +198,10 @@ fn push_stage(
     Ok(())
 }
 
-/// The stages whose figures these are, from the first one's on; none where they are those of no stages. Of
-/// the figures of a count whose candidates these are, all its stages. An error is want of memory.
+/// The stages whose figures these are, from the first one's on: each has as many figures as there are
+/// candidates, and two. None where they are too few or too many for that. Of the figures of a count whose
+/// candidates these are, all its stages; of others, what their marks and units come to. An error is want of
+/// memory.
 pub fn stages_of_figures(
     alloc: Global,
     candidates: &Columns,

@@ -1,20 +1,18 @@
 -- Who was named as elected is elected, and the marks of a stage tell who is.
-use Rattle.std.proofs.Common.{◌≡◌, ℕ, ◌+◌, ◌-◌, ◌<◌, ◌≤◌, ◌==◌, ◌||◌, ◌&&◌, ◌⊎◌, inl, inr, Bool, true, false, not, cond, eqb, nat_eq, nat_le, List, [], ◌∷◌, length, map, refl, sym, ap, ◌∙◌, arith, Option}
+use Rattle.std.proofs.Common.{◌≡◌, ℕ, ◌-◌, ◌<◌, ◌≤◌, ◌==◌, ◌||◌, ◌&&◌, ◌⊎◌, inl, inr, Bool, true, false, not, cond, eqb, nat_eq, nat_le, List, [], ◌∷◌, length, refl, sym, ap, ◌∙◌, arith, Option}
 use Rattle.std.specs.List.{list_any, filter, sum_by}
 use Rattle.std.proofs.lemmas.Bool.{eqb-true, leb-false, lt-leb, ne_eqb}
 use Rattle.std.proofs.lemmas.List.Sums.{sum_by-le-sum_by}
-use Rattle.count.specs.Law.Contest.{Contest, History, IsContest, In, votes_at, newest_votes}
-use Rattle.count.specs.Law.Elected.{is_elected, elected_after, continuing_after, vacancies_after, has_reached, is_excluded, is_transferred, undecided_fill, transfers, excludes}
-use Rattle.count.specs.Law.Figures.{votes_after, value_with}
+use Rattle.count.specs.Law.Contest.{Contest, History, IsContest, In, votes_at}
+use Rattle.count.specs.Law.Elected.{is_elected, continuing_after, vacancies_after, has_reached, is_excluded, is_transferred, undecided_fill, transfers, excludes}
+use Rattle.count.specs.Law.Figures.{value_with}
 use Rattle.count.specs.Law.Places.{Place, place, moved, next_available}
 use Rattle.count.specs.Law.Due.{exclusion}
-use Rattle.count.specs.Law.Right.{IsRightBy, Tells}
-use Rattle.count.specs.Marks.{is_named, standing_mark, mark_by}
+use Rattle.count.specs.Law.Right.{IsRightBy}
+use Rattle.count.specs.Marks.{is_named}
 use Rattle.count.specs.declared.stages.Stage.{Stage}
-use Rattle.count.specs.declared.stages.Action.{Action}
-use Rattle.count.specs.declared.stages.Action.TheVariants.{First, Surplus, Exclude, ExcludeLast}
+use Rattle.count.specs.declared.stages.Action.TheVariants.{Exclude, ExcludeLast}
 use Rattle.count.proofs.ChoiceLemmas.{within_value, or_false}
-use Rattle.count.proofs.FilterLemmas.{filter-cong}
 use Rattle.count.proofs.Law.ActionLemmas.{in-filter, column-in}
 use Rattle.count.proofs.Law.FinishLemmas.{vacant-unfilled}
 use Rattle.count.proofs.Law.NewlyLemmas.{member-filter}
@@ -137,8 +135,15 @@ excluded_step contest handed s s' before d fair right (inr on) h =
     let now_stays : is_transferred (s ∷ stages) d ≡ false = ap (λ a. transfers a d || is_transferred stages d) is ∙ ap (λ t. t || is_transferred stages d) (untransferred_by b d d) ∙ stays in
     let below = or_false (nat_le contest.quota (votes_at s' d)) (has_reached contest before d) (not_reached contest stages d _ refl out) in
     let less : votes_at s d < contest.quota =
-    omega (arith, leb-false contest.quota (votes_at s' d) below.0, told-votes contest s' before d right.0.1.tells column, told-votes contest s stages d right.1.tells column,
-    votes-held contest stages d stays, votes-held contest (s ∷ stages) d now_stays, held-excluded contest s stages d b is) in
+    omega (
+      arith,
+      leb-false contest.quota (votes_at s' d) below.0,
+      told-votes contest s' before d right.0.1.tells column,
+      told-votes contest s stages d right.1.tells column,
+      votes-held contest stages d stays,
+      votes-held contest (s ∷ stages) d now_stays,
+      held-excluded contest s stages d b is,
+    ) in
     let reached : has_reached contest (s ∷ stages) d ≡ false = ap (λ t. t || has_reached contest stages d) (lt-leb contest.quota (votes_at s d) less) ∙ not_reached contest stages d _ refl out in
     ap (λ t. t || (undecided_fill contest (s ∷ stages) && not (excludes s.action d || is_excluded stages d))) reached
     ∙ ap (λ t. undecided_fill contest (s ∷ stages) && not (t || is_excluded stages d)) h

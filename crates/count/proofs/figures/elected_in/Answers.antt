@@ -1,5 +1,5 @@
 -- Of the proof of `elected_in`: what is shown by hand.
-use Rattle.std.proofs.Common.{◌≡◌, ◌∙◌, ap, sym, subst}
+use Rattle.std.proofs.Common.{◌∙◌, ap, sym, subst}
 use Rattle.paper.specs.Columns.{IsColumnSet}
 use Rattle.count.specs.declared.figures.Figure.{Figure}
 use Rattle.count.proofs.ReadingLemmas.{figure-at, elected-yes, elected-no}

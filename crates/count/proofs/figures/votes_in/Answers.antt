@@ -1,6 +1,6 @@
 -- Of the proof of `votes_in`: what is shown by hand.
-use Rattle.std.proofs.Common.{◌≡◌, ◌∙◌, ℕ, ap, arith, rules, length-set, slice_index}
-use Rattle.paper.specs.Columns.{IsColumn, IsColumnSet}
+use Rattle.std.proofs.Common.{◌∙◌, ℕ, ap, arith, rules, length-set, slice_index}
+use Rattle.paper.specs.Columns.{IsColumn}
 use Rattle.count.specs.declared.figures.Figure.{Figure}
 use Rattle.count.proofs.ReadingLemmas.{figure-at, votes-more}
 use Rattle.count.proofs.figures.votes_in.Goals as goal
