@@ -111,7 +111,7 @@ fn dealt_places(alloc: Global, bundles: &Bundles) -> Result<Vec<Placed>, AllocEr
     let mut dealt = Vec::with_capacity(alloc, bundles.len())?;
     for (prefs, _) in bundles.iter() {
         dealt.push(Placed {
-            holder: first_preference(prefs.as_slice()),
+            holder: prefs.first(),
             value: Votes::from_units(ONE_VOTE),
         })?;
     }
