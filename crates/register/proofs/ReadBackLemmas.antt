@@ -11,10 +11,10 @@ use Rattle.std.proofs.lemmas.Bool.{and_parts, cond-true}
 use Rattle.std.proofs.lemmas.List.{map-append, length-replicate}
 use Rattle.votes.specs.Units.{max_papers}
 use Rattle.paper.specs.Columns.{max_candidates}
-use Rattle.count.specs.Books.{AreRankings, placed}
+use Rattle.count.specs.Books.{AreRankings}
 use Rattle.count.specs.Bundles.{Bundle, list_cmp, papers_of, with_papers, bundled, IsBundle, AreBundles}
-use Rattle.count.specs.Kept.{CountKept, IsKeptOf, places_after}
-use Rattle.count.specs.Law.Contest.{History, IsContest}
+use Rattle.count.specs.Kept.{IsKeptOf, places_after}
+use Rattle.count.specs.Law.Contest.{History}
 use Rattle.count.specs.Law.Right.{IsRightForSome}
 use Rattle.count.specs.Inside.Placing.{IsSound}
 use Rattle.count.specs.Marks.{figures_at, all_figures}
