@@ -13,7 +13,8 @@ ghost use Rattle.register.specs.Marks.{columns_of};
 ghost use Rattle.register.specs.Offices.{OfficeState, WardEntry, ward_at, candidates_of};
 ghost use Rattle.register.specs.Elections.{ElectionEntry, election_of, contest_of, stages_of};
 ghost use Rattle.register.specs.Items.{IsState};
-ghost use Rattle.register.specs.Tabulated.{PlacedEntry, FigureEntry, TabulationRises, AreOfCount, placed_entry, figure_entry, bundle_of, placed_of, shown_of, addition_entries, no_addition, placed_at, figure_at, figures_to, has_stages, bundles_in, figures_in, tabulation_of};
+ghost use Rattle.register.specs.Tabulated.{PlacedEntry, FigureEntry, TabulationRises, AreOfCount, has_stages, bundles_in, figures_in, tabulation_of};
+ghost use Rattle.register.specs.Tabulated.{placed_at, figure_at, figures_to, placed_entry, figure_entry, bundle_of, placed_of, shown_of, addition_entries, no_addition};
 ghost use Rattle.register.specs.WorkedTabulation.{WorkedTabulation};
 
 use count::{Bundles, Figure, KeptCount, Placed, Stage, figures_of, stages_of_figures};
@@ -191,20 +192,22 @@ fn add_figures(
 
 /// The laws of what is tabulated, for its callers. At a state the bundles stand in the order of ward and list,
 /// the figures in that of ward, stage and candidate, none twice; and those of a ward are what its election has.
-/// Where a ward's count has a stage, they are those that its count is read back from. Of an election worked by hand they are those that were worked out: before the first stage none, after two of
-/// them each bundle where it lies, at its value, and each stage's figures.
+/// Where a ward's count has a stage, its count is read back from them. Of an election worked by hand they are
+/// those that were worked out: before the first stage none, then each bundle where it lies, at its value, and
+/// the figures of each stage.
 pub fn tabulations_are_ordered()
     ensures rise { (s : OfficeState) → IsState s → TabulationRises (tabulation_of s) }
-    ensures bundles { (s : OfficeState) (w : WardEntry) → IsState s → ward_at s w.number ≡ Some w → filter (λ (b : PlacedEntry). b.ward == w.number) (tabulation_of s).bundles ≡ bundles_in (election_of s w) }
-    ensures figures { (s : OfficeState) (w : WardEntry) → IsState s → ward_at s w.number ≡ Some w → filter (λ (f : FigureEntry). f.ward == w.number) (tabulation_of s).figures ≡ figures_in (election_of s w) }
+    ensures bundles { (s : OfficeState) (w : WardEntry) → IsState s → ward_at s w.number ≡ Some w
+        → filter (λ (b : PlacedEntry). b.ward == w.number) (tabulation_of s).bundles ≡ bundles_in (election_of s w) }
+    ensures figures { (s : OfficeState) (w : WardEntry) → IsState s → ward_at s w.number ≡ Some w
+        → filter (λ (f : FigureEntry). f.ward == w.number) (tabulation_of s).figures ≡ figures_in (election_of s w) }
     ensures counted { (s : OfficeState) (w : WardEntry) → IsState s → ward_at s w.number ≡ Some w → has_stages (election_of s w) ≡ true
         → AreOfCount (election_of s w) (columns_of (candidates_of s w.number)) w.seats (bundles_in (election_of s w)) (figures_in (election_of s w)) }
     ensures worked { WorkedTabulation }
 {}
 
 /// Adds a bundle to others, and says whether it could: whether its list is one of preferences, it has a paper,
-/// and they are `MAX_PAPERS` at most with it. Where it couldn't, and on want of memory, the others are as they
-/// were.
+/// and they are of `MAX_PAPERS` papers at most with it. An error is want of memory.
 fn add_bundle(bundles: &mut Bundles, bundle: &PlacedBundle) -> Result<bool, AllocError>
     ensures ok { IfOk result (λ added. added ≡ true → bundles.new ≡ with_papers bundles.old bundle.now.list.items bundle.now.papers) }
     ensures fits { IfOk result (λ added. IsBundle (bundle_of (placed_entry bundle.now)) → length (papers_of bundles.old) + bundle.now.papers ≤ max_papers → added ≡ true) }
@@ -223,7 +226,8 @@ fn add_bundle(bundles: &mut Bundles, bundle: &PlacedBundle) -> Result<bool, Allo
 /// The bundles of a ward; none where they are no bundles, or of too many papers. An error is want of memory.
 fn bundles_of(alloc: Global, tabulated: &[PlacedBundle]) -> Result<Option<Bundles>, AllocError>
     ensures is { IfOk result (λ found. IfSome found (λ bundles. AreBundles (map bundle_of (map placed_entry tabulated.now)) → bundles ≡ map bundle_of (map placed_entry tabulated.now))) }
-    ensures some { IfOk result (λ found. AreBundles (map bundle_of (map placed_entry tabulated.now)) → length (papers_of (map bundle_of (map placed_entry tabulated.now))) ≤ max_papers → IsSome found) }
+    ensures some { IfOk result (λ found. AreBundles (map bundle_of (map placed_entry tabulated.now))
+        → length (papers_of (map bundle_of (map placed_entry tabulated.now))) ≤ max_papers → IsSome found) }
 {
     let mut bundles = Bundles::new(alloc);
     for bundle in tabulated {
@@ -276,7 +280,8 @@ pub fn count_of(
     bundles: &[PlacedBundle],
     figures: &[StageFigure],
 ) -> Result<Option<KeptCount>, AllocError>
-    ensures is { IfOk result (λ found. IfSome found (λ kept. (e : ElectionEntry) → AreOfCount e candidates seats (map placed_entry bundles.now) (map figure_entry figures.now) → IsKeptOf (contest_of e) (stages_of e) kept)) }
+    ensures is { IfOk result (λ found. IfSome found (λ kept. (e : ElectionEntry) → AreOfCount e candidates seats (map placed_entry bundles.now) (map figure_entry figures.now)
+        → IsKeptOf (contest_of e) (stages_of e) kept)) }
     ensures some { IfOk result (λ found. (e : ElectionEntry) → AreOfCount e candidates seats (map placed_entry bundles.now) (map figure_entry figures.now) → IsSome found) }
 {
     let Ok(seats) = u8::try_from(seats) else {

@@ -1,11 +1,10 @@
 -- Why `count_of` keeps its promise.
-use Rattle.std.proofs.Common.{rules, ◌≡◌, ◌∙◌, true, map, reverse, is_some, ap, sym, refl, subst}
-use Rattle.std.specs.Option.{IfSome}
+use Rattle.std.proofs.Common.{rules, ◌≡◌, ◌∙◌, map, is_some, ap, sym, subst}
 use Rattle.std.proofs.lemmas.Option.{IfSome_then}
-use Rattle.count.specs.Kept.{CountKept, IsKeptOf}
+use Rattle.count.specs.Kept.{IsKeptOf}
 use Rattle.count.specs.Marks.{all_figures}
 use Rattle.register.specs.Elections.{ElectionEntry, contest_of, stages_of}
-use Rattle.register.specs.Tabulated.{AreOfCount, placed_entry, figure_entry, shown_of}
+use Rattle.register.specs.Tabulated.{AreOfCount, placed_entry, figure_entry}
 use Rattle.register.proofs.ReadBackLemmas.{read_figures, are_bundles, few_papers, few_holders, right_so_far, kept_again}
 use Rattle.register.proofs.tabulated.count_of.Goals as goal
 use Rattle.register.proofs.tabulated.count_of.Goals.{In-Some-3}

@@ -1,5 +1,5 @@
 -- Why `Election::begin` keeps its promise.
-use Rattle.std.proofs.Common.{rules, ◌≡◌, [], map, ap, sym, ◌∙◌, subst}
+use Rattle.std.proofs.Common.{◌≡◌, [], map, ap, sym, ◌∙◌, subst}
 use Rattle.count.specs.Kept.{IsKeptOf}
 use Rattle.count.specs.Law.Count.{stages_to}
 use Rattle.register.specs.Offices.{WardEntry, candidate_entry}
