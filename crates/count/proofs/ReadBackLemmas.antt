@@ -14,6 +14,7 @@ use Rattle.count.specs.declared.figures.Figure.{Figure}
 use Rattle.count.specs.declared.stages.Stage.{Stage}
 use Rattle.count.specs.declared.stages.Action.{Action}
 use Rattle.count.specs.declared.stages.Action.TheVariants.{First, Surplus, Exclude, ExcludeLast}
+use Rattle.count.proofs.ColumnLemmas.{reverse-newest}
 use Rattle.count.proofs.FilterLemmas.{filter-cong}
 use Rattle.count.proofs.ReadingLemmas.{stage-made}
 use Rattle.count.proofs.TallyLemmas.{map-numbers}
@@ -103,12 +104,12 @@ either_first : (b : Bool) → cond b First First ≡ First
 either_first true = refl
 either_first false = refl
 
-known_action : (contest : Contest) (handed : History → Stage → Option ℕ) (s s' : Stage) (before : History) → IsSurplus contest (s' ∷ before) s.action ⊎ IsExclusion contest (s' ∷ before) s.action →
+known_action : (contest : Contest) (s s' : Stage) (before : History) → IsSurplus contest (s' ∷ before) s.action ⊎ IsExclusion contest (s' ∷ before) s.action →
     cond (list_any (acts_on s.action) contest.candidates) s.action First ≡ s.action
 unfolding acts_on
-known_action contest handed s s' before (inl on) =
+known_action contest s s' before (inl on) =
     ap (λ a. cond (list_any (acts_on a) contest.candidates) a First) on.is ∙ ap (λ b. cond b (Surplus on.c) First) on.is_candidate ∙ sym on.is
-known_action contest handed s s' before (inr on) = ap (λ a. cond (list_any (acts_on a) contest.candidates) a First) on.is ∙ by_test _ ∙ sym on.is
+known_action contest s s' before (inr on) = ap (λ a. cond (list_any (acts_on a) contest.candidates) a First) on.is ∙ by_test _ ∙ sym on.is
   where
     by_test : (b : Bool) → let a : Action = cond b (ExcludeLast on.c) (Exclude on.c) in cond (list_any (acts_on a) contest.candidates) a First ≡ a
     by_test true = ap (λ b. cond b (ExcludeLast on.c) First) on.is_candidate
@@ -118,7 +119,7 @@ is_known : (contest : Contest) (handed : History → Stage → Option ℕ) (s : 
 is_known contest handed s [] right =
     let is = step-first contest (handed [] s) s.action right.1.was_due in
     ap (λ a. cond (list_any (acts_on s.action) contest.candidates) a First) is ∙ either_first (list_any (acts_on s.action) contest.candidates) ∙ sym is
-is_known contest handed s (s' ∷ before) right = known_action contest handed s s' before (step-is contest s' before (handed (s' ∷ before) s) s.action right.1.was_due)
+is_known contest handed s (s' ∷ before) right = known_action contest s s' before (step-is contest s' before (handed (s' ∷ before) s) s.action right.1.was_due)
 
 action-back : (contest : Contest) (handed : History → Stage → Option ℕ) (s : Stage) (before : History) → IsRightBy contest handed (s ∷ before) → action_shown (figure_of s (s ∷ before)) contest.candidates ≡ s.action
 action-back contest handed s before right =
@@ -165,9 +166,6 @@ stage-read contest handed s before elected now made fair right known read =
 pub figures_from : List ℕ → History → List Stage → List Figure
 figures_from candidates before [] = []
 figures_from candidates before (s ∷ later) = figures_at candidates (s ∷ before) ++ figures_from candidates (s ∷ before) later
-
-reverse-more : (xs : List Stage) (s : Stage) → reverse (xs ++ s ∷ []) ≡ s ∷ reverse xs
-reverse-more xs s = reverse-append xs (s ∷ [])
 
 -- one stage more at the end
 from-more : (candidates : List ℕ) (before : History) (xs : List Stage) (s : Stage) →
@@ -220,7 +218,7 @@ right-to : (contest : Contest) (handed : History → Stage → Option ℕ) (hist
     IsRightBy contest handed (s ∷ reverse stages)
 right-to contest handed history stages s later right whole =
     let parts : reverse later ++ (s ∷ reverse stages) ≡ history =
-    ap (λ (b : History). reverse later ++ b) (sym (reverse-more stages s)) ∙ sym (reverse-append (stages ++ s ∷ []) later) ∙ ap reverse (append_assoc stages (s ∷ []) later ∙ whole) ∙ reverse-reverse history in
+    ap (λ (b : History). reverse later ++ b) (sym (reverse-newest (stages ++ s ∷ []) stages s refl)) ∙ sym (reverse-append (stages ++ s ∷ []) later) ∙ ap reverse (append_assoc stages (s ∷ []) later ∙ whole) ∙ reverse-reverse history in
     right-first contest handed (reverse later) (s ∷ reverse stages) (subst (IsRightBy contest handed) (sym parts) right)
 
 length-stage : (candidates : List ℕ) (s : Stage) (before : History) → length (figures_at candidates (s ∷ before)) ≡ length candidates + 2
@@ -228,19 +226,19 @@ length-stage candidates s before =
     omega (arith, length-append (map (figure_of s (s ∷ before)) candidates) (record { candidate = fractions; units = s.lost; mark = 0 } ∷ []), length-map candidates (figure_of s (s ∷ before)))
 
 -- a stage more
-read_stage : (contest : Contest) (handed : History → Stage → Option ℕ) (history : History) (stages later : List Stage) (rest : List Figure) (now more : List ℕ) (grown : List Stage) (n : ℕ) → IsRightBy contest handed history → n ≡ length contest.candidates + 2 → n ≤ length rest →
+read_stage : (contest : Contest) (handed : History → Stage → Option ℕ) (history : History) (stages later : List Stage) (rest : List Figure) (more : List ℕ) (grown : List Stage) (n : ℕ) → IsRightBy contest handed history → n ≡ length contest.candidates + 2 → n ≤ length rest →
     stages ++ later ≡ reverse history → rest ≡ figures_from contest.candidates (reverse stages) later →
     ((s : Stage) → IsRightBy contest handed (s ∷ reverse stages) → take n rest ≡ figures_at contest.candidates (s ∷ reverse stages) → (grown ≡ stages ++ s ∷ []) × (more ≡ elected_after contest (s ∷ reverse stages))) →
     AreRead contest history grown more (drop n rest)
 unfolding figures_from
-read_stage contest handed history stages [] rest now more grown n right size enough whole left told = absurd (omega (arith, size, enough, ap length left))
-read_stage contest handed history stages (s ∷ later) rest now more grown n right size enough whole left told =
+read_stage contest handed history stages [] rest more grown n right size enough whole left told = absurd (omega (arith, size, enough, ap length left))
+read_stage contest handed history stages (s ∷ later) rest more grown n right size enough whole left told =
     let front : List Figure = figures_at contest.candidates (s ∷ reverse stages) in
     let behind : List Figure = figures_from contest.candidates (s ∷ reverse stages) later in
     let all : n ≡ length front = omega (arith, size, length-stage contest.candidates s (reverse stages)) in
     let shown : take n rest ≡ front = ap (λ k. take k rest) all ∙ ap (take (length front)) left ∙ take-append_seam front behind in
     let is = told s (right-to contest handed history stages s later right whole) shown in
-    let turned : reverse grown ≡ s ∷ reverse stages = ap reverse is.0 ∙ reverse-more stages s in
+    let turned : reverse grown ≡ s ∷ reverse stages = ap reverse is.0 ∙ reverse-newest (stages ++ s ∷ []) stages s refl in
     record {
       later = later;
       whole = ap (λ (l : List Stage). l ++ later) is.0 ∙ append_assoc stages (s ∷ []) later ∙ whole;
@@ -253,7 +251,7 @@ pub read-more : (contest : Contest) (handed : History → Stage → Option ℕ) 
     ((s : Stage) → IsRightBy contest handed (s ∷ reverse stages) → take n rest ≡ figures_at contest.candidates (s ∷ reverse stages) → (grown ≡ stages ++ s ∷ []) × (more ≡ elected_after contest (s ∷ reverse stages))) →
     AreRead contest history grown more (drop n rest)
 read-more contest handed history stages rest elected more grown n right size enough read told =
-    read_stage contest handed history stages read.later rest elected more grown n right size enough read.whole read.rest_is told
+    read_stage contest handed history stages read.later rest more grown n right size enough read.whole read.rest_is told
 
 -- where fewer figures are left than a stage has, none is, and all stages are read
 few_left : (candidates : List ℕ) (before : History) (later : List Stage) → length (figures_from candidates before later) < length candidates + 2 → later ≡ []

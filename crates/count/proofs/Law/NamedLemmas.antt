@@ -12,13 +12,13 @@ use Rattle.count.specs.Law.Right.{IsRightBy}
 use Rattle.count.specs.Marks.{is_named}
 use Rattle.count.specs.declared.stages.Stage.{Stage}
 use Rattle.count.specs.declared.stages.Action.TheVariants.{Exclude, ExcludeLast}
-use Rattle.count.proofs.ChoiceLemmas.{within_value, or_false}
+use Rattle.count.proofs.ChoiceLemmas.{or_later, or_false, within_value}
 use Rattle.count.proofs.Law.ActionLemmas.{in-filter, column-in}
 use Rattle.count.proofs.Law.FinishLemmas.{vacant-unfilled}
 use Rattle.count.proofs.Law.NewlyLemmas.{member-filter}
 use Rattle.count.proofs.Law.StepLemmas.{IsSurplus, IsExclusion, step-is, step-first, step-vacant, told-votes, reached-elected, votes-held}
 use Rattle.count.proofs.Law.ValueLemmas.{held}
-use Rattle.count.proofs.Law.LengthLemmas.{transferred-reached}
+use Rattle.count.proofs.Law.LengthLemmas.{not_reached, transferred-reached}
 
 -- ---- who is elected stays elected
 
@@ -55,10 +55,6 @@ pub elected-stays : (contest : Contest) (handed : History → Stage → Option �
 elected-stays contest handed s before c fair right h =
     let reached : has_reached contest before c ≡ true = sym (open-elected contest before c (before-open contest handed s before fair right)) ∙ h in
     reached-elected contest (s ∷ before) c (or_later (nat_le contest.quota (votes_at s c)) (has_reached contest before c) reached)
-  where
-    or_later : (a b : Bool) → b ≡ true → (a || b) ≡ true
-    or_later true b h = refl
-    or_later false b h = h
 
 -- ---- who is named
 
@@ -115,10 +111,6 @@ excludes_one false c d = refl
 not_gone : (contest : Contest) (handed : History → Stage → Option ℕ) (stages : History) (d : ℕ) (b : Bool) → is_transferred stages d ≡ b → IsRightBy contest handed stages → is_elected contest stages d ≡ false → b ≡ false
 not_gone contest handed stages d true gone right out = let k = reached-elected contest stages d (transferred-reached contest handed stages d right gone) in cc
 not_gone contest handed stages d false gone right out = refl
-
-not_reached : (contest : Contest) (stages : History) (d : ℕ) (b : Bool) → has_reached contest stages d ≡ b → is_elected contest stages d ≡ false → b ≡ false
-not_reached contest stages d true e out = let k = reached-elected contest stages d e in cc
-not_reached contest stages d false e out = refl
 
 -- whoever is excluded isn't elected then: his votes are no more than before, and those were below the quota
 excluded_step : (contest : Contest) (handed : History → Stage → Option ℕ) (s s' : Stage) (before : History) (d : ℕ) → IsContest contest → IsRightBy contest handed (s ∷ s' ∷ before) →
