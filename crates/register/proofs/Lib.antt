@@ -1,4 +1,5 @@
 pub mod MapLemmas
+mod SplitLemmas
 mod LineLemmas
 mod ObjectionLemmas
 mod ElectionLemmas
@@ -6,6 +7,7 @@ mod StageLemmas
 mod ProgressLemmas
 pub mod KeyedLemmas
 mod ElsewhereLemmas
+mod TabulationLemmas
 mod ItemLemmas
 mod NominationLemmas
 mod WardLemmas

@@ -113,7 +113,14 @@ fn accepted(
         subject,
         reply: reply.clone()?,
     };
-    Ok(Decision::Accepted(Change { effect, addition, receipt }, reply))
+    Ok(Decision::Accepted(
+        Change {
+            effect,
+            addition,
+            receipt,
+        },
+        reply,
+    ))
 }
 
 #[tactic(auto, unfolding(crate::specs::Machine::decided))]
