@@ -14,6 +14,7 @@ use Rattle.count.specs.declared.stages.Kind.{Kind}
 use Rattle.count.specs.declared.stages.Due.{Due}
 use Rattle.count.specs.declared.stages.Due.TheVariants.{Act, Lot as lot_due, Finished}
 use Rattle.count.specs.Law.Count.{stages_to}
+use Rattle.count.specs.Law.Due.{next_action}
 use Rattle.count.proofs.Law.CountLemmas.{stages_right}
 use Rattle.count.proofs.Law.LengthLemmas.{stages-few}
 use Rattle.register.specs.declared.phase.Phase.{Phase}
@@ -66,6 +67,13 @@ unfolding is_office_subject
 lot_about m n h k = rw (are_plain-from last_ward first_lot_stage last_lot_stage m n (omega arith) (omega arith) (omega arith) h k) refl
 
 -- ---- the ward of a count
+
+-- a count in which the stage of an action is due: it is held, the stages done are there, and the ward comes to the next one
+pub record IsStageDue (s : OfficeState) (n : ℕ) (w : WardEntry) (action : Action) : Type 0 where
+  pub contested : has_count (election_of s w) ≡ true
+  pub stages : length (stages_of (election_of s w)) ≡ w.done
+  pub next : next_action (contest_of (election_of s w)) (election_of s w).lots (stages_of (election_of s w)) ≡ Some action
+  pub stage : next_stage (ward_at s n) ≡ w.done + 1
 
 module _ (s : OfficeState) (n : ℕ) (w : WardEntry) (is : IsState s) (found : ward_at s n ≡ Some w) where
   number : n ≡ w.number
@@ -125,6 +133,13 @@ module _ (s : OfficeState) (n : ℕ) (w : WardEntry) (is : IsState s) (found : w
       subst (λ (k : ℕ). IsState (with_effect (stage_counted n k) s)) (sym (ap next_stage found ∙ next_is (few_done action phased due)))
       (changed_stays s n w (at_stage (w.done + 1)) found (staged (w.done + 1)) enough (sound_advanced (election_of s w) action phased due own_sound) is)
 
+  stage_due : (action : Action) → w.phase ≡ Sealed → due_of (election_of s w) ≡ Act action → IsStageDue s n w action
+  stage_due action phased due =
+      let e = election_of s w in
+      let h = held e (Act action) due refl in
+      let right = right_in e (in_count e phased h.contested) own_sound in
+      record { contested = h.contested; stages = right.stages; next = acted (contest_of e) e.lots (stages_of e) action h.is; stage = ap next_stage found ∙ next_is (few_done action phased due) }
+
   -- the ward, where it is changed
   changed_there : (change : WardEntry → WardEntry) → ((x : WardEntry) → (change x).number ≡ x.number) → entry_at (ward_compared n) (changed (ward_compared n) change s.wards) ≡ Some (change w)
   changed_there change kept =
@@ -136,16 +151,15 @@ module _ (s : OfficeState) (n : ℕ) (w : WardEntry) (is : IsState s) (found : w
   advanced_more : (action : Action) (r : ReceiptEntry) → w.phase ≡ Sealed → due_of (election_of s w) ≡ Act action → HasStageMore s (with_receipt r (with_effect (stage_counted n (next_stage (ward_at s n))) s)) n
   advanced_more action r phased due =
       let e = election_of s w in
-      let h = held e (Act action) due refl in
-      let next : next_stage (ward_at s n) ≡ w.done + 1 = ap next_stage found ∙ next_is (few_done action phased due) in
+      let d = stage_due action phased due in
       record {
         before = w;
         found = found;
         after = at_stage (w.done + 1) w;
-        stays = ap (λ (k : ℕ). entry_at (ward_compared n) (changed (ward_compared n) (at_stage k) s.wards)) next ∙ changed_there (at_stage (w.done + 1)) (λ x. refl);
+        stays = ap (λ (k : ℕ). entry_at (ward_compared n) (changed (ward_compared n) (at_stage k) s.wards)) d.stage ∙ changed_there (at_stage (w.done + 1)) (λ x. refl);
         action = action;
         due = due;
-        added = stage_added (contest_of e) e.lots w.done action (acted (contest_of e) e.lots (stages_of e) action h.is);
+        added = stage_added (contest_of e) e.lots w.done action d.next;
       }
 
   -- the ward declared, and its count as it was
@@ -298,6 +312,16 @@ is_due s actor ward none =
     let no_lot : lot_objection (Some (due_of (election_of s found.ward))) ≡ None = ap (λ (o : Option WardEntry). lot_objection (due_for s o)) (sym found.is) ∙ (others.1).0 in
     let act = acts (due_of (election_of s found.ward)) open_ no_lot in
     record { office = range.0; number = range.1; own = found.ward; found = found.is; phased = found.phased; action = act.action; due = act.is }
+
+-- the ward of an Advance that nothing stands against, and the action that is due in its count
+pub record HasStageDue (s : OfficeState) (ward : ℕ) : Type 0 where
+  pub own : WardEntry
+  pub found : ward_at s ward ≡ Some own
+  pub action : Action
+  pub due : IsStageDue s ward own action
+
+pub advance_due : (s : OfficeState) (actor ward : ℕ) → IsState s → first_reason (objections actor (Advance ward) (part_of s actor (Advance ward))) ≡ None → HasStageDue s ward
+advance_due s actor ward is none = let d = is_due s actor ward none in record { own = d.own; found = d.found; action = d.action; due = stage_due s ward d.own is d.found d.action d.phased d.due }
 
 -- it adds that stage
 pub advance_adds : (s : OfficeState) (actor ward : ℕ) (r : ReceiptEntry) → IsState s → first_reason (objections actor (Advance ward) (part_of s actor (Advance ward))) ≡ None

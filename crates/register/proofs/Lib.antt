@@ -8,6 +8,8 @@ mod ProgressLemmas
 pub mod KeyedLemmas
 mod ElsewhereLemmas
 mod TabulationLemmas
+mod MovedLemmas
+mod AdditionLemmas
 mod ItemLemmas
 mod NominationLemmas
 mod WardLemmas

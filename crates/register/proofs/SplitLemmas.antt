@@ -6,7 +6,7 @@ use Rattle.std.specs.Ordering.{nat_cmp, on, is_eq, is_lt}
 use Rattle.std.specs.Cmp.{unsigned_tied}
 use Rattle.std.specs.declared.cmp.Ordering.{Ordering}
 use Rattle.std.specs.declared.cmp.Ordering.TheVariants.{Less}
-use Rattle.std.proofs.lemmas.Bool.{and_parts, and_from, not-true}
+use Rattle.std.proofs.lemmas.Bool.{and_parts, and_from, eq-eqb, not-true}
 use Rattle.std.proofs.lemmas.Grind.{flat_map-append}
 use Rattle.register.specs.Offices.{put, entry_at, changed}
 use Rattle.register.proofs.MapLemmas.{same_number, other_number}
@@ -84,3 +84,13 @@ module _ {X : Type 0} (number : X → ℕ) (n : ℕ) where
   changed_front change e (x ∷ xs) ys own before behind =
       let parts = and_parts (not (n == number x)) (are_others number n xs) before in
       rw (unsigned_tied n (number x) ∙ not-true (n == number x) parts.0) (ap (λ (zs : List X). x ∷ zs) (changed_front change e xs ys own parts.1 behind))
+
+  -- entries with it changed
+  pub changed_split : (change : X → X) (e : X) (xs : List X) → (split : IsSplit number n e xs) → changed (λ x. nat_cmp n (number x)) change xs ≡ split.front ++ (change e ∷ split.back)
+  changed_split change e xs split =
+      ap (changed (λ x. nat_cmp n (number x)) change) split.is
+      ∙ changed_front change e split.front split.back (unsigned_tied n (number e) ∙ eq-eqb n (number e) split.number_is) split.before split.behind
+
+  -- what is told of all
+  pub flat_split : {Y : Type 0} (h : X → List Y) (e : X) (xs : List X) → (split : IsSplit number n e xs) → flat_map h xs ≡ flat_map h split.front ++ (h e ++ flat_map h split.back)
+  flat_split h e xs split = ap (flat_map h) split.is ∙ flat_map-append h split.front (e ∷ split.back)
