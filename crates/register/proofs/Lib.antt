@@ -10,6 +10,7 @@ mod ElsewhereLemmas
 mod TabulationLemmas
 mod MovedLemmas
 mod AdditionLemmas
+mod NextLemmas
 mod ItemLemmas
 mod NominationLemmas
 mod WardLemmas

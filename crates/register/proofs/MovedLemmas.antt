@@ -11,10 +11,12 @@ use Rattle.std.proofs.lemmas.Cmp.{nat_cmp_total, nat_list_cmp_total, tied_itself
 use Rattle.std.proofs.lemmas.List.{map-append}
 use Rattle.std.proofs.lemmas.List.Folds.{list_all-append, list_all-map}
 use Rattle.count.specs.Bundles.{Bundle, list_cmp, with_papers, bundled}
+use Rattle.count.specs.Books.{placed}
 use Rattle.count.specs.Law.Places.{Place}
 use Rattle.count.proofs.BundleLemmas.{rise-with_papers}
 use Rattle.register.specs.Tabulated.{PlacedEntry, placed_cmp, placed_at, moved_to}
 use Rattle.register.specs.Additions.{is_same_place}
+use Rattle.register.specs.Walks.{moved_bundles}
 
 -- the bundles of papers stand in the order of their lists
 pub bundled-rise : (papers : List (List ℕ)) → IsStrictlySortedBy list_cmp (map (λ (b : Bundle). b.0) (bundled papers))
@@ -147,3 +149,13 @@ module _ (n : ℕ) where
             ∙ ap (λ (ys : List PlacedEntry). all_moved (placed_at n b (after b.0) ∷ ys) ms) (apart_behind b bs up.0)
             ∙ beside (placed_at n b (after b.0)) ms (map (λ (b : Bundle). placed_at n b (before b.0)) bs) (apart_before b (after b.0) bs up.0)
             ∙ ap (λ (ys : List PlacedEntry). placed_at n b (after b.0) ∷ ys) later
+
+    -- a walk over the places before and after finds those that lie elsewhere
+    pub walked-moves : (bs : List Bundle) → moved_bundles n bs (map (λ (b : Bundle). placed (before b.0)) bs) (map (λ (b : Bundle). placed (after b.0)) bs) ≡ map (λ (b : Bundle). placed_at n b (after b.0)) (filter (λ (b : Bundle). not (stays b)) bs)
+    walked-moves [] = refl
+    walked-moves (b ∷ bs) =
+        elim (stays b) as (λ s. cond s (moved_bundles n bs (map (λ (b : Bundle). placed (before b.0)) bs) (map (λ (b : Bundle). placed (after b.0)) bs)) (placed_at n b (after b.0) ∷ moved_bundles n bs (map (λ (b : Bundle). placed (before b.0)) bs) (map (λ (b : Bundle). placed (after b.0)) bs))
+        ≡ map (λ (b : Bundle). placed_at n b (after b.0)) (cond (not s) (b ∷ filter (λ (b : Bundle). not (stays b)) bs) (filter (λ (b : Bundle). not (stays b)) bs))) [
+          | true ↦ walked-moves bs
+          | false ↦ ap (λ (ys : List PlacedEntry). placed_at n b (after b.0) ∷ ys) (walked-moves bs)
+        ]
