@@ -28,6 +28,7 @@ mod CountLemmas
 mod TotalLemmas
 pub mod MachineLemmas
 pub mod SeenLemmas
+mod DecisionLemmas
 pub mod ListLaws
 mod WorkedRows
 mod NominationRows

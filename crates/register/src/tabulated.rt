@@ -152,9 +152,10 @@ fn moved_bundles(
     let mut moved = Vec::new(alloc);
     let (mut old_places, mut new_places) = (before, now);
     for (list, papers) in bundles.iter() {
-        let (Some((old, other_old)), Some((new, other_new))) =
-            (old_places.split_first(), new_places.split_first())
-        else {
+        let (Some((old, other_old)), Some((new, other_new))) = (
+            old_places.split_first(),
+            new_places.split_first(),
+        ) else {
             break;
         };
         if old != new {
@@ -238,11 +239,7 @@ fn later_addition(
 
 /// What the stage that is due adds to a ward's count: at the first stage all bundles, at a later one those that
 /// lie elsewhere than before, and its figures. Nothing where no action is due. An error is want of memory.
-pub(crate) fn addition_of(
-    alloc: Global,
-    ward: u32,
-    count: &Count,
-) -> Result<Addition, AllocError>
+pub(crate) fn addition_of(alloc: Global, ward: u32, count: &Count) -> Result<Addition, AllocError>
     ensures { IfOk result (λ addition. IsAddedTo ward count.now addition) }
 {
     let kept = &count.kept;
