@@ -17,13 +17,14 @@ use Rattle.register.specs.Ranges.{last_batch, last_round, is_office, is_clerk, i
 use Rattle.register.specs.Subjects.{is_office_subject}
 use Rattle.register.specs.Offices.{WardEntry, BatchEntry, KeyedEntry, JudgedEntry, OfficeState, put, changed, batch_cmp, ward_compared, batch_compared, ward_at, candidates_of, batch_at, keying_of, verdicts_of, lots_of}
 use Rattle.register.specs.Polls.{pile_of}
-use Rattle.register.specs.Elections.{is_counted}
+use Rattle.register.specs.Elections.{election_of, is_counted}
 use Rattle.register.specs.Nominations.{are_enough}
 use Rattle.register.specs.Papers.{is_keyed, same_marks, differ, is_taken, is_its_clerk, first_keying, second_keying}
 use Rattle.register.specs.Marks.{is_readable}
 use Rattle.register.specs.Keyed.{columns_for, is_polled, is_given_out, is_keyed_for, is_round_of, are_rounds_to, is_judged}
 use Rattle.register.specs.Items.{is_batch, IsState}
 use Rattle.register.specs.Effects.{batch_added, batch_reopened, in_round, with_effect}
+use Rattle.register.specs.Tabulated.{tabulation_of}
 use Rattle.register.specs.Parts.{passes}
 use Rattle.register.specs.Batches.{ward_for, first_for, second_for, part_of, is_in_last_round, is_in_range, objections, next_round, subject_of, reply_to, effect_of}
 use Rattle.register.proofs.LineLemmas.{lower, is_plain-decimal, words, line_append, line_number, line_reply, line_text}
@@ -31,6 +32,7 @@ use Rattle.register.proofs.ObjectionLemmas.{none_objects, asked, unasked, absent
 use Rattle.register.proofs.MapLemmas.{Keeps, list_all_weaker, filter_none, filter_put, put_all, put_is_map, found_put_too, found_put_still, changed_is_map, changed_at, found_changed, found_key, found_passes, found_number, same_number, all_but_number}
 use Rattle.register.proofs.ElectionLemmas.{lots_placed_of, same_election}
 use Rattle.register.proofs.ElsewhereLemmas.{sound_elsewhere, batches_elsewhere, changed_elsewhere}
+use Rattle.register.proofs.TabulationLemmas.{tabulation_elsewhere}
 use Rattle.register.proofs.KeyedLemmas.{rounds_from, rounds_more, found_given_out, no_verdicts}
 use Rattle.register.proofs.ItemLemmas.{MapName, batch_map, Holds, maps_of, state_from, rounds_still, batch_total, are_placed, are_all, has_enough, IsFit, office_about}
 
@@ -93,6 +95,14 @@ module _ (s : OfficeState) (b : BatchEntry) (is : IsState s) (new : batch_at s b
   unfolding are_rounds_to
   first_round first = rw first (rw (unkeyed 1 b.first_clerk) (rw (unkeyed 1 b.second_clerk) refl))
 
+  -- the elections of other wards are as they were,
+  added_elsewhere : (x : WardEntry) → (b.ward == x.number) ≡ false → election_of (with_effect (batch_added b) s) x ≡ election_of s x
+  added_elsewhere x other = same_election x _ (candidates_of s x.number) _ _ _ (lots_of s x.number) refl (ap (map (pile_of s)) (filter_put batch_cmp (λ (y : BatchEntry). y.ward == x.number) b s.batches other)) refl
+
+  -- and so is the tabulation
+  pub added_tabulated : (w : WardEntry) → ward_at s b.ward ≡ Some w → is_counted w.phase ≡ false → tabulation_of (with_effect (batch_added b) s) ≡ tabulation_of s
+  added_tabulated w found open_ = tabulation_elsewhere s b.ward w s.candidates (put batch_cmp b s.batches) s.keyings s.verdicts found open_ added_elsewhere is
+
   -- a batch in range, in its first round, of a number that is new, given out
   pub added_stays : (w : WardEntry) → ward_at s b.ward ≡ Some w → is_counted w.phase ≡ false → is_batch b ≡ true → b.round ≡ 1 → is_given_out s b ≡ true → IsState (with_effect (batch_added b) s)
   added_stays w found open_ good first out =
@@ -115,8 +125,7 @@ module _ (s : OfficeState) (b : BatchEntry) (is : IsState s) (new : batch_at s b
             (list_all_weaker _ _ s.verdicts (λ v placed. found_put_too batch_cmp (batch_compared v.batch) b s.batches placed) judged.0)
             (put_all batch_cmp (λ x. is_judged s x (verdicts_of s x.number)) b s.batches (rw unjudged refl) judged.1);
         lots_placed = lots_placed_of is;
-        sound = sound_elsewhere s b.ward w s.candidates (put batch_cmp b s.batches) s.keyings s.verdicts found open_
-            (λ x other. same_election x _ (candidates_of s x.number) _ _ _ (lots_of s x.number) refl (ap (map (pile_of s)) (filter_put batch_cmp (λ (y : BatchEntry). y.ward == x.number) b s.batches other)) refl) is;
+        sound = sound_elsewhere s b.ward w s.candidates (put batch_cmp b s.batches) s.keyings s.verdicts found open_ added_elsewhere is;
       })
     where
       maps : (m : MapName) → Holds m (with_effect (batch_added b) s)
@@ -134,6 +143,16 @@ in_range_still round good x fine =
 
 same_batch : (round : ℕ) → is_round round ≡ true → Keeps is_batch batch_cmp (in_round round)
 same_batch round good = record { passes = in_range_still round good; before = λ x y. refl; behind = λ x y. refl }
+
+module _ (s : OfficeState) (n : ℕ) (b : BatchEntry) (is : IsState s) (found : batch_at s n ≡ Some b) (round : ℕ) where
+  -- the elections of other wards are as they were,
+  reopened_elsewhere : (x : WardEntry) → (b.ward == x.number) ≡ false → election_of (with_effect (batch_reopened n round) s) x ≡ election_of s x
+  reopened_elsewhere x other =
+      same_election x _ (candidates_of s x.number) _ _ _ (lots_of s x.number) refl (ap (map (pile_of s)) (changed_elsewhere n x.number (in_round round) (λ y. refl) s.batches (batches_elsewhere s n b x.number is found other))) refl
+
+  -- and so is the tabulation
+  pub reopened_tabulated : (w : WardEntry) → ward_at s b.ward ≡ Some w → is_counted w.phase ≡ false → tabulation_of (with_effect (batch_reopened n round) s) ≡ tabulation_of s
+  reopened_tabulated w its_ward open_ = tabulation_elsewhere s b.ward w s.candidates (changed (batch_compared n) (in_round round) s.batches) s.keyings s.verdicts its_ward open_ reopened_elsewhere is
 
 module _ (s : OfficeState) (n : ℕ) (b : BatchEntry) (is : IsState s) (found : batch_at s n ≡ Some b) (unequal : differ (first_keying s b) (second_keying s b) ≡ true) where
   -- no paper is keyed in the next round yet
@@ -255,9 +274,7 @@ module _ (s : OfficeState) (n : ℕ) (b : BatchEntry) (is : IsState s) (found : 
             (list_all_weaker _ _ s.verdicts placed judged.0)
             (next_all (λ x. is_judged s x (verdicts_of s x.number)) (λ x. is_judged s x (verdicts_of s x.number)) unjudged_yet (λ x judged. judged) judged.1);
         lots_placed = lots_placed_of is;
-        sound = sound_elsewhere s b.ward w s.candidates (changed (batch_compared n) (in_round (suc b.round)) s.batches) s.keyings s.verdicts its_ward open_
-            (λ x other. same_election x _ (candidates_of s x.number) _ _ _ (lots_of s x.number) refl
-            (ap (map (pile_of s)) (changed_elsewhere n x.number (in_round (suc b.round)) (λ y. refl) s.batches (batches_elsewhere s n b x.number is found other))) refl) is;
+        sound = sound_elsewhere s b.ward w s.candidates (changed (batch_compared n) (in_round (suc b.round)) s.batches) s.keyings s.verdicts its_ward open_ (reopened_elsewhere s n b is found (suc b.round)) is;
       })
     where
       placed : (v : JudgedEntry) → is_some (batch_at s v.batch) ≡ true → is_some (batch_at (with_effect (batch_reopened n (suc b.round)) s) v.batch) ≡ true
@@ -326,6 +343,7 @@ batch_fits s actor (Add batch ward size first_clerk second_clerk) is none =
     let digits = line_number last_batch batch (omega arith) numbers.0 in
     record {
       state = added_stays s _ is new found.ward found.is (rw found.phased refl) (batch_from batch ward size first_clerk second_clerk range.1) refl (keying_given_out s ward found.ward first_clerk second_clerk is found.is found.phased other);
+      tabulated = added_tabulated s _ is new found.ward found.is (rw found.phased refl);
       about = office_about actor _ range.0 (batch_about batch numbers.0);
       text = line_text (line_append (words (codes "batch ") (search rules) refl) digits);
       line = line_reply (line_append (words (codes "batch ") (search rules) refl) (line_append digits (words (codes " added") (search rules) refl))) (omega arith);
@@ -348,6 +366,7 @@ batch_fits s actor (Again batch) is none =
     let told = line_append (words (codes " round ") (search rules) refl) (line_append (line_number last_round (next_round (batch_at s batch)) (omega arith) good) (words (codes " open") (search rules) refl)) in
     record {
       state = reopened_stays s batch b is found.is unequal its.ward its_ward (rw its.phased refl) (next_round (batch_at s batch)) next good;
+      tabulated = reopened_tabulated s batch b is found.is (next_round (batch_at s batch)) its.ward its_ward (rw its.phased refl);
       about = office_about actor _ range.0 (again_about batch numbers.0);
       text = line_text (line_append (words (codes "again ") (search rules) refl) digits);
       line = line_reply (line_append (words (codes "batch ") (search rules) refl) (line_append digits told)) (omega arith);

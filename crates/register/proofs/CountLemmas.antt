@@ -14,6 +14,7 @@ use Rattle.count.specs.declared.stages.Kind.{Kind}
 use Rattle.count.specs.declared.stages.Due.{Due}
 use Rattle.count.specs.declared.stages.Due.TheVariants.{Act, Lot as lot_due, Finished}
 use Rattle.count.specs.Law.Count.{stages_to}
+use Rattle.count.specs.Law.Due.{next_action}
 use Rattle.count.proofs.Law.CountLemmas.{stages_right}
 use Rattle.count.proofs.Law.LengthLemmas.{stages-few}
 use Rattle.register.specs.declared.phase.Phase.{Phase}
@@ -29,10 +30,11 @@ use Rattle.register.specs.Offices.{WardEntry, LotEntry, ReceiptEntry, OfficeStat
 use Rattle.register.specs.Nominations.{are_enough}
 use Rattle.register.specs.Marks.{columns_of}
 use Rattle.register.specs.Polls.{piles_of}
-use Rattle.register.specs.Elections.{election_of, has_count, contest_of, stages_of, due_of, is_finished, has_finished, is_among}
+use Rattle.register.specs.Elections.{ElectionEntry, election_of, has_count, contest_of, stages_of, due_of, is_finished, has_finished, is_among}
 use Rattle.register.specs.Items.{is_lot, IsState}
 use Rattle.register.specs.Effects.{in_phase, at_stage, stage_counted, lot_drawn, with_effect, with_receipt}
 use Rattle.register.specs.Views.{HasStageMore, HasSameStages}
+use Rattle.register.specs.Tabulated.{bundles_in, figures_in, tabulation_of}
 use Rattle.register.specs.Counts.{poll_for, due_for, elected_for, part_of, is_in_range, is_ready, lot_objection, waits_at, objections, subject_of, next_stage, poll_told, action_told, reply_to, effect_of}
 use Rattle.register.proofs.LineLemmas.{upper, is_plain-decimal, are_plain-from, IsLine, given, line_append, line_decimal, line_number, line_within, line_reply, line_text}
 use Rattle.register.proofs.ObjectionLemmas.{none_objects, asked, unasked, there}
@@ -42,6 +44,7 @@ use Rattle.register.proofs.StageLemmas.{acted, stage_added, stage_more}
 use Rattle.register.proofs.ProgressLemmas.{with_lots, held, in_count, sound_sealed, sound_advanced, sound_declared, lot_new, stages_still, sound_drawn}
 use Rattle.register.proofs.ItemLemmas.{MapName, lot_map, Holds, maps_of, state_from, rounds_still, lot_total, are_placed, are_all, has_enough, IsFit, office_about}
 use Rattle.register.proofs.NominationLemmas.{moved, staged, changed_stays}
+use Rattle.register.proofs.TabulationLemmas.{IsOfCount, bundles_of_count, figures_of_count, told_by, told_but_one, same_tabulation, tabulation_moved, wards_split}
 use Rattle.register.proofs.ContestLemmas.{fair_contest, columns_are_set, papers_are_rankings}
 use Rattle.register.proofs.TellLemmas.{columns_are_small, length_kept, listed_line, action_line, judgements_are_few, poll_line}
 
@@ -64,6 +67,13 @@ unfolding is_office_subject
 lot_about m n h k = rw (are_plain-from last_ward first_lot_stage last_lot_stage m n (omega arith) (omega arith) (omega arith) h k) refl
 
 -- ---- the ward of a count
+
+-- a count in which the stage of an action is due: it is held, the stages done are there, and the ward comes to the next one
+pub record IsStageDue (s : OfficeState) (n : ℕ) (w : WardEntry) (action : Action) : Type 0 where
+  pub contested : has_count (election_of s w) ≡ true
+  pub stages : length (stages_of (election_of s w)) ≡ w.done
+  pub next : next_action (contest_of (election_of s w)) (election_of s w).lots (stages_of (election_of s w)) ≡ Some action
+  pub stage : next_stage (ward_at s n) ≡ w.done + 1
 
 module _ (s : OfficeState) (n : ℕ) (w : WardEntry) (is : IsState s) (found : ward_at s n ≡ Some w) where
   number : n ≡ w.number
@@ -123,6 +133,13 @@ module _ (s : OfficeState) (n : ℕ) (w : WardEntry) (is : IsState s) (found : w
       subst (λ (k : ℕ). IsState (with_effect (stage_counted n k) s)) (sym (ap next_stage found ∙ next_is (few_done action phased due)))
       (changed_stays s n w (at_stage (w.done + 1)) found (staged (w.done + 1)) enough (sound_advanced (election_of s w) action phased due own_sound) is)
 
+  stage_due : (action : Action) → w.phase ≡ Sealed → due_of (election_of s w) ≡ Act action → IsStageDue s n w action
+  stage_due action phased due =
+      let e = election_of s w in
+      let h = held e (Act action) due refl in
+      let right = right_in e (in_count e phased h.contested) own_sound in
+      record { contested = h.contested; stages = right.stages; next = acted (contest_of e) e.lots (stages_of e) action h.is; stage = ap next_stage found ∙ next_is (few_done action phased due) }
+
   -- the ward, where it is changed
   changed_there : (change : WardEntry → WardEntry) → ((x : WardEntry) → (change x).number ≡ x.number) → entry_at (ward_compared n) (changed (ward_compared n) change s.wards) ≡ Some (change w)
   changed_there change kept =
@@ -134,16 +151,15 @@ module _ (s : OfficeState) (n : ℕ) (w : WardEntry) (is : IsState s) (found : w
   advanced_more : (action : Action) (r : ReceiptEntry) → w.phase ≡ Sealed → due_of (election_of s w) ≡ Act action → HasStageMore s (with_receipt r (with_effect (stage_counted n (next_stage (ward_at s n))) s)) n
   advanced_more action r phased due =
       let e = election_of s w in
-      let h = held e (Act action) due refl in
-      let next : next_stage (ward_at s n) ≡ w.done + 1 = ap next_stage found ∙ next_is (few_done action phased due) in
+      let d = stage_due action phased due in
       record {
         before = w;
         found = found;
         after = at_stage (w.done + 1) w;
-        stays = ap (λ (k : ℕ). entry_at (ward_compared n) (changed (ward_compared n) (at_stage k) s.wards)) next ∙ changed_there (at_stage (w.done + 1)) (λ x. refl);
+        stays = ap (λ (k : ℕ). entry_at (ward_compared n) (changed (ward_compared n) (at_stage k) s.wards)) d.stage ∙ changed_there (at_stage (w.done + 1)) (λ x. refl);
         action = action;
         due = due;
-        added = stage_added (contest_of e) e.lots w.done action (acted (contest_of e) e.lots (stages_of e) action h.is);
+        added = stage_added (contest_of e) e.lots w.done action d.next;
       }
 
   -- the ward declared, and its count as it was
@@ -257,6 +273,19 @@ drawn_same s l w r found phased due is =
     let still = stages_still (election_of s w) (lots_of s w.number) l due.kind due.tied refl phased due.is (own_sound s l.ward w is found) in
     record { before = w; found = found; after = w; stays = found; done = refl; same = ap (λ (ls : List LotEntry). stages_of (with_lots ls (election_of s w))) in_place ∙ still }
 
+-- so the tabulation is as it was
+drawn_tabulated : (s : OfficeState) (l : LotEntry) (w : WardEntry) → ward_at s l.ward ≡ Some w → w.phase ≡ Sealed → IsLotAt (due_of (election_of s w)) l.stage l.candidate → IsState s → tabulation_of (with_effect (lot_drawn l) s) ≡ tabulation_of s
+drawn_tabulated s l w found phased due is = same_tabulation s (with_effect (lot_drawn l) s) (alike bundles_in bundles_of_count) (alike figures_in figures_of_count)
+  where
+    alike : {X : Type 0} (told : ElectionEntry → List X) → IsOfCount told → told_by told (with_effect (lot_drawn l) s) ≡ told_by told s
+    alike told of =
+        let at = number s l.ward w is found in
+        let in_place = filter_put_in lot_total (λ (x : LotEntry). x.ward == w.number) l s.lots (eq-eqb l.ward w.number at) is.rise.lots in
+        let still = stages_still (election_of s w) (lots_of s w.number) l due.kind due.tied refl phased due.is (own_sound s l.ward w is found) in
+        told_but_one told of s (with_effect (lot_drawn l) s) l.ward w refl (wards_split s l.ward w is found)
+        (ap (λ (ls : List LotEntry). told (with_lots ls (election_of s w))) in_place ∙ of.of_lots (election_of s w) _ still)
+        (λ x other. ap (λ (ls : List LotEntry). told (with_lots ls (election_of s x))) (filter_put lot_cmp (λ (y : LotEntry). y.ward == x.number) l s.lots other))
+
 -- ---- each command
 
 lot_stage_line : (stage : ℕ) → is_lot_stage stage ≡ true → IsLine 10 (decimal stage)
@@ -283,6 +312,16 @@ is_due s actor ward none =
     let no_lot : lot_objection (Some (due_of (election_of s found.ward))) ≡ None = ap (λ (o : Option WardEntry). lot_objection (due_for s o)) (sym found.is) ∙ (others.1).0 in
     let act = acts (due_of (election_of s found.ward)) open_ no_lot in
     record { office = range.0; number = range.1; own = found.ward; found = found.is; phased = found.phased; action = act.action; due = act.is }
+
+-- the ward of an Advance that nothing stands against, and the action that is due in its count
+pub record HasStageDue (s : OfficeState) (ward : ℕ) : Type 0 where
+  pub own : WardEntry
+  pub found : ward_at s ward ≡ Some own
+  pub action : Action
+  pub due : IsStageDue s ward own action
+
+pub advance_due : (s : OfficeState) (actor ward : ℕ) → IsState s → first_reason (objections actor (Advance ward) (part_of s actor (Advance ward))) ≡ None → HasStageDue s ward
+advance_due s actor ward is none = let d = is_due s actor ward none in record { own = d.own; found = d.found; action = d.action; due = stage_due s ward d.own is d.found d.action d.phased d.due }
 
 -- it adds that stage
 pub advance_adds : (s : OfficeState) (actor ward : ℕ) (r : ReceiptEntry) → IsState s → first_reason (objections actor (Advance ward) (part_of s actor (Advance ward))) ≡ None
@@ -351,6 +390,7 @@ count_fits s actor (Seal ward) is none =
     let digits = line_number last_ward ward (omega arith) range.1 in
     record {
       state = sealed_stays s ward found.ward is found.is found.phased ready;
+      tabulated = tabulation_moved s ward Sealed;
       about = office_about actor _ range.0 (seal_about ward range.1);
       text = line_text (line_append (given (codes "seal ") refl) digits);
       line = line_reply (line_append (given (codes "ward ") refl) (line_append digits (sealed_told s ward found.ward is found.is))) (omega arith);
@@ -363,6 +403,7 @@ count_fits s actor (Advance ward) is none =
     let told = line_append (given (codes " stage ") refl) (line_append stage (line_append (given (codes " ") refl) action)) in
     record {
       state = advanced_stays s ward d.own is d.found d.action d.phased d.due;
+      tabulated = tt;
       about = office_about actor _ d.office (advance_about ward d.number);
       text = line_text (line_append (given (codes "advance ") refl) digits);
       line = line_reply (line_append (given (codes "ward ") refl) (line_append digits told)) (omega arith);
@@ -378,6 +419,7 @@ count_fits s actor (Lot ward stage candidate) is none =
     let told = line_append (given (codes " stage ") refl) (line_append stages (line_append (given (codes ": candidate ") refl) candidates)) in
     record {
       state = drawn_stays s lot d.own d.good d.found d.phased d.due is;
+      tabulated = drawn_tabulated s lot d.own d.found d.phased d.due is;
       about = office_about actor _ d.office (lot_about ward stage numbers.0 own.0);
       text = line_text (line_append (given (codes "lot ") refl) (line_append wards (line_append (given (codes " ") refl) stages)));
       line = line_reply (line_append (given (codes "lot at ward ") refl) (line_append wards told)) (omega arith);
@@ -387,6 +429,7 @@ count_fits s actor (Declare ward) is none =
     let digits = line_number last_ward ward (omega arith) d.number in
     record {
       state = declared_stays s ward d.own is d.found d.phased d.finished;
+      tabulated = tabulation_moved s ward Declared;
       about = office_about actor _ d.office (declare_about ward d.number);
       text = line_text (line_append (given (codes "declare ") refl) digits);
       line = line_reply (line_append (given (codes "ward ") refl) (line_append digits (line_append (given (codes " declared: ") refl) (elected_told s ward d.own is d.found)))) (omega arith);

@@ -17,6 +17,7 @@ use Rattle.register.specs.Effects.{EffectEntry, ward_added, ward_moved, candidat
 use Rattle.register.proofs.MapLemmas.{IsMap, list_all_weaker, put_all, put_is_map, found_put_too, found_put_still}
 use Rattle.register.proofs.ElectionLemmas.{is_sound, are_sound, are_lots_placed, sound_of, lots_placed_of, agreed_from, counted_from, no_lots_of, sound_before, unsealed}
 use Rattle.register.proofs.KeyedLemmas.{rounds_from, with_nominations, IsStill, given_out_still, keyed_still, judged_still}
+use Rattle.register.proofs.TabulationLemmas.{KeepsTabulation}
 
 pub ward_total : IsTotalOrder ward_cmp
 ward_total = on_total (λ (w : WardEntry). w.number) nat_cmp_total
@@ -177,10 +178,11 @@ receipt_stays s r good new is =
     maps receipt_map = put_is_map receipt_total r s.receipts good new (maps_of is receipt_map)
     maps m = maps_of is m
 
--- An effect that leads to a state again, with a subject and a reply that its actor's receipt may have: what each command
--- comes to where nothing stands against it.
+-- An effect that leads to a state again, of the same tabulation where it counts no stage, with a subject and a reply that its actor's
+-- receipt may have: what each command comes to where nothing stands against it.
 pub record IsFit (s : OfficeState) (actor : ℕ) (effect : EffectEntry) (subject reply : List ℕ) : Type 0 where
   pub state : IsState (with_effect effect s)
+  pub tabulated : KeepsTabulation s effect
   pub about : is_about actor subject ≡ true
   pub text : is_utf8 subject ≡ true
   pub line : is_reply reply ≡ true

@@ -27,17 +27,19 @@ use Rattle.register.specs.Marks.{columns_of, is_read, is_readable, fault_told, m
 use Rattle.register.specs.Ranges.{last_batch, last_round, most_papers, is_clerk, is_batch_number, is_paper_number, is_round}
 use Rattle.register.specs.Offices.{WardEntry, BatchEntry, KeyedEntry, JudgedEntry, OfficeState, put, put_each, entry_at, keyed_cmp, batch_compared, ward_at, candidates_of, batch_at, keying_of, verdicts_of, lots_of}
 use Rattle.register.specs.Polls.{Pile, pile_of}
-use Rattle.register.specs.Elections.{is_counted}
+use Rattle.register.specs.Elections.{election_of, is_counted}
 use Rattle.register.specs.Papers.{is_keyed, differ, are_taken, is_taken, is_its_clerk, first_keying, second_keying}
 use Rattle.register.specs.Keyed.{columns_for, is_keyed_for, are_numbered, is_whole, is_round_of, are_rounds_to, is_verdict_on, is_judged}
 use Rattle.register.specs.Items.{is_keyed_paper, IsState}
 use Rattle.register.specs.Effects.{papers_keyed, with_effect}
+use Rattle.register.specs.Tabulated.{tabulation_of}
 use Rattle.register.specs.Keyings.{texts_of, part_of, is_in_range, objections, subject_of, reply_to, papers_from, effect_of}
 use Rattle.register.proofs.LineLemmas.{upper, are_plain-decimals, words, line_append, line_number, line_reply, line_text}
 use Rattle.register.proofs.ObjectionLemmas.{none_objects, asked, unasked, present, there}
 use Rattle.register.proofs.MapLemmas.{IsMap, put_each_all, put_is_map, filter_put_in, filter_put_each, put_last, found_filter, found_none, each_weaker, found_passes, found_number, same_number, both_equal, all_but_number}
 use Rattle.register.proofs.ElectionLemmas.{lots_placed_of, same_election}
 use Rattle.register.proofs.ElsewhereLemmas.{sound_elsewhere, batches_elsewhere, piles_elsewhere}
+use Rattle.register.proofs.TabulationLemmas.{tabulation_elsewhere}
 use Rattle.register.proofs.KeyedLemmas.{rounds_from, no_verdicts}
 use Rattle.register.proofs.ItemLemmas.{MapName, keyed_map, Holds, maps_of, state_from, keyed_total, IsFit, clerk_about}
 use Rattle.register.proofs.BatchLemmas.{found_in_range}
@@ -215,6 +217,15 @@ module _ (s : OfficeState) (b : BatchEntry) (actor : ℕ) (texts : List (List �
       pile_with : List KeyedEntry → List KeyedEntry → Pile
       pile_with first second = record { first = first; second = second; verdicts = verdicts_of s x.number }
 
+  -- the elections of other wards are as they were,
+  keyed_elsewhere : (x : WardEntry) → (b.ward == x.number) ≡ false → election_of (with_papers s b actor texts) x ≡ election_of s x
+  keyed_elsewhere x other =
+      same_election x _ (candidates_of s x.number) _ _ _ (lots_of s x.number) refl (piles_elsewhere s (with_papers s b actor texts) b.number x.number s.batches other_pile (batches_elsewhere s b.number b x.number is found other)) refl
+
+  -- and so is the tabulation
+  pub keyed_tabulated : (w : WardEntry) → ward_at s b.ward ≡ Some w → is_counted w.phase ≡ false → tabulation_of (with_papers s b actor texts) ≡ tabulation_of s
+  keyed_tabulated w its_ward open_ = tabulation_elsewhere s b.ward w s.candidates s.batches (put_each keyed_cmp (papers_for b actor texts) s.keyings) s.verdicts its_ward open_ keyed_elsewhere is
+
   -- the batch isn't taken, so none of its papers is judged
   untaken : is_taken s b ≡ false
   untaken = elim (or_cases (actor == b.first_clerk) (actor == b.second_clerk) its) [
@@ -305,8 +316,7 @@ module _ (s : OfficeState) (b : BatchEntry) (actor : ℕ) (texts : List (List �
               judged.0
               (still (λ x. is_judged s x (verdicts_of s x.number)) (λ x. is_judged (with_papers s b actor texts) x (verdicts_of s x.number)) unjudged (λ x other verdicts. other_judged x other (verdicts_of s x.number) verdicts) judged.1);
           lots_placed = lots_placed_of is;
-          sound = sound_elsewhere s b.ward w s.candidates s.batches (put_each keyed_cmp (papers_for b actor texts) s.keyings) s.verdicts its_ward open_
-              (λ x other. same_election x _ (candidates_of s x.number) _ _ _ (lots_of s x.number) refl (piles_elsewhere s (with_papers s b actor texts) b.number x.number s.batches other_pile (batches_elsewhere s b.number b x.number is found other)) refl) is;
+          sound = sound_elsewhere s b.ward w s.candidates s.batches (put_each keyed_cmp (papers_for b actor texts) s.keyings) s.verdicts its_ward open_ keyed_elsewhere is;
         })
       where
         unjudged : is_judged s b (verdicts_of s b.number) ≡ true → is_judged (with_papers s b actor texts) b (verdicts_of s b.number) ≡ true
@@ -336,9 +346,9 @@ key_about m n h k = rw (are_plain-decimals last_batch last_round m n (omega arit
 found_is : (s : OfficeState) (n : ℕ) (b : BatchEntry) → batch_at s n ≡ Some b → (test : BatchEntry → Bool) → passes test (batch_at s n) ≡ true → test b ≡ true
 found_is s n b found test passing = ap (passes test) (sym found) ∙ passing
 
-under_same : (s : OfficeState) (b : BatchEntry) (actor : ℕ) (texts : List (List ℕ)) (n round : ℕ) → n ≡ b.number → round ≡ b.round → IsState (with_papers s b actor texts)
-    → IsState (with_effect (papers_keyed (papers_from n round actor 1 texts)) s)
-under_same s b actor texts n round number same is = rw (number, same) is
+under_same : (P : OfficeState → Type 0) (s : OfficeState) (b : BatchEntry) (actor : ℕ) (texts : List (List ℕ)) (n round : ℕ) → n ≡ b.number → round ≡ b.round → P (with_papers s b actor texts)
+    → P (with_effect (papers_keyed (papers_from n round actor 1 texts)) s)
+under_same P s b actor texts n round number same is = rw (number, same) is
 
 -- a keying that nothing stands against: its batch, which it is for, and the ward of that, in keying
 record IsKeying (s : OfficeState) (actor : ℕ) (command : KeyingCommand) : Type 0 where
@@ -410,7 +420,8 @@ keying_fits s actor command is none =
     let digits = line_number last_batch command.batch (omega arith) k.batch_number in
     let rounds = line_number last_round command.round (omega arith) k.round_number in
     record {
-      state = under_same s k.batch actor (texts_of command) command.batch command.round k.number k.round (keyed_stays s k.batch actor (texts_of command) is k.found k.its k.unkeyed k.size k.clerk (all_written command.papers.items) k.ward k.its_ward (rw k.phased refl) k.read);
+      state = under_same IsState s k.batch actor (texts_of command) command.batch command.round k.number k.round (keyed_stays s k.batch actor (texts_of command) is k.found k.its k.unkeyed k.size k.clerk (all_written command.papers.items) k.ward k.its_ward (rw k.phased refl) k.read);
+      tabulated = under_same (λ t. tabulation_of t ≡ tabulation_of s) s k.batch actor (texts_of command) command.batch command.round k.number k.round (keyed_tabulated s k.batch actor (texts_of command) is k.found k.its k.unkeyed k.size k.ward k.its_ward (rw k.phased refl));
       about = clerk_about actor _ k.clerk (key_about command.batch command.round k.batch_number k.round_number);
       text = line_text (line_append (words (codes "key ") (search rules) refl) (line_append digits (line_append (words (codes " ") (search rules) refl) rounds)));
       line = line_reply (line_append (words (codes "batch ") (search rules) refl) (line_append digits (line_append (words (codes " round ") (search rules) refl) (line_append rounds (words (codes " keyed") (search rules) refl))))) (omega arith);

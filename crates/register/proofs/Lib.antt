@@ -1,4 +1,5 @@
 pub mod MapLemmas
+mod SplitLemmas
 mod LineLemmas
 mod ObjectionLemmas
 mod ElectionLemmas
@@ -6,6 +7,10 @@ mod StageLemmas
 mod ProgressLemmas
 pub mod KeyedLemmas
 mod ElsewhereLemmas
+mod TabulationLemmas
+mod MovedLemmas
+mod AdditionLemmas
+mod NextLemmas
 mod ItemLemmas
 mod NominationLemmas
 mod WardLemmas
@@ -23,6 +28,7 @@ mod CountLemmas
 mod TotalLemmas
 pub mod MachineLemmas
 pub mod SeenLemmas
+mod DecisionLemmas
 pub mod ListLaws
 mod WorkedRows
 mod NominationRows

@@ -30,7 +30,7 @@ use Rattle.register.proofs.CountLemmas.{count_fits, advance_adds, lot_keeps, dec
 
 -- ---- the commands, by subject
 
-fits : (s : OfficeState) (actor : ℕ) (command : Command) → IsState s → first_reason (objections actor command (part_of s actor command)) ≡ None
+pub fits : (s : OfficeState) (actor : ℕ) (command : Command) → IsState s → first_reason (objections actor command (part_of s actor command)) ≡ None
     → IsFit s actor (effect_of actor command (part_of s actor command)) (subject_of command) (reply_to command (part_of s actor command))
 fits s actor (Ward command) is none = ward_fits s actor command is none
 fits s actor (Candidate command) is none = candidate_fits s actor command is none

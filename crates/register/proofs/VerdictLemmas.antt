@@ -17,12 +17,13 @@ use Rattle.register.specs.Ranges.{last_batch, most_papers, is_office, is_batch_n
 use Rattle.register.specs.Subjects.{is_office_subject}
 use Rattle.register.specs.Offices.{WardEntry, BatchEntry, KeyedEntry, JudgedEntry, OfficeState, put, judged_cmp, batch_compared, ward_at, candidates_of, batch_at, verdict_at, verdicts_of, lots_of}
 use Rattle.register.specs.Polls.{Pile, pile_of}
-use Rattle.register.specs.Elections.{is_counted}
+use Rattle.register.specs.Elections.{election_of, is_counted}
 use Rattle.register.specs.Marks.{columns_of, is_valid}
 use Rattle.register.specs.Papers.{are_taken, has_doubtful, is_taken, first_keying, second_keying}
 use Rattle.register.specs.Keyed.{columns_for, is_verdict_on, is_verdict_for, is_judged}
 use Rattle.register.specs.Items.{is_judged_paper, IsState}
 use Rattle.register.specs.Effects.{paper_judged, with_effect}
+use Rattle.register.specs.Tabulated.{tabulation_of}
 use Rattle.register.specs.Batches.{ward_for, candidates_for, first_for, second_for}
 use Rattle.register.specs.Verdicts.{part_of, is_in_range, is_verdict, objections, subject_of, verdict_word, reply_to, judged_as, effect_of}
 use Rattle.register.proofs.LineLemmas.{lower, upper, are_plain-decimals, IsLine, words, line_append, line_number, line_reply, line_text}
@@ -30,6 +31,7 @@ use Rattle.register.proofs.ObjectionLemmas.{none_objects, asked, absent, present
 use Rattle.register.proofs.MapLemmas.{list_all_weaker, put_all, put_is_map, filter_put, found_passes, all_but_number}
 use Rattle.register.proofs.ElectionLemmas.{lots_placed_of, same_election}
 use Rattle.register.proofs.ElsewhereLemmas.{sound_elsewhere, batches_elsewhere, piles_elsewhere}
+use Rattle.register.proofs.TabulationLemmas.{tabulation_elsewhere}
 use Rattle.register.proofs.ItemLemmas.{MapName, judged_map, Holds, maps_of, state_from, rounds_still, judged_total, IsFit, office_about}
 
 -- what passes a test of each that is left, and of the entry that is put in
@@ -52,6 +54,23 @@ judged_from s b vs taken all = list_all_weaker (is_verdict_on (columns_for s b) 
 all_judged : (s : OfficeState) (b : BatchEntry) (vs : List JudgedEntry) → is_judged s b vs ≡ true → list_all (is_verdict_on (columns_for s b) (first_keying s b)) vs ≡ true
 all_judged s b vs judged = list_all_weaker (is_verdict_for s b) (is_verdict_on (columns_for s b) (first_keying s b)) vs (λ v each. (and_parts _ _ each).1) judged
 
+-- the pile of each other batch is as it was,
+other_pile : (s : OfficeState) (v : JudgedEntry) (x : BatchEntry) → (v.batch == x.number) ≡ false → pile_of (with_effect (paper_judged v) s) x ≡ pile_of s x
+other_pile s v x other = ap (λ (vs : List JudgedEntry). pile_with (first_keying s x) (second_keying s x) vs) (filter_put judged_cmp (λ (y : JudgedEntry). y.batch == x.number) v s.verdicts other)
+  where
+    pile_with : List KeyedEntry → List KeyedEntry → List JudgedEntry → Pile
+    pile_with first second verdicts = record { first = first; second = second; verdicts = verdicts }
+
+-- so the elections of other wards are,
+judged_elsewhere : (s : OfficeState) (v : JudgedEntry) (b : BatchEntry) → IsState s → batch_at s v.batch ≡ Some b → (x : WardEntry) → (b.ward == x.number) ≡ false → election_of (with_effect (paper_judged v) s) x ≡ election_of s x
+judged_elsewhere s v b is found x other =
+    same_election x _ (candidates_of s x.number) _ _ _ (lots_of s x.number) refl (piles_elsewhere s (with_effect (paper_judged v) s) v.batch x.number s.batches (other_pile s v) (batches_elsewhere s v.batch b x.number is found other)) refl
+
+-- and the tabulation
+judged_tabulated : (s : OfficeState) (v : JudgedEntry) (b : BatchEntry) (w : WardEntry) → IsState s → batch_at s v.batch ≡ Some b → ward_at s b.ward ≡ Some w → is_counted w.phase ≡ false
+    → tabulation_of (with_effect (paper_judged v) s) ≡ tabulation_of s
+judged_tabulated s v b w is found its_ward open_ = tabulation_elsewhere s b.ward w s.candidates s.batches s.keyings (put judged_cmp v s.verdicts) its_ward open_ (judged_elsewhere s v b is found) is
+
 -- a verdict in range on a doubtful paper of a taken batch, which has none
 judged_stays : (s : OfficeState) (v : JudgedEntry) (b : BatchEntry) → is_judged_paper v ≡ true → batch_at s v.batch ≡ Some b → is_taken s b ≡ true → is_verdict_on (columns_for s b) (first_keying s b) v ≡ true
     → verdict_at s v.batch v.paper ≡ None → (w : WardEntry) → ward_at s b.ward ≡ Some w → is_counted w.phase ≡ false → IsState s → IsState (with_effect (paper_judged v) s)
@@ -72,16 +91,9 @@ judged_stays s v b good found taken on new w its_ward open_ is =
           (put_all judged_cmp (λ x. is_some (batch_at s x.batch)) v s.verdicts belongs judged.0)
           (all_but_number (λ (x : BatchEntry). x.number) s.batches v.batch b (λ x. is_judged s x (verdicts_of s x.number)) (λ x. is_judged s x (verdicts_of (with_effect (paper_judged v) s) x.number)) is.rise.batches found (here judged.1) there judged.1);
       lots_placed = lots_placed_of is;
-      sound = sound_elsewhere s b.ward w s.candidates s.batches s.keyings (put judged_cmp v s.verdicts) its_ward open_
-          (λ x other. same_election x _ (candidates_of s x.number) _ _ _ (lots_of s x.number) refl (piles_elsewhere s (with_effect (paper_judged v) s) v.batch x.number s.batches other_pile (batches_elsewhere s v.batch b x.number is found other)) refl) is;
+      sound = sound_elsewhere s b.ward w s.candidates s.batches s.keyings (put judged_cmp v s.verdicts) its_ward open_ (judged_elsewhere s v b is found) is;
     })
   where
-    other_pile : (x : BatchEntry) → (v.batch == x.number) ≡ false → pile_of (with_effect (paper_judged v) s) x ≡ pile_of s x
-    other_pile x other = ap (λ (vs : List JudgedEntry). pile_with (first_keying s x) (second_keying s x) vs) (filter_put judged_cmp (λ (y : JudgedEntry). y.batch == x.number) v s.verdicts other)
-      where
-        pile_with : List KeyedEntry → List KeyedEntry → List JudgedEntry → Pile
-        pile_with first second verdicts = record { first = first; second = second; verdicts = verdicts }
-
     here : list_all (λ x. is_judged s x (verdicts_of s x.number)) s.batches ≡ true → v.batch ≡ b.number → is_judged s b (verdicts_of (with_effect (paper_judged v) s) b.number) ≡ true
     here all same =
         let own = all_judged s b (verdicts_of s b.number) (found_passes (batch_compared v.batch) (λ x. is_judged s x (verdicts_of s x.number)) b s.batches all found) in
@@ -124,6 +136,11 @@ verdict_stays s batch paper (Reject code) b number numbered found taken doubtful
     open_
     is
 
+verdict_tabulated : (s : OfficeState) (batch paper : ℕ) (verdict : Verdict) (b : BatchEntry) (w : WardEntry) → IsState s → batch_at s batch ≡ Some b → ward_at s b.ward ≡ Some w → is_counted w.phase ≡ false
+    → tabulation_of (with_effect (paper_judged (judged_as batch paper verdict)) s) ≡ tabulation_of s
+verdict_tabulated s batch paper (Accept marks) b w is found its_ward open_ = judged_tabulated s _ b w is found its_ward open_
+verdict_tabulated s batch paper (Reject code) b w is found its_ward open_ = judged_tabulated s _ b w is found its_ward open_
+
 -- what is told of a verdict is a line
 told : (columns : List ℕ) (verdict : Verdict) → is_verdict columns verdict ≡ true → IsLine 20 (verdict_word verdict)
 told columns (Accept marks) good = record { ascii = search rules; short = omega arith; plain = refl }
@@ -162,6 +179,7 @@ verdict_fits s actor command is none =
     let papers = line_number most_papers command.paper (omega arith) numbers.1 in
     record {
       state = verdict_stays s command.batch command.paper command.verdict b numbers.0 numbers.1 found.is taken doubtful valid new its.ward its_ward (rw its.phased refl) is;
+      tabulated = verdict_tabulated s command.batch command.paper command.verdict b its.ward is found.is its_ward (rw its.phased refl);
       about = office_about actor _ range.0 (judge_about command.batch command.paper numbers.0 numbers.1);
       text = line_text (line_append (words (codes "judge ") (search rules) refl) (line_append digits (line_append (words (codes " ") (search rules) refl) papers)));
       line = line_reply (line_append (words (codes "batch ") (search rules) refl) (line_append digits (line_append (words (codes " paper ") (search rules) refl) (line_append papers (told (columns_for s b) command.verdict valid))))) (omega arith);

@@ -14,7 +14,7 @@ use Rattle.register.specs.Offices.{WardEntry, CandidateEntry, OfficeState, ward_
 use Rattle.register.specs.Nominations.{is_contested, is_stood_in}
 use Rattle.register.specs.Items.{is_ward, IsState}
 use Rattle.register.specs.Effects.{in_phase, with_effect}
-use Rattle.register.specs.Wards.{part_of, is_in_range, objections, is_polled, subject_of, reply_to, effect_of}
+use Rattle.register.specs.Wards.{part_of, is_in_range, objections, is_polled, closed_phase, subject_of, reply_to, effect_of}
 use Rattle.register.proofs.LineLemmas.{is_plain-decimal, IsLine, words, line_append, line_number, line_reply, line_text}
 use Rattle.register.proofs.ObjectionLemmas.{none_objects, asked, absent, there}
 use Rattle.register.proofs.MapLemmas.{found_passes, found_number}
@@ -22,6 +22,7 @@ use Rattle.register.proofs.ItemLemmas.{IsFit, ward_stays, office_about, has_enou
 use Rattle.register.proofs.NominationLemmas.{moved, changed_stays}
 use Rattle.register.proofs.ElectionLemmas.{sound_of, is_sound}
 use Rattle.register.proofs.ProgressLemmas.{sound_closed}
+use Rattle.register.proofs.TabulationLemmas.{tabulation_added, tabulation_moved}
 use Rattle.register.specs.Elections.{election_of}
 
 -- what the receipt of a ward's command may be about
@@ -75,6 +76,7 @@ ward_fits s actor (Add ward seats name) is none =
     let digits = line_number last_ward ward (omega arith) numbers.0 in
     record {
       state = ward_stays s _ (and_from _ _ numbers.0 (and_from _ _ numbers.1 good)) refl refl new is;
+      tabulated = tabulation_added s _ refl;
       about = office_about actor _ range.0 (ward_about ward numbers.0);
       text = line_text (line_append front digits);
       line = line_reply (line_append front (line_append digits (words (codes " added") (search rules) refl))) (omega arith);
@@ -89,6 +91,7 @@ ward_fits s actor (Close ward) is none =
     let part = part_of s actor (Close ward) in
     record {
       state = closed_stays s actor ward found.ward found.is found.phased stood is;
+      tabulated = tabulation_moved s ward (closed_phase part);
       about = office_about actor _ range.0 (close_about ward range.1);
       text = line_text (line_append (words (codes "close ") (search rules) refl) digits);
       line = line_reply (line_append (words (codes "ward ") (search rules) refl) (line_append digits (told (is_polled part.ward part.candidates)))) (omega arith);

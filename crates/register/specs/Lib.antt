@@ -23,6 +23,7 @@ pub mod Verdicts
 pub mod Counts
 pub mod Machine
 pub mod Tabulated
+pub mod Additions
 pub mod Views
 pub mod WorkedOffice
 pub mod WorkedTabulation

@@ -8,6 +8,7 @@ ghost use Rattle.register.specs.Polls.{poll_entry, all_rejected};
 ghost use Rattle.register.specs.Parts.{part_entries};
 ghost use Rattle.register.specs.Effects.{effect_entry};
 ghost use Rattle.register.specs.Elections.{has_finished, is_among};
+ghost use Rattle.register.specs.Additions.{IsAddedBy};
 ghost use Rattle.register.specs.Counts.{is_in_range, is_ready, lot_objection, waits_at, phase_for, own_objections, objections, subject_of, next_stage, poll_told, action_told, reply_to, effect_of};
 
 use crate::decision::Effect;
@@ -15,6 +16,7 @@ use crate::phase::Phase;
 use crate::polls::Poll;
 use crate::ranges::{LAST_LOT_STAGE, is_candidate_number, is_lot_stage, is_ward_number};
 use crate::refusal::Reason;
+use crate::tabulated::{self, Addition};
 use crate::texts::{action_text, listed};
 use crate::view::Part;
 use crate::wards::{Ward, phase_objection};
@@ -321,5 +323,23 @@ pub(crate) fn effect_of(command: &CountCommand, part: &Part) -> Effect
             ward: *ward,
             phase: Phase::Declared,
         },
+    }
+}
+
+/// What the command adds to the tabulation where it is accepted: an Advance the stage that is due in the count
+/// shown, another command nothing. Nothing where no count is shown, as one always is where a stage is due. An
+/// error is want of memory.
+pub(crate) fn addition_of(
+    alloc: Global,
+    command: &CountCommand,
+    part: &Part,
+) -> Result<Addition, AllocError>
+    ensures { IfOk result (λ addition. IsAddedBy command.now part.now.count addition) }
+{
+    match (command, &part.count) {
+        (CountCommand::Advance { ward }, Some(count)) => tabulated::addition_of(
+            alloc, *ward, count,
+        ),
+        (_, _) => Ok(Addition::none(alloc)),
     }
 }

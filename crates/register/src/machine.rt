@@ -11,6 +11,8 @@ ghost use Rattle.register.specs.Parts.{part_entries};
 ghost use Rattle.register.specs.declared.command.Request.{Request};
 ghost use Rattle.register.specs.Standings.{work_of};
 ghost use Rattle.register.specs.Machine.{objections, IsNumbered, subject_of, reply_to, effect_of, judged, ruling_at, step, state_after, after, accepted_of, IsKeptAgain};
+ghost use Rattle.register.specs.Tabulated.{AddsWhatIsCounted};
+ghost use Rattle.register.specs.Additions.{IsAddedFor, DecidesAddition};
 ghost use Rattle.register.specs.WorkedOffice.{WardRows, NominationRows, KeyedRows, UncontestedRows};
 ghost use Rattle.register.specs.Views.{IsViewOf, decided_on, ruling_of, outcome_of, IsToldAlike, IsAdvanced};
 
@@ -87,6 +89,20 @@ fn effect_of(
     }
 }
 
+/// What the command adds to the tabulation of the counts: an Advance its stage, another command nothing.
+fn addition_of(alloc: Global, command: &Command, part: &Part) -> Result<Addition, AllocError>
+    ensures { IfOk result (λ addition. IsAddedFor command.now part.now.count addition) }
+{
+    match command {
+        Command::Count(command) => counts::addition_of(alloc, command, part),
+        Command::Ward(_) => Ok(Addition::none(alloc)),
+        Command::Candidate(_) => Ok(Addition::none(alloc)),
+        Command::Batch(_) => Ok(Addition::none(alloc)),
+        Command::Keying(_) => Ok(Addition::none(alloc)),
+        Command::Verdict(_) => Ok(Addition::none(alloc)),
+    }
+}
+
 /// A refusal for a reason.
 fn refused(alloc: Global, reason: Reason) -> Result<Decision, AllocError>
     ensures { IfOk result (λ decision. decision ≡ Decision.Refused reason) }
@@ -102,10 +118,11 @@ fn accepted(
     subject: String,
 ) -> Result<Decision, AllocError>
     requires { IsNumbered command.now }
-    ensures { IfOk result (λ decision. string_bytes subject ≡ subject_of command.now → ruling_of decision ≡ judged view.now.actor view.now.id.now command.now (part_entries view.now.part) None) }
+    ensures ruling { IfOk result (λ decision. string_bytes subject ≡ subject_of command.now → ruling_of decision ≡ judged view.now.actor view.now.id.now command.now (part_entries view.now.part) None) }
+    ensures adds { IfOk result (λ decision. DecidesAddition command.now view.now.part.count decision) }
 {
     let effect = effect_of(alloc, view.actor, command, &view.part)?;
-    let addition = Addition::none(alloc);
+    let addition = addition_of(alloc, command, &view.part)?;
     let reply = reply_to(alloc, command, &view.part)?;
     let receipt = Receipt {
         actor: view.actor,
@@ -113,13 +130,21 @@ fn accepted(
         subject,
         reply: reply.clone()?,
     };
-    Ok(Decision::Accepted(Change { effect, addition, receipt }, reply))
+    Ok(Decision::Accepted(
+        Change {
+            effect,
+            addition,
+            receipt,
+        },
+        reply,
+    ))
 }
 
 #[tactic(auto, unfolding(crate::specs::Machine::decided))]
 /// What is decided on a view.
 fn decided(alloc: Global, view: &View<'_>, command: &Command) -> Result<Decision, AllocError>
-    ensures { IfOk result (λ decision. ruling_of decision ≡ decided_on view.now command.now) }
+    ensures ruling { IfOk result (λ decision. ruling_of decision ≡ decided_on view.now command.now) }
+    ensures adds { IfOk result (λ decision. DecidesAddition command.now view.now.part.count decision) }
 {
     if !is_id(view.id) {
         return refused(alloc, Reason::BadId);
@@ -145,6 +170,10 @@ fn decided(alloc: Global, view: &View<'_>, command: &Command) -> Result<Decision
 /// stage that is due after the ward's stages found, which stay as they are; an accepted Lot or Declare leaves
 /// them as they are. An error is want of memory, and nothing was decided then.
 ///
+/// With what an accepted request adds to it, the tabulation of the counts before it is the one after it, up to
+/// the order of its entries. So an Advance adds the figures of its stage, with all bundles of the ward at the
+/// first one, and at a later one those whose papers lie elsewhere than before; no other request adds anything.
+///
 /// A clerk, or whoever else isn't the office, is answered by what he sees of the state alone: the wards and
 /// their phases, the candidates, the batches, his own keyings and receipts. His requests leave what any other
 /// clerk sees as it was.
@@ -155,6 +184,7 @@ pub fn decide(alloc: Global, view: &View<'_>, command: &Command) -> Result<Decis
     ensures kept_again { (s : OfficeState) → IsKeptAgain view.now.actor view.now.id.now command.now (step s view.now.actor view.now.id.now command.now) }
     ensures stays_a_state { (s : OfficeState) → IsState s → IsState (state_after s (step s view.now.actor view.now.id.now command.now)) }
     ensures advances { (s : OfficeState) → IsState s → IsAdvanced s command.now (step s view.now.actor view.now.id.now command.now) }
+    ensures tabulates { IfOk result (λ decision. (s : OfficeState) → IsState s → IsViewOf s command.now view.now → AddsWhatIsCounted s decision) }
     ensures blind { is_office view.now.actor ≡ false → IfOk result (λ decision. (s : OfficeState) → IsViewOf s command.now view.now → ruling_of decision ≡ ruling_at (seen_by view.now.actor s) view.now.actor view.now.id.now command.now) }
     ensures unseen { is_office view.now.actor ≡ false → (s : OfficeState) (clerk : ℕ) → (view.now.actor == clerk) ≡ false → seen_by clerk (state_after s (step s view.now.actor view.now.id.now command.now)) ≡ seen_by clerk s }
     ensures seen_alone { is_office view.now.actor ≡ false → (s : OfficeState) → IsState s

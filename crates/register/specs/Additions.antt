@@ -1,0 +1,71 @@
+-- What a stage more of a ward's count adds to the tabulation of an office.
+use Rattle.std.specs.Prelude.{◌≡◌, ⊤, ℕ, ◌+◌, ◌==◌, Bool, not, ◌&&◌, List, [], ◌∷◌, map, length, Option, Some}
+use Rattle.std.specs.List.{filter}
+use Rattle.count.specs.Bundles.{Bundle, bundled}
+use Rattle.count.specs.Marks.{figures_at}
+use Rattle.count.specs.Law.Contest.{History}
+use Rattle.count.specs.Law.Count.{stage_of}
+use Rattle.count.specs.Law.Due.{next_action}
+use Rattle.count.specs.Law.Places.{Place, place}
+use Rattle.count.specs.declared.stages.Action.{Action}
+use Rattle.count.specs.declared.stages.Stage.{Stage}
+use Rattle.register.specs.declared.command.Command.{Command}
+use Rattle.register.specs.declared.command.Command.TheVariants.{Count}
+use Rattle.register.specs.declared.counts.CountCommand.{CountCommand}
+use Rattle.register.specs.declared.counts.CountCommand.TheVariants.{Advance}
+use Rattle.register.specs.declared.decision.Decision.{Decision}
+use Rattle.register.specs.declared.decision.Decision.TheVariants.{Accepted, Kept, Refused}
+use Rattle.register.specs.declared.elections.Count.{Count as CountValue}
+use Rattle.register.specs.declared.tabulated.Addition.{Addition}
+use Rattle.register.specs.Marks.{columns_of}
+use Rattle.register.specs.Elections.{ElectionEntry, contest_of, stages_of}
+use Rattle.register.specs.Tabulated.{PlacedEntry, FigureEntry, AdditionEntries, placed_at, figure_at, no_addition, addition_entries, IsCountOf}
+
+-- two places are one
+abbrev pub is_same_place : Place → Place → Bool
+is_same_place at other = (at.holder == other.holder) && (at.value == other.value)
+
+-- a bundle of an election where its papers lie after some stages
+abbrev pub placed_after : ElectionEntry → History → Bundle → PlacedEntry
+placed_after e stages b = placed_at e.ward.number b (place (contest_of e) stages b.0)
+
+-- those bundles whose papers lie elsewhere after some stages than after others
+abbrev pub moved_between : ElectionEntry → History → History → List Bundle
+moved_between e before after = filter (λ (b : Bundle). not (is_same_place (place (contest_of e) before b.0) (place (contest_of e) after b.0))) (bundled e.ballots.papers)
+
+-- the figures of a stage after some stages
+abbrev pub figures_added : ElectionEntry → History → Stage → List FigureEntry
+figures_added e before s = map (figure_at e.ward.number (length before + 1)) (figures_at (columns_of e.candidates) (s ∷ before))
+
+-- what a stage after some stages adds: its figures; and at the first stage all bundles, at a later one those that lie elsewhere than
+-- before it
+abbrev pub addition_by : ElectionEntry → History → Stage → AdditionEntries
+addition_by e [] s = record { placed = map (placed_after e (s ∷ [])) (bundled e.ballots.papers); moved = []; figures = figures_added e [] s }
+addition_by e (r ∷ before) s =
+    record { placed = []; moved = map (placed_after e (s ∷ r ∷ before)) (moved_between e (r ∷ before) (s ∷ r ∷ before)); figures = figures_added e (r ∷ before) s }
+
+-- what the stage of an action adds after the stages done
+abbrev pub addition_at : ElectionEntry → Action → AdditionEntries
+addition_at e action = addition_by e (stages_of e) (stage_of (contest_of e) (stages_of e) action)
+
+-- this is what the stage that is due adds to a ward's count, where that is the one shown
+abbrev pub IsAddedTo : ℕ → CountValue → Addition → Type 0
+IsAddedTo ward count addition =
+    (e : ElectionEntry) (action : Action) → IsCountOf e count → ward ≡ e.ward.number → next_action (contest_of e) e.lots (stages_of e) ≡ Some action
+    → addition_entries addition ≡ addition_at e action
+
+-- this is what a command about a count adds, where it is accepted: an Advance the stage that is due in the count shown, another command nothing
+abbrev pub IsAddedBy : CountCommand → Option CountValue → Addition → Type 0
+IsAddedBy (Advance ward) shown addition = (count : CountValue) → shown ≡ Some count → IsAddedTo ward count addition
+IsAddedBy command shown addition = addition_entries addition ≡ no_addition
+
+-- so any command does
+abbrev pub IsAddedFor : Command → Option CountValue → Addition → Type 0
+IsAddedFor (Count command) shown addition = IsAddedBy command shown addition
+IsAddedFor command shown addition = addition_entries addition ≡ no_addition
+
+-- a decision adds this, where it accepts a command
+abbrev pub DecidesAddition : Command → Option CountValue → Decision → Type 0
+DecidesAddition command shown (Accepted change reply) = IsAddedFor command shown change.addition
+DecidesAddition command shown (Kept reply) = ⊤
+DecidesAddition command shown (Refused why) = ⊤
