@@ -155,7 +155,7 @@ by_candidate = on (λ (f : Figure). f.candidate) nat_cmp
 -- of a stage, in the order of the candidates, who are 30 at most
 module _ (s : Stage) (before : History) where
   abbrev shown : List ℕ → List Figure
-  shown cs = map (figure_of s before) cs ++ record { candidate = 99; units = s.lost; mark = 0 } ∷ []
+  shown cs = map (figure_of s (s ∷ before)) cs ++ record { candidate = 99; units = s.lost; mark = 0 } ∷ []
 
   shown_above : (low : ℕ) (cs : List ℕ) → low ≤ max_candidates → Ascends low cs → AllByRecursion (λ (f : Figure). nat_cmp low f.candidate ≡ Less) (shown cs)
   shown_above low [] few up = (less low 99 (omega (arith, few)), tt)

@@ -20,9 +20,7 @@ ghost use Rattle.register.specs.Walks.{moved_bundles, last_figures, all_added, m
 ghost use Rattle.register.specs.WorkedTabulation.{WorkedTabulation};
 
 use crate::elections::Count;
-use count::{
-    Bundles, Figure, KeptCount, NextStage, Placed, Stage, figures_of, stages_of_figures,
-};
+use count::{Bundles, Figure, KeptCount, NextStage, Placed, Stage, figures_of, stages_of_figures};
 use paper::{Columns, Prefs};
 use std::alloc::{AllocError, Global};
 use votes::{MAX_PAPERS, Votes};
