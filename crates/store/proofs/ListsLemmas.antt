@@ -11,7 +11,7 @@ use Rattle.store.specs.declared.listing.Contests.{Contests}
 use Rattle.store.specs.declared.listing.Papers.{Papers}
 use Rattle.store.specs.declared.listing.Records.{Records}
 use Rattle.store.specs.EntryRows.{row_of_ward, row_of_candidate, row_of_batch, row_of_keyed, row_of_judged, row_of_lot, row_of_receipt}
-use Rattle.store.specs.Offices.{tables_of}
+use Rattle.store.specs.Offices.{tables_of, tables_with}
 use Rattle.store.specs.Openings.{has_entries, ListsMaps}
 use Rattle.store.specs.Listings.{ListsContests, ContestsRise, ListsPapers, PapersRise, ListsRecords, RecordsRise}
 use Rattle.tables.proofs.ListLemmas.{mapped_twice}
@@ -31,7 +31,7 @@ module _ (contests : Contests) (papers : Papers) (records : Records) where
   }
 
   pub lists_maps : (db : Database) → ListsContests db contests → ListsPapers db papers → ListsRecords db records → ListsMaps db maps
-  unfolding tables_of
+  unfolding tables_of tables_with
   lists_maps db first second third Ward has = subst (ListsEntries Ward db) (sym (mapped_twice ward_entry row_of_ward contests.wards.items)) first.wards
   lists_maps db first second third Candidate has = subst (ListsEntries Candidate db) (sym (mapped_twice candidate_entry row_of_candidate contests.candidates.items)) first.candidates
   lists_maps db first second third Batch has = subst (ListsEntries Batch db) (sym (mapped_twice batch_entry row_of_batch papers.batches.items)) second.batches
@@ -42,7 +42,7 @@ module _ (contests : Contests) (papers : Papers) (records : Records) where
   lists_maps db first second third Office has = absurd (true≢false (sym has))
 
   pub rows_of_maps_rise : ContestsRise contests → PapersRise papers → RecordsRise records → MapsRise maps
-  unfolding tables_of
+  unfolding tables_of tables_with
   rows_of_maps_rise first second third = maps_rise maps each
     where
       each : (t : Table) → has_entries t ≡ true → IsStrictlySortedBy (row_cmp t) (tables_of maps t)

@@ -15,7 +15,7 @@ use Rattle.tables.specs.declared.table.Table.TheVariants.{Office, Ward, Candidat
 use Rattle.tables.specs.Rows.{row_cmp}
 use Rattle.tables.specs.Contents.{SameContents, IsOffice}
 use Rattle.store.specs.EntryRows.{row_of_ward, row_of_candidate, row_of_batch, row_of_keyed, row_of_judged, row_of_lot, row_of_receipt}
-use Rattle.store.specs.Offices.{tables_of, HoldsState}
+use Rattle.store.specs.Offices.{tables_of, tables_with, HoldsState}
 use Rattle.store.specs.Openings.{has_entries}
 use Rattle.tables.proofs.OrderLemmas.{one_number, two_numbers, four_numbers, number_and_text, rows_rise}
 use Rattle.tables.proofs.SameLemmas.{one_contents}
@@ -110,7 +110,7 @@ receipts_alike a b = number_and_text a.actor b.actor a.id b.id
 
 -- the rows of maps that rise rise
 pub tables_rise : (s : OfficeState) → MapsRise s → (t : Table) → has_entries t ≡ true → IsStrictlySortedBy (row_cmp t) (tables_of s t)
-unfolding tables_of
+unfolding tables_of tables_with
 tables_rise s rise Ward has = rows_rise row_of_ward (row_cmp Ward) ward_cmp wards_alike s.wards rise.wards
 tables_rise s rise Candidate has = rows_rise row_of_candidate (row_cmp Candidate) candidate_cmp candidates_alike s.candidates rise.candidates
 tables_rise s rise Batch has = rows_rise row_of_batch (row_cmp Batch) batch_cmp batches_alike s.batches rise.batches
@@ -122,7 +122,7 @@ tables_rise s rise Office has = absurd (true≢false (sym has))
 
 -- maps whose rows rise, rise
 pub maps_rise : (s : OfficeState) → ((t : Table) → has_entries t ≡ true → IsStrictlySortedBy (row_cmp t) (tables_of s t)) → MapsRise s
-unfolding tables_of
+unfolding tables_of tables_with
 maps_rise s each = record {
   wards = entries_rise row_of_ward (row_cmp Ward) ward_cmp wards_alike s.wards (each Ward refl);
   candidates = entries_rise row_of_candidate (row_cmp Candidate) candidate_cmp candidates_alike s.candidates (each Candidate refl);
@@ -137,7 +137,7 @@ maps_rise s each = record {
 
 -- maps that rise and have the same rows are equal
 pub equal_maps : (s t : OfficeState) → MapsRise s → MapsRise t → SameContents (tables_of s) (tables_of t) → s ≡ t
-unfolding tables_of
+unfolding tables_of tables_with
 equal_maps s t rise also same =
     let wards = entries_same Ward row_of_ward ward_in ward_back s.wards t.wards (tables_rise s rise Ward refl) (tables_rise t also Ward refl) (same Ward) in
     let candidates = entries_same Candidate row_of_candidate candidate_in candidate_back s.candidates t.candidates (tables_rise s rise Candidate refl) (tables_rise t also Candidate refl) (same Candidate) in

@@ -24,7 +24,7 @@ use Rattle.tables.specs.Contents.{SameContents, HoldsTable, RestsAt, IsOffice}
 use Rattle.tables.specs.Presence.{has_table, has_every_table}
 use Rattle.tables.specs.Reading.{Lists, ListsKeyed, HoldsNone}
 use Rattle.store.specs.EntryRows.{office_row}
-use Rattle.store.specs.Offices.{HoldsState, tables_of}
+use Rattle.store.specs.Offices.{HoldsState, tables_of, tables_with}
 use Rattle.store.specs.Openings.{HasNoOffice, IsNewer, HoldsNoState, IsToldBy, TellsNoState, IsVersion, TellsRow, TellsRows, HasVersion, TellsOffice, has_entries, ListsMaps, HoldsEntries}
 use Rattle.tables.proofs.ListLemmas.{mapped_length}
 use Rattle.tables.proofs.HoldLemmas.{lists_all, shown_rows, rows_held, held_listed}
@@ -45,7 +45,7 @@ which_kind Lot = inr refl
 which_kind Receipt = inr refl
 
 office_rows : (s : OfficeState) → tables_of s Office ≡ office_row 1 ∷ []
-unfolding tables_of
+unfolding tables_of tables_with
 office_rows s = refl
 
 -- ---- faults
