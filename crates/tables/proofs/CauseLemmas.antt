@@ -10,10 +10,10 @@ use Rattle.sqlite_sql.specs.declared.ops.BinaryOp.TheVariants.{Compare}
 use Rattle.sqlite_sql.specs.declared.ops.CompareOp.TheVariants.{Eq}
 use Rattle.sqlite_typing.specs.Types.{accepts_program}
 use Rattle.sqlite.specs.declared.types.Value.{Value}
-use Rattle.sqlite.specs.declared.types.Value.TheVariants.{Int, Text}
+use Rattle.sqlite.specs.declared.types.Value.TheVariants.{Int, Text, Blob}
 use Rattle.sqlite.specs.declared.error.Error.{Error}
 use Rattle.sqlite.specs.declared.error.Error.TheVariants.{SqliteFailure, InvalidParameterCount, MultipleStatement}
-use Rattle.sqlite.specs.Kind.TheVariants.{Integer, Text as Words}
+use Rattle.sqlite.specs.Kind.TheVariants.{Integer, Text as Words, Blob as Bytes}
 use Rattle.sqlite.specs.Collation.TheVariants.{Binary}
 use Rattle.sqlite.specs.declared.error.ErrorCode.TheVariants as code
 use Rattle.sqlite.specs.Order.{Row}
@@ -31,7 +31,7 @@ use Rattle.tables.specs.declared.fault.Fault.TheVariants.{Memory, Store}
 use Rattle.tables.specs.Faults.{fault_of, TellsQuery}
 use Rattle.tables.specs.Reading.{OnlyReads, HasFailed, FailsBy, FailsToList}
 use Rattle.tables.specs.declared.table.Table.{Table}
-use Rattle.tables.specs.declared.table.Table.TheVariants.{Office, Ward, Candidate, Batch, Keying, Verdict, Lot, Receipt}
+use Rattle.tables.specs.declared.table.Table.TheVariants.{Office, Ward, Candidate, Batch, Keying, Verdict, Lot, Receipt, Bundle, Vote}
 use Rattle.tables.specs.declared.table.Reference.{Reference}
 use Rattle.tables.specs.declared.table.Reference.TheVariants.{WardOfBatch}
 use Rattle.tables.specs.Texts.{select_text, select_by_reference_text, select_rowids_text}
@@ -153,7 +153,7 @@ places_length k n = mapped_length _ (places_from k n) ∙ counted k n
     counted j zero = refl
     counted j (suc m) = ap suc (counted (suc j) m)
 
--- a value that is an integer, or a text
+-- a value that is an integer, a text, or bytes
 number_in : (v : Value) (more : Bool) → is_of Integer v && more ≡ true → (n : ℤ) × (v ≡ Int n)
 number_in (Int n) more h = (n, refl)
 number_in _ more h = absurd (true≢false (sym h))
@@ -161,6 +161,10 @@ number_in _ more h = absurd (true≢false (sym h))
 text_in : (v : Value) (more : Bool) → is_of Words v && more ≡ true → (t : List ℕ) × (v ≡ Text t)
 text_in (Text t) more h = (t, refl)
 text_in _ more h = absurd (true≢false (sym h))
+
+bytes_in : (v : Value) (more : Bool) → is_of Bytes v && more ≡ true → (b : List ℕ) × (v ≡ Blob b)
+bytes_in (Blob b) more h = (b, refl)
+bytes_in _ more h = absurd (true≢false (sym h))
 
 behind : (v : Value) (more : Bool) → is_of Integer v && more ≡ true → more ≡ true
 behind (Int n) more h = h
@@ -221,6 +225,22 @@ accepts Receipt (a ∷ b ∷ []) kinds low rest others views =
     let after_a = behind a _ kinds in
     rw ((number_in a _ kinds).1, (text_in b _ after_a).1) refl
 accepts Receipt (a ∷ b ∷ c ∷ more) kinds low rest others views = absurd (omega (arith, low))
+accepts Bundle [] kinds low rest others views = refl
+accepts Bundle (a ∷ []) kinds low rest others views = rw (number_in a _ kinds).1 refl
+accepts Bundle (a ∷ b ∷ []) kinds low rest others views =
+    let after_a = behind a _ kinds in
+    rw ((number_in a _ kinds).1, (bytes_in b _ after_a).1) refl
+accepts Bundle (a ∷ b ∷ c ∷ more) kinds low rest others views = absurd (omega (arith, low))
+accepts Vote [] kinds low rest others views = refl
+accepts Vote (a ∷ []) kinds low rest others views = rw (number_in a _ kinds).1 refl
+accepts Vote (a ∷ b ∷ []) kinds low rest others views =
+    let after_a = behind a _ kinds in
+    rw ((number_in a _ kinds).1, (number_in b _ after_a).1) refl
+accepts Vote (a ∷ b ∷ c ∷ []) kinds low rest others views =
+    let after_a = behind a _ kinds in
+    let after_b = behind b _ after_a in
+    rw ((number_in a _ kinds).1, (number_in b _ after_a).1, (number_in c _ after_b).1) refl
+accepts Vote (a ∷ b ∷ c ∷ d ∷ more) kinds low rest others views = absurd (omega (arith, low))
 
 -- a query of the rows with a number in the column that refers to another table is accepted
 pub accepts_reference : (r : Reference) (value : Value) → is_of Integer value ≡ true → (rest : List Definition) (others : List Index) (views : List View)
@@ -240,6 +260,8 @@ accepts_rowids Keying changes rest others views = absurd (true≢false (sym chan
 accepts_rowids Verdict changes rest others views = absurd (true≢false (sym changes))
 accepts_rowids Lot changes rest others views = absurd (true≢false (sym changes))
 accepts_rowids Receipt changes rest others views = absurd (true≢false (sym changes))
+accepts_rowids Bundle changes rest others views = refl
+accepts_rowids Vote changes rest others views = absurd (true≢false (sym changes))
 
 -- ---- the queries of a table
 

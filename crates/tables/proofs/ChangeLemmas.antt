@@ -1,6 +1,7 @@
--- What UPDATEs, a DELETE and many INSERTs make of the contents.
-use Rattle.std.proofs.Common.{◌≡◌, inl, inr, ℕ, suc, ◌+◌, ◌==◌, drop, ◌<◌, List, [], ◌∷◌, ◌++◌, map, filter, take, get_or, append_assoc, length, Bool, true, false, not, cond, Result, OnOk, IsTrue, refl, sym, ap, subst, ◌∙◌, arith, true≢false}
+-- What UPDATEs, a DELETE, and many INSERTs or UPDATEs make of the contents.
+use Rattle.std.proofs.Common.{◌≡◌, inl, inr, ℕ, suc, ◌+◌, ◌==◌, drop, ◌<◌, List, [], ◌∷◌, ◌++◌, map, filter, fold, take, get_or, append_assoc, length, Bool, true, false, not, cond, Result, OnOk, IsTrue, refl, sym, ap, subst, ◌∙◌, arith, true≢false}
 use Rattle.std.proofs.Math.Seq.{take-suc}
+use Rattle.std.proofs.lemmas.List.Sums.{fold_more}
 use Rattle.std.specs.List.Sorted.{IsPermutation}
 use Rattle.std.proofs.lemmas.List.Sorted.{IsPermutation-refl, IsPermutation-trans, IsPermutation-map, IsPermutation-sym, IsPermutation-middle}
 use Rattle.sqlite_trees.proofs.ListLemmas.{IsPermutation-filter, filter-map}
@@ -15,18 +16,19 @@ use Rattle.std.proofs.lemmas.Bool.{and_parts, and_from}
 use Rattle.sqlite.specs.State.{State, ExecutesInside}
 use Rattle.tables.specs.declared.table.Table.{Table}
 use Rattle.tables.specs.declared.table.Setting.{Setting}
-use Rattle.tables.specs.Texts.{set_text, delete_text}
-use Rattle.tables.specs.Schema.{schema_from, shape, columns_of, places_from, changes_rows, table_set, place_set}
-use Rattle.tables.specs.Rows.{tuples, has_key, is_of, are_of, is_row_of, takes_from, value_set, is_setting, with_value}
-use Rattle.tables.specs.Contents.{Contents, SameContents, added, added_all, value_put, removed, Sees}
+use Rattle.tables.specs.Texts.{update_text, set_text, delete_text}
+use Rattle.tables.specs.Schema.{schema_from, place_of, shape, columns_of, places_from, changes_rows, table_set, place_set}
+use Rattle.tables.specs.Rows.{tuples, at, has_key, is_of, are_of, is_row_of, takes_from, value_set, is_setting, with_value}
+use Rattle.tables.specs.Contents.{Contents, SameContents, changed, added, added_all, replaced, replaced_all, value_put, removed, Sees}
 use Rattle.tables.proofs.ListLemmas.{filtered_same, has_mapped, permuted_all}
 use Rattle.tables.proofs.SameLemmas.{sees_same}
 use Rattle.tables.proofs.TableLemmas.{which_table}
-use Rattle.tables.proofs.Edits.{set_terms, setting_changes, edits_row, sets_value}
+use Rattle.tables.proofs.Edits.{beyond_key, updated, set_terms, setting_changes, edits_row, sets_value}
+use Rattle.tables.proofs.KeyLemmas.{updated_row}
 use Rattle.tables.proofs.SelectLemmas.{later}
 use Rattle.tables.proofs.ContentsLemmas.{table_changed}
 use Rattle.tables.proofs.RemoveLemmas.{removes}
-use Rattle.tables.proofs.ReplaceLemmas.{replaces}
+use Rattle.tables.proofs.ReplaceLemmas.{shows_updated, replaces}
 
 -- ---- a DELETE
 
@@ -38,12 +40,38 @@ row_removed t changing key old new r runs c sees =
     table_changed t (filter stays) (delete_text t) key old new
     (λ rest others views free count has ran rows was.
     let it = edits_row rest others views t changing in
-    let change = removes (schema_from 8 rest others views) t (it.alone free) it.place (delete_text t) it.deletes it.plain_delete it.low key old new count has (was.keyed changing) ran in (
+    let change = removes (schema_from 10 rest others views) t (it.alone free) it.place (delete_text t) it.deletes it.plain_delete it.low key old new count has (was.keyed changing) ran in (
       change.changes,
       record {
         same = subst (IsPermutation _) (sym change.rows) (IsPermutation-filter stays rows (tuples t old.now.trees) was.same);
         keyed = λ _. change.keyed;
         typed = test_from (is_row_of t) (filter stays rows) (λ x h. test_has (is_row_of t) rows x was.typed (has_filtered stays rows x h).0);
+      },
+    ))
+    r runs c sees
+
+-- ---- an UPDATE
+
+-- it puts the row into the place of the one with its key
+pub row_replaced : (t : Table) → changes_rows t ≡ true → (row : Row) → is_row_of t row ≡ true → (old new : State) (r : Result ℕ Error) → (IsTrue old.in_transaction → ExecutesInside 0 (update_text t) row old new r)
+    → (c : Contents) → Sees c old → OnOk r (Sees (replaced t row c) new)
+unfolding replaced
+row_replaced t changing row kinds old new r runs c sees =
+    let put : Row → Row = λ x. cond (has_key t row x) row x in
+    let next : Row → Row = λ x. at (places_from 0 (shape t).key) x ++ at (places_from (shape t).key (beyond_key t)) row in
+    let good : (x : Row) → is_row_of t x ≡ true → is_row_of t (put x) ≡ true = λ x typed. elim (has_key t row x) as (λ b. is_row_of t (cond b row x) ≡ true) [ true ↦ kinds | false ↦ typed ] in
+    table_changed t (map put) (update_text t) row old new
+    (λ rest others views free count has ran rows was.
+    let it = edits_row rest others views t changing in
+    let change = replaces (schema_from 10 rest others views) t (it.alone free) it.place (updated t) (update_text t) it.updates it.plain_update it.low row next (λ x. row) (shows_updated t row) (λ x typed same. updated_row t x row typed kinds same) (λ x typed. kinds) old new count has (was.keyed changing)
+    (permuted_all (is_row_of t) rows (tuples t old.now.trees) was.same was.typed) ran in (
+      change.changes,
+      record {
+        same = IsPermutation-trans _ _ _ (IsPermutation-map put rows (tuples t old.now.trees) was.same) change.rows;
+        keyed = λ _. change.keyed;
+        typed = test_from (is_row_of t) (map put rows) (λ y h.
+            let x = has_mapped put rows y h in
+            subst (λ z. is_row_of t z ≡ true) (sym x.2) (good x.0 (test_has (is_row_of t) rows x.0 was.typed x.1)));
       },
     ))
     r runs c sees
@@ -97,7 +125,7 @@ value_set_there g values kind old new r runs c sees =
     (λ rest others views free count has ran rows was.
     let it = edits_row rest others views t (setting_changes g) in
     let text = sets_value rest others views g in
-    let change = replaces (schema_from 8 rest others views) t (it.alone free) it.place (set_terms g) (set_text g) text.sets text.plain it.low values made made
+    let change = replaces (schema_from 10 rest others views) t (it.alone free) it.place (set_terms g) (set_text g) text.sets text.plain it.low values made made
     (λ x. ap (λ l. rowid x ∷ rowid x ∷ l) (shows_set (place_set g) (shape t).key values x (places_from 0 (length (columns_of t))))) (λ x typed same. refl) kinds old new count has (was.keyed (setting_changes g))
     (permuted_all (is_row_of t) rows (tuples t old.now.trees) was.same was.typed) ran in (
       change.changes,
@@ -137,7 +165,50 @@ next_added t rows k row low is c s sees =
     plus : (n : ℕ) → n + 1 ≡ suc n
     plus n = omega arith
 
+-- ---- many UPDATEs
+
+pub none_replaced : (t : Table) (c : Contents) (s : State) → Sees c s → Sees (replaced_all t [] c) s
+unfolding replaced_all
+none_replaced t c s sees = sees
+
+-- the rows up to one, and that one
+pub next_replaced : (t : Table) (rows : List Row) (k : ℕ) (row : Row) → k < length rows → get_or rows k [] ≡ row → (c : Contents) (s : State) → Sees (replaced t row (replaced_all t (take k rows) c)) s → Sees (replaced_all t (take (k + 1) rows) c) s
+unfolding replaced_all
+next_replaced t rows k row low is c s sees =
+    let one : Contents → Row → Contents = λ before r. replaced t r before in
+    let more : fold one c (take (k + 1) rows) ≡ one (fold one c (take k rows)) row = fold_more one c rows k [] low ∙ ap (one (fold one c (take k rows))) is in
+    subst (λ d. Sees d s) (sym more) sees
+
 -- ---- rows of entries
+
+-- The row of one entry in the place of the row with its key is the entry in the place of the one with its key.
+pub replaced_rows : {X : Type 0} (t : Table) (row : X → Row) (same : X → Bool) (y : X) → ((x : X) → has_key t (row y) (row x) ≡ same x) → (xs : List X)
+    → map (λ r. cond (has_key t (row y) r) (row y) r) (map row xs) ≡ map row (map (λ x. cond (same x) y x) xs)
+replaced_rows t row same y alike [] = refl
+replaced_rows t row same y alike (x ∷ xs) = ap (λ b. cond b (row y) (row x) ∷ map (λ r. cond (has_key t (row y) r) (row y) r) (map row xs)) (alike x) ∙ one (same x) (replaced_rows t row same y alike xs)
+  where
+    one : (b : Bool) → map (λ r. cond (has_key t (row y) r) (row y) r) (map row xs) ≡ map row (map (λ z. cond (same z) y z) xs)
+        → cond b (row y) (row x) ∷ map (λ r. cond (has_key t (row y) r) (row y) r) (map row xs) ≡ row (cond b y x) ∷ map row (map (λ z. cond (same z) y z) xs)
+    one true later = ap (λ l. row y ∷ l) later
+    one false later = ap (λ l. row x ∷ l) later
+
+-- the rows with each of these rows, in turn, in the place of the one with its key
+abbrev pub all_replaced : Table → List Row → List Row → List Row
+all_replaced t = fold (λ rows row. map (λ r. cond (has_key t row r) row r) rows)
+
+-- that is what many UPDATEs make of one table, and they leave the others
+pub replaced_all_there : (t : Table) (news : List Row) (c : Contents) (u : Table) → replaced_all t news c u ≡ changed t (λ rows. all_replaced t rows news) c u
+unfolding replaced_all replaced
+replaced_all_there t [] c u = elim (place_of u == place_of t) as (λ b. c u ≡ cond b (c u) (c u)) [ true ↦ refl | false ↦ refl ]
+replaced_all_there t (row ∷ news) c u =
+    replaced_all_there t news (replaced t row c) u
+    ∙ elim (place_of u == place_of t) as (λ b. cond b (all_replaced t (cond b (map (λ r. cond (has_key t row r) row r) (c u)) (c u)) news) (cond b (map (λ r. cond (has_key t row r) row r) (c u)) (c u)) ≡ cond b (all_replaced t (map (λ r. cond (has_key t row r) row r) (c u)) news) (c u)) [ true ↦ refl | false ↦ refl ]
+
+-- The rows of some entries, in turn, in the places of the rows with their keys are these entries in the places of those with their keys.
+pub replaced_each : {X : Type 0} (t : Table) (row : X → Row) (same : X → X → Bool) → ((y x : X) → has_key t (row y) (row x) ≡ same y x) → (ys xs : List X)
+    → all_replaced t (map row xs) (map row ys) ≡ map row (fold (λ zs y. map (λ z. cond (same y z) y z) zs) xs ys)
+replaced_each t row same alike [] xs = refl
+replaced_each t row same alike (y ∷ ys) xs = ap (λ rows. all_replaced t rows (map row ys)) (replaced_rows t row (same y) y (alike y) xs) ∙ replaced_each t row same alike ys (map (λ z. cond (same y z) y z) xs)
 
 -- A value in the column of the row with a key is a change of the entry with it.
 pub rows_set : {X : Type 0} (g : Setting) (values : Row) (row : X → Row) (same : X → Bool) (change : X → X) → ((x : X) → has_key (table_set g) values (row x) ≡ same x) → ((x : X) → with_value g (value_set g values) (row x) ≡ row (change x))

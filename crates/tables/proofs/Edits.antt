@@ -1,5 +1,5 @@
 -- What each UPDATE and each DELETE is, under a schema that begins with the tables.
-use Rattle.std.proofs.Common.{◌≡◌, suc, map, cond, ◌==◌, List, [], ◌∷◌, length, true, refl, sym, true≢false, slice_get, Some}
+use Rattle.std.proofs.Common.{◌≡◌, ℕ, suc, map, cond, ◌==◌, ◌-◌, List, [], ◌∷◌, ◌++◌, length, true, refl, sym, true≢false, slice_get, Some}
 use Rattle.sqlite.specs.Order.{Row}
 use Rattle.sqlite.specs.Tree.{Trees}
 use Rattle.sqlite.specs.Term.{Term, col}
@@ -14,13 +14,21 @@ use Rattle.sqlite_schema.specs.declared.schema.Keys.TheVariants.{Enforced}
 use Rattle.sqlite_rules.specs.Action.{works}
 use Rattle.sqlite_tied.specs.Compute.{everything}
 use Rattle.tables.specs.declared.table.Table.{Table}
-use Rattle.tables.specs.declared.table.Table.TheVariants.{Office, Ward, Candidate, Batch, Keying, Verdict, Lot, Receipt}
+use Rattle.tables.specs.declared.table.Table.TheVariants.{Office, Ward, Candidate, Batch, Keying, Verdict, Lot, Receipt, Bundle, Vote}
 use Rattle.tables.specs.declared.table.Setting.{Setting}
 use Rattle.tables.specs.declared.table.Setting.TheVariants.{PhaseOfWard, DoneOfWard, RoundOfBatch}
-use Rattle.tables.specs.Texts.{set_text, delete_text}
+use Rattle.tables.specs.Texts.{update_text, set_text, delete_text}
 use Rattle.tables.specs.Schema.{Definition, schema_from, definition, place_of, tree_of, shape, columns_of, places_from, changes_rows, table_set, place_set, AreFree}
-use Rattle.tables.proofs.SelectLemmas.{query, tests_from}
-use Rattle.tables.proofs.Inserts.{none_from}
+use Rattle.tables.proofs.SelectLemmas.{query, columns_from, tests_from}
+use Rattle.tables.proofs.Inserts.{given, none_from}
+
+-- how many columns stand after the key
+abbrev pub beyond_key : Table → ℕ
+beyond_key t = length (columns_of t) - (shape t).key
+
+-- the rowid, twice, then the key as it is, then the parameters
+abbrev pub updated : Table → List Term
+updated t = col 1 0 ∷ col 1 0 ∷ (columns_from 0 (shape t).key ++ given (places_from (shape t).key (beyond_key t)))
 
 -- the rowid, twice, then each column as it is, but the one that is set, which is the parameter after the key
 abbrev pub set_terms : Setting → List Term
@@ -33,26 +41,30 @@ setting_changes RoundOfBatch = refl
 
 module _ (rest : List Definition) (others : List Index) (views : List View) where
   abbrev schema : Schema
-  schema = schema_from 8 rest others views
+  schema = schema_from 10 rest others views
 
   -- what the statement of a table has to be that goes by the key
   pub record EditsRow (t : Table) : Type 0 where
     pub place : slice_get schema.tables (place_of t) ≡ Some (definition t)
+    pub updates : command_of (understood schema (update_text t)) ≡ Update (place_of t) (record { lets = []; body = query (tree_of t) (tests_from 0 (shape t).key) (updated t) [] })
+    pub plain_update : IsPlain (understood schema (update_text t))
     pub deletes : command_of (understood schema (delete_text t)) ≡ Delete (place_of t) (record { lets = []; body = query (tree_of t) (tests_from 0 (shape t).key) (col 1 0 ∷ []) [] })
     pub plain_delete : IsPlain (understood schema (delete_text t))
     pub low : (db : Trees) → overlay db [] (tree_of t) ≡ db (tree_of t)
     pub alone : AreFree rest → (olds news : List Row) → works schema Enforced 0 (tree_of t) olds news ≡ []
 
   pub edits_row : (t : Table) → changes_rows t ≡ true → EditsRow t
-  unfolding understood everything delete_text
+  unfolding understood everything update_text delete_text
   edits_row Office changes = absurd (true≢false (sym changes))
-  edits_row Ward changes = record { place = refl; deletes = refl; plain_delete = (refl, refl); low = λ db. refl; alone = λ free olds news. none_from schema 2 olds news rest free }
-  edits_row Candidate changes = record { place = refl; deletes = refl; plain_delete = (refl, refl); low = λ db. refl; alone = λ free olds news. none_from schema 4 olds news rest free }
-  edits_row Batch changes = record { place = refl; deletes = refl; plain_delete = (refl, refl); low = λ db. refl; alone = λ free olds news. none_from schema 6 olds news rest free }
+  edits_row Ward changes = record { place = refl; updates = refl; plain_update = (refl, refl); deletes = refl; plain_delete = (refl, refl); low = λ db. refl; alone = λ free olds news. none_from schema 2 olds news rest free }
+  edits_row Candidate changes = record { place = refl; updates = refl; plain_update = (refl, refl); deletes = refl; plain_delete = (refl, refl); low = λ db. refl; alone = λ free olds news. none_from schema 4 olds news rest free }
+  edits_row Batch changes = record { place = refl; updates = refl; plain_update = (refl, refl); deletes = refl; plain_delete = (refl, refl); low = λ db. refl; alone = λ free olds news. none_from schema 6 olds news rest free }
   edits_row Keying changes = absurd (true≢false (sym changes))
   edits_row Verdict changes = absurd (true≢false (sym changes))
   edits_row Lot changes = absurd (true≢false (sym changes))
   edits_row Receipt changes = absurd (true≢false (sym changes))
+  edits_row Bundle changes = record { place = refl; updates = refl; plain_update = (refl, refl); deletes = refl; plain_delete = (refl, refl); low = λ db. refl; alone = λ free olds news. none_from schema 16 olds news rest free }
+  edits_row Vote changes = absurd (true≢false (sym changes))
 
   -- what the statement has to be that sets one column
   pub record SetsValue (g : Setting) : Type 0 where

@@ -8,6 +8,7 @@ pub mod InsertLemmas
 pub mod Inserts
 pub mod Edits
 pub mod OrderLemmas
+pub mod KeyLemmas
 pub mod RemoveLemmas
 pub mod ReplaceLemmas
 pub mod ContentsLemmas

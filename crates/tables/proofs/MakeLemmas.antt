@@ -19,7 +19,7 @@ use Rattle.sqlite.specs.State.{State, Writes, ExecutesInside}
 use Rattle.sqlite.proofs.Callers.{IsPlain, command_of, statement_of, runs_as}
 use Rattle.sqlite_tied.specs.Compute.{everything}
 use Rattle.tables.specs.declared.table.Table.{Table}
-use Rattle.tables.specs.declared.table.Table.TheVariants.{Office, Ward, Candidate, Batch, Keying, Verdict, Lot, Receipt}
+use Rattle.tables.specs.declared.table.Table.TheVariants.{Office, Ward, Candidate, Batch, Keying, Verdict, Lot, Receipt, Bundle, Vote}
 use Rattle.tables.specs.Texts.{create_text}
 use Rattle.tables.specs.Schema.{Definition, schema_from, no_schema, definition, shaped, shape, place_of, tree_of, all_tables}
 use Rattle.tables.specs.Rows.{Keyed}
@@ -53,6 +53,8 @@ makes_table Keying = record { is = refl; plain = (refl, refl); whole = refl; def
 makes_table Verdict = record { is = refl; plain = (refl, refl); whole = refl; defined = refl; uncounted = refl; next = refl; tree = refl }
 makes_table Lot = record { is = refl; plain = (refl, refl); whole = refl; defined = refl; uncounted = refl; next = refl; tree = refl }
 makes_table Receipt = record { is = refl; plain = (refl, refl); whole = refl; defined = refl; uncounted = refl; next = refl; tree = refl }
+makes_table Bundle = record { is = refl; plain = (refl, refl); whole = refl; defined = refl; uncounted = refl; next = refl; tree = refl }
+makes_table Vote = record { is = refl; plain = (refl, refl); whole = refl; defined = refl; uncounted = refl; next = refl; tree = refl }
 
 -- ---- one table more
 
@@ -71,6 +73,8 @@ at_place Keying = refl
 at_place Verdict = refl
 at_place Lot = refl
 at_place Receipt = refl
+at_place Bundle = refl
+at_place Vote = refl
 
 has_before : (n : ℕ) (u : Table) → place_of u < n → Has (schema_from n [] [] []).tables (definition u)
 has_before n u low = front_has (map definition (take n all_tables)) [] (definition u) (mapped_has definition (take n all_tables) u (taken_has all_tables n (place_of u) u low (at_place u)))
@@ -120,7 +124,7 @@ pub none_made : (s : State) → IsTrue s.in_transaction → s.now.schema ≡ no_
 none_made s inside blank sound = record { inside = inside; schema = blank; sound = sound; holds = λ t low. absurd (omega (arith, low)) }
 
 -- all tables: an office with no row
-pub all_made : (s : State) → SeesMade 8 s → Sees no_contents s
+pub all_made : (s : State) → SeesMade 10 s → Sees no_contents s
 unfolding no_contents IsOffice
 all_made s sees = record {
   inside = sees.inside;

@@ -81,6 +81,16 @@ number_and_text a m s t =
     ap (λ o. ordering_then o (ordering_then (value_cmp (Text s) (Text t)) Equal)) (value_cmp-Int (pos a) (pos m) ∙ numbers a m)
     ∙ ap (ordering_then (nat_cmp a m)) (then-Equal (value_cmp (Text s) (Text t)) ∙ value_cmp-Text s t)
 
+pub number_and_bytes : (a m : ℕ) (s t : List ℕ) → keys_cmp 2 (Int (pos a) ∷ Blob s ∷ []) (Int (pos m) ∷ Blob t ∷ []) ≡ ordering_then (nat_cmp a m) (slice_cmp nat_cmp s t)
+number_and_bytes a m s t =
+    ap (λ o. ordering_then o (ordering_then (value_cmp (Blob s) (Blob t)) Equal)) (value_cmp-Int (pos a) (pos m) ∙ numbers a m)
+    ∙ ap (ordering_then (nat_cmp a m)) (then-Equal (value_cmp (Blob s) (Blob t)) ∙ value_cmp-Blob s t)
+
+pub three_numbers : (a b c k m n : ℕ) → keys_cmp 3 (Int (pos a) ∷ Int (pos b) ∷ Int (pos c) ∷ []) (Int (pos k) ∷ Int (pos m) ∷ Int (pos n) ∷ []) ≡ ordering_then (nat_cmp a k) (ordering_then (nat_cmp b m) (nat_cmp c n))
+three_numbers a b c k m n =
+    ap (λ o. ordering_then o (ordering_then (value_cmp (Int (pos b)) (Int (pos m))) (ordering_then (value_cmp (Int (pos c)) (Int (pos n))) Equal))) (value_cmp-Int (pos a) (pos k) ∙ numbers a k)
+    ∙ ap (ordering_then (nat_cmp a k)) (two_numbers b c m n)
+
 pub four_numbers : (a b c d k l m n : ℕ) → keys_cmp 4 (Int (pos a) ∷ Int (pos b) ∷ Int (pos c) ∷ Int (pos d) ∷ []) (Int (pos k) ∷ Int (pos l) ∷ Int (pos m) ∷ Int (pos n) ∷ [])
     ≡ ordering_then (nat_cmp a k) (ordering_then (nat_cmp b l) (ordering_then (nat_cmp c m) (nat_cmp d n)))
 four_numbers a b c d k l m n =
@@ -115,6 +125,11 @@ pub key_of_number_and_text : (n m : ℕ) (s t : List ℕ) → (equal Binary (Int
 key_of_number_and_text n m s t =
     ap (λ b. b && (equal Binary (Text t) (Text s) && true)) (equal-Int (pos m) (pos n) ∙ ap is_eq (numbers m n) ∙ turned nat_cmp_total m n)
     ∙ ap (λ b. is_eq (nat_cmp n m) && b) (and-true _ ∙ equal-Text t s ∙ turned nat_list_cmp_total t s) ∙ then_equal (nat_cmp n m) (slice_cmp nat_cmp s t)
+
+pub key_of_number_and_bytes : (n m : ℕ) (s t : List ℕ) → (equal Binary (Int (pos m)) (Int (pos n)) && (equal Binary (Blob t) (Blob s) && true)) ≡ is_eq (ordering_then (nat_cmp n m) (slice_cmp nat_cmp s t))
+key_of_number_and_bytes n m s t =
+    ap (λ b. b && (equal Binary (Blob t) (Blob s) && true)) (equal-Int (pos m) (pos n) ∙ ap is_eq (numbers m n) ∙ turned nat_cmp_total m n)
+    ∙ ap (λ b. is_eq (nat_cmp n m) && b) (and-true _ ∙ equal-Blob t s ∙ turned nat_list_cmp_total t s) ∙ then_equal (nat_cmp n m) (slice_cmp nat_cmp s t)
 
 -- ---- rows that rise
 

@@ -11,7 +11,7 @@ use Rattle.sqlite_schema.specs.declared.schema.View.{View}
 use Rattle.sqlite_resolve.specs.Compile.{first}
 use Rattle.sqlite_tied.specs.Compute.{everything}
 use Rattle.tables.specs.declared.table.Table.{Table}
-use Rattle.tables.specs.declared.table.Table.TheVariants.{Office, Ward, Candidate, Batch, Keying, Verdict, Lot, Receipt}
+use Rattle.tables.specs.declared.table.Table.TheVariants.{Office, Ward, Candidate, Batch, Keying, Verdict, Lot, Receipt, Bundle, Vote}
 use Rattle.tables.specs.declared.table.Reference.{Reference}
 use Rattle.tables.specs.declared.table.Reference.TheVariants.{WardOfBatch}
 use Rattle.tables.specs.Texts.{names_of, select_text, select_by_reference_text, select_rowids_text}
@@ -58,6 +58,15 @@ selects Receipt zero low = record { query = refl; select = λ rest others views.
 selects Receipt (suc zero) low = record { query = refl; select = λ rest others views. record { is = refl; unlisted = refl; plain = (refl, refl); low = λ db. refl; whole = refl; given = refl } }
 selects Receipt (suc (suc zero)) low = record { query = refl; select = λ rest others views. record { is = refl; unlisted = refl; plain = (refl, refl); low = λ db. refl; whole = refl; given = refl } }
 selects Receipt (suc (suc (suc n))) low = absurd (omega (arith, low))
+selects Bundle zero low = record { query = refl; select = λ rest others views. record { is = refl; unlisted = refl; plain = (refl, refl); low = λ db. refl; whole = refl; given = refl } }
+selects Bundle (suc zero) low = record { query = refl; select = λ rest others views. record { is = refl; unlisted = refl; plain = (refl, refl); low = λ db. refl; whole = refl; given = refl } }
+selects Bundle (suc (suc zero)) low = record { query = refl; select = λ rest others views. record { is = refl; unlisted = refl; plain = (refl, refl); low = λ db. refl; whole = refl; given = refl } }
+selects Bundle (suc (suc (suc n))) low = absurd (omega (arith, low))
+selects Vote zero low = record { query = refl; select = λ rest others views. record { is = refl; unlisted = refl; plain = (refl, refl); low = λ db. refl; whole = refl; given = refl } }
+selects Vote (suc zero) low = record { query = refl; select = λ rest others views. record { is = refl; unlisted = refl; plain = (refl, refl); low = λ db. refl; whole = refl; given = refl } }
+selects Vote (suc (suc zero)) low = record { query = refl; select = λ rest others views. record { is = refl; unlisted = refl; plain = (refl, refl); low = λ db. refl; whole = refl; given = refl } }
+selects Vote (suc (suc (suc zero))) low = record { query = refl; select = λ rest others views. record { is = refl; unlisted = refl; plain = (refl, refl); low = λ db. refl; whole = refl; given = refl } }
+selects Vote (suc (suc (suc (suc n)))) low = absurd (omega (arith, low))
 
 pub selects_by_reference : (r : Reference) → Reads (table_sought r) (select_by_reference_text r) (op2 (Compare Eq Binary) (col 1 (suc (place_sought r))) (col 0 0) ∷ [])
 unfolding understood everything select_by_reference_text
@@ -78,6 +87,8 @@ selects_rowids Keying changes = absurd (true≢false (sym changes))
 selects_rowids Verdict changes = absurd (true≢false (sym changes))
 selects_rowids Lot changes = absurd (true≢false (sym changes))
 selects_rowids Receipt changes = absurd (true≢false (sym changes))
+selects_rowids Bundle changes = record { query = refl; select = λ rest others views. record { is = refl; unlisted = refl; plain = (refl, refl); low = λ db. refl; whole = refl; given = refl } }
+selects_rowids Vote changes = absurd (true≢false (sym changes))
 
 pub selects_query : (t : Table) (n : ℕ) → n ≤ (shape t).key → IsQuery (select_text t n)
 selects_query t n low = query_text (select_text t n) (selects t n low).query

@@ -13,7 +13,7 @@ use Rattle.sqlite_rules.proofs.ListLemmas.{test_has}
 use Rattle.sqlite_rules.proofs.TableLemmas.{int_is}
 use Rattle.sqlite.specs.declared.types.Value.TheVariants.{Null}
 use Rattle.sqlite.specs.Order.{Row}
-use Rattle.sqlite.specs.Term.{Term, eval_all}
+use Rattle.sqlite.specs.Term.{Term, col, eval_all}
 use Rattle.sqlite.specs.Schema.{Schema}
 use Rattle.sqlite.specs.Command.TheVariants.{Update}
 use Rattle.sqlite.specs.Cast.{cast_row}
@@ -30,14 +30,15 @@ use Rattle.sqlite.proofs.Callers.{IsPlain, command_of, statement_of, runs_as, on
 use Rattle.sqlite_schema.specs.declared.program.Program.{Program}
 use Rattle.sqlite_schema.specs.declared.schema.Keys.TheVariants.{Enforced}
 use Rattle.tables.specs.declared.table.Table.{Table}
-use Rattle.tables.specs.Schema.{Definition, definition, place_of, tree_of, shape, columns_of}
-use Rattle.tables.specs.Rows.{tuples, has_key, is_row_of, Keyed}
+use Rattle.tables.specs.Schema.{Definition, definition, place_of, places_from, tree_of, shape, columns_of}
+use Rattle.tables.specs.Rows.{tuples, at, has_key, is_row_of, Keyed}
+use Rattle.tables.proofs.Edits.{beyond_key, updated}
 use Rattle.tables.proofs.InsertLemmas.{Changes, put_fresh, cast_int, cast_all_of}
 use Rattle.tables.proofs.KeyedLemmas.{keyed_put_all}
 use Rattle.tables.proofs.ListLemmas.{mapped_has, mapped_same, mapped_twice, mapped_itself}
 use Rattle.tables.proofs.WentLemmas.{write_went, update_went}
 use Rattle.tables.proofs.PickLemmas.{picked, picked_left, keyed_filtered}
-use Rattle.tables.proofs.SelectLemmas.{query, selects, tests_from, tests_agree}
+use Rattle.tables.proofs.SelectLemmas.{query, selects, tests_from, tests_agree, columns_from, shows_columns}
 
 -- ---- lists
 
@@ -61,6 +62,14 @@ parted p f (x ∷ xs) = go (p x) (parted p f xs)
         → IsPermutation (map f (cond b (x ∷ filter p xs) (filter p xs)) ++ cond (not b) (x ∷ filter (λ y. not (p y)) xs) (filter (λ y. not (p y)) xs)) (cond b (f x) x ∷ map (λ y. cond (p y) (f y) y) xs)
     go true later = IsPermutation-cons (f x) _ _ later
     go false later = IsPermutation-trans _ _ _ (IsPermutation-middle (map f (filter p xs)) x _) (IsPermutation-cons x _ _ later)
+
+-- what an UPDATE of all columns shows: the key as it was, and the parameters after it
+pub shows_updated : (t : Table) (params r : Row) → eval_all (updated t) (params ∷ r ∷ []) ≡ rowid r ∷ rowid r ∷ at (places_from 0 (shape t).key) (drop 1 r) ++ at (places_from (shape t).key (beyond_key t)) params
+shows_updated t params r =
+    ap (λ l. rowid r ∷ rowid r ∷ l)
+    (map-append _ (columns_from 0 (shape t).key) (map (col 0) (places_from (shape t).key (beyond_key t)))
+    ∙ ap (λ l. l ++ eval_all (map (col 0) (places_from (shape t).key (beyond_key t))) (params ∷ r ∷ [])) (shows_columns 0 (shape t).key params r)
+    ∙ ap (λ l. at (places_from 0 (shape t).key) (drop 1 r) ++ l) (mapped_twice (col 0) _ (places_from (shape t).key (beyond_key t))))
 
 -- ---- the statement
 

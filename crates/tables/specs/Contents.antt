@@ -1,5 +1,5 @@
 -- The rows of all tables, and what a connection or a stop has of them.
-use Rattle.std.specs.Prelude.{◌≡◌, true, false, not, if◌then◌else◌, ◌==◌, List, [], ◌∷◌, ◌++◌, map, filter, IsTrue}
+use Rattle.std.specs.Prelude.{◌≡◌, true, false, not, if◌then◌else◌, ◌==◌, List, [], ◌∷◌, ◌++◌, map, filter, fold, IsTrue}
 use Rattle.std.specs.List.{list_all}
 use Rattle.std.specs.List.Sorted.{IsPermutation}
 use Rattle.sqlite.specs.Order.{Row}
@@ -37,6 +37,14 @@ added t row = changed t (λ rows. row ∷ rows)
 -- these rows more
 unfoldable pub added_all : Table → List Row → Contents → Contents
 added_all t news = changed t (λ rows. news ++ rows)
+
+-- this row in the place of the one with its key
+unfoldable pub replaced : Table → Row → Contents → Contents
+replaced t row = changed t (map (λ r. if has_key t row r then row else r))
+
+-- each of these rows, in turn, in the place of the one with its key
+unfoldable pub replaced_all : Table → List Row → Contents → Contents
+replaced_all t news c = fold (λ before row. replaced t row before) c news
 
 -- a value in one column of the row with a key; the key and the value in turn
 unfoldable pub value_put : Setting → Row → Contents → Contents

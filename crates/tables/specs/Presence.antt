@@ -19,7 +19,7 @@ has_some_table s = list_any (λ t. has_table t s) all_tables
 abbrev pub has_every_table : Schema → Bool
 has_every_table s = list_all (λ t. has_table t s) all_tables
 
--- The tables with our names are ours: an office table is our first, and where all eight names are there, the eight come first and in order.
+-- The tables with our names are ours: an office table is our first, and where all ten names are there, the ten come first and in order.
 pub record IsOurs (s : Schema) : Type 0 where
   pub office : has_table Office s ≡ true → BeginsTo Office s
   pub every : has_every_table s ≡ true → IsOfficeSchema s

@@ -20,7 +20,7 @@ use Rattle.tables.specs.declared.table.Reference.{Reference}
 use Rattle.tables.specs.declared.table.Reference.TheVariants.{WardOfBatch}
 use Rattle.tables.specs.declared.table.Setting.{Setting}
 use Rattle.tables.specs.declared.table.Setting.TheVariants.{PhaseOfWard, DoneOfWard, RoundOfBatch}
-use Rattle.tables.specs.declared.table.Table.TheVariants.{Office, Ward, Candidate, Batch, Keying, Verdict, Lot, Receipt}
+use Rattle.tables.specs.declared.table.Table.TheVariants.{Office, Ward, Candidate, Batch, Keying, Verdict, Lot, Receipt, Bundle, Vote}
 
 -- a table as `sqlite` keeps it in a schema
 abbrev pub Definition : Type 0
@@ -78,12 +78,23 @@ shape Keying = record {
 shape Verdict = record { name = codes "verdict"; key = 2; fields = within (codes "batch") 1 9999 ∷ within (codes "paper") 1 500 ∷ number (codes "code") ∷ words (codes "marks") ∷ [] }
 shape Lot = record { name = codes "lot"; key = 2; fields = within (codes "ward") 1 99 ∷ within (codes "stage") 2 31 ∷ within (codes "candidate") 1 30 ∷ [] }
 shape Receipt = record { name = codes "receipt"; key = 2; fields = within (codes "actor") 0 999 ∷ words (codes "id") ∷ words (codes "subject") ∷ words (codes "reply") ∷ [] }
+shape Bundle = record {
+  name = codes "bundle";
+  key = 2;
+  fields = number (codes "ward") ∷ bytes (codes "prefs") ∷ number (codes "papers") ∷ number (codes "holder") ∷ number (codes "value") ∷ [];
+}
+shape Vote = record {
+  name = codes "vote";
+  key = 3;
+  fields = number (codes "ward") ∷ number (codes "stage") ∷ number (codes "candidate") ∷ number (codes "units") ∷ number (codes "mark") ∷ [];
+}
 
 -- the tables whose rows are changed or removed; the others only grow
 abbrev pub changes_rows : Table → Bool
 changes_rows Ward = true
 changes_rows Candidate = true
 changes_rows Batch = true
+changes_rows Bundle = true
 changes_rows _ = false
 
 -- the table in which rows are sought by a column outside the key
@@ -134,10 +145,12 @@ place_of Keying = 4
 place_of Verdict = 5
 place_of Lot = 6
 place_of Receipt = 7
+place_of Bundle = 8
+place_of Vote = 9
 
 -- the tables in the order of making
 abbrev pub all_tables : List Table
-all_tables = Office ∷ Ward ∷ Candidate ∷ Batch ∷ Keying ∷ Verdict ∷ Lot ∷ Receipt ∷ []
+all_tables = Office ∷ Ward ∷ Candidate ∷ Batch ∷ Keying ∷ Verdict ∷ Lot ∷ Receipt ∷ Bundle ∷ Vote ∷ []
 
 -- ---- the schema
 
@@ -204,4 +217,4 @@ pub record IsOfficeSchema (s : Schema) : Type 0 where
   pub others : List Index
   pub views : List View
   pub free : AreFree rest
-  pub is : s ≡ schema_from 8 rest others views
+  pub is : s ≡ schema_from 10 rest others views

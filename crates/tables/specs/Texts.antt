@@ -1,5 +1,5 @@
 -- The texts of the statements, made from the tables' shapes.
-use Rattle.std.specs.Prelude.{ℕ, zero, suc, ◌+◌, ◌/◌, ◌%◌, ◌==◌, nat_lt, ◌++◌, List, [], ◌∷◌, codes, map, take, length, slice_index_or, if◌then◌else◌, Option, None, Some}
+use Rattle.std.specs.Prelude.{ℕ, zero, suc, ◌+◌, ◌/◌, ◌%◌, ◌==◌, nat_lt, ◌++◌, List, [], ◌∷◌, codes, map, take, drop, length, slice_index_or, if◌then◌else◌, Option, None, Some}
 use Rattle.sqlite.specs.Kind.{Kind}
 use Rattle.sqlite.specs.Kind.TheVariants.{Text, Blob}
 use Rattle.tables.specs.declared.table.Table.{Table}
@@ -91,6 +91,10 @@ select_by_reference_text r = select_where (table_sought r) (matched 0 (slice_ind
 -- the rowids, in order
 unfoldable pub select_rowids_text : Table → List ℕ
 select_rowids_text t = codes "SELECT rowid FROM " ++ (shape t).name ++ codes " ORDER BY rowid"
+
+-- the row with a key gets these values; the values of all columns in turn
+unfoldable pub update_text : Table → List ℕ
+update_text t = codes "UPDATE " ++ (shape t).name ++ codes " SET " ++ joined comma (matched (shape t).key (drop (shape t).key (names_of t))) ++ where_text (matched 0 (key_names t))
 
 -- the row with a key gets a value in one column; the key and the value in turn
 unfoldable pub set_text : Setting → List ℕ

@@ -1,19 +1,43 @@
-//! Rows that are changed in one column, inside a transaction.
+//! Rows that are replaced, or changed in one column, inside a transaction.
 
 ghost use Rattle.std.specs.Prelude.{◌≡◌, true, IfErr, OnOk};
 ghost use Rattle.sqlite.specs.Values.{bound};
 ghost use Rattle.sqlite.specs.State.{HasCleanDisk, KeepsCommit, Survives};
 ghost use Rattle.sqlite.specs.Held.{state};
-ghost use Rattle.tables.specs.Texts.{set_text};
-ghost use Rattle.tables.specs.Rows.{is_setting};
-ghost use Rattle.tables.specs.Contents.{Contents, Sees, value_put};
+ghost use Rattle.tables.specs.Texts.{update_text, set_text};
+ghost use Rattle.tables.specs.Schema.{changes_rows};
+ghost use Rattle.tables.specs.Rows.{is_row_of, is_setting};
+ghost use Rattle.tables.specs.Contents.{Contents, Sees, replaced, value_put};
 ghost use Rattle.tables.specs.Faults.{TellsStatement};
 
 use crate::fault::{Fault, fault_of};
-use crate::table::Setting;
-use crate::texts::set_text;
+use crate::table::{Setting, Table};
+use crate::texts::{set_text, update_text};
 use sqlite::{Alter, Transaction};
 use sqlite_value::value::ValueRef;
+
+/// In a table whose rows change, puts these values, one for each column and of its kind, in the place
+/// of the row with their key; where there is none, the table stays as it is. A fault leaves the last
+/// commit as it was.
+pub fn replace<S: Alter>(
+    tx: &mut Transaction<'_, S>,
+    table: Table,
+    values: &[ValueRef<'_>],
+) -> Result<(), Fault>
+    requires changes { changes_rows table ≡ true }
+    requires kinds { is_row_of table (bound values.now) ≡ true }
+    ensures same_reference { tx.new.conn.ghost_name ≡ tx.old.conn.ghost_name }
+    ensures replaces { HasCleanDisk (state S.Store tx.new.conn.now) → (c : Contents) → Sees c (state S.Store tx.old.conn.now)
+        → OnOk result (Sees (replaced table (bound values.now) c) (state S.Store tx.new.conn.now)) }
+    ensures keeps { HasCleanDisk (state S.Store tx.new.conn.now) → KeepsCommit (state S.Store tx.old.conn.now) (state S.Store tx.new.conn.now) }
+    ensures survives { Survives (state S.Store tx.old.conn.now) (state S.Store tx.new.conn.now) (λ _. ⊥) }
+    ensures cause { IfErr result (TellsStatement (update_text table) (bound values.now) (state S.Store tx.old.conn.now) (state S.Store tx.new.conn.now)) }
+{
+    match tx.execute(update_text(table), values) {
+        Ok(_) => Ok(()),
+        Err(e) => Err(fault_of(e)),
+    }
+}
 
 /// Sets one column of the row with a key: the values are those of the key's columns and then the new one,
 /// of the column's kind. Where there is no such row, the table stays as it is. A fault leaves the last

@@ -14,11 +14,13 @@ pub enum Table {
     Verdict,
     Lot,
     Receipt,
+    Bundle,
+    Vote,
 }
 
 impl Table {
     /// All tables, in the order of making.
-    pub const ALL: [Table; 8] = [
+    pub const ALL: [Table; 10] = [
         Table::Office,
         Table::Ward,
         Table::Candidate,
@@ -27,6 +29,8 @@ impl Table {
         Table::Verdict,
         Table::Lot,
         Table::Receipt,
+        Table::Bundle,
+        Table::Vote,
     ];
 
     /// The name.
@@ -42,6 +46,8 @@ impl Table {
             Table::Verdict => "verdict",
             Table::Lot => "lot",
             Table::Receipt => "receipt",
+            Table::Bundle => "bundle",
+            Table::Vote => "vote",
         }
     }
 
@@ -51,7 +57,8 @@ impl Table {
     {
         match self {
             Table::Office | Table::Ward | Table::Batch => 1,
-            Table::Candidate | Table::Verdict | Table::Lot | Table::Receipt => 2,
+            Table::Candidate | Table::Verdict | Table::Lot | Table::Receipt | Table::Bundle => 2,
+            Table::Vote => 3,
             Table::Keying => 4,
         }
     }
@@ -61,8 +68,13 @@ impl Table {
         ensures { result ≡ changes_rows self }
     {
         match self {
-            Table::Ward | Table::Candidate | Table::Batch => true,
-            Table::Office | Table::Keying | Table::Verdict | Table::Lot | Table::Receipt => false,
+            Table::Ward | Table::Candidate | Table::Batch | Table::Bundle => true,
+            Table::Office
+            | Table::Keying
+            | Table::Verdict
+            | Table::Lot
+            | Table::Receipt
+            | Table::Vote => false,
         }
     }
 }

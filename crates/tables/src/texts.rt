@@ -2,7 +2,7 @@
 
 ghost use Rattle.std.specs.Prelude.{◌≡◌, ◌≤◌, true};
 ghost use Rattle.tables.specs.Schema.{shape, changes_rows};
-ghost use Rattle.tables.specs.Texts.{create_text, insert_text, select_text, select_by_reference_text, select_rowids_text, set_text, delete_text};
+ghost use Rattle.tables.specs.Texts.{create_text, insert_text, select_text, select_by_reference_text, select_rowids_text, update_text, set_text, delete_text};
 
 use crate::table::{Reference, Setting, Table};
 
@@ -28,6 +28,10 @@ pub fn create_text(table: Table) -> &'static str
             "CREATE TABLE lot (ward INT NOT NULL CHECK (ward BETWEEN 1 AND 99), stage INT NOT NULL CHECK (stage BETWEEN 2 AND 31), candidate INT NOT NULL CHECK (candidate BETWEEN 1 AND 30), PRIMARY KEY (ward, stage)) STRICT",
         Table::Receipt =>
             "CREATE TABLE receipt (actor INT NOT NULL CHECK (actor BETWEEN 0 AND 999), id TEXT NOT NULL, subject TEXT NOT NULL, reply TEXT NOT NULL, PRIMARY KEY (actor, id)) STRICT",
+        Table::Bundle =>
+            "CREATE TABLE bundle (ward INT NOT NULL, prefs BLOB NOT NULL, papers INT NOT NULL, holder INT NOT NULL, value INT NOT NULL, PRIMARY KEY (ward, prefs)) STRICT",
+        Table::Vote =>
+            "CREATE TABLE vote (ward INT NOT NULL, stage INT NOT NULL, candidate INT NOT NULL, units INT NOT NULL, mark INT NOT NULL, PRIMARY KEY (ward, stage, candidate)) STRICT",
     }
 }
 
@@ -48,6 +52,10 @@ pub fn insert_text(table: Table) -> &'static str
         Table::Verdict => "INSERT INTO verdict (batch, paper, code, marks) VALUES (?1, ?2, ?3, ?4)",
         Table::Lot => "INSERT INTO lot (ward, stage, candidate) VALUES (?1, ?2, ?3)",
         Table::Receipt => "INSERT INTO receipt (actor, id, subject, reply) VALUES (?1, ?2, ?3, ?4)",
+        Table::Bundle =>
+            "INSERT INTO bundle (ward, prefs, papers, holder, value) VALUES (?1, ?2, ?3, ?4, ?5)",
+        Table::Vote =>
+            "INSERT INTO vote (ward, stage, candidate, units, mark) VALUES (?1, ?2, ?3, ?4, ?5)",
     }
 }
 
@@ -100,6 +108,20 @@ pub fn select_text(table: Table, columns: usize) -> &'static str
             "SELECT actor, id, subject, reply FROM receipt WHERE actor = ?1 ORDER BY actor, id",
         (Table::Receipt, 2) =>
             "SELECT actor, id, subject, reply FROM receipt WHERE actor = ?1 AND id = ?2 ORDER BY actor, id",
+        (Table::Bundle, 0) =>
+            "SELECT ward, prefs, papers, holder, value FROM bundle ORDER BY ward, prefs",
+        (Table::Bundle, 1) =>
+            "SELECT ward, prefs, papers, holder, value FROM bundle WHERE ward = ?1 ORDER BY ward, prefs",
+        (Table::Bundle, 2) =>
+            "SELECT ward, prefs, papers, holder, value FROM bundle WHERE ward = ?1 AND prefs = ?2 ORDER BY ward, prefs",
+        (Table::Vote, 0) =>
+            "SELECT ward, stage, candidate, units, mark FROM vote ORDER BY ward, stage, candidate",
+        (Table::Vote, 1) =>
+            "SELECT ward, stage, candidate, units, mark FROM vote WHERE ward = ?1 ORDER BY ward, stage, candidate",
+        (Table::Vote, 2) =>
+            "SELECT ward, stage, candidate, units, mark FROM vote WHERE ward = ?1 AND stage = ?2 ORDER BY ward, stage, candidate",
+        (Table::Vote, 3) =>
+            "SELECT ward, stage, candidate, units, mark FROM vote WHERE ward = ?1 AND stage = ?2 AND candidate = ?3 ORDER BY ward, stage, candidate",
         _ => unreachable!(),
     }
 }
@@ -125,6 +147,25 @@ pub fn select_rowids_text(table: Table) -> &'static str
         Table::Ward => "SELECT rowid FROM ward ORDER BY rowid",
         Table::Candidate => "SELECT rowid FROM candidate ORDER BY rowid",
         Table::Batch => "SELECT rowid FROM batch ORDER BY rowid",
+        Table::Bundle => "SELECT rowid FROM bundle ORDER BY rowid",
+        _ => unreachable!(),
+    }
+}
+
+#[tactic(auto, unfolding(crate::specs::Texts::update_text))]
+/// The text that replaces the row with a key, with the values of all columns as its parameters.
+pub fn update_text(table: Table) -> &'static str
+    requires { changes_rows table ≡ true }
+    ensures { result.now ≡ update_text table }
+{
+    match table {
+        Table::Ward =>
+            "UPDATE ward SET seats = ?2, phase = ?3, done = ?4, name = ?5 WHERE ward = ?1",
+        Table::Candidate => "UPDATE candidate SET name = ?3 WHERE ward = ?1 AND candidate = ?2",
+        Table::Batch =>
+            "UPDATE batch SET ward = ?2, size = ?3, clerk_a = ?4, clerk_b = ?5, round = ?6 WHERE batch = ?1",
+        Table::Bundle =>
+            "UPDATE bundle SET papers = ?3, holder = ?4, value = ?5 WHERE ward = ?1 AND prefs = ?2",
         _ => unreachable!(),
     }
 }
@@ -151,6 +192,7 @@ pub fn delete_text(table: Table) -> &'static str
         Table::Ward => "DELETE FROM ward WHERE ward = ?1",
         Table::Candidate => "DELETE FROM candidate WHERE ward = ?1 AND candidate = ?2",
         Table::Batch => "DELETE FROM batch WHERE batch = ?1",
+        Table::Bundle => "DELETE FROM bundle WHERE ward = ?1 AND prefs = ?2",
         _ => unreachable!(),
     }
 }

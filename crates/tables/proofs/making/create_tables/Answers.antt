@@ -21,6 +21,6 @@ loop-table-preserved g c =
 
 pub returns-clause-makes : goal.returns-clause-makes
 returns-clause-makes g c clean inside blank sound =
-    let all : c.loop-table.table-index ≡ 8 = omega arith in
+    let all : c.loop-table.table-index ≡ 10 = omega arith in
     all_made (state g.S.Store c.loop-table.tx.conn.now)
     (subst (λ (n : ℕ). SeesMade n (state g.S.Store c.loop-table.tx.conn.now)) all (c.loop-table.invariant.makes clean (none_made (state g.S.Store c.args.tx.now.conn.now) inside blank sound)))

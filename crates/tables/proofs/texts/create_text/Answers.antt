@@ -30,3 +30,11 @@ returns-in-Lot c = rw c.in-Lot.is refl
 pub returns-in-Receipt : goal.returns-in-Receipt
 unfolding create_text
 returns-in-Receipt c = rw c.in-Receipt.is refl
+
+pub returns-in-Bundle : goal.returns-in-Bundle
+unfolding create_text
+returns-in-Bundle c = rw c.in-Bundle.is refl
+
+pub returns-in-Vote : goal.returns-in-Vote
+unfolding create_text
+returns-in-Vote c = rw c.in-Vote.is refl
