@@ -28,3 +28,6 @@ mod WorkedRows
 mod NominationRows
 mod BatchRows
 mod CountRows
+mod TabulatedLemmas
+mod AddedLemmas
+mod TabulatedRows

@@ -25,4 +25,5 @@ pub mod Machine
 pub mod Tabulated
 pub mod Views
 pub mod WorkedOffice
+pub mod WorkedTabulation
 pub mod Walks

@@ -1,18 +1,22 @@
 //! What an office tabulates of its counts: where each bundle of equal ballot papers lies, and every figure of
 //! every stage.
 
-ghost use Rattle.std.specs.Prelude.{◌≡◌, [], ◌++◌, ℕ, List, map, reverse, length, true, IfOk, IfSome, IsSome, OnOk};
+ghost use Rattle.std.specs.Prelude.{◌≡◌, ◌==◌, [], ◌++◌, ℕ, List, map, reverse, length, true, Some, IfOk, IfSome, IsSome, OnOk};
+ghost use Rattle.std.specs.List.{filter};
 ghost use Rattle.count.specs.Books.{placed};
 ghost use Rattle.count.specs.Bundles.{Bundle};
 ghost use Rattle.count.specs.Kept.{IsKeptOf};
 ghost use Rattle.count.specs.Law.Contest.{IsContest};
 ghost use Rattle.count.specs.Law.Places.{Place};
 ghost use Rattle.register.specs.Marks.{columns_of};
-ghost use Rattle.register.specs.Elections.{ElectionEntry, contest_of, stages_of, is_counted_right};
-ghost use Rattle.register.specs.Tabulated.{placed_entry, figure_entry, addition_entries, no_addition, placed_at, figures_to, has_stages, bundles_in, figures_in};
+ghost use Rattle.register.specs.Offices.{OfficeState, WardEntry, ward_at};
+ghost use Rattle.register.specs.Elections.{ElectionEntry, election_of, contest_of, stages_of, is_counted_right};
+ghost use Rattle.register.specs.Items.{IsState};
+ghost use Rattle.register.specs.Tabulated.{PlacedEntry, FigureEntry, TabulationRises, placed_entry, figure_entry, addition_entries, no_addition, placed_at, figure_at, figures_to, has_stages, bundles_in, figures_in, tabulation_of};
+ghost use Rattle.register.specs.WorkedTabulation.{WorkedTabulation};
 
-use count::{Bundles, KeptCount, Placed, Stage};
-use paper::Columns;
+use count::{Bundles, Figure, KeptCount, Placed, Stage, figures_of};
+use paper::{Columns, Prefs};
 use std::alloc::{AllocError, Global};
 
 /// A bundle of equal ballot papers of a ward, where it lies after the stages done: the preferences, one
@@ -94,9 +98,105 @@ impl Tabulation {
             → map placed_entry self.new.bundles.items ≡ map placed_entry self.old.bundles.items ++ map (λ (b : Bundle). placed_at ward b (at b.0)) bundles.now) }
         ensures figures { OnOk result (map figure_entry self.new.figures.items ≡ map figure_entry self.old.figures.items ++ figures_to ward candidates.now (reverse stages.now)) }
     {
-        Err(AllocError)
+        add_bundles(alloc, &mut self.bundles, ward, bundles, places)?;
+        add_figures(alloc, &mut self.figures, ward, candidates, stages)?;
+        Ok(())
     }
 }
+
+/// A bundle of a ward, where it lies. An error is want of memory.
+fn placed_bundle(
+    alloc: Global,
+    ward: u32,
+    list: &Prefs,
+    papers: u32,
+    at: &Placed,
+) -> Result<PlacedBundle, AllocError>
+    ensures { IfOk result (λ bundle. (place : Place) → at.now ≡ placed place → placed_entry bundle ≡ placed_at ward (list.now, papers) place) }
+{
+    let list = Vec::from_slice(alloc, list.as_slice())?;
+    Ok(PlacedBundle {
+        ward,
+        list,
+        papers,
+        holder: u32::from(at.holder),
+        value: at.value.units(),
+    })
+}
+
+/// Adds the bundles of a ward, each where it lies.
+fn add_bundles(
+    alloc: Global,
+    to: &mut Vec<PlacedBundle>,
+    ward: u32,
+    bundles: &Bundles,
+    places: &[Placed],
+) -> Result<(), AllocError>
+    ensures { OnOk result ((at : List ℕ → Place) → places.now ≡ map (λ (b : Bundle). placed (at b.0)) bundles.now
+        → map placed_entry to.new.items ≡ map placed_entry to.old.items ++ map (λ (b : Bundle). placed_at ward b (at b.0)) bundles.now) }
+{
+    let mut rest = places;
+    for (list, papers) in bundles.iter() {
+        if let Some((at, others)) = rest.split_first() {
+            to.push(placed_bundle(alloc, ward, list, *papers, at)?)?;
+            rest = others;
+        }
+    }
+    Ok(())
+}
+
+/// Adds the figures of one stage of a ward.
+fn add_stage(
+    to: &mut Vec<StageFigure>,
+    ward: u32,
+    stage: u32,
+    figures: &[Figure],
+) -> Result<(), AllocError>
+    ensures { OnOk result (map figure_entry to.new.items ≡ map figure_entry to.old.items ++ map (figure_at ward stage) figures.now) }
+{
+    for figure in figures {
+        to.push(StageFigure {
+            ward,
+            stage,
+            candidate: figure.candidate,
+            units: figure.units,
+            mark: figure.mark,
+        })?;
+    }
+    Ok(())
+}
+
+/// Adds the figures of all stages of a ward, from the first on.
+fn add_figures(
+    alloc: Global,
+    to: &mut Vec<StageFigure>,
+    ward: u32,
+    candidates: &Columns,
+    stages: &[Stage],
+) -> Result<(), AllocError>
+    ensures { OnOk result (map figure_entry to.new.items ≡ map figure_entry to.old.items ++ figures_to ward candidates.now (reverse stages.now)) }
+{
+    for done in 0..stages.len() {
+        // no machine has the memory for so many stages
+        let Ok(stage) = u32::try_from(done + 1) else {
+            return Err(AllocError);
+        };
+        let figures = figures_of(alloc, candidates, &stages[..=done])?;
+        add_stage(to, ward, stage, &figures)?;
+    }
+    Ok(())
+}
+
+/// The laws of what is tabulated, for its callers. At a state the bundles stand in the order of ward and list,
+/// the figures in that of ward, stage and candidate, none twice; and those of a ward are what its election has.
+/// Of an election worked by hand they are those that were worked out: before the first stage none, after two of
+/// them each bundle where it lies, at its value, and each stage's figures.
+pub fn tabulations_are_ordered()
+    ensures rise { (s : OfficeState) → IsState s → TabulationRises (tabulation_of s) }
+    ensures bundles { (s : OfficeState) (w : WardEntry) → IsState s → ward_at s w.number ≡ Some w → filter (λ (b : PlacedEntry). b.ward == w.number) (tabulation_of s).bundles ≡ bundles_in (election_of s w) }
+    ensures figures { (s : OfficeState) (w : WardEntry) → IsState s → ward_at s w.number ≡ Some w → filter (λ (f : FigureEntry). f.ward == w.number) (tabulation_of s).figures ≡ figures_in (election_of s w) }
+    ensures worked { WorkedTabulation }
+{}
 
 /// The count of a ward as its tabulated bundles and figures have it; none where they are those of no count. An
 /// error is want of memory.
