@@ -22,7 +22,7 @@ use std::alloc::{AllocError, Global};
 /// A bundle of equal ballot papers of a ward, where it lies after the stages done: the preferences, one
 /// candidate's number (1 to 30) a byte; how many papers there are, 1 or more; who holds them, a candidate's
 /// number or 0 for no one; and the value of each, in units.
-#[derive(Debug, Drop)]
+#[derive(Debug, PartialEq, Eq, Drop)]
 pub struct PlacedBundle {
     pub ward: u32,
     pub list: Vec<u8>,

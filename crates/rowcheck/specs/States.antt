@@ -1,6 +1,7 @@
--- The maps that rows stand for.
+-- The maps that rows stand for, and what they have tabulated of the counts.
 use Rattle.std.specs.Prelude.{map}
 use Rattle.register.specs.Offices.{OfficeState, ward_entry, candidate_entry, batch_entry, keyed_entry, judged_entry, lot_entry, receipt_entry}
+use Rattle.register.specs.Tabulated.{TabulationEntries, placed_entry, figure_entry}
 use Rattle.rowcheck.specs.declared.rows.Rows.{Rows}
 
 -- the maps of the rows, entry by entry: a state only where they meet each condition
@@ -15,3 +16,7 @@ state_of rows =
       lots = map lot_entry rows.lots.items;
       receipts = map receipt_entry rows.receipts.items;
     }
+
+-- the rows of what is tabulated, entry by entry
+abbrev pub tabulated : Rows → TabulationEntries
+tabulated rows = record { bundles = map placed_entry rows.bundles.items; figures = map figure_entry rows.figures.items }

@@ -26,6 +26,7 @@ mod plain;
 mod polls;
 mod ranges;
 mod subjects;
+mod tabulated;
 mod verdicts;
 
 pub use batches::item3;
@@ -35,4 +36,5 @@ pub use nominations::item2;
 pub use polls::item6;
 pub use ranges::item1;
 pub use rows::Rows;
+pub use tabulated::item8;
 pub use verdicts::item5;

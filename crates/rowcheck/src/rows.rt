@@ -1,6 +1,8 @@
 //! Rows, as the values that they hold.
 
-use register::{Batch, Candidate, DrawnLot, JudgedPaper, KeyedPaper, Receipt, Ward};
+use register::{
+    Batch, Candidate, DrawnLot, JudgedPaper, KeyedPaper, PlacedBundle, Receipt, StageFigure, Ward,
+};
 
 /// The rows of an office, each table's in the order of its keys. Their numbers and texts are in range
 /// only where `item1` says so.
@@ -13,4 +15,6 @@ pub struct Rows {
     pub verdicts: Vec<JudgedPaper>,
     pub lots: Vec<DrawnLot>,
     pub receipts: Vec<Receipt>,
+    pub bundles: Vec<PlacedBundle>,
+    pub figures: Vec<StageFigure>,
 }
