@@ -28,6 +28,6 @@ mod WorkedRows
 mod NominationRows
 mod BatchRows
 mod CountRows
-mod TabulatedLemmas
+pub mod TabulatedLemmas
 mod AddedLemmas
 mod TabulatedRows

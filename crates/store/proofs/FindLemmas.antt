@@ -67,7 +67,7 @@ candidate_fits s is ward number = found_fits IsCandidateRow row_of_candidate _ s
 pub candidates_listed : (s : OfficeState) → IsState s → (ward : ℕ) (rows : List Row) → Finds Candidate (begins_with (Int (pos ward) ∷ [])) (tables_of s) rows → rows ≡ map row_of_candidate (candidates_of s ward)
 unfolding tables_of tables_with
 candidates_listed s is ward rows finds =
-    listed_as Candidate row_of_candidate (begins_with (Int (pos ward) ∷ [])) (λ c. c.ward == ward) (λ c. same_number ward c.ward) s.candidates (tables_rise s is.rise Candidate refl) rows finds.same finds.sorted
+    listed_as Candidate row_of_candidate (begins_with (Int (pos ward) ∷ [])) (λ c. c.ward == ward) (λ c. same_number ward c.ward) s.candidates (tables_rise s is Candidate refl) rows finds.same finds.sorted
 
 -- ---- batches and their papers
 
@@ -84,7 +84,7 @@ batch_fits s is number = found_fits IsBatchRow row_of_batch _ s.batches (batches
 pub all_batches_listed : (s : OfficeState) → IsState s → (rows : List Row) → Finds Batch (begins_with []) (tables_of s) rows → rows ≡ map row_of_batch s.batches
 unfolding tables_of tables_with
 all_batches_listed s is rows finds =
-    listed_as Batch row_of_batch (begins_with []) (λ b. true) (λ b. refl) s.batches (tables_rise s is.rise Batch refl) rows finds.same finds.sorted ∙ ap (map row_of_batch) (all_kept s.batches)
+    listed_as Batch row_of_batch (begins_with []) (λ b. true) (λ b. refl) s.batches (tables_rise s is Batch refl) rows finds.same finds.sorted ∙ ap (map row_of_batch) (all_kept s.batches)
   where
     all_kept : {X : Type 0} (xs : List X) → filter (λ x. true) xs ≡ xs
     all_kept [] = refl
@@ -94,7 +94,7 @@ all_batches_listed s is rows finds =
 pub batches_listed : (s : OfficeState) → IsState s → (ward : ℕ) (rows : List Row) → Finds Batch (refers_to WardOfBatch (Int (pos ward))) (tables_of s) rows → rows ≡ map row_of_batch (batches_of s ward)
 unfolding tables_of tables_with
 batches_listed s is ward rows finds =
-    listed_as Batch row_of_batch (refers_to WardOfBatch (Int (pos ward))) (λ b. b.ward == ward) (λ b. equal-number b.ward ward) s.batches (tables_rise s is.rise Batch refl) rows finds.same finds.sorted
+    listed_as Batch row_of_batch (refers_to WardOfBatch (Int (pos ward))) (λ b. b.ward == ward) (λ b. equal-number b.ward ward) s.batches (tables_rise s is Batch refl) rows finds.same finds.sorted
 
 -- the rows that begin with a batch, a round and a clerk are those of his keying, in the order of the papers
 pub keying_listed : (s : OfficeState) → IsState s → (batch round clerk : ℕ) (rows : List Row)
@@ -102,7 +102,7 @@ pub keying_listed : (s : OfficeState) → IsState s → (batch round clerk : ℕ
 unfolding tables_of tables_with
 keying_listed s is batch round clerk rows finds =
     listed_as Keying row_of_keyed (begins_with (Int (pos batch) ∷ Int (pos round) ∷ Int (pos clerk) ∷ [])) (λ k. (k.batch == batch) && ((k.round == round) && (k.clerk == clerk)))
-    (λ k. same_three_numbers batch round clerk k.batch k.round k.clerk) s.keyings (tables_rise s is.rise Keying refl) rows finds.same finds.sorted
+    (λ k. same_three_numbers batch round clerk k.batch k.round k.clerk) s.keyings (tables_rise s is Keying refl) rows finds.same finds.sorted
 
 -- a keyed paper, compared with a batch, a round, a clerk and a number
 abbrev pub keyed_compared : ℕ → ℕ → ℕ → ℕ → KeyedEntry → Ordering
@@ -159,7 +159,7 @@ verdict_fits s is batch paper = found_fits IsJudgedRow row_of_judged _ s.verdict
 pub verdicts_listed : (s : OfficeState) → IsState s → (batch : ℕ) (rows : List Row) → Finds Verdict (begins_with (Int (pos batch) ∷ [])) (tables_of s) rows → rows ≡ map row_of_judged (verdicts_of s batch)
 unfolding tables_of tables_with
 verdicts_listed s is batch rows finds =
-    listed_as Verdict row_of_judged (begins_with (Int (pos batch) ∷ [])) (λ v. v.batch == batch) (λ v. same_number batch v.batch) s.verdicts (tables_rise s is.rise Verdict refl) rows finds.same finds.sorted
+    listed_as Verdict row_of_judged (begins_with (Int (pos batch) ∷ [])) (λ v. v.batch == batch) (λ v. same_number batch v.batch) s.verdicts (tables_rise s is Verdict refl) rows finds.same finds.sorted
 
 -- ---- lots
 
@@ -167,7 +167,7 @@ verdicts_listed s is batch rows finds =
 pub lots_listed : (s : OfficeState) → IsState s → (ward : ℕ) (rows : List Row) → Finds Lot (begins_with (Int (pos ward) ∷ [])) (tables_of s) rows → rows ≡ map row_of_lot (lots_of s ward)
 unfolding tables_of tables_with
 lots_listed s is ward rows finds =
-    listed_as Lot row_of_lot (begins_with (Int (pos ward) ∷ [])) (λ l. l.ward == ward) (λ l. same_number ward l.ward) s.lots (tables_rise s is.rise Lot refl) rows finds.same finds.sorted
+    listed_as Lot row_of_lot (begins_with (Int (pos ward) ∷ [])) (λ l. l.ward == ward) (λ l. same_number ward l.ward) s.lots (tables_rise s is Lot refl) rows finds.same finds.sorted
 
 -- ---- receipts
 

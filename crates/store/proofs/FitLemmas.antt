@@ -16,7 +16,7 @@ use Rattle.store.specs.EntryRows.{row_of_ward, IsWardRow, row_of_candidate, IsCa
 use Rattle.store.specs.Offices.{tables_of, tables_with}
 use Rattle.store.proofs.DoneLemmas.{wards_few}
 
-small : (low high n : ℕ) → high < 2 ^ 32 → is_between low high n ≡ true → n < 2 ^ 32
+pub small : (low high n : ℕ) → high < 2 ^ 32 → is_between low high n ≡ true → n < 2 ^ 32
 small low high n below h = let upper = leb-true n high (and_parts (nat_le low n) (nat_le n high) h).1 in omega (arith, upper, below)
 
 -- each of a list that passes a test, and its image

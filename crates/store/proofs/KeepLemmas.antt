@@ -1,6 +1,6 @@
 -- A store that keeps a state.
 use Rattle.std.proofs.Common.{◌≡◌, ◌⊎◌, inl, inr, IsTrue, refl, subst, ◌∙◌, arith, Result, Ok, Err, OnOk}
-use Rattle.std.proofs.lemmas.List.Sorted.{IsPermutation-refl}
+use Rattle.std.proofs.lemmas.List.Sorted.{IsPermutation-refl, IsPermutation-map}
 use Rattle.sqlite.specs.Tree.{Trees}
 use Rattle.sqlite.specs.Effect.{Database}
 use Rattle.sqlite.specs.State.{State, HasCleanDisk, Survives}
@@ -9,9 +9,10 @@ use Rattle.register.specs.Items.{IsState}
 use Rattle.register.specs.declared.decision.Change.{Change}
 use Rattle.register.specs.Effects.{ChangeEntry, change_entry, with_change}
 use Rattle.register.specs.Tabulated.{TabulationEntries, tabulation_of, SameTabulation, AdditionEntries, addition_entries, with_addition, IsTabulated}
-use Rattle.tables.specs.declared.table.Table.TheVariants.{Office, Ward, Candidate, Batch, Keying, Verdict, Lot, Receipt}
+use Rattle.tables.specs.declared.table.Table.TheVariants.{Office, Ward, Candidate, Batch, Keying, Verdict, Lot, Receipt, Bundle, Vote}
 use Rattle.tables.specs.Contents.{Contents, SameContents, Stores, Rests, RestsAt}
 use Rattle.tables.specs.Reading.{OnlyReads}
+use Rattle.store.specs.EntryRows.{row_of_placed, row_of_figure}
 use Rattle.store.specs.Offices.{tables_of, tables_with, ChangesTo, HoldsState, IsAt, LeavesState, Wears}
 use Rattle.tables.proofs.StopLemmas.{rests_leaves}
 use Rattle.tables.proofs.ReadLemmas.{rests_read, rests_from}
@@ -46,6 +47,8 @@ same_tables s t u same Keying = IsPermutation-refl _
 same_tables s t u same Verdict = IsPermutation-refl _
 same_tables s t u same Lot = IsPermutation-refl _
 same_tables s t u same Receipt = IsPermutation-refl _
+same_tables s t u same Bundle = IsPermutation-map row_of_placed t.bundles u.bundles same.bundles
+same_tables s t u same Vote = IsPermutation-map row_of_figure t.figures u.figures same.figures
 
 -- what a change, and what it adds to the tabulation, make of the tables of a state
 abbrev pub changed_tables : Change → OfficeState → Contents

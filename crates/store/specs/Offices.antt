@@ -8,9 +8,9 @@ use Rattle.register.specs.Offices.{OfficeState}
 use Rattle.register.specs.Items.{IsState}
 use Rattle.register.specs.Effects.{ChangeEntry, with_change}
 use Rattle.register.specs.Tabulated.{TabulationEntries, tabulation_of, AdditionEntries, with_addition}
-use Rattle.tables.specs.declared.table.Table.TheVariants.{Office, Ward, Candidate, Batch, Keying, Verdict, Lot, Receipt}
+use Rattle.tables.specs.declared.table.Table.TheVariants.{Office, Ward, Candidate, Batch, Keying, Verdict, Lot, Receipt, Bundle, Vote}
 use Rattle.tables.specs.Contents.{Contents, filled, IsOffice, Stores, Rests}
-use Rattle.store.specs.EntryRows.{office_row, row_of_ward, row_of_candidate, row_of_batch, row_of_keyed, row_of_judged, row_of_lot, row_of_receipt}
+use Rattle.store.specs.EntryRows.{office_row, row_of_ward, row_of_candidate, row_of_batch, row_of_keyed, row_of_judged, row_of_lot, row_of_receipt, row_of_placed, row_of_figure}
 
 -- the rows that stand for a state and for what is tabulated of its counts, table by table; opaque, so that a search does not compute it
 unfoldable pub tables_with : OfficeState → TabulationEntries → Contents
@@ -24,6 +24,8 @@ tables_with s t =
     ∷ (Verdict, map row_of_judged s.verdicts)
     ∷ (Lot, map row_of_lot s.lots)
     ∷ (Receipt, map row_of_receipt s.receipts)
+    ∷ (Bundle, map row_of_placed t.bundles)
+    ∷ (Vote, map row_of_figure t.figures)
     ∷ []
     )
 

@@ -21,7 +21,7 @@ mod wards;
 use crate::entries::receipts::Receipts;
 use crate::writing::batches::{write_batch, write_round};
 use crate::writing::candidates::{remove_candidate, write_candidate};
-use crate::writing::counts::{write_lot, write_stage};
+use crate::writing::counts::{write_addition, write_lot, write_stage};
 use crate::writing::papers::{write_keying, write_verdict};
 use crate::writing::wards::{write_phase, write_ward};
 use register::{Change, Effect, Receipt};
@@ -81,7 +81,7 @@ pub(crate) fn write_receipt<S: Alter>(
     add_entry::<Receipts, S>(alloc, tx, receipt)
 }
 
-/// Writes a change: its effect, and the receipt beside it.
+/// Writes a change: its effect, what it adds to the tabulation, and the receipt beside them.
 pub(crate) fn write_change<S: Alter>(
     alloc: Global,
     tx: &mut Transaction<'_, S>,
@@ -95,6 +95,7 @@ pub(crate) fn write_change<S: Alter>(
     ensures cause { IfErr result (λ f. (f ≡ Fault.Memory) ⊎ (f ≡ Fault.Store)) }
 {
     write_effect(alloc, tx, &change.effect)?;
+    write_addition(alloc, tx, &change.addition)?;
     write_receipt(alloc, tx, &change.receipt)?;
     Ok(())
 }
