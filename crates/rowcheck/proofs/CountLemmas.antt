@@ -6,18 +6,21 @@ use Rattle.std.proofs.lemmas.List.{length-map}
 use Rattle.std.proofs.lemmas.List.FromFn.{get_or-map-range_with_len, length-range_with_len}
 use Rattle.std.proofs.lemmas.Option.{slice_get-get_or, slice_get_past}
 use Rattle.paper.proofs.ColumnSets.{length_columns}
-use Rattle.count.specs.Law.Contest.{Contest, History, IsContest}
+use Rattle.count.specs.Law.Contest.{Contest, History, contest_for, IsContest}
 use Rattle.count.specs.Law.Due.{due_after, next_action}
 use Rattle.count.specs.Law.Count.{stages_to, with_stage}
 use Rattle.count.specs.Law.Laws.{IsShort}
 use Rattle.count.specs.declared.stages.Action.{Action}
 use Rattle.count.specs.declared.stages.Due.{Due}
 use Rattle.count.specs.declared.stages.Due.TheVariants.{Finished}
-use Rattle.count.specs.Bundles.{Bundle}
+use Rattle.count.specs.Bundles.{Bundle, papers_of, bundled}
+use Rattle.count.specs.Law.Right.{reordered}
 use Rattle.register.specs.declared.polls.Ballots.{Ballots}
 use Rattle.register.specs.Offices.{WardEntry, CandidateEntry}
-use Rattle.register.specs.Elections.{ElectionEntry, IsMadeOf, contest_of, is_finished, has_finished, is_declared, is_drawn_for, is_right_so_far}
-use Rattle.rowcheck.specs.Walks.Counts.{is_drawn_by}
+use Rattle.register.specs.Marks.{columns_of}
+use Rattle.register.specs.Elections.{ElectionEntry, IsMadeOf, contest_of, is_finished, has_finished, is_declared, is_drawn_for, is_right_so_far, stages_of}
+use Rattle.register.proofs.BundledLemmas.{other_order, stages-alike, due-alike}
+use Rattle.rowcheck.specs.Walks.Counts.{is_drawn_by, IsCountOf}
 use Rattle.rowcheck.proofs.RunLemmas.{less_differs}
 
 -- ---- how many stages there are
@@ -56,13 +59,39 @@ pub map-alike : {X Y : Type 0} (f g : X → Y) (xs : List X) → ((x : X) → f 
 map-alike f g [] alike = refl
 map-alike f g (x ∷ xs) alike = rw (alike x, map-alike f g xs alike) refl
 
--- an election with what it is made of is this one
-pub made-same : (e : ElectionEntry) (ward : WardEntry) (candidates : List CandidateEntry) (ballots : Ballots (List Bundle)) (lots : List (ℕ × ℕ)) → IsMadeOf e ward candidates ballots lots →
-    (let one : ElectionEntry = record { ward = ward; candidates = candidates; ballots = e.ballots; lots = lots } in one) ≡ e
-made-same e ward candidates ballots lots made =
-    ap (λ (w : WardEntry). let one : ElectionEntry = record { ward = w; candidates = candidates; ballots = e.ballots; lots = lots } in one) made.ward_is
-    ∙ ap (λ (cs : List CandidateEntry). let one : ElectionEntry = record { ward = e.ward; candidates = cs; ballots = e.ballots; lots = lots } in one) made.candidates_are
-    ∙ ap (λ (ls : List (ℕ × ℕ)). let one : ElectionEntry = record { ward = e.ward; candidates = e.candidates; ballots = e.ballots; lots = ls } in one) made.lots_are
+-- A count of an election, on the bundles of its papers,
+module _ (e : ElectionEntry) (ward : WardEntry) (lots : List (ℕ × ℕ)) (contest : Contest) (of : IsCountOf e ward lots contest) where
+  -- is one of this election, with that ward and those lots,
+  pub count-same : (let one : ElectionEntry = record { ward = ward; candidates = e.candidates; ballots = e.ballots; lots = lots } in one) ≡ e
+  count-same =
+      ap (λ (w : WardEntry). let one : ElectionEntry = record { ward = w; candidates = e.candidates; ballots = e.ballots; lots = lots } in one) of.ward_is
+      ∙ ap (λ (ls : List (ℕ × ℕ)). let one : ElectionEntry = record { ward = e.ward; candidates = e.candidates; ballots = e.ballots; lots = ls } in one) of.lots_are
+
+  -- on its papers in another order,
+  pub count-order : contest ≡ reordered (contest_of e) (papers_of (bundled e.ballots.papers))
+  count-order = other_order e (columns_of e.candidates) e.ward.seats (bundled e.ballots.papers) refl refl refl lots of.lots_are contest of.contest_is
+
+  -- has its stages,
+  pub count-stages : (k : ℕ) → stages_to contest lots k ≡ stages_to (contest_of e) e.lots k
+  count-stages = stages-alike e (columns_of e.candidates) e.ward.seats (bundled e.ballots.papers) refl refl refl lots of.lots_are contest of.contest_is
+
+  -- and before each the same is due
+  pub count-due : (k : ℕ) → due_after contest (stages_to contest lots k) ≡ due_after (contest_of e) (stages_to (contest_of e) e.lots k)
+  count-due = due-alike e (columns_of e.candidates) e.ward.seats (bundled e.ballots.papers) refl refl refl lots of.lots_are contest of.contest_is
+
+-- what is made of the entries of an election has such a count
+pub made-count : (e : ElectionEntry) (ward : WardEntry) (candidates : List CandidateEntry) (ballots : Ballots (List Bundle)) (lots : List (ℕ × ℕ)) (columns : List ℕ) (contest : Contest) → IsMadeOf e ward candidates ballots lots → IsContest (contest_of e) →
+    columns ≡ columns_of candidates → contest ≡ contest_for columns ward.seats (papers_of ballots.papers) → IsCountOf e ward lots contest
+made-count e ward candidates ballots lots columns contest made fair are on = record {
+  fair = fair;
+  ward_is = made.ward_is;
+  lots_are = made.lots_are;
+  contest_is =
+      on
+      ∙ ap (λ cs. contest_for cs ward.seats (papers_of ballots.papers)) (are ∙ ap columns_of made.candidates_are)
+      ∙ ap (λ (w : WardEntry). contest_for (columns_of e.candidates) w.seats (papers_of ballots.papers)) made.ward_is
+      ∙ ap (λ bs. contest_for (columns_of e.candidates) e.ward.seats (papers_of bs)) made.ballots_are.papers_held;
+}
 
 module _ (e : ElectionEntry) where
   abbrev due_at : ℕ → Due
@@ -104,3 +133,9 @@ module _ (e : ElectionEntry) where
       | inl least ↦ told_few (few least.1) each
       | inr past ↦ told_many past.1 (many past.1) short
     ]
+
+    -- where they are as many as are said to be done, they are those
+    pub told_stages : (e.ward.done ≤ 31 → asked ≡ e.ward.done) → IsShort (contest_of e) stages → length stages ≡ e.ward.done → stages ≡ stages_of e
+    told_stages few short all =
+        let columns = length_columns (contest_of e).candidates fair.candidate_set in
+        is ∙ ap (stages_to (contest_of e) e.lots) (few (omega (arith, columns, short, all)))

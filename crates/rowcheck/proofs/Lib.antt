@@ -7,4 +7,5 @@ pub mod KeyingLemmas
 pub mod VerdictLemmas
 pub mod PollLemmas
 pub mod CountLemmas
+pub mod TabulatedLemmas
 pub mod FairLemmas

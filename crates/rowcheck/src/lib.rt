@@ -5,10 +5,12 @@
 //!
 //! A condition is a definition on the state, `item1` and those after it in `register`'s
 //! `specs/Items.antt`; here `item1(&rows)` answers it for `state_of rows`. Later ones have that form
-//! too; `item7` counts again what is done of each count, and answers an error for want of memory. No list
-//! is searched for each row of another: lists in the order of their keys are walked side by side, or the
-//! rows of a key, which stand side by side, are found by bisection (`runs`, `finding`). The batches alone
-//! are gone through for each ward in count, of which there are 99 at most.
+//! too, but for the last two. `item7` counts again, once, what is done of each count, and answers what is
+//! tabulated of the counts, where they are right; an error is want of memory. With that `item8`, a
+//! definition of `specs/Tabulated.antt`, compares the rows of bundles and figures, one by one. No list is
+//! searched for each row of another: lists in the order of their keys are walked side by side, or the rows
+//! of a key, which stand side by side, are found by bisection (`runs`, `finding`). The batches alone are
+//! gone through for each ward in count, of which there are 99 at most.
 #![tactic(auto)]
 
 // The rows,

@@ -1,5 +1,5 @@
 -- Why `item8` keeps its promise: entries are equal where the fields of the values are.
-use Rattle.std.proofs.Common.{◌≡◌, Bool, true, ◌&&◌, ◌==◌, nat_eq, refl, ap, List, [], ◌∷◌, map}
+use Rattle.std.proofs.Common.{◌≡◌, Bool, ◌&&◌, ◌==◌, nat_eq, refl, ap, List, [], ◌∷◌, map}
 use Rattle.std.specs.Bool.{Decides}
 use Rattle.std.specs.Cmp.Lexicographic.{pointwise}
 use Rattle.std.proofs.lemmas.Bool.Decides.{Decides-at, Decides-like, Decides-and, Decides-eqb}
