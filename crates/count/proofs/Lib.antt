@@ -21,3 +21,4 @@ pub mod WorthLemmas
 pub mod PlaceLemmas
 pub mod WeightLemmas
 pub mod BundleBookLemmas
+pub mod KeptLemmas

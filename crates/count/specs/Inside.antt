@@ -2,3 +2,4 @@
 pub mod Holdings
 pub mod Keeping
 pub mod Placing
+pub mod Resuming

@@ -17,11 +17,10 @@ use crate::due::{action_by, due, elected_with};
 use crate::placed::Placed;
 use crate::places::no_places;
 use crate::stages::{Action, Due, Stage};
-use crate::terms::Terms;
+use crate::terms::{Terms, terms_on};
 use paper::Columns;
 use std::alloc::{AllocError, Global};
 use std::marker::Model;
-use votes::quota;
 
 /// A count whose equal papers lie together: with one holder, at one value, since the rules read no more of
 /// a paper than its preferences. So a stage costs what the bundles are, not what the papers are.
@@ -56,20 +55,6 @@ pub fn bundles_count_alike()
     ensures stages { (candidates : List ℕ) (seats : ℕ) (papers : List (List ℕ)) (lots : List (ℕ × ℕ)) (k : ℕ)
         → stages_to (contest_for candidates seats (papers_of (bundled papers))) lots k ≡ stages_to (contest_for candidates seats papers) lots k }
 {}
-
-/// The terms of a contest with the papers of bundles.
-fn terms_on(candidates: Columns, seats: u8, bundles: &Bundles) -> Terms
-    requires { IsContest (contest_for candidates seats (papers_of bundles.now)) }
-    ensures is { contest_on result bundles.now ≡ contest_for candidates seats (papers_of bundles.now) }
-    ensures bundles { AreBundles bundles.now }
-{
-    let _ = bundles.len();
-    Terms {
-        candidates,
-        seats,
-        quota: quota(bundles.papers(), seats),
-    }
-}
 
 impl<'a> BundleBook<'a> {
     /// A count with no stage yet.

@@ -1,13 +1,15 @@
 //! What is due after some stages.
 
 ghost use Rattle.std.specs.Prelude.{◌≡◌, ℕ, ◌<◌, List, [], length, reverse, IfOk, IfErr, Some};
-ghost use Rattle.count.specs.Law.Due.{due_after, drawn, exclusion as exclusion_of, action_on as action_on_of, among as among_of, due_for as due_for_of};
+ghost use Rattle.count.specs.Law.Count.{due_by};
+ghost use Rattle.count.specs.Law.Due.{due_after, drawn, next_action as next_action_of, exclusion as exclusion_of, action_on as action_on_of, among as among_of, due_for as due_for_of};
 ghost use Rattle.count.specs.Law.Elected.{elected_after};
 ghost use Rattle.count.specs.Advance.{refusal};
 ghost use Rattle.count.specs.Books.{contest_of};
 
 use crate::book::AdvanceError;
 use crate::elected::{continuing, elected, vacancies, with_surplus};
+use crate::run::lot_at;
 use crate::stages::{Action, Due, Kind, Stage};
 use crate::terms::Terms;
 use crate::ties::{highest, lowest};
@@ -104,5 +106,28 @@ pub fn action_by(terms: &Terms, stages: &[Stage], lot: Option<u8>) -> Result<Act
                 Err(AdvanceError::LotNotAmong)
             }
         },
+    }
+}
+
+/// The action that comes next by the recorded lots, where there is one, whatever the papers: they aren't read.
+#[tactic(auto, using(crate::proofs::Law::CountLemmas::refused_none))]
+pub fn next_action(terms: &Terms, stages: &[Stage], lots: &[(u8, u8)]) -> Option<Action>
+    requires few { length stages.now < 255 }
+    ensures { (papers : List (List ℕ)) → result ≡ next_action_of (contest_of terms.now papers) lots.now (reverse stages.now) }
+{
+    match action_by(terms, stages, lot_at(lots, stages.len() as u8 + 1)) {
+        Ok(action) => Some(action),
+        Err(_) => None,
+    }
+}
+
+/// What is due by the recorded lots, whatever the papers: they aren't read.
+pub fn due_with(terms: &Terms, stages: &[Stage], lots: &[(u8, u8)]) -> Due
+    requires few { length stages.now < 255 }
+    ensures { (papers : List (List ℕ)) → result ≡ due_by (contest_of terms.now papers) lots.now (reverse stages.now) }
+{
+    match next_action(terms, stages, lots) {
+        Some(action) => Due::Act(action),
+        None => due(terms, stages),
     }
 }

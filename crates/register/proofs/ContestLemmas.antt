@@ -10,10 +10,10 @@ use Rattle.std.proofs.lemmas.List.Kept.{IsStrictlySortedBy-filter}
 use Rattle.votes.specs.Units.{max_seats, max_papers}
 use Rattle.paper.specs.Columns.{IsColumnSet, with_column}
 use Rattle.paper.specs.Ranking.{IsRanking}
-use Rattle.paper.specs.Marking.{marked_with}
+use Rattle.paper.specs.Marking.{Marking, marked_with}
 use Rattle.paper.specs.Marking as marking
 use Rattle.paper.specs.MarksText.{reading, fields, beside, marks_in}
-use Rattle.paper.specs.Preferences.{if_alone, preferences_from, preferences, rejection_of}
+use Rattle.paper.specs.Preferences.{if_alone, preferences_from, preferences, rejection_by, rejection_of}
 use Rattle.paper.specs.declared.marked.Keyed.TheVariants.{Doubtful}
 use Rattle.paper.specs.declared.marks.MarkFault.TheVariants.{FieldCount}
 use Rattle.paper.specs.declared.marks.MarkFault.{MarkFault}
@@ -90,21 +90,21 @@ preferred_in columns marks (suc most) n = go (marked_with n (zip columns marks))
     go (c ∷ []) each behind = (each c (or_left (nat_eq c c) false (eq-eqb c c refl)), behind)
     go (c ∷ d ∷ cs) each behind = tt
 
--- what holds of the preferences that any marks give in these columns holds of those that each judgement gives
-module _ (columns : List ℕ) (P : List ℕ → Type 0) (each : (marks : List ℕ) → P (preferences (zip columns marks))) where
+-- what holds of the preferences that any valid marks give in these columns holds of those that each judgement gives
+module _ (columns : List ℕ) (P : List ℕ → Type 0) (each : (marks : List ℕ) → rejection_of (zip columns marks) ≡ None → P (preferences (zip columns marks))) where
   abbrev Gives : Judgement → Type 0
   Gives judgement = AllByRecursion P (preferences_by judgement)
 
-  by_marking : (marks : List ℕ) (o : Option Rejection) → Gives (by_rejection (zip columns marks) o)
-  by_marking marks None = (each marks, tt)
-  by_marking marks (Some rejection) = tt
+  by_marking : (marks : List ℕ) (o : Option Rejection) → rejection_of (zip columns marks) ≡ o → Gives (by_rejection (zip columns marks) o)
+  by_marking marks None is = (each marks is, tt)
+  by_marking marks (Some rejection) is = tt
 
   given_reading : (marks : List ℕ) (doubtful : Judgement) → Gives doubtful → Gives (by_reading doubtful (reading columns marks))
   given_reading marks doubtful fair = by_letter (bytes_eq marks (codes "D"))
     where
       by_marks : (r : Result (List ℕ) MarkFault) → Gives (by_reading doubtful (beside columns r))
       by_marks (Err fault) = tt
-      by_marks (Ok numbers) = by_marking numbers (rejection_of (zip columns numbers))
+      by_marks (Ok numbers) = by_marking numbers (rejection_of (zip columns numbers)) refl
 
       by_count : (b : Bool) → Gives (by_reading doubtful (cond b (beside columns (marks_in (fields marks))) (Err FieldCount)))
       by_count true = by_marks (marks_in (fields marks))
@@ -146,7 +146,7 @@ module _ (columns : List ℕ) (P : List ℕ → Type 0) (each : (marks : List �
 
 -- each preference of a ward's papers is for one of its candidates
 pub papers_are_fair : (columns : List ℕ) (piles : List Pile) → AreForCandidates columns (ballots_in columns piles).papers
-papers_are_fair columns piles = papers_given columns (AreAmong columns) (λ marks. preferred_in columns marks 30 1) piles
+papers_are_fair columns piles = papers_given columns (AreAmong columns) (λ marks valid. preferred_in columns marks 30 1) piles
 
 -- the columns beside some marks are the first ones
 first_columns : (low : ℕ) (columns marks : List ℕ) → Ascends low columns → Ascends low (marking.candidates_of (zip columns marks))
@@ -157,11 +157,24 @@ first_columns low (column ∷ columns) (mark ∷ marks) up = (up.0, up.1, first_
 -- and each paper lists them in an order, none twice
 pub papers_are_rankings : (columns : List ℕ) (piles : List Pile) → IsColumnSet columns → AreRankings (ballots_in columns piles).papers
 papers_are_rankings columns piles set =
-    go (ballots_in columns piles).papers (papers_given columns IsRanking (λ marks. preferences-IsRanking (zip columns marks) (columns_from_ascends 0 _ (first_columns 0 columns marks (ascends_from_columns columns set)))) piles)
+    go (ballots_in columns piles).papers (papers_given columns IsRanking (λ marks valid. preferences-IsRanking (zip columns marks) (columns_from_ascends 0 _ (first_columns 0 columns marks (ascends_from_columns columns set)))) piles)
   where
     go : (papers : List (List ℕ)) → AllByRecursion IsRanking papers → AreRankings papers
     go [] each = tt
     go (paper ∷ papers) each = (each.0, go papers each.1)
+
+-- and has a preference at least
+preferred_some : (marking : Marking) → rejection_of marking ≡ None → 1 ≤ length (preferences marking)
+unfolding preferences_from
+preferred_some marking valid = go (marked_with 1 marking) valid
+  where
+    go : (cs : List ℕ) → rejection_by cs ≡ None → 1 ≤ length (if_alone cs (preferences_from 29 2 marking))
+    go [] is = absurd (cc)
+    go (c ∷ []) is = omega arith
+    go (c ∷ d ∷ cs) is = absurd (cc)
+
+pub papers_have_some : (columns : List ℕ) (piles : List Pile) → AllByRecursion (λ paper. 1 ≤ length paper) (ballots_in columns piles).papers
+papers_have_some columns piles = papers_given columns (λ paper. 1 ≤ length paper) (λ marks valid. preferred_some (zip columns marks) valid) piles
 
 -- ---- the papers are not too many
 

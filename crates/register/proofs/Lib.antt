@@ -30,4 +30,5 @@ mod BatchRows
 mod CountRows
 pub mod TabulatedLemmas
 mod AddedLemmas
+mod ReadBackLemmas
 mod TabulatedRows

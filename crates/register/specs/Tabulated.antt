@@ -5,12 +5,13 @@ use Rattle.std.specs.List.Sorted.{IsStrictlySortedBy, IsPermutation}
 use Rattle.std.specs.Ordering.{nat_cmp, on, then_cmp, is_eq}
 use Rattle.std.specs.Cmp.Lexicographic.{slice_cmp}
 use Rattle.std.specs.declared.cmp.Ordering.{Ordering}
-use Rattle.count.specs.Bundles.{Bundle, bundled}
+use Rattle.count.specs.Bundles.{Bundle, bundled, AreBundles}
 use Rattle.count.specs.Kept.{IsKeptOf}
 use Rattle.count.specs.Marks.{figures_at}
-use Rattle.count.specs.Law.Contest.{History}
+use Rattle.count.specs.Law.Contest.{History, IsContest}
 use Rattle.count.specs.Law.Places.{Place, place}
 use Rattle.count.specs.declared.figures.Figure.{Figure}
+use Rattle.count.specs.declared.placed.Placed.{Placed}
 use Rattle.register.specs.declared.command.Command.{Command}
 use Rattle.register.specs.declared.command.Command.TheVariants.{Ward, Candidate, Batch, Keying, Verdict, Count}
 use Rattle.register.specs.declared.counts.CountCommand.TheVariants.{Advance}
@@ -142,6 +143,16 @@ tabulation_entries t = record { bundles = map placed_entry t.bundles.items; figu
 abbrev pub addition_entries : Addition → AdditionEntries
 addition_entries a = record { placed = map placed_entry a.placed.items; moved = map placed_entry a.moved.items; figures = map figure_entry a.figures.items }
 
+-- a bundle as it is tabulated, where its papers lie, and a figure, as the count has them
+abbrev pub bundle_of : PlacedEntry → Bundle
+bundle_of b = (b.list, b.papers)
+
+abbrev pub placed_of : PlacedEntry → Placed
+placed_of b = record { holder = b.holder; value = b.value }
+
+abbrev pub shown_of : FigureEntry → Figure
+shown_of f = record { candidate = f.candidate; units = f.units; mark = f.mark }
+
 -- the addition of a change makes of the tabulation before it the one after it
 abbrev pub IsTabulated : OfficeState → Change → Type 0
 IsTabulated s change = SameTabulation (with_addition (addition_entries change.addition) (tabulation_of s)) (tabulation_of (with_change (change_entry change) s))
@@ -151,6 +162,18 @@ abbrev pub AddsWhatIsCounted : OfficeState → Decision → Type 0
 AddsWhatIsCounted s (Accepted change reply) = IsTabulated s change
 AddsWhatIsCounted s (Kept reply) = ⊤
 AddsWhatIsCounted s (Refused why) = ⊤
+
+-- ---- the count that is read back
+
+-- these are the candidates, the seats, the bundles and the figures of an election whose count has a stage
+pub record AreOfCount (e : ElectionEntry) (candidates : List ℕ) (seats : ℕ) (bundles : List PlacedEntry) (figures : List FigureEntry) : Type 0 where
+  pub begun : has_stages e ≡ true
+  pub fair : IsContest (contest_of e)
+  pub papers_are_bundled : AreBundles (bundled e.ballots.papers)
+  pub candidates_are : candidates ≡ columns_of e.candidates
+  pub seats_are : seats ≡ e.ward.seats
+  pub bundles_are : bundles ≡ bundles_in e
+  pub figures_are : figures ≡ figures_in e
 
 -- ---- the count that a view shows
 

@@ -11,6 +11,7 @@ ghost use Rattle.register.specs.Offices.{WardEntry, OfficeState, MapsRise, lot_e
 ghost use Rattle.register.specs.Nominations.{is_contested};
 ghost use Rattle.register.specs.Elections.{ElectionEntry, IsElection, IsCounted, lot_pair, election_of, has_count, contest_of, due_of, elected_of};
 ghost use Rattle.register.specs.Items.{item1, item4, is_lot, IsState};
+ghost use Rattle.register.specs.Tabulated.{IsCountOf};
 
 use crate::candidates::Candidate;
 use crate::counts::DrawnLot;
@@ -116,6 +117,18 @@ pub fn book_of<'a>(
     Ok(Some(book))
 }
 
+impl Count {
+    /// Where the count stands, in a contested ward. Takes no memory.
+    pub fn progress(&self) -> Progress
+        ensures { (e : ElectionEntry) → IsCountOf e self.now → has_count e ≡ true → (result.due ≡ due_of e) × (result.elected ≡ elected_of e) }
+    {
+        Progress {
+            due: self.kept.due_by(&self.lots),
+            elected: self.kept.elected(),
+        }
+    }
+}
+
 impl Election {
     /// The poll of the ward; none where it has no seats, or more than a ward can have, as no ward of an
     /// office has. Takes no memory.
@@ -169,5 +182,25 @@ impl Election {
             due: due_by(&book, &self.lots),
             elected: book.elected(),
         }))
+    }
+
+    /// The ward, its candidates, and their count, which has not begun: no stage is done in the ward. None where
+    /// it has more seats than a ward can have, as no ward of an office has. An error is want of memory.
+    pub fn begin(self, alloc: Global) -> Result<Option<(Ward, Vec<Candidate>, Count)>, AllocError>
+        ensures same { IfOk result (λ found. IfSome found (λ begun. (begun.0 ≡ self.ward) × (begun.1 ≡ self.candidates))) }
+        ensures is { IfOk result (λ found. IfSome found (λ begun. (e : ElectionEntry) → IsElection self e → e.ward.done ≡ 0 → IsContest (contest_of e) → IsCountOf e begun.2)) }
+        ensures some { IfOk result (λ found. self.ward.seats ≤ max_seats → IsSome found) }
+    {
+        if self.ward.seats > u32::from(MAX_SEATS) {
+            return Ok(None);
+        }
+        let seats = self.ward.seats as u8;
+        let columns = columns_of(&self.candidates);
+        let kept = KeptCount::begin(alloc, columns, seats, self.ballots.papers)?;
+        let count = Count {
+            kept,
+            lots: self.lots,
+        };
+        Ok(Some((self.ward, self.candidates, count)))
     }
 }

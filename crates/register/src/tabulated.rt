@@ -1,23 +1,26 @@
 //! What an office tabulates of its counts: where each bundle of equal ballot papers lies, and every figure of
 //! every stage.
 
-ghost use Rattle.std.specs.Prelude.{◌≡◌, ◌==◌, [], ◌++◌, ℕ, List, map, reverse, length, true, Some, IfOk, IfSome, IsSome, OnOk};
-ghost use Rattle.std.specs.List.{filter};
+ghost use Rattle.std.specs.Prelude.{◌≡◌, ◌==◌, ◌+◌, ◌≤◌, [], ◌++◌, ℕ, List, map, reverse, length, true, Some, IfOk, IfSome, IsSome, OnOk};
+ghost use Rattle.std.specs.List.{AllByRecursion, filter};
+ghost use Rattle.votes.specs.Units.{max_papers};
+ghost use Rattle.paper.specs.Columns.{max_candidates};
 ghost use Rattle.count.specs.Books.{placed};
-ghost use Rattle.count.specs.Bundles.{Bundle};
+ghost use Rattle.count.specs.Bundles.{Bundle, IsBundle, AreBundles, papers_of, with_papers};
 ghost use Rattle.count.specs.Kept.{IsKeptOf};
-ghost use Rattle.count.specs.Law.Contest.{IsContest};
 ghost use Rattle.count.specs.Law.Places.{Place};
 ghost use Rattle.register.specs.Marks.{columns_of};
-ghost use Rattle.register.specs.Offices.{OfficeState, WardEntry, ward_at};
-ghost use Rattle.register.specs.Elections.{ElectionEntry, election_of, contest_of, stages_of, is_counted_right};
+ghost use Rattle.register.specs.Offices.{OfficeState, WardEntry, ward_at, candidates_of};
+ghost use Rattle.register.specs.Elections.{ElectionEntry, election_of, contest_of, stages_of};
 ghost use Rattle.register.specs.Items.{IsState};
-ghost use Rattle.register.specs.Tabulated.{PlacedEntry, FigureEntry, TabulationRises, placed_entry, figure_entry, addition_entries, no_addition, placed_at, figure_at, figures_to, has_stages, bundles_in, figures_in, tabulation_of};
+ghost use Rattle.register.specs.Tabulated.{PlacedEntry, FigureEntry, TabulationRises, AreOfCount, has_stages, bundles_in, figures_in, tabulation_of};
+ghost use Rattle.register.specs.Tabulated.{placed_at, figure_at, figures_to, placed_entry, figure_entry, bundle_of, placed_of, shown_of, addition_entries, no_addition};
 ghost use Rattle.register.specs.WorkedTabulation.{WorkedTabulation};
 
-use count::{Bundles, Figure, KeptCount, Placed, Stage, figures_of};
+use count::{Bundles, Figure, KeptCount, Placed, Stage, figures_of, stages_of_figures};
 use paper::{Columns, Prefs};
 use std::alloc::{AllocError, Global};
+use votes::{MAX_PAPERS, Votes};
 
 /// A bundle of equal ballot papers of a ward, where it lies after the stages done: the preferences, one
 /// candidate's number (1 to 30) a byte; how many papers there are, 1 or more; who holds them, a candidate's
@@ -189,14 +192,84 @@ fn add_figures(
 
 /// The laws of what is tabulated, for its callers. At a state the bundles stand in the order of ward and list,
 /// the figures in that of ward, stage and candidate, none twice; and those of a ward are what its election has.
-/// Of an election worked by hand they are those that were worked out: before the first stage none, after two of
-/// them each bundle where it lies, at its value, and each stage's figures.
+/// Where a ward's count has a stage, its count is read back from them. Of an election worked by hand they are
+/// those that were worked out: before the first stage none, then each bundle where it lies, at its value, and
+/// the figures of each stage.
 pub fn tabulations_are_ordered()
     ensures rise { (s : OfficeState) → IsState s → TabulationRises (tabulation_of s) }
-    ensures bundles { (s : OfficeState) (w : WardEntry) → IsState s → ward_at s w.number ≡ Some w → filter (λ (b : PlacedEntry). b.ward == w.number) (tabulation_of s).bundles ≡ bundles_in (election_of s w) }
-    ensures figures { (s : OfficeState) (w : WardEntry) → IsState s → ward_at s w.number ≡ Some w → filter (λ (f : FigureEntry). f.ward == w.number) (tabulation_of s).figures ≡ figures_in (election_of s w) }
+    ensures bundles { (s : OfficeState) (w : WardEntry) → IsState s → ward_at s w.number ≡ Some w
+        → filter (λ (b : PlacedEntry). b.ward == w.number) (tabulation_of s).bundles ≡ bundles_in (election_of s w) }
+    ensures figures { (s : OfficeState) (w : WardEntry) → IsState s → ward_at s w.number ≡ Some w
+        → filter (λ (f : FigureEntry). f.ward == w.number) (tabulation_of s).figures ≡ figures_in (election_of s w) }
+    ensures counted { (s : OfficeState) (w : WardEntry) → IsState s → ward_at s w.number ≡ Some w → has_stages (election_of s w) ≡ true
+        → AreOfCount (election_of s w) (columns_of (candidates_of s w.number)) w.seats (bundles_in (election_of s w)) (figures_in (election_of s w)) }
     ensures worked { WorkedTabulation }
 {}
+
+/// Adds a bundle to others, and says whether it could: whether its list is one of preferences, it has a paper,
+/// and they are of `MAX_PAPERS` papers at most with it. An error is want of memory.
+fn add_bundle(bundles: &mut Bundles, bundle: &PlacedBundle) -> Result<bool, AllocError>
+    ensures ok { IfOk result (λ added. added ≡ true → bundles.new ≡ with_papers bundles.old bundle.now.list.items bundle.now.papers) }
+    ensures fits { IfOk result (λ added. IsBundle (bundle_of (placed_entry bundle.now)) → length (papers_of bundles.old) + bundle.now.papers ≤ max_papers → added ≡ true) }
+{
+    let Some(list) = Prefs::from_slice(&bundle.list) else {
+        return Ok(false);
+    };
+    let room = MAX_PAPERS - bundles.papers();
+    if bundle.papers < 1 || bundle.papers > room {
+        return Ok(false);
+    }
+    bundles.add_papers(list, bundle.papers)?;
+    Ok(true)
+}
+
+/// The bundles of a ward; none where they are no bundles, or of too many papers. An error is want of memory.
+fn bundles_of(alloc: Global, tabulated: &[PlacedBundle]) -> Result<Option<Bundles>, AllocError>
+    ensures is { IfOk result (λ found. IfSome found (λ bundles. AreBundles (map bundle_of (map placed_entry tabulated.now)) → bundles ≡ map bundle_of (map placed_entry tabulated.now))) }
+    ensures some { IfOk result (λ found. AreBundles (map bundle_of (map placed_entry tabulated.now))
+        → length (papers_of (map bundle_of (map placed_entry tabulated.now))) ≤ max_papers → IsSome found) }
+{
+    let mut bundles = Bundles::new(alloc);
+    for bundle in tabulated {
+        if !add_bundle(&mut bundles, bundle)? {
+            return Ok(None);
+        }
+    }
+    Ok(Some(bundles))
+}
+
+/// Where the bundles of a ward lie; none where a holder is no candidate's number. An error is want of memory.
+fn places_of(alloc: Global, tabulated: &[PlacedBundle]) -> Result<Option<Vec<Placed>>, AllocError>
+    ensures is { IfOk result (λ found. IfSome found (λ places. places.items ≡ map placed_of (map placed_entry tabulated.now))) }
+    ensures some { IfOk result (λ found. AllByRecursion (λ (at : Placed). at.holder ≤ max_candidates) (map placed_of (map placed_entry tabulated.now)) → IsSome found) }
+{
+    let mut places = Vec::with_capacity(alloc, tabulated.len())?;
+    for bundle in tabulated {
+        let Ok(holder) = u8::try_from(bundle.holder) else {
+            return Ok(None);
+        };
+        places.push(Placed {
+            holder,
+            value: Votes::from_units(bundle.value),
+        })?;
+    }
+    Ok(Some(places))
+}
+
+/// The figures of a ward, as the count has them, stage by stage. An error is want of memory.
+fn figures_shown(alloc: Global, tabulated: &[StageFigure]) -> Result<Vec<Figure>, AllocError>
+    ensures { IfOk result (λ figures. figures.items ≡ map shown_of (map figure_entry tabulated.now)) }
+{
+    let mut figures = Vec::with_capacity(alloc, tabulated.len())?;
+    for figure in tabulated {
+        figures.push(Figure {
+            candidate: figure.candidate,
+            units: figure.units,
+            mark: figure.mark,
+        })?;
+    }
+    Ok(figures)
+}
 
 /// The count of a ward as its tabulated bundles and figures have it; none where they are those of no count. An
 /// error is want of memory.
@@ -207,12 +280,22 @@ pub fn count_of(
     bundles: &[PlacedBundle],
     figures: &[StageFigure],
 ) -> Result<Option<KeptCount>, AllocError>
-    ensures is { IfOk result (λ found. IfSome found (λ kept. (e : ElectionEntry) → IsContest (contest_of e) → is_counted_right e ≡ true → has_stages e ≡ true
-        → candidates ≡ columns_of e.candidates → seats ≡ e.ward.seats → map placed_entry bundles.now ≡ bundles_in e → map figure_entry figures.now ≡ figures_in e
+    ensures is { IfOk result (λ found. IfSome found (λ kept. (e : ElectionEntry) → AreOfCount e candidates seats (map placed_entry bundles.now) (map figure_entry figures.now)
         → IsKeptOf (contest_of e) (stages_of e) kept)) }
-    ensures some { IfOk result (λ found. (e : ElectionEntry) → IsContest (contest_of e) → is_counted_right e ≡ true → has_stages e ≡ true
-        → candidates ≡ columns_of e.candidates → seats ≡ e.ward.seats → map placed_entry bundles.now ≡ bundles_in e → map figure_entry figures.now ≡ figures_in e
-        → IsSome found) }
+    ensures some { IfOk result (λ found. (e : ElectionEntry) → AreOfCount e candidates seats (map placed_entry bundles.now) (map figure_entry figures.now) → IsSome found) }
 {
-    Err(AllocError)
+    let Ok(seats) = u8::try_from(seats) else {
+        return Ok(None);
+    };
+    let Some(kept) = bundles_of(alloc, bundles)? else {
+        return Ok(None);
+    };
+    let Some(places) = places_of(alloc, bundles)? else {
+        return Ok(None);
+    };
+    let figures = figures_shown(alloc, figures)?;
+    let Some(stages) = stages_of_figures(alloc, &candidates, &figures)? else {
+        return Ok(None);
+    };
+    Ok(KeptCount::resume(candidates, seats, kept, places, stages))
 }

@@ -88,7 +88,7 @@ ended_none contest stages (Some c) (Lot stage kind tied) e is = by_tied (list_an
     by_tied false h = refl
 
 -- what is due by the lots, where a lot is due: the action that it draws, or still the lot where it is refused
-refused_none : (contest : Contest) (stages : History) (lot : Option ℕ) (due : Due) (e : AdvanceError) → refusal lot due ≡ Some e → drawn contest stages lot due ≡ None
+pub refused_none : (contest : Contest) (stages : History) (lot : Option ℕ) (due : Due) (e : AdvanceError) → refusal lot due ≡ Some e → drawn contest stages lot due ≡ None
 refused_none contest stages lot (Act action) e is = cc
 refused_none contest stages None Finished e is = refl
 refused_none contest stages (Some c) Finished e is = refl

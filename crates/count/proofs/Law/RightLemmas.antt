@@ -54,7 +54,7 @@ same_moved : (contest : Contest) (papers : List (List ℕ)) (before : History) (
     at' ≡ at → moved (reordered contest papers) before a p at' ≡ moved contest before a p at
 same_moved contest papers before a p at at' same = ap (moved contest before a p) same
 
-same_place : (contest : Contest) (papers : List (List ℕ)) (stages : History) (p : List ℕ) → place (reordered contest papers) stages p ≡ place contest stages p
+pub same_place : (contest : Contest) (papers : List (List ℕ)) (stages : History) (p : List ℕ) → place (reordered contest papers) stages p ≡ place contest stages p
 same_place contest papers [] p = refl
 same_place contest papers (s ∷ before) p = same_moved contest papers before s.action p _ _ (same_place contest papers before p)
 

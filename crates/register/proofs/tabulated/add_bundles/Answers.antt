@@ -1,5 +1,5 @@
 -- Why `add_bundles` keeps its promise.
-use Rattle.std.proofs.Common.{rules, ◌≡◌, ◌++◌, ◌+◌, ◌∷◌, ◌∙◌, [], ℕ, List, map, refl, ap, sym, subst, append-nil}
+use Rattle.std.proofs.Common.{rules, ◌≡◌, ◌++◌, ◌∷◌, ◌∙◌, [], List, map, ap, sym, subst, append-nil}
 use Rattle.std.proofs.lemmas.List.{map-append}
 use Rattle.count.specs.Bundles.{Bundle}
 use Rattle.count.specs.declared.placed.Placed.{Placed}

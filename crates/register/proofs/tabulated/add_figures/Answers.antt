@@ -1,5 +1,5 @@
 -- Why `add_figures` keeps its promise.
-use Rattle.std.proofs.Common.{rules, ◌≡◌, ◌+◌, ◌∙◌, map, take, reverse}
+use Rattle.std.proofs.Common.{rules, ◌≡◌, ◌+◌, map, take, reverse}
 use Rattle.count.specs.Marks.{figures_at}
 use Rattle.register.specs.Tabulated.{figure_entry}
 use Rattle.register.proofs.AddedLemmas.{figures_more}

@@ -1,5 +1,6 @@
 -- Why `tabulations_are_ordered` keeps its promise.
 use Rattle.register.proofs.TabulatedLemmas.{tabulation_rises, bundles_of_ward, figures_of_ward}
+use Rattle.register.proofs.ReadBackLemmas.{counted_at}
 use Rattle.register.proofs.TabulatedRows.{worked_tabulation}
 use Rattle.register.proofs.tabulated.tabulations_are_ordered.Goals as goal
 
@@ -11,6 +12,9 @@ returns-clause-bundles c = bundles_of_ward
 
 pub returns-clause-figures : goal.returns-clause-figures
 returns-clause-figures c = figures_of_ward
+
+pub returns-clause-counted : goal.returns-clause-counted
+returns-clause-counted c = counted_at
 
 pub returns-clause-worked : goal.returns-clause-worked
 returns-clause-worked c = worked_tabulation

@@ -1,5 +1,5 @@
 -- Why `BundleBook::places` keeps its promise.
-use Rattle.std.proofs.Common.{◌≡◌, reverse, sym, subst, ap, ◌∙◌}
+use Rattle.std.proofs.Common.{reverse, sym, subst, ap, ◌∙◌}
 use Rattle.std.specs.List.Sorted.{IsPermutation}
 use Rattle.count.specs.Books.{BundledBook}
 use Rattle.count.specs.Bundles.{papers_of}

@@ -12,7 +12,7 @@ pub invariant_of-result : goal.invariant_of-result
 invariant_of-result c =
     let asked : Contest = contest_for c.args.candidates c.args.seats (papers_of c.args.bundles.now) in
     let contest : Contest = contest_on c.terms_on-terms.result c.args.bundles.now in
-    let same : contest ≡ asked = c.terms_on-terms.ensures.is in
+    let same : contest ≡ asked = c.terms_on-terms.ensures.is c.requires.contest in
     let copied : c.in_ok-stages.stages.items ≡ c.args.stages.now = c.in_ok-stages.ensures.items in
     record {
       fair = subst IsContest (sym same) c.requires.contest;
