@@ -21,7 +21,9 @@ use crate::entries::lots::Lots;
 use crate::entries::receipts::Receipts;
 use crate::entries::verdicts::JudgedPapers;
 use crate::entries::wards::Wards;
-use register::{Batch, Candidate, DrawnLot, JudgedPaper, KeyedPaper, PlacedBundle, Receipt, StageFigure, Ward};
+use register::{
+    Batch, Candidate, DrawnLot, JudgedPaper, KeyedPaper, PlacedBundle, Receipt, StageFigure, Ward,
+};
 use rowcheck::Rows;
 use sqlite::{Alter, Connection};
 use std::alloc::Global;
