@@ -1,5 +1,5 @@
 -- The laws of a count hold of each book by bundles, and one that advances stays one.
-use Rattle.std.proofs.Common.{◌≡◌, ℕ, suc, zero, ◌+◌, ◌<◌, List, [], ◌∷◌, ◌++◌, length, map, replicate, reverse, Option, sym, ap, ◌∙◌, arith, subst, Some}
+use Rattle.std.proofs.Common.{◌≡◌, ℕ, suc, zero, ◌+◌, ◌<◌, ◌≤◌, List, [], ◌∷◌, ◌++◌, length, map, replicate, reverse, Option, sym, ap, ◌∙◌, arith, subst, Some}
 use Rattle.std.specs.List.{AllByRecursion}
 use Rattle.std.proofs.lemmas.List.{length-reverse}
 use Rattle.paper.proofs.ColumnSets.{length_columns}
@@ -15,7 +15,9 @@ use Rattle.count.specs.Law.Figures.{votes_after, non_transferable_after, lost_af
 use Rattle.count.specs.Law.Laws.{IsConserved, IsShort, FillsSeats, OnlyCandidatesHaveVotes, IsAmongSeveral}
 use Rattle.count.specs.Law.Right.{IsRightBy, IsRightByItself, IsRightForSome, candidate_of}
 use Rattle.count.specs.Inside.Keeping.{with_newly, IsAdded}
-use Rattle.count.specs.Inside.Placing.{contest_on, places_of, IsBundled, IsFigured}
+use Rattle.count.specs.Inside.Holdings.{newest_lost}
+use Rattle.count.specs.Inside.Placing.{contest_on, places_of, IsBundled, IsFigured, IsSound}
+use Rattle.votes.specs.Units.{max_units}
 use Rattle.count.specs.declared.placed.Placed.{Placed}
 use Rattle.count.specs.declared.stages.Action.{Action}
 use Rattle.count.specs.declared.stages.Due.{Due}
@@ -24,6 +26,8 @@ use Rattle.count.specs.declared.stages.Stage.{Stage}
 use Rattle.count.specs.declared.terms.Terms.{Terms}
 use Rattle.count.proofs.BookLemmas.{adds-advances, adds-right, drawn-due}
 use Rattle.count.proofs.BundleLaws.{same-bundles}
+use Rattle.count.proofs.PlaceLemmas.{sound-places}
+use Rattle.count.proofs.WeightLemmas.{lost-few}
 use Rattle.count.proofs.Law.ActionLemmas.{stages-bound}
 use Rattle.count.proofs.Law.ConservedLemmas.{all-conserved}
 use Rattle.count.proofs.Law.FinishLemmas.{finished-elected, lots-several}
@@ -100,6 +104,13 @@ pub adds-bundled : (contest : Contest) (before : History) (lot : Option ℕ) (ac
     Adds contest before action after → new ≡ places_of contest after bundles → IsBundled contest after bundles new
 adds-bundled contest before lot action after bundles old new book was adds are =
     record { fair = book.fair; right = adds-right contest before lot action after book.right was adds; bundles_are = book.bundles_are; papers_are = book.papers_are; places_are = are }
+
+-- the numbers of a book are in range
+pub book-sound : (contest : Contest) (history : History) (bundles : List Bundle) (places : List Placed) → IsBundled contest history bundles places → AllByRecursion IsSound places
+book-sound contest history bundles places book = subst (AllByRecursion IsSound) (sym book.places_are) (sound-places contest history bundles book.fair book.bundles_are.each)
+
+pub book-lost : (contest : Contest) (history : History) (bundles : List Bundle) (places : List Placed) → IsBundled contest history bundles places → newest_lost history ≤ max_units
+book-lost contest history bundles places book = lost-few contest history book.fair book.right
 
 own_lots : (contest : Contest) (handed : History → Stage → Option ℕ) (stages : History) → IsRightBy contest handed stages → IsRightByItself contest stages
 own_lots contest handed [] right = tt

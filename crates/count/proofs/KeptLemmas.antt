@@ -1,5 +1,5 @@
 -- A count that was kept is one on the papers of its bundles.
-use Rattle.std.proofs.Common.{◌≡◌, ℕ, ◌+◌, ◌*◌, ◌≤◌, List, [], ◌∷◌, length, map, reverse, refl, sym, ap, ◌∙◌, arith, subst}
+use Rattle.std.proofs.Common.{◌≡◌, ℕ, ◌+◌, ◌*◌, ◌≤◌, List, [], ◌∷◌, length, map, reverse, Some, refl, sym, ap, ◌∙◌, arith, subst}
 use Rattle.std.specs.List.{AllByRecursion}
 use Rattle.std.specs.List.Sorted.{IsPermutation}
 use Rattle.std.proofs.lemmas.List.{length-reverse, reverse-reverse}
@@ -7,21 +7,25 @@ use Rattle.std.proofs.lemmas.List.Sorted.{IsPermutation-sym}
 use Rattle.votes.specs.Units.{one_vote, quota_of}
 use Rattle.count.specs.Books.{contest_of, placed}
 use Rattle.count.specs.Bundles.{Bundle, papers_of, bundled, AreBundles}
-use Rattle.count.specs.Kept.{CountKept, IsKeptOf}
+use Rattle.count.specs.Advance.{Adds}
+use Rattle.count.specs.Kept.{CountKept, IsKeptOf, places_after}
 use Rattle.count.specs.Law.Contest.{Contest, History, IsContest, contest_for}
+use Rattle.count.specs.Law.Count.{stage_of, with_stage, with_next}
+use Rattle.count.specs.Law.Due.{next_action, lot_for}
 use Rattle.count.specs.Law.Laws.{IsConserved}
 use Rattle.count.specs.Law.Places.{place}
 use Rattle.count.specs.Law.Right.{IsRightForSome, reordered}
 use Rattle.count.specs.Inside.Holdings.{newest_lost}
-use Rattle.count.specs.Inside.Placing.{contest_on, places_of, IsBundled, IsSound, nowhere}
+use Rattle.count.specs.Inside.Placing.{contest_on, places_of, IsBundled, IsDueInBook, IsSound, nowhere}
 use Rattle.count.specs.Inside.Resuming.{IsInRange}
 use Rattle.count.specs.declared.placed.Placed.{Placed}
+use Rattle.count.specs.declared.stages.Action.{Action}
 use Rattle.count.specs.declared.stages.Stage.{Stage}
 use Rattle.count.specs.declared.terms.Terms.{Terms}
-use Rattle.count.proofs.BundleBookLemmas.{some-own, bundled-conserved, bundled-short}
+use Rattle.count.proofs.BundleBookLemmas.{some-own, bundled-conserved, bundled-short, book-sound}
 use Rattle.count.proofs.OrderLemmas.{bundled-length, bundled-permutation, contest-bundled}
-use Rattle.count.proofs.PlaceLemmas.{sound-places}
-use Rattle.count.proofs.Law.RightLemmas.{same_place, right_reordered}
+use Rattle.count.proofs.Law.CountLemmas.{next_reordered}
+use Rattle.count.proofs.Law.RightLemmas.{is_told, same_place, right_reordered}
 
 -- the contest on the papers of the bundles
 on_bundles : Contest → List Bundle → Contest
@@ -99,8 +103,7 @@ kept-bundled contest history kept bundles is =
 -- so it is in the range of a count:
 pub kept-sound : (contest : Contest) (history : History) (kept : CountKept) → AreBundles kept.bundles → IsKeptOf contest history kept → AllByRecursion IsSound kept.places
 kept-sound contest history kept bundles is =
-    let book = kept-bundled contest history kept bundles is in
-    subst (AllByRecursion IsSound) (sym book.places_are) (sound-places (reordered contest (papers_of kept.bundles)) history kept.bundles book.fair bundles.each)
+    book-sound (reordered contest (papers_of kept.bundles)) history kept.bundles kept.places (kept-bundled contest history kept bundles is)
 
 pub kept-short : (contest : Contest) (history : History) (kept : CountKept) → AreBundles kept.bundles → IsKeptOf contest history kept → length kept.stages ≤ length kept.candidates + 1
 kept-short contest history kept bundles is =
@@ -145,3 +148,37 @@ kept-first contest kept fair candidates_are seats_are bundles_are places_are sta
       places_are = places_are;
       stages_are = stages_are;
     }
+
+-- what an action that comes next brings a count that was kept to is what comes next in its contest
+pub kept-next : (contest : Contest) (history : History) (lots : List (ℕ × ℕ)) (terms : Terms) (bundles : List Bundle) (places new_places : List Placed) (stages new_stages : List Stage) (action : Action) →
+    IsInRange terms bundles places stages → IsKeptOf contest history (kept_of terms bundles places stages) →
+    ((papers : List (List ℕ)) → Some action ≡ next_action (contest_of terms papers) lots (reverse stages)) →
+    (IsDueInBook (contest_on terms bundles) (reverse stages) bundles places action → new_places ≡ places_of (contest_on terms bundles) (reverse new_stages) bundles) →
+    (IsDueInBook (contest_on terms bundles) (reverse stages) bundles places action → Adds (contest_on terms bundles) (reverse stages) action (reverse new_stages)) →
+    (new_places ≡ places_after contest (with_next contest lots history) bundles) × (new_stages ≡ reverse (with_next contest lots history))
+kept-next contest history lots terms bundles places new_places stages new_stages action range kept comes moved acted =
+    let before : History = reverse stages in
+    let papers : List (List ℕ) = papers_of bundles in
+    let on : Contest = contest_on terms bundles in
+    let next : History = with_next contest lots history in
+    let same : on ≡ reordered contest papers = kept-terms contest history terms bundles places stages range kept in
+    let stages_are : before ≡ history = ap reverse kept.stages_are ∙ reverse-reverse history in
+    let book : IsBundled on before bundles places = subst (λ (k : Contest). IsBundled k before bundles places) (sym same)
+    (subst (λ (h : History). IsBundled (reordered contest papers) h bundles places) (sym stages_are) (kept-bundled contest history (kept_of terms bundles places stages) range.bundles_are kept)) in
+    let due : IsDueInBook on before bundles places action = record { book = book; due = record { lot = lot_for lots (length before + 1); is = sym (comes papers) } } in
+    let adds = acted due in
+    let order : IsPermutation contest.papers papers = subst (λ (bs : List Bundle). IsPermutation contest.papers (papers_of bs)) (sym kept.bundles_are) (bundled-permutation contest.papers) in
+    let longer : reverse new_stages ≡ next =
+    adds.one_more
+    ∙ ap (λ (s : Stage). s ∷ before) (is_told on before adds.stage adds.tells)
+    ∙ ap (λ (a : Action). stage_of on before a ∷ before) adds.of_action
+    ∙ ap (with_stage on before) (comes papers)
+    ∙ ap (λ (k : Contest). with_next k lots before) same
+    ∙ ap (with_next (reordered contest papers) lots) stages_are
+    ∙ next_reordered contest papers history (next_action contest lots history) order in (
+      moved due
+          ∙ ap (λ (h : History). places_of on h bundles) longer
+          ∙ ap (λ (k : Contest). places_of k next bundles) same
+          ∙ places-same contest papers next bundles,
+      sym (reverse-reverse new_stages) ∙ ap reverse longer,
+    )

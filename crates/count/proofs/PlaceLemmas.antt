@@ -13,8 +13,8 @@ use Rattle.count.specs.Law.Contest.{Contest, History, IsContest, newest_votes}
 use Rattle.count.specs.Law.Count.{begun}
 use Rattle.count.specs.Law.Elected.{is_continuing, continuing_after}
 use Rattle.count.specs.Law.Places.{Place, place, moved, passed_on, first_of, after, next_available, surplus_of}
-use Rattle.count.specs.Inside.Holdings.{new_value}
-use Rattle.count.specs.Inside.Placing.{places_of, IsSound, passed_at, passed_places}
+use Rattle.count.specs.Inside.Holdings.{new_value, IsTransferRule, OnlyColumns}
+use Rattle.count.specs.Inside.Placing.{places_of, IsSound, first_places, passed_at, passed_places}
 use Rattle.count.specs.declared.parcel.TransferRule.{TransferRule}
 use Rattle.count.specs.declared.parcel.TransferRule.TheVariants.{AsReceived, Share}
 use Rattle.count.specs.declared.placed.Placed.{Placed}
@@ -131,3 +131,23 @@ passed-end continues rule c made all rest left none so_far =
     ∙ ap (λ (l : List Placed). made ++ l) (sym (passed-none continues rule c rest))
     ∙ ap (λ (l : List Bundle). made ++ passed_places continues rule c rest l) (sym none)
     ∙ so_far
+
+-- places are sound after each pass:
+pub sound-first : (bundles : List Bundle) → AllByRecursion IsBundle bundles → AllByRecursion IsSound (first_places bundles)
+sound-first [] each = tt
+sound-first (b ∷ bs) each = ((first_few b.0 each.0.2, omega arith), sound-first bs each.1)
+
+new_small : (rule : TransferRule) (v : ℕ) → IsTransferRule rule → v ≤ one_vote → new_value rule v ≤ one_vote
+new_small AsReceived v is small = small
+new_small (Share s t) v is small = omega (arith, cut-small s v t (omega (arith, is.1)), small)
+
+passed_sound : (b : Bool) (h v : ℕ) (at : Placed) → h ≤ max_candidates → v ≤ one_vote → IsSound at → IsSound (let m : Placed = record { holder = h; value = v } in cond b m at)
+passed_sound true h v at few small sound = (few, small)
+passed_sound false h v at few small sound = sound
+
+pub sound-passed : (continues : ℕ → Bool) (rule : TransferRule) (c : ℕ) (places : List Placed) (bundles : List Bundle) → OnlyColumns continues → IsTransferRule rule → AllByRecursion IsSound places →
+    AllByRecursion IsSound (passed_places continues rule c places bundles)
+sound-passed continues rule c [] bundles only is sound = tt
+sound-passed continues rule c (at ∷ places) [] only is sound = tt
+sound-passed continues rule c (at ∷ places) (b ∷ bs) only is sound =
+    (passed_sound (eqb at.holder c) _ (new_value rule at.value) at (first-known continues (drop 1 (from_first (λ d. eqb d c) b.0)) only) (new_small rule at.value is sound.0.1) sound.0, sound-passed continues rule c places bs only is sound.1)

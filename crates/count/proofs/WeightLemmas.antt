@@ -1,9 +1,11 @@
 -- What the papers of bundles are worth is what the law adds up over all papers.
-use Rattle.std.proofs.Common.{◌≡◌, ℕ, suc, zero, ◌+◌, ◌*◌, ◌≤◌, ◌||◌, cond, List, [], ◌∷◌, map, replicate, slice_index, Option, refl, sym, ap, ◌∙◌, arith}
-use Rattle.std.specs.List.{sum_by}
+use Rattle.std.proofs.Common.{◌≡◌, ℕ, suc, zero, ◌+◌, ◌*◌, ◌≤◌, ◌||◌, Bool, true, false, cond, eqb, List, [], ◌∷◌, length, map, replicate, slice_index, Option, refl, sym, ap, ◌∙◌, arith, length-append}
+use Rattle.std.specs.List.{AllByRecursion, sum_by}
+use Rattle.std.proofs.Math.Nat.{mul-le-mul_left}
+use Rattle.std.proofs.lemmas.List.{length-replicate}
 use Rattle.std.proofs.lemmas.List.Sums.{sum_by-append}
 use Rattle.std.proofs.lemmas.List.Folds.{sum_by-replicate}
-use Rattle.votes.specs.Units.{max_units}
+use Rattle.votes.specs.Units.{one_vote, max_papers, max_units}
 use Rattle.paper.specs.Columns.{max_candidates}
 use Rattle.count.specs.Advance.{IsDue}
 use Rattle.count.specs.Books.{placed}
@@ -15,16 +17,13 @@ use Rattle.count.specs.Law.Figures.{votes_after, non_transferable_after, lost_af
 use Rattle.count.specs.Law.Places.{place}
 use Rattle.count.specs.Law.Right.{IsRightByItself, candidate_of}
 use Rattle.count.specs.Inside.Holdings.{newest_lost}
-use Rattle.count.specs.Inside.Placing.{places_of, IsBundled, value_of, value_to, worth_placed, votes_from, lost_from}
+use Rattle.count.specs.Inside.Placing.{places_of, IsDueInBook, IsSound, value_of, value_to, worth_placed, votes_from, lost_from}
 use Rattle.count.specs.declared.placed.Placed.{Placed}
 use Rattle.count.specs.declared.stages.Action.{Action}
 use Rattle.count.specs.declared.stages.Action.TheVariants.{First, Surplus, Exclude, ExcludeLast}
 use Rattle.count.specs.declared.stages.Stage.{Stage}
 use Rattle.count.proofs.MoveLemmas.{surplus-lawful}
-use Rattle.count.proofs.SumLemmas.{sum_by-none}
 use Rattle.count.proofs.TallyLemmas.{map-numbers, newest_lost-is, newest_small}
-use Rattle.count.proofs.Law.CandidateSums.{one-within}
-use Rattle.count.proofs.Law.QuotaLemmas.{values-conserved, values-conserved-next}
 use Rattle.count.proofs.Law.StepLemmas.{step-first, surplus-held}
 use Rattle.count.proofs.Law.ValueLemmas.{all_values, held, surplus-conserves}
 
@@ -55,27 +54,28 @@ pub worth-held : (h : ℕ) (contest : Contest) (stages : History) (bundles : Lis
     worth_placed (value_to h) places bundles ≡ held contest stages h
 worth-held h contest stages bundles places papers are = worth-places (value_to h) contest stages bundles places papers are
 
--- all papers are worth no more than a vote each
-values-few : (contest : Contest) (stages : History) → IsContest contest → IsRightByItself contest stages → all_values contest stages ≤ max_units
-values-few contest [] fair right = omega (arith, sum_by-none (λ p. 0) contest.papers (λ p. refl))
-values-few contest (s ∷ before) fair right = omega (arith, values-conserved contest (λ h t. candidate_of t.action) s before fair right, fair.few_papers)
+-- where all places are sound, papers are worth no more than a vote each, together and to each holder
+worth-sound : (f : Placed → ℕ) (places : List Placed) (bundles : List Bundle) → ((at : Placed) → IsSound at → f at ≤ one_vote) → AllByRecursion IsSound places → worth_placed f places bundles ≤ one_vote * length (papers_of bundles)
+worth-sound f [] bundles small sound = omega arith
+worth-sound f (at ∷ places) [] small sound = omega arith
+worth-sound f (at ∷ places) (b ∷ bs) small sound =
+    let here : b.1 * f at ≤ b.1 * one_vote = mul-le-mul_left b.1 (small at sound.0) in
+    let many : length (papers_of (b ∷ bs)) ≡ b.1 + length (papers_of bs) =
+    length-append (replicate b.1 b.0) (papers_of bs) ∙ ap (λ n. n + length (papers_of bs)) (length-replicate b.1 b.0) in
+    omega (arith, here, many, worth-sound f places bs small sound.1)
 
-values-few-next : (contest : Contest) (before : History) (action : Action) → IsContest contest → IsRightByItself contest before → IsDue contest before action → all_values contest (begun action [] ∷ before) ≤ max_units
-values-few-next contest before action fair right due = omega (arith, values-conserved-next contest (λ h t. candidate_of t.action) (begun action []) before fair right due, fair.few_papers)
+pub worth-few : (places : List Placed) (bundles : List Bundle) → AllByRecursion IsSound places → length (papers_of bundles) ≤ max_papers → worth_placed value_of places bundles ≤ max_units
+worth-few places bundles sound few = omega (arith, worth-sound value_of places bundles (λ at is. is.1) sound, few)
 
-pub old-few : (contest : Contest) (stages : History) (bundles : List Bundle) (places : List Placed) → IsBundled contest stages bundles places → worth_placed value_of places bundles ≤ max_units
-old-few contest stages bundles places book = omega (arith, worth-all contest stages bundles places book.papers_are book.places_are, values-few contest stages book.fair book.right)
+value_within : (h : ℕ) (at : Placed) → IsSound at → value_to h at ≤ one_vote
+value_within h at sound = within (eqb at.holder h) at.value sound.1
+  where
+    within : (b : Bool) (v : ℕ) → v ≤ one_vote → cond b v 0 ≤ one_vote
+    within true v small = small
+    within false v small = omega arith
 
-pub new-few : (contest : Contest) (before : History) (action : Action) (bundles : List Bundle) (places moved : List Placed) → IsBundled contest before bundles places → IsDue contest before action →
-    moved ≡ places_of contest (begun action [] ∷ before) bundles → worth_placed value_of moved bundles ≤ max_units
-new-few contest before action bundles places moved book due are =
-    omega (arith, worth-all contest (begun action [] ∷ before) bundles moved book.papers_are are, values-few-next contest before action book.fair book.right due)
-
--- nor are those of one holder
-pub held-few : (contest : Contest) (before : History) (action : Action) (bundles : List Bundle) (places moved : List Placed) → IsBundled contest before bundles places → IsDue contest before action →
-    moved ≡ places_of contest (begun action [] ∷ before) bundles → (h : ℕ) → worth_placed (value_to h) moved bundles ≤ max_units
-held-few contest before action bundles places moved book due are h =
-    omega (arith, worth-held h contest (begun action [] ∷ before) bundles moved book.papers_are are, one-within contest (begun action [] ∷ before) h, values-few-next contest before action book.fair book.right due)
+pub holder-few : (places : List Placed) (bundles : List Bundle) → AllByRecursion IsSound places → length (papers_of bundles) ≤ max_papers → (h : ℕ) → worth_placed (value_to h) places bundles ≤ max_units
+holder-few places bundles sound few h = omega (arith, worth-sound (value_to h) places bundles (value_within h) sound, few)
 
 pub lost-few : (contest : Contest) (stages : History) → IsContest contest → IsRightByItself contest stages → newest_lost stages ≤ max_units
 lost-few contest stages fair right = (newest_small contest (λ h t. candidate_of t.action) stages [] fair right (omega arith)).lost_small
@@ -110,13 +110,13 @@ lost_at contest (s ∷ before) (Surplus c) fair right due =
 lost_at contest before (Exclude c) fair right due = omega (arith, newest_lost-is contest (λ h t. candidate_of t.action) before right)
 lost_at contest before (ExcludeLast c) fair right due = omega (arith, newest_lost-is contest (λ h t. candidate_of t.action) before right)
 
-pub lost-figured : (contest : Contest) (before : History) (action : Action) (bundles : List Bundle) (places moved : List Placed) (old new : ℕ) → IsBundled contest before bundles places → IsDue contest before action →
+pub lost-figured : (contest : Contest) (before : History) (action : Action) (bundles : List Bundle) (places moved : List Placed) (old new : ℕ) → IsDueInBook contest before bundles places action →
     moved ≡ places_of contest (begun action [] ∷ before) bundles → old ≡ worth_placed value_of places bundles → new ≡ worth_placed value_of moved bundles →
     lost_from contest.quota before action old new ≡ lost_after contest (begun action [] ∷ before)
-lost-figured contest before action bundles places moved old new book due are old_is new_is =
-    ap (λ n. lost_from contest.quota before action n new) (old_is ∙ worth-all contest before bundles places book.papers_are book.places_are)
-    ∙ ap (lost_from contest.quota before action (all_values contest before)) (new_is ∙ worth-all contest (begun action [] ∷ before) bundles moved book.papers_are are)
-    ∙ lost_at contest before action book.fair book.right due
+lost-figured contest before action bundles places moved old new due are old_is new_is =
+    ap (λ n. lost_from contest.quota before action n new) (old_is ∙ worth-all contest before bundles places due.book.papers_are due.book.places_are)
+    ∙ ap (lost_from contest.quota before action (all_values contest before)) (new_is ∙ worth-all contest (begun action [] ∷ before) bundles moved due.book.papers_are are)
+    ∙ lost_at contest before action due.book.fair due.book.right due.due
 
 -- where no bundle is left, nothing is worth anything
 pub worth-none : (f : Placed → ℕ) (places : List Placed) → worth_placed f places [] ≡ 0

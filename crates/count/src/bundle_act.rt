@@ -1,8 +1,11 @@
-//! Adding the stage of an action that is due, on bundles.
+//! Adding the stage of an action, on bundles.
 
-ghost use Rattle.std.specs.Prelude.{◌≡◌, reverse, OnOk, OnErr};
-ghost use Rattle.count.specs.Advance.{Adds, IsDue};
-ghost use Rattle.count.specs.Inside.Placing.{contest_on, places_of, IsBundled};
+ghost use Rattle.std.specs.Prelude.{◌≡◌, ◌≤◌, reverse, IfOk};
+ghost use Rattle.std.specs.List.{AllByRecursion};
+ghost use Rattle.votes.specs.Units.{max_units};
+ghost use Rattle.count.specs.Advance.{Adds};
+ghost use Rattle.count.specs.Inside.Holdings.{newest_lost};
+ghost use Rattle.count.specs.Inside.Placing.{contest_on, places_of, IsDueInBook, IsSound};
 
 use crate::bundles::Bundles;
 use crate::placed::Placed;
@@ -13,27 +16,25 @@ use crate::terms::Terms;
 use crate::weights::figured;
 use std::alloc::{AllocError, Global};
 
-/// Brings the bundles to their new places as an action that is due says, and adds its stage. All growth
-/// comes before the first change, so that want of memory leaves places and stages as they were.
-pub fn act_on_bundles(
+/// The places of bundles and the stages, as an action leaves them; the old ones stay as they are. An action
+/// that isn't due leaves places and a stage too, which tell of no count.
+pub fn acted_on_bundles(
     alloc: Global,
     terms: &Terms,
     bundles: &Bundles,
-    places: &mut Vec<Placed>,
-    stages: &mut Vec<Stage>,
+    places: &[Placed],
+    stages: &[Stage],
     action: &Action,
-) -> Result<(), AllocError>
-    requires book { IsBundled (contest_on terms.now bundles.now) (reverse stages.old.items) bundles.now places.old.items }
-    requires due { IsDue (contest_on terms.now bundles.now) (reverse stages.old.items) action.now }
-    ensures places { OnOk result (places.new.items ≡ places_of (contest_on terms.now bundles.now) (reverse stages.new.items) bundles.now) }
-    ensures stage { OnOk result (Adds (contest_on terms.now bundles.now) (reverse stages.old.items) action.now (reverse stages.new.items)) }
-    ensures err { OnErr result (places.new.items ≡ places.old.items) }
-    ensures err_stages { OnErr result (stages.new.items ≡ stages.old.items) }
+) -> Result<(Vec<Placed>, Vec<Stage>), AllocError>
+    requires sound { AllByRecursion IsSound places.now }
+    requires lost { newest_lost (reverse stages.now) ≤ max_units }
+    ensures places { IfOk result (λ next. IsDueInBook (contest_on terms.now bundles.now) (reverse stages.now) bundles.now places.now action.now → next.0.items ≡ places_of (contest_on terms.now bundles.now) (reverse next.1.items) bundles.now) }
+    ensures stage { IfOk result (λ next. IsDueInBook (contest_on terms.now bundles.now) (reverse stages.now) bundles.now places.now action.now → Adds (contest_on terms.now bundles.now) (reverse stages.now) action.now (reverse next.1.items)) }
 {
     let moved = moved_places(alloc, terms, bundles, places, stages, action)?;
-    stages.try_reserve(1)?;
     let stage = figured(terms, bundles, stages, action, places, &moved);
-    add_stage(terms, stages, stage);
-    *places = moved;
-    Ok(())
+    let mut longer = Vec::from_slice(alloc, stages)?;
+    longer.try_reserve(1)?;
+    add_stage(terms, &mut longer, stage);
+    Ok((moved, longer))
 }

@@ -11,7 +11,7 @@ ghost use Rattle.count.specs.Law.Places.{place as place_of};
 ghost use Rattle.count.specs.Law.Right.{IsRightForSome};
 
 use crate::book::{AdvanceError, CountBook};
-use crate::bundle_act::act_on_bundles;
+use crate::bundle_act::acted_on_bundles;
 use crate::bundles::Bundles;
 use crate::due::{action_by, due, elected_with};
 use crate::placed::Placed;
@@ -154,15 +154,19 @@ impl<'a> CountBook for BundleBook<'a> {
     #[tactic(auto, using(crate::proofs::BundleBookLemmas::book_facts))]
     fn advance(&mut self, lot: Option<u8>) -> Result<(), AdvanceError> {
         let action = action_by(&self.terms, &self.stages, lot)?;
-        match act_on_bundles(
+        match acted_on_bundles(
             self.alloc,
             &self.terms,
             self.bundles,
-            &mut self.places,
-            &mut self.stages,
+            &self.places,
+            &self.stages,
             &action,
         ) {
-            Ok(()) => Ok(()),
+            Ok((places, stages)) => {
+                self.places = places;
+                self.stages = stages;
+                Ok(())
+            }
             Err(_) => Err(AdvanceError::Memory),
         }
     }

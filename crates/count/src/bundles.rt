@@ -66,7 +66,7 @@ impl Bundles {
         ensures err { OnErr result (self.new ≡ self.old) }
     {
         // its clauses tell the proof that the list has some candidates, each once
-        let _ = list.as_slice();
+        let _ = list.first();
         add_to(&mut self.lists, list, papers)?;
         self.papers += papers;
         Ok(())

@@ -5,7 +5,7 @@ ghost use Rattle.count.specs.Bundles.{Bundle, bundled};
 ghost use Rattle.count.specs.Kept.{CountKept, IsKeptOf, places_after};
 ghost use Rattle.count.specs.Law.Contest.{Contest, History, IsContest};
 ghost use Rattle.count.specs.Law.Count.{with_stage, with_next, due_by as due_by_lots};
-ghost use Rattle.count.specs.Law.Due.{next_action};
+ghost use Rattle.count.specs.Law.Due.{next_action as next_action_of};
 ghost use Rattle.count.specs.Law.Elected.{elected_after};
 ghost use Rattle.std.specs.List.{AllByRecursion};
 ghost use Rattle.std.specs.Prelude.{◌↔◌, ◌+◌, ◌*◌, ◌<◌, ◌≤◌, IsTrue};
@@ -14,8 +14,9 @@ ghost use Rattle.count.specs.Bundles.{papers_of};
 ghost use Rattle.count.specs.Inside.Holdings.{newest_lost as newest_lost_of};
 ghost use Rattle.count.specs.Inside.Placing.{IsSound};
 
+use crate::bundle_act::acted_on_bundles;
 use crate::bundles::Bundles;
-use crate::due::{due_with, elected_with};
+use crate::due::{due_with, elected_with, next_action};
 use crate::placed::Placed;
 use crate::places::no_places;
 use crate::stages::{Due, Stage};
@@ -151,9 +152,22 @@ impl KeptCount {
     ) -> Result<Option<NextStage>, AllocError>
         ensures is { IfOk result (λ found. IfSome found (λ next. (contest : Contest) (history : History) → IsKeptOf contest history self.now
             → (next.places.items ≡ places_after contest (with_next contest lots.now history) self.now.bundles) × (next.stages.items ≡ reverse (with_next contest lots.now history)))) }
-        ensures some { IfOk result (λ found. (contest : Contest) (history : History) → IsKeptOf contest history self.now → IsSome (next_action contest lots.now history) → IsSome found) }
+        ensures some { IfOk result (λ found. (contest : Contest) (history : History) → IsKeptOf contest history self.now → IsSome (next_action_of contest lots.now history) → IsSome found) }
     {
-        Err(AllocError)
+        match next_action(&self.terms, &self.stages, lots) {
+            None => Ok(None),
+            Some(action) => {
+                let (places, stages) = acted_on_bundles(
+                    alloc,
+                    &self.terms,
+                    &self.bundles,
+                    &self.places,
+                    &self.stages,
+                    &action,
+                )?;
+                Ok(Some(NextStage { places, stages }))
+            }
+        }
     }
 }
 

@@ -1,13 +1,14 @@
 //! Where bundles of equal papers go at a stage: each to its new place, in a vector of its own.
 
-ghost use Rattle.std.specs.Prelude.{◌≡◌, ℕ, ◌≤◌, ◌==◌, [], ◌∷◌, not, map, reverse, length, IfOk};
+ghost use Rattle.std.specs.Prelude.{◌≡◌, ℕ, ◌-◌, ◌<◌, ◌≤◌, ◌==◌, [], ◌∷◌, not, map, reverse, length, IfOk, IfSome, IsSome};
 ghost use Rattle.std.specs.List.{prefix_len, AllByRecursion};
-ghost use Rattle.votes.specs.Units.{one_vote};
+ghost use Rattle.votes.specs.Units.{one_vote, max_units};
+ghost use Rattle.paper.specs.Columns.{max_candidates};
 ghost use Rattle.paper.specs.Standing.{is_continuing, from_first};
 ghost use Rattle.count.specs.Law.Count.{begun};
-ghost use Rattle.count.specs.Advance.{IsDue};
-ghost use Rattle.count.specs.Inside.Holdings.{IsTransferRule};
-ghost use Rattle.count.specs.Inside.Placing.{contest_on, places_of, IsBundled, IsSound, nowhere, first_places, passed_at, passed_places as passed_places_of};
+ghost use Rattle.count.specs.Law.Contest.{newest_votes as newest_votes_of};
+ghost use Rattle.count.specs.Inside.Holdings.{IsTransferRule, OnlyColumns};
+ghost use Rattle.count.specs.Inside.Placing.{contest_on, places_of, IsDueInBook, IsSound, nowhere, first_places, passed_at, passed_places as passed_places_of};
 
 use crate::bundles::Bundles;
 use crate::elected::{newest_votes, standing};
@@ -17,9 +18,12 @@ use crate::placed::Placed;
 use crate::sorting::{first_preference, value_by};
 use crate::stages::{Action, Stage};
 use crate::terms::Terms;
-use paper::{Prefs, Standing, available_from};
+use paper::{MAX_CANDIDATES, Prefs, Standing, available_from};
 use std::alloc::{AllocError, Global};
-use votes::{ONE_VOTE, Votes};
+use votes::{MAX_PAPERS, ONE_VOTE, Votes};
+
+/// The most units that anyone is credited with: one vote for each of the most papers.
+const MAX_UNITS: u64 = ONE_VOTE * MAX_PAPERS as u64;
 
 /// The places of all bundles before the first stage: with no one, at no value.
 pub fn no_places(alloc: Global, bundles: &Bundles) -> Result<Vec<Placed>, AllocError>
@@ -84,7 +88,9 @@ fn passed_places(
 ) -> Result<Vec<Placed>, AllocError>
     requires rule { IsTransferRule rule.now }
     requires sound { AllByRecursion IsSound places.now }
-    ensures { IfOk result (λ passed. passed.items ≡ passed_places_of (is_continuing standing.now) rule.now c places.now bundles.now) }
+    requires known { OnlyColumns (is_continuing standing.now) }
+    ensures is { IfOk result (λ passed. passed.items ≡ passed_places_of (is_continuing standing.now) rule.now c places.now bundles.now) }
+    ensures sound { IfOk result (λ passed. AllByRecursion IsSound passed.items) }
 {
     let mut passed = Vec::with_capacity(alloc, places.len())?;
     let mut rest = places;
@@ -99,19 +105,63 @@ fn passed_places(
 
 /// The places of all bundles by their first preferences, each paper as one vote.
 fn dealt_places(alloc: Global, bundles: &Bundles) -> Result<Vec<Placed>, AllocError>
-    ensures { IfOk result (λ dealt. dealt.items ≡ first_places bundles.now) }
+    ensures is { IfOk result (λ dealt. dealt.items ≡ first_places bundles.now) }
+    ensures sound { IfOk result (λ dealt. AllByRecursion IsSound dealt.items) }
 {
     let mut dealt = Vec::with_capacity(alloc, bundles.len())?;
     for (prefs, _) in bundles.iter() {
         dealt.push(Placed {
-            holder: first_preference(prefs.as_slice()),
+            holder: prefs.first(),
             value: Votes::from_units(ONE_VOTE),
         })?;
     }
     Ok(dealt)
 }
 
-/// The places of all bundles after a due action; the old ones stay as they are.
+/// The share of the votes credited to a candidate that goes on with his surplus; none where he has no more
+/// than the quota, or more than all papers give.
+fn share_of(quota: Votes, stages: &[Stage], c: u8) -> Option<TransferRule>
+    ensures rule { IfSome result IsTransferRule }
+    ensures is { IfSome result (λ rule. rule ≡ TransferRule.Share (newest_votes_of (reverse stages.now) c - quota) (newest_votes_of (reverse stages.now) c)) }
+    ensures some { 0 < quota → 1 ≤ c → c ≤ max_candidates → quota < newest_votes_of (reverse stages.now) c → newest_votes_of (reverse stages.now) c ≤ max_units → IsSome result }
+{
+    if c < 1 || usize::from(c) > MAX_CANDIDATES || quota.units() < 1 {
+        return None;
+    }
+    let credited = newest_votes(stages, c);
+    if credited.units() <= quota.units() || credited.units() > MAX_UNITS {
+        return None;
+    }
+    Some(surplus_rule(quota, credited))
+}
+
+/// The places of all bundles once a surplus is transferred; where there is none, as they were.
+fn places_by_surplus(
+    alloc: Global,
+    terms: &Terms,
+    bundles: &Bundles,
+    places: &[Placed],
+    stages: &[Stage],
+    c: u8,
+) -> Result<Vec<Placed>, AllocError>
+    requires sound { AllByRecursion IsSound places.now }
+    ensures is { IfOk result (λ moved. IsDueInBook (contest_on terms.now bundles.now) (reverse stages.now) bundles.now places.now (Action.Surplus c) → moved.items ≡ places_of (contest_on terms.now bundles.now) (begun (Action.Surplus c) [] ∷ reverse stages.now) bundles.now) }
+    ensures sound { IfOk result (λ moved. AllByRecursion IsSound moved.items) }
+{
+    match share_of(terms.quota, stages, c) {
+        None => {
+            let moved = Vec::from_slice(alloc, places)?;
+            Ok(moved)
+        }
+        Some(rule) => {
+            let standing = standing(terms, stages);
+            let moved = passed_places(alloc, bundles, places, c, &standing, &rule)?;
+            Ok(moved)
+        }
+    }
+}
+
+/// The places of all bundles after an action; the old ones stay as they are.
 pub fn moved_places(
     alloc: Global,
     terms: &Terms,
@@ -120,9 +170,9 @@ pub fn moved_places(
     stages: &[Stage],
     action: &Action,
 ) -> Result<Vec<Placed>, AllocError>
-    requires book { IsBundled (contest_on terms.now bundles.now) (reverse stages.now) bundles.now places.now }
-    requires due { IsDue (contest_on terms.now bundles.now) (reverse stages.now) action.now }
-    ensures { IfOk result (λ moved. moved.items ≡ places_of (contest_on terms.now bundles.now) (begun action.now [] ∷ reverse stages.now) bundles.now) }
+    requires sound { AllByRecursion IsSound places.now }
+    ensures is { IfOk result (λ moved. IsDueInBook (contest_on terms.now bundles.now) (reverse stages.now) bundles.now places.now action.now → moved.items ≡ places_of (contest_on terms.now bundles.now) (begun action.now [] ∷ reverse stages.now) bundles.now) }
+    ensures sound { IfOk result (λ moved. AllByRecursion IsSound moved.items) }
 {
     match action {
         Action::First => {
@@ -130,9 +180,7 @@ pub fn moved_places(
             Ok(moved)
         }
         Action::Surplus(c) => {
-            let standing = standing(terms, stages);
-            let rule = surplus_rule(terms.quota, newest_votes(stages, *c));
-            let moved = passed_places(alloc, bundles, places, *c, &standing, &rule)?;
+            let moved = places_by_surplus(alloc, terms, bundles, places, stages, *c)?;
             Ok(moved)
         }
         Action::Exclude(c) => {

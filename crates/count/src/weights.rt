@@ -4,11 +4,10 @@ ghost use Rattle.std.specs.Prelude.{◌≡◌, ℕ, ◌+◌, ◌*◌, ◌≤◌,
 ghost use Rattle.std.specs.List.{AllByRecursion};
 ghost use Rattle.votes.specs.Units.{max_units};
 ghost use Rattle.paper.specs.Columns.{max_candidates};
-ghost use Rattle.count.specs.Advance.{IsDue};
 ghost use Rattle.count.specs.Law.Contest.{numbers};
 ghost use Rattle.count.specs.Law.Count.{begun};
 ghost use Rattle.count.specs.Inside.Holdings.{holder_count, newest_lost as newest_lost_of};
-ghost use Rattle.count.specs.Inside.Placing.{contest_on, places_of, IsBundled, IsSound, IsFigured, value_of, value_to, worth_placed, votes_from as votes_from_of, lost_from as lost_from_of};
+ghost use Rattle.count.specs.Inside.Placing.{contest_on, places_of, IsDueInBook, IsSound, IsFigured, value_of, value_to, worth_placed, votes_from as votes_from_of, lost_from as lost_from_of};
 
 use crate::bundles::Bundles;
 use crate::elected::is_transferred_with;
@@ -125,11 +124,13 @@ pub fn figured(
     places: &[Placed],
     moved: &[Placed],
 ) -> Stage
-    requires book { IsBundled (contest_on terms.now bundles.now) (reverse stages.now) bundles.now places.now }
-    requires due { IsDue (contest_on terms.now bundles.now) (reverse stages.now) action.now }
-    requires moved { moved.now ≡ places_of (contest_on terms.now bundles.now) (begun action.now [] ∷ reverse stages.now) bundles.now }
-    ensures { IsFigured (contest_on terms.now bundles.now) (reverse stages.now) action.now result }
+    requires sound { AllByRecursion IsSound places.now }
+    requires sound_moved { AllByRecursion IsSound moved.now }
+    requires lost { newest_lost_of (reverse stages.now) ≤ max_units }
+    ensures { IsDueInBook (contest_on terms.now bundles.now) (reverse stages.now) bundles.now places.now action.now → moved.now ≡ places_of (contest_on terms.now bundles.now) (begun action.now [] ∷ reverse stages.now) bundles.now
+        → IsFigured (contest_on terms.now bundles.now) (reverse stages.now) action.now result }
 {
+    let _few = bundles.papers();
     let old = worth(bundles, places);
     let new = worth(bundles, moved);
     let sums = sums(bundles, moved);

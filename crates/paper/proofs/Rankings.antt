@@ -1,6 +1,10 @@
 -- Rankings: how long they are, and that they stand in their arrays.
-use Rattle.std.proofs.Common.{◌≡◌, ℕ, ◌<◌, ◌≤◌, ◌||◌, Bool, true, false, eqb, ◌==◌, List, [], ◌∷◌, length, ◌-◌, refl, sym, arith}
+use Rattle.std.proofs.Common.{◌≡◌, ℕ, ◌<◌, ◌≤◌, ◌||◌, Bool, true, false, eqb, ◌==◌, List, [], ◌∷◌, ◌++◌, length, replicate, ◌+◌, ◌-◌, suc, zero, refl, sym, ap, ◌∙◌, arith}
 use Rattle.std.specs.List.{list_any, IsDistinct, AllByRecursion}
+use Rattle.std.specs.Cmp.{nat_cmp_is}
+use Rattle.std.specs.Cmp.Lexicographic.{slice_cmp}
+use Rattle.std.specs.Ordering.{nat_cmp, ordering_then}
+use Rattle.std.specs.declared.cmp.Ordering.TheVariants.{Less, Equal, Greater}
 use Rattle.std.proofs.lemmas.Bool.{eqb-true, eqb-false}
 use Rattle.std.proofs.lemmas.Map.Steps.{length-le_from_distinct_below}
 use Rattle.paper.specs.Columns.{max_candidates}
@@ -63,3 +67,26 @@ pub listed-padded_ranking : (xs : List ℕ) → IsRanking xs → listed (padded 
 listed-padded_ranking xs h = listed-append_zeros xs (max_candidates - length xs) (ranking_some xs h)
 
 pub ruleset rankings = (length_ranking, listed-padded_ranking)
+
+-- zeros behind two lists of numbers from 1 on leave their order, where they make them as long as each other
+zeros_equal : (n : ℕ) → slice_cmp nat_cmp (replicate n 0) (replicate n 0) ≡ Equal
+zeros_equal zero = refl
+zeros_equal (suc n) = zeros_equal n
+
+zeros_behind : (xs ys : List ℕ) (j k : ℕ) → AllByRecursion (λ x. 1 ≤ x) xs → AllByRecursion (λ y. 1 ≤ y) ys → length xs + j ≡ length ys + k →
+    slice_cmp nat_cmp (xs ++ replicate j 0) (ys ++ replicate k 0) ≡ slice_cmp nat_cmp xs ys
+zeros_behind [] [] j k some others long = ap (λ n. slice_cmp nat_cmp (replicate j 0) (replicate n 0)) (let same : k ≡ j = omega (arith, long) in same) ∙ zeros_equal j
+zeros_behind [] (zero ∷ ys) j k some others long = absurd (omega (arith, others.0))
+zeros_behind [] (suc y ∷ ys) zero k some others long = absurd (omega (arith, long))
+zeros_behind [] (suc y ∷ ys) (suc j) k some others long = ap (λ o. ordering_then o (slice_cmp nat_cmp (replicate j 0) (ys ++ replicate k 0))) (sym (nat_cmp_is 0 (suc y) Less others.0))
+zeros_behind (zero ∷ xs) [] j k some others long = absurd (omega (arith, some.0))
+zeros_behind (suc x ∷ xs) [] j zero some others long = absurd (omega (arith, long))
+zeros_behind (suc x ∷ xs) [] j (suc k) some others long = ap (λ o. ordering_then o (slice_cmp nat_cmp (xs ++ replicate j 0) (replicate k 0))) (sym (nat_cmp_is (suc x) 0 Greater some.0))
+zeros_behind (x ∷ xs) (y ∷ ys) j k some others long = ap (ordering_then (nat_cmp x y)) (zeros_behind xs ys j k some.1 others.1 (omega (arith, long)))
+
+-- so the arrays of two rankings stand in their order
+pub padded-order : (xs ys a b : List ℕ) → IsRanking xs → IsRanking ys → padded xs ≡ a → padded ys ≡ b → slice_cmp nat_cmp a b ≡ slice_cmp nat_cmp xs ys
+padded-order xs ys a b ranking other a_is b_is =
+    let long : length xs + (max_candidates - length xs) ≡ length ys + (max_candidates - length ys) = omega (arith, length_ranking xs ranking, length_ranking ys other) in
+    ap (λ l. slice_cmp nat_cmp l b) (sym a_is) ∙ ap (slice_cmp nat_cmp (padded xs)) (sym b_is)
+    ∙ zeros_behind xs ys (max_candidates - length xs) (max_candidates - length ys) (ranking_some xs ranking) (ranking_some ys other) long

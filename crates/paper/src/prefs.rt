@@ -1,6 +1,6 @@
 //! The preferences of a ballot paper.
 
-ghost use Rattle.std.specs.Prelude.{◌≡◌, ℕ, ◌≤◌, length, IfSome, IsSome, IsTrue, ◌↔◌, Some, nat_eq, refl};
+ghost use Rattle.std.specs.Prelude.{◌≡◌, ℕ, ◌≤◌, length, slice_index, IfSome, IsSome, IsTrue, ◌↔◌, Some, nat_eq, refl};
 ghost use Rattle.std.specs.Cmp.{partial_equiv_from_equiv};
 ghost use Rattle.std.specs.Cmp.Lexicographic.{pointwise, slice_cmp, nat_list_cmp_total, nat_list_eq_equiv, texts_po, texts_ties};
 ghost use Rattle.std.specs.Ordering.{nat_cmp};
@@ -65,6 +65,15 @@ impl Prefs {
         Prefs { numbers }
     }
 
+    /// The first preference.
+    pub fn first(&self) -> u8
+        ensures is { result ≡ slice_index self.now 0 }
+        ensures some { 1 ≤ length self.now }
+        ensures ranking { IsRanking self.now }
+    {
+        self.numbers[0]
+    }
+
     /// The candidates' numbers, the first preference first.
     pub fn as_slice(&self) -> &[u8]
         ensures is { result.now ≡ self.now }
@@ -108,8 +117,9 @@ impl Ord for Prefs {
 
     ghost matches_eq = { texts_ties };
 
+    // The arrays stand in the order of their lists, since no candidate has the number 0; so no list's end is looked for.
     fn cmp(&self, other: &Prefs) -> Ordering {
-        self.as_slice().cmp(&other.as_slice())
+        self.numbers.cmp(&other.numbers)
     }
 }
 

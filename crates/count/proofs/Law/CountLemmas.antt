@@ -60,7 +60,7 @@ stage_reordered contest papers before action order =
     let s : Stage = stage_of (reordered contest papers) before action in
     is_told contest before s (same_tells contest papers before s order (told_of (reordered contest papers) before action))
 
-next_reordered : (contest : Contest) (papers : List (List ℕ)) (before : History) (o : Option Action) → IsPermutation contest.papers papers →
+pub next_reordered : (contest : Contest) (papers : List (List ℕ)) (before : History) (o : Option Action) → IsPermutation contest.papers papers →
     with_stage (reordered contest papers) before o ≡ with_stage contest before o
 next_reordered contest papers before None order = refl
 next_reordered contest papers before (Some action) order = ap (λ (s : Stage). s ∷ before) (stage_reordered contest papers before action order)

@@ -3,6 +3,7 @@ use Rattle.std.specs.Prelude.{◌≡◌, ℕ, ◌+◌, ◌-◌, ◌*◌, ◌≤�
 use Rattle.votes.specs.Units.{one_vote}
 use Rattle.paper.specs.Columns.{max_candidates}
 use Rattle.paper.specs.Standing.{from_first}
+use Rattle.count.specs.Advance.{IsDue}
 use Rattle.count.specs.Bundles.{Bundle, papers_of, AreBundles}
 use Rattle.count.specs.Books.{contest_of, placed}
 use Rattle.count.specs.Law.Contest.{Contest, History, IsContest, numbers}
@@ -34,6 +35,11 @@ pub record IsBundled (contest : Contest) (history : History) (bundles : List Bun
   pub bundles_are : AreBundles bundles
   pub papers_are : contest.papers ≡ papers_of bundles
   pub places_are : places ≡ places_of contest history bundles
+
+-- an action is due in a book by bundles
+pub record IsDueInBook (contest : Contest) (history : History) (bundles : List Bundle) (places : List Placed) (action : Action) : Type 0 where
+  pub book : IsBundled contest history bundles places
+  pub due : IsDue contest history action
 
 -- a holder is a number that a candidate may have, or 0, and a value is at most one vote
 abbrev pub IsSound : Placed → Type 0

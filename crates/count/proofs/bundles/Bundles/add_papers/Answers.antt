@@ -7,7 +7,7 @@ use Rattle.count.proofs.bundles.Bundles.add_papers.Goals as goal
 pub invariant_of-self-2 : goal.invariant_of-self-2
 invariant_of-self-2 c =
     let old = c.self.inside.lists.entries in
-    let some : IsBundle (c.args.list, c.args.papers) = (c.requires.some, c.as_slice.ensures.some, c.as_slice.ensures.ranking) in
+    let some : IsBundle (c.args.list, c.args.papers) = (c.requires.some, c.first.ensures.some, c.first.ensures.ranking) in
     let many = length-with_papers c.args.list c.args.papers old in
     let seen = ap (λ l. length (papers_of l)) c.self.view_is in
     rw c.in_ok-add_to.ensures.ok

@@ -9,6 +9,7 @@ use Rattle.count.proofs.kept.KeptCount.begin.Goals as goal
 pub invariant_of-result : goal.invariant_of-result
 invariant_of-result c = record {
   quota_is = own-terms c.args.candidates c.args.seats c.terms_on.result c.args.bundles c.terms_on.ensures.candidates c.terms_on.ensures.seats c.terms_on.ensures.is;
+  bundles_are = c.terms_on.ensures.bundles;
   sound = subst (AllByRecursion IsSound) (sym c.in_ok-places.ensures) (sound-nowhere c.args.bundles);
   few = omega (arith, ap length c.new.ensures.items);
   lost_few = omega (arith, ap (λ l. newest_lost (reverse l)) c.new.ensures.items);

@@ -13,6 +13,7 @@ use Rattle.count.proofs.kept.KeptCount.resume.Goals as goal
 pub invariant_of-result : goal.invariant_of-result
 invariant_of-result c = record {
   quota_is = own-terms c.args.candidates c.args.seats c.terms_on-terms.result c.args.bundles c.terms_on-terms.ensures.candidates c.terms_on-terms.ensures.seats c.terms_on-terms.ensures.is;
+  bundles_are = c.terms_on-terms.ensures.bundles;
   sound = subst (AllByRecursion IsSound) c.deref.ensures.value (c.is_in_range.ensures.sound c.if-not-is_in_range.false);
   few = subst (λ (l : List Stage). length l < 255) c.deref-2.ensures.value (c.is_in_range.ensures.few c.if-not-is_in_range.false);
   lost_few = subst (λ (l : List Stage). newest_lost (reverse l) ≤ max_units) c.deref-2.ensures.value (c.is_in_range.ensures.lost c.if-not-is_in_range.false);
