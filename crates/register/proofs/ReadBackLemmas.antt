@@ -9,14 +9,13 @@ use Rattle.std.specs.declared.cmp.Ordering.{Ordering}
 use Rattle.std.specs.declared.cmp.Ordering.TheVariants.{Less, Greater}
 use Rattle.std.proofs.lemmas.Bool.{and_parts, cond-true}
 use Rattle.std.proofs.lemmas.List.{map-append, length-replicate}
-use Rattle.votes.specs.Units.{max_papers}
+use Rattle.votes.specs.Units.{max_papers, one_vote}
 use Rattle.paper.specs.Columns.{max_candidates}
 use Rattle.count.specs.Books.{AreRankings}
 use Rattle.count.specs.Bundles.{Bundle, list_cmp, papers_of, with_papers, bundled, IsBundle, AreBundles}
 use Rattle.count.specs.Kept.{IsKeptOf, places_after}
 use Rattle.count.specs.Law.Contest.{History}
 use Rattle.count.specs.Law.Right.{IsRightForSome}
-use Rattle.count.specs.Inside.Placing.{IsSound}
 use Rattle.count.specs.Marks.{figures_at, all_figures}
 use Rattle.count.specs.declared.figures.Figure.{Figure}
 use Rattle.count.specs.declared.placed.Placed.{Placed}
@@ -117,7 +116,7 @@ module _ (e : ElectionEntry) (candidates : List ℕ) (seats : ℕ) (bundles : Li
   pub few_holders : AllByRecursion (λ (at : Placed). at.holder ≤ max_candidates) (map placed_of bundles)
   few_holders =
       subst (AllByRecursion (λ (at : Placed). at.holder ≤ max_candidates)) (sym read_places)
-      (each_weaker IsSound (λ (at : Placed). at.holder ≤ max_candidates) _ (λ at sound. sound.0) (sound-places (contest_of e) (stages_of e) (bundled e.ballots.papers) of.fair of.papers_are_bundled.each))
+      (each_weaker (λ (at : Placed). (at.holder ≤ max_candidates) × (at.value ≤ one_vote)) (λ (at : Placed). at.holder ≤ max_candidates) _ (λ at sound. sound.0) (sound-places (contest_of e) (stages_of e) (bundled e.ballots.papers) of.fair of.papers_are_bundled.each))
 
   pub right_so_far : IsRightForSome (contest_of e) (stages_of e)
   right_so_far = record { lots = e.lots; right = stages_right (contest_of e) e.lots e.ward.done }
