@@ -7,7 +7,8 @@ ghost use Rattle.std.specs.Prelude.{◌≡◌, ◌≤◌, ◌<◌, true, [], map
 ghost use Rattle.std.specs.List.{list_all, flat_map, AllByRecursion};
 ghost use Rattle.count.specs.Law.Contest.{IsContest};
 ghost use Rattle.register.specs.Offices.{MapsRise, ward_entry, candidate_entry, ward_at};
-ghost use Rattle.register.specs.Elections.{ElectionEntry, IsMadeOf, election_of, has_count, contest_of, stages_of, is_declared, has_finished, is_among, is_right_so_far, is_uncounted, is_counted_right};
+ghost use Rattle.register.specs.Elections.{ElectionEntry, IsMadeOf, election_of, has_count, contest_of, stages_of};
+ghost use Rattle.register.specs.Elections.{is_declared, has_finished, is_among, is_right_so_far, is_uncounted, is_counted_right};
 ghost use Rattle.register.specs.Items.{is_lot, item1, item4, item7};
 ghost use Rattle.register.specs.Tabulated.{bundles_in, figures_in, tabulation_of, tabulation_entries};
 ghost use Rattle.rowcheck.specs.States.{state_of};
@@ -112,7 +113,8 @@ fn add_stages(
     book: &BundleBook<'_>,
     tabulation: &mut Tabulation,
 ) -> Result<(), AllocError>
-    ensures { OnOk result ((e : ElectionEntry) → HasCounted e (ward_entry ward.now) columns.now bundles.now book.now → IsAdded e (tabulation_entries tabulation.old) (tabulation_entries tabulation.new)) }
+    ensures { OnOk result ((e : ElectionEntry) → HasCounted e (ward_entry ward.now) columns.now bundles.now book.now
+        → IsAdded e (tabulation_entries tabulation.old) (tabulation_entries tabulation.new)) }
 {
     if ward.done == 0 {
         return Ok(());
@@ -140,9 +142,10 @@ fn add_from_ballots(
     lots: &[(u8, u8)],
     tabulation: &mut Tabulation,
 ) -> Result<bool, AllocError>
-    ensures is { IfOk result (λ yes. (e : ElectionEntry) → IsMadeOf e (ward_entry ward.now) (map candidate_entry candidates.now) ballots.now lots.now → IsContest (contest_of e) → yes ≡ is_right_so_far e) }
-    ensures added { IfOk result (λ yes. (e : ElectionEntry) → IsMadeOf e (ward_entry ward.now) (map candidate_entry candidates.now) ballots.now lots.now → IsContest (contest_of e) → has_count e ≡ true → yes ≡ true
-        → IsAdded e (tabulation_entries tabulation.old) (tabulation_entries tabulation.new)) }
+    ensures is { IfOk result (λ yes. (e : ElectionEntry) → IsMadeOf e (ward_entry ward.now) (map candidate_entry candidates.now) ballots.now lots.now
+        → IsContest (contest_of e) → yes ≡ is_right_so_far e) }
+    ensures added { IfOk result (λ yes. (e : ElectionEntry) → IsMadeOf e (ward_entry ward.now) (map candidate_entry candidates.now) ballots.now lots.now
+        → IsContest (contest_of e) → has_count e ≡ true → yes ≡ true → IsAdded e (tabulation_entries tabulation.old) (tabulation_entries tabulation.new)) }
 {
     let columns = columns_of(candidates);
     let Some(mut book) = book_of(alloc, columns, ward.seats, &ballots.papers)? else {

@@ -1,10 +1,9 @@
 -- Why `add_from_ballots` keeps its promise.
-use Rattle.std.proofs.Common.{rules, IsSome, subst, ap, sym, ◌∙◌, map}
+use Rattle.std.proofs.Common.{rules, IsSome, subst, ap, ◌∙◌, map}
 use Rattle.count.specs.Bundles.{papers_of}
 use Rattle.count.specs.Law.Contest.{contest_for, IsContest}
 use Rattle.register.specs.Marks.{columns_of}
 use Rattle.register.specs.Offices.{WardEntry, ward_entry, candidate_entry}
-use Rattle.register.specs.Elections.{ElectionEntry, IsMadeOf, contest_of}
 use Rattle.register.proofs.BundledLemmas.{fair-alike}
 use Rattle.rowcheck.specs.Walks.Counts.{IsCountOf}
 use Rattle.rowcheck.proofs.CountLemmas.{made-count}
