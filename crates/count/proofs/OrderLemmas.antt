@@ -43,7 +43,7 @@ lists-with_papers : (P : List ℕ → Type 0) (list : List ℕ) (n : ℕ) (bs : 
 lists-with_papers P list n [] one all = (one, tt)
 lists-with_papers P list n (b ∷ bs) one all = lists_at P list n b bs (list_cmp list b.0) one all (lists-with_papers P list n bs one all.1)
 
-lists-from : (P : List ℕ → Type 0) (bs : List Bundle) (papers : List (List ℕ)) → AllByRecursion (λ (c : Bundle). P c.0) bs → AllByRecursion P papers →
+pub lists-from : (P : List ℕ → Type 0) (bs : List Bundle) (papers : List (List ℕ)) → AllByRecursion (λ (c : Bundle). P c.0) bs → AllByRecursion P papers →
     AllByRecursion (λ (c : Bundle). P c.0) (fold (λ cs paper. with_papers cs paper 1) bs papers)
 lists-from P bs [] all some = all
 lists-from P bs (p ∷ ps) all some = lists-from P (with_papers bs p 1) ps (lists-with_papers P p 1 bs some.0 all) some.1

@@ -34,7 +34,7 @@ mod WorkedRows
 mod NominationRows
 mod BatchRows
 mod CountRows
-mod TabulatedLemmas
+pub mod TabulatedLemmas
 mod AddedLemmas
 mod ReadBackLemmas
 mod TabulatedRows

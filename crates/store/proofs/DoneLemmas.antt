@@ -28,7 +28,7 @@ still_there : (x : WardEntry) (xs ys : List WardEntry) → AllByRecursion (λ y.
 still_there x xs [] below all = tt
 still_there x xs (w ∷ ys) below all = (rw (apart x w below.0) all.0, still_there x xs ys below.1 all.1)
 
-wards_there : (ws : List WardEntry) → IsStrictlySortedBy ward_cmp ws → AllByRecursion (λ w. entry_at (ward_compared w.number) ws ≡ Some w) ws
+pub wards_there : (ws : List WardEntry) → IsStrictlySortedBy ward_cmp ws → AllByRecursion (λ w. entry_at (ward_compared w.number) ws ≡ Some w) ws
 wards_there [] up = tt
 wards_there (x ∷ xs) up = (rw (sym (nat_cmp_is x.number x.number Equal refl)) refl, still_there x xs xs (sorted_head ward_cmp x xs up) (wards_there xs (sorted_tail ward_cmp x xs up)))
 

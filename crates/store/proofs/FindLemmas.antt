@@ -17,7 +17,7 @@ use Rattle.tables.specs.declared.table.Reference.TheVariants.{WardOfBatch}
 use Rattle.tables.specs.Rows.{begins_with, refers_to}
 use Rattle.tables.specs.Reading.{Finds}
 use Rattle.store.specs.EntryRows.{row_of_ward, IsWardRow, row_of_candidate, IsCandidateRow, row_of_batch, IsBatchRow, row_of_keyed, IsKeyedRow, row_of_judged, IsJudgedRow, row_of_lot, row_of_receipt, IsReceiptRow}
-use Rattle.store.specs.Offices.{tables_of}
+use Rattle.store.specs.Offices.{tables_of, tables_with}
 use Rattle.tables.proofs.OrderLemmas.{equal-number, key_of_number, key_of_two_numbers, key_of_three_numbers, key_of_number_and_text, same_number, same_three_numbers}
 use Rattle.store.proofs.StateLemmas.{tables_rise}
 use Rattle.store.proofs.FitLemmas.{wards_fit, candidates_fit, batches_fit, keyings_fit, verdicts_fit, receipts_fit}
@@ -40,17 +40,17 @@ both_equal Greater b h = absurd cc
 -- ---- wards and candidates
 
 pub ward_found : (s : OfficeState) → IsState s → (number : ℕ) → filter (begins_with (Int (pos number) ∷ [])) (tables_of s Ward) ≡ option_to_list (option_map row_of_ward (ward_at s number))
-unfolding tables_of
+unfolding tables_of tables_with
 ward_found s is number =
     row_found row_of_ward (Int (pos number) ∷ []) (λ w. nat_cmp number w.number) (λ w. key_of_number number w.number) (λ a b. numbers_apart number a.number b.number) s.wards is.rise.wards
 
 pub ward_fits : (s : OfficeState) → IsState s → (number : ℕ) → IfSome (option_map row_of_ward (ward_at s number)) IsWardRow
-unfolding tables_of
+unfolding tables_of tables_with
 ward_fits s is number = found_fits IsWardRow row_of_ward _ s.wards (wards_fit s is)
 
 pub candidate_found : (s : OfficeState) → IsState s → (ward number : ℕ)
     → filter (begins_with (Int (pos ward) ∷ Int (pos number) ∷ [])) (tables_of s Candidate) ≡ option_to_list (option_map row_of_candidate (candidate_at s ward number))
-unfolding tables_of
+unfolding tables_of tables_with
 candidate_found s is ward number =
     row_found row_of_candidate (Int (pos ward) ∷ Int (pos number) ∷ []) (candidate_compared ward number) (λ c. key_of_two_numbers ward number c.ward c.number)
     (λ a b first second.
@@ -60,31 +60,31 @@ candidate_found s is ward number =
     s.candidates is.rise.candidates
 
 pub candidate_fits : (s : OfficeState) → IsState s → (ward number : ℕ) → IfSome (option_map row_of_candidate (candidate_at s ward number)) IsCandidateRow
-unfolding tables_of
+unfolding tables_of tables_with
 candidate_fits s is ward number = found_fits IsCandidateRow row_of_candidate _ s.candidates (candidates_fit s is)
 
 -- the rows that begin with a ward's number are those of its candidates, in the order of their numbers
 pub candidates_listed : (s : OfficeState) → IsState s → (ward : ℕ) (rows : List Row) → Finds Candidate (begins_with (Int (pos ward) ∷ [])) (tables_of s) rows → rows ≡ map row_of_candidate (candidates_of s ward)
-unfolding tables_of
+unfolding tables_of tables_with
 candidates_listed s is ward rows finds =
-    listed_as Candidate row_of_candidate (begins_with (Int (pos ward) ∷ [])) (λ c. c.ward == ward) (λ c. same_number ward c.ward) s.candidates (tables_rise s is.rise Candidate refl) rows finds.same finds.sorted
+    listed_as Candidate row_of_candidate (begins_with (Int (pos ward) ∷ [])) (λ c. c.ward == ward) (λ c. same_number ward c.ward) s.candidates (tables_rise s is Candidate refl) rows finds.same finds.sorted
 
 -- ---- batches and their papers
 
 pub batch_found : (s : OfficeState) → IsState s → (number : ℕ) → filter (begins_with (Int (pos number) ∷ [])) (tables_of s Batch) ≡ option_to_list (option_map row_of_batch (batch_at s number))
-unfolding tables_of
+unfolding tables_of tables_with
 batch_found s is number =
     row_found row_of_batch (Int (pos number) ∷ []) (batch_compared number) (λ b. key_of_number number b.number) (λ a b. numbers_apart number a.number b.number) s.batches is.rise.batches
 
 pub batch_fits : (s : OfficeState) → IsState s → (number : ℕ) → IfSome (option_map row_of_batch (batch_at s number)) IsBatchRow
-unfolding tables_of
+unfolding tables_of tables_with
 batch_fits s is number = found_fits IsBatchRow row_of_batch _ s.batches (batches_fit s is)
 
 -- all rows are those of all batches, in the order of their numbers
 pub all_batches_listed : (s : OfficeState) → IsState s → (rows : List Row) → Finds Batch (begins_with []) (tables_of s) rows → rows ≡ map row_of_batch s.batches
-unfolding tables_of
+unfolding tables_of tables_with
 all_batches_listed s is rows finds =
-    listed_as Batch row_of_batch (begins_with []) (λ b. true) (λ b. refl) s.batches (tables_rise s is.rise Batch refl) rows finds.same finds.sorted ∙ ap (map row_of_batch) (all_kept s.batches)
+    listed_as Batch row_of_batch (begins_with []) (λ b. true) (λ b. refl) s.batches (tables_rise s is Batch refl) rows finds.same finds.sorted ∙ ap (map row_of_batch) (all_kept s.batches)
   where
     all_kept : {X : Type 0} (xs : List X) → filter (λ x. true) xs ≡ xs
     all_kept [] = refl
@@ -92,17 +92,17 @@ all_batches_listed s is rows finds =
 
 -- the rows that refer to a ward are those of its batches
 pub batches_listed : (s : OfficeState) → IsState s → (ward : ℕ) (rows : List Row) → Finds Batch (refers_to WardOfBatch (Int (pos ward))) (tables_of s) rows → rows ≡ map row_of_batch (batches_of s ward)
-unfolding tables_of
+unfolding tables_of tables_with
 batches_listed s is ward rows finds =
-    listed_as Batch row_of_batch (refers_to WardOfBatch (Int (pos ward))) (λ b. b.ward == ward) (λ b. equal-number b.ward ward) s.batches (tables_rise s is.rise Batch refl) rows finds.same finds.sorted
+    listed_as Batch row_of_batch (refers_to WardOfBatch (Int (pos ward))) (λ b. b.ward == ward) (λ b. equal-number b.ward ward) s.batches (tables_rise s is Batch refl) rows finds.same finds.sorted
 
 -- the rows that begin with a batch, a round and a clerk are those of his keying, in the order of the papers
 pub keying_listed : (s : OfficeState) → IsState s → (batch round clerk : ℕ) (rows : List Row)
     → Finds Keying (begins_with (Int (pos batch) ∷ Int (pos round) ∷ Int (pos clerk) ∷ [])) (tables_of s) rows → rows ≡ map row_of_keyed (keying_of s batch round clerk)
-unfolding tables_of
+unfolding tables_of tables_with
 keying_listed s is batch round clerk rows finds =
     listed_as Keying row_of_keyed (begins_with (Int (pos batch) ∷ Int (pos round) ∷ Int (pos clerk) ∷ [])) (λ k. (k.batch == batch) && ((k.round == round) && (k.clerk == clerk)))
-    (λ k. same_three_numbers batch round clerk k.batch k.round k.clerk) s.keyings (tables_rise s is.rise Keying refl) rows finds.same finds.sorted
+    (λ k. same_three_numbers batch round clerk k.batch k.round k.clerk) s.keyings (tables_rise s is Keying refl) rows finds.same finds.sorted
 
 -- a keyed paper, compared with a batch, a round, a clerk and a number
 abbrev pub keyed_compared : ℕ → ℕ → ℕ → ℕ → KeyedEntry → Ordering
@@ -122,7 +122,7 @@ key_of_four_numbers a b c d k l m n =
 
 pub keyed_found : (s : OfficeState) → IsState s → (batch round clerk paper : ℕ)
     → filter (begins_with (Int (pos batch) ∷ Int (pos round) ∷ Int (pos clerk) ∷ Int (pos paper) ∷ [])) (tables_of s Keying) ≡ option_to_list (option_map row_of_keyed (entry_at (keyed_compared batch round clerk paper) s.keyings))
-unfolding tables_of
+unfolding tables_of tables_with
 keyed_found s is batch round clerk paper =
     row_found row_of_keyed (Int (pos batch) ∷ Int (pos round) ∷ Int (pos clerk) ∷ Int (pos paper) ∷ []) (keyed_compared batch round clerk paper) (λ k. key_of_four_numbers batch round clerk paper k.batch k.round k.clerk k.paper) apart s.keyings is.rise.keyings
   where
@@ -137,12 +137,12 @@ keyed_found s is batch round clerk paper =
         rw (numbers_apart batch a.batch b.batch f.0 g.0, numbers_apart round a.round b.round h.0 i.0, numbers_apart clerk a.clerk b.clerk j.0 k.0) (numbers_apart paper a.paper b.paper j.1 k.1)
 
 pub keyed_fits : (s : OfficeState) → IsState s → (batch round clerk paper : ℕ) → IfSome (option_map row_of_keyed (entry_at (keyed_compared batch round clerk paper) s.keyings)) IsKeyedRow
-unfolding tables_of
+unfolding tables_of tables_with
 keyed_fits s is batch round clerk paper = found_fits IsKeyedRow row_of_keyed _ s.keyings (keyings_fit s is)
 
 pub verdict_found : (s : OfficeState) → IsState s → (batch paper : ℕ)
     → filter (begins_with (Int (pos batch) ∷ Int (pos paper) ∷ [])) (tables_of s Verdict) ≡ option_to_list (option_map row_of_judged (verdict_at s batch paper))
-unfolding tables_of
+unfolding tables_of tables_with
 verdict_found s is batch paper =
     row_found row_of_judged (Int (pos batch) ∷ Int (pos paper) ∷ []) (judged_compared batch paper) (λ v. key_of_two_numbers batch paper v.batch v.paper)
     (λ a b first second.
@@ -152,28 +152,28 @@ verdict_found s is batch paper =
     s.verdicts is.rise.verdicts
 
 pub verdict_fits : (s : OfficeState) → IsState s → (batch paper : ℕ) → IfSome (option_map row_of_judged (verdict_at s batch paper)) IsJudgedRow
-unfolding tables_of
+unfolding tables_of tables_with
 verdict_fits s is batch paper = found_fits IsJudgedRow row_of_judged _ s.verdicts (verdicts_fit s is)
 
 -- the rows that begin with a batch are those of the verdicts on its papers, in the order of the papers
 pub verdicts_listed : (s : OfficeState) → IsState s → (batch : ℕ) (rows : List Row) → Finds Verdict (begins_with (Int (pos batch) ∷ [])) (tables_of s) rows → rows ≡ map row_of_judged (verdicts_of s batch)
-unfolding tables_of
+unfolding tables_of tables_with
 verdicts_listed s is batch rows finds =
-    listed_as Verdict row_of_judged (begins_with (Int (pos batch) ∷ [])) (λ v. v.batch == batch) (λ v. same_number batch v.batch) s.verdicts (tables_rise s is.rise Verdict refl) rows finds.same finds.sorted
+    listed_as Verdict row_of_judged (begins_with (Int (pos batch) ∷ [])) (λ v. v.batch == batch) (λ v. same_number batch v.batch) s.verdicts (tables_rise s is Verdict refl) rows finds.same finds.sorted
 
 -- ---- lots
 
 -- the rows that begin with a ward are those of the lots for its count, in the order of their stages
 pub lots_listed : (s : OfficeState) → IsState s → (ward : ℕ) (rows : List Row) → Finds Lot (begins_with (Int (pos ward) ∷ [])) (tables_of s) rows → rows ≡ map row_of_lot (lots_of s ward)
-unfolding tables_of
+unfolding tables_of tables_with
 lots_listed s is ward rows finds =
-    listed_as Lot row_of_lot (begins_with (Int (pos ward) ∷ [])) (λ l. l.ward == ward) (λ l. same_number ward l.ward) s.lots (tables_rise s is.rise Lot refl) rows finds.same finds.sorted
+    listed_as Lot row_of_lot (begins_with (Int (pos ward) ∷ [])) (λ l. l.ward == ward) (λ l. same_number ward l.ward) s.lots (tables_rise s is Lot refl) rows finds.same finds.sorted
 
 -- ---- receipts
 
 pub receipt_found : (s : OfficeState) → IsState s → (actor : ℕ) (id : List ℕ)
     → filter (begins_with (Int (pos actor) ∷ Text id ∷ [])) (tables_of s Receipt) ≡ option_to_list (option_map row_of_receipt (receipt_at s actor id))
-unfolding tables_of
+unfolding tables_of tables_with
 receipt_found s is actor id =
     row_found row_of_receipt (Int (pos actor) ∷ Text id ∷ []) (λ r. ordering_then (nat_cmp actor r.actor) (slice_cmp nat_cmp id r.id)) (λ r. key_of_number_and_text actor r.actor id r.id)
     (λ a b first second.
@@ -183,5 +183,5 @@ receipt_found s is actor id =
     s.receipts is.rise.receipts
 
 pub receipt_fits : (s : OfficeState) → IsState s → (actor : ℕ) (id : List ℕ) → IfSome (option_map row_of_receipt (receipt_at s actor id)) IsReceiptRow
-unfolding tables_of
+unfolding tables_of tables_with
 receipt_fits s is actor id = found_fits IsReceiptRow row_of_receipt _ s.receipts (receipts_fit s is)

@@ -13,10 +13,10 @@ use Rattle.register.specs.Offices.{WardEntry, CandidateEntry, BatchEntry, KeyedE
 use Rattle.register.specs.Items.{is_ward, is_candidate, is_batch, is_keyed_paper, is_judged_paper, is_lot, is_receipt, is_about, IsState}
 use Rattle.tables.specs.declared.table.Table.TheVariants.{Ward, Candidate, Batch, Keying, Verdict, Lot, Receipt}
 use Rattle.store.specs.EntryRows.{row_of_ward, IsWardRow, row_of_candidate, IsCandidateRow, row_of_batch, IsBatchRow, row_of_keyed, IsKeyedRow, row_of_judged, IsJudgedRow, row_of_lot, IsLotRow, row_of_receipt, IsReceiptRow}
-use Rattle.store.specs.Offices.{tables_of}
+use Rattle.store.specs.Offices.{tables_of, tables_with}
 use Rattle.store.proofs.DoneLemmas.{wards_few}
 
-small : (low high n : ℕ) → high < 2 ^ 32 → is_between low high n ≡ true → n < 2 ^ 32
+pub small : (low high n : ℕ) → high < 2 ^ 32 → is_between low high n ≡ true → n < 2 ^ 32
 small low high n below h = let upper = leb-true n high (and_parts (nat_le low n) (nat_le n high) h).1 in omega (arith, upper, below)
 
 -- each of a list that passes a test, and its image
@@ -142,11 +142,11 @@ receipt_fits r h =
 -- ---- the rows of a state read as entries
 
 pub wards_fit : (s : OfficeState) → IsState s → AllByRecursion IsWardRow (tables_of s Ward)
-unfolding tables_of
+unfolding tables_of tables_with
 wards_fit s is = each_ward_fits s.wards (and_parts _ _ is.in_range).0 (wards_few s is)
 
 pub candidates_fit : (s : OfficeState) → IsState s → AllByRecursion IsCandidateRow (tables_of s Candidate)
-unfolding tables_of
+unfolding tables_of tables_with
 candidates_fit s is = all_passed is_candidate IsCandidateRow row_of_candidate candidate_fits s.candidates (and_parts _ _ (and_parts _ _ is.in_range).1).0
 
 -- what the papers and the receipts are in range by
@@ -154,7 +154,7 @@ beyond_candidates : (s : OfficeState) → IsState s → (list_all is_batch s.bat
 beyond_candidates s is = (and_parts _ _ (and_parts _ _ is.in_range).1).1
 
 pub batches_fit : (s : OfficeState) → IsState s → AllByRecursion IsBatchRow (tables_of s Batch)
-unfolding tables_of
+unfolding tables_of tables_with
 batches_fit s is = all_passed is_batch IsBatchRow row_of_batch batch_fits s.batches (and_parts _ _ (beyond_candidates s is)).0
 
 beyond_batches : (s : OfficeState) → IsState s → (list_all is_keyed_paper s.keyings && (list_all is_judged_paper s.verdicts && (list_all is_lot s.lots && list_all is_receipt s.receipts))) ≡ true
@@ -167,11 +167,11 @@ pub keyings_in_range : (s : OfficeState) → IsState s → list_all is_keyed_pap
 keyings_in_range s is = (and_parts _ _ (beyond_batches s is)).0
 
 pub keyings_fit : (s : OfficeState) → IsState s → AllByRecursion IsKeyedRow (tables_of s Keying)
-unfolding tables_of
+unfolding tables_of tables_with
 keyings_fit s is = all_passed is_keyed_paper IsKeyedRow row_of_keyed keyed_fits s.keyings (keyings_in_range s is)
 
 pub verdicts_fit : (s : OfficeState) → IsState s → AllByRecursion IsJudgedRow (tables_of s Verdict)
-unfolding tables_of
+unfolding tables_of tables_with
 verdicts_fit s is = all_passed is_judged_paper IsJudgedRow row_of_judged judged_fits s.verdicts (and_parts _ _ (beyond_keyings s is)).0
 
 beyond_verdicts : (s : OfficeState) → IsState s → (list_all is_lot s.lots && list_all is_receipt s.receipts) ≡ true
@@ -181,9 +181,9 @@ pub lots_in_range : (s : OfficeState) → IsState s → list_all is_lot s.lots �
 lots_in_range s is = (and_parts _ _ (beyond_verdicts s is)).0
 
 pub lots_fit : (s : OfficeState) → IsState s → AllByRecursion IsLotRow (tables_of s Lot)
-unfolding tables_of
+unfolding tables_of tables_with
 lots_fit s is = all_passed is_lot IsLotRow row_of_lot lot_fits s.lots (and_parts _ _ (beyond_verdicts s is)).0
 
 pub receipts_fit : (s : OfficeState) → IsState s → AllByRecursion IsReceiptRow (tables_of s Receipt)
-unfolding tables_of
+unfolding tables_of tables_with
 receipts_fit s is = all_passed is_receipt IsReceiptRow row_of_receipt receipt_fits s.receipts (and_parts _ _ (beyond_verdicts s is)).1

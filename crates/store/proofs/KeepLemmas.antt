@@ -1,16 +1,22 @@
 -- A store that keeps a state.
 use Rattle.std.proofs.Common.{◌≡◌, ◌⊎◌, inl, inr, IsTrue, refl, subst, ◌∙◌, arith, Result, Ok, Err, OnOk}
+use Rattle.std.proofs.lemmas.List.Sorted.{IsPermutation-refl, IsPermutation-map}
 use Rattle.sqlite.specs.Tree.{Trees}
 use Rattle.sqlite.specs.Effect.{Database}
 use Rattle.sqlite.specs.State.{State, HasCleanDisk, Survives}
 use Rattle.register.specs.Offices.{OfficeState}
 use Rattle.register.specs.Items.{IsState}
-use Rattle.register.specs.Effects.{ChangeEntry, with_change}
-use Rattle.tables.specs.Contents.{Contents, Stores, Rests, RestsAt}
+use Rattle.register.specs.declared.decision.Change.{Change}
+use Rattle.register.specs.Effects.{ChangeEntry, change_entry, with_change}
+use Rattle.register.specs.Tabulated.{TabulationEntries, tabulation_of, SameTabulation, AdditionEntries, addition_entries, with_addition, IsTabulated}
+use Rattle.tables.specs.declared.table.Table.TheVariants.{Office, Ward, Candidate, Batch, Keying, Verdict, Lot, Receipt, Bundle, Vote}
+use Rattle.tables.specs.Contents.{Contents, SameContents, Stores, Rests, RestsAt}
 use Rattle.tables.specs.Reading.{OnlyReads}
-use Rattle.store.specs.Offices.{tables_of, ChangesTo, HoldsState, IsAt, LeavesState, Wears}
+use Rattle.store.specs.EntryRows.{row_of_placed, row_of_figure}
+use Rattle.store.specs.Offices.{tables_of, tables_with, ChangesTo, HoldsState, IsAt, LeavesState, Wears}
 use Rattle.tables.proofs.StopLemmas.{rests_leaves}
 use Rattle.tables.proofs.ReadLemmas.{rests_read, rests_from}
+use Rattle.tables.proofs.SameLemmas.{rests_same, stores_same}
 
 -- a connection that rests at the tables of a state keeps that state
 pub rests_is_at : (s : OfficeState) (st : State) → ((trees : Trees) → IsTrue st.is_open → st.may_leave trees → trees ≡ st.committed.trees) → IsState s → Rests (tables_of s) st → IsAt s st
@@ -20,10 +26,6 @@ rests_is_at s st settled is rests = record {
   leaves = λ trees may. let it = rests_leaves (tables_of s) st settled rests trees may in (s, refl, record { is = is; stores = subst (λ (c : Contents). Stores c trees) it.1 it.2 });
 }
 
-pub if_rests_is_at : {X E : Type 0} (r : Result X E) (s : OfficeState) (st : State) → ((trees : Trees) → IsTrue st.is_open → st.may_leave trees → trees ≡ st.committed.trees) → IsState s → OnOk r (Rests (tables_of s) st) → OnOk r (IsAt s st)
-if_rests_is_at (Ok x) s st settled is rests = rests_is_at s st settled is rests
-if_rests_is_at (Err e) s st settled is rests = tt
-
 -- a read keeps the state
 pub is_at_read : (s : OfficeState) (old new : State) → OnlyReads old new → HasCleanDisk new → IsAt s old → IsAt s new
 is_at_read s old new reads honest at = record {
@@ -32,23 +34,54 @@ is_at_read s old new reads honest at = record {
   leaves = λ trees may. at.leaves trees (reads.leaves honest trees may);
 }
 
--- what a change makes of the tables
-pub changes_to : (change : ChangeEntry) (s : OfficeState) → ChangesTo change (tables_of s) (tables_of (with_change change s))
+-- ---- changes
+
+-- the tables of a state, and of the same tabulation in another order
+same_tables : (s : OfficeState) (t u : TabulationEntries) → SameTabulation t u → SameContents (tables_with s t) (tables_with s u)
+unfolding tables_with
+same_tables s t u same Office = IsPermutation-refl _
+same_tables s t u same Ward = IsPermutation-refl _
+same_tables s t u same Candidate = IsPermutation-refl _
+same_tables s t u same Batch = IsPermutation-refl _
+same_tables s t u same Keying = IsPermutation-refl _
+same_tables s t u same Verdict = IsPermutation-refl _
+same_tables s t u same Lot = IsPermutation-refl _
+same_tables s t u same Receipt = IsPermutation-refl _
+same_tables s t u same Bundle = IsPermutation-map row_of_placed t.bundles u.bundles same.bundles
+same_tables s t u same Vote = IsPermutation-map row_of_figure t.figures u.figures same.figures
+
+-- what a change, and what it adds to the tabulation, make of the tables of a state
+abbrev pub changed_tables : Change → OfficeState → Contents
+changed_tables change s = tables_with (with_change (change_entry change) s) (with_addition (addition_entries change.addition) (tabulation_of s))
+
+pub changes_to : (change : Change) (s : OfficeState) → ChangesTo (change_entry change) (addition_entries change.addition) (tables_of s) (changed_tables change s)
 changes_to change s = record { old = s; from = refl; to = refl }
 
+-- they are the tables of the state after it, where the addition is what is tabulated anew
+changed_same : (change : Change) (s : OfficeState) → IsTabulated s change → SameContents (changed_tables change s) (tables_of (with_change (change_entry change) s))
+unfolding tables_of
+changed_same change s tabulated = same_tables (with_change (change_entry change) s) _ _ tabulated
+
+-- a connection that rests at them keeps that state
+pub if_change_is_at : {X E : Type 0} (r : Result X E) (change : Change) (s : OfficeState) (st : State) → ((trees : Trees) → IsTrue st.is_open → st.may_leave trees → trees ≡ st.committed.trees)
+    → IsTabulated s change → IsState (with_change (change_entry change) s) → OnOk r (Rests (changed_tables change s) st) → OnOk r (IsAt (with_change (change_entry change) s) st)
+if_change_is_at (Ok x) change s st settled tabulated is rests = rests_is_at (with_change (change_entry change) s) st settled is (rests_same _ _ st (changed_same change s tabulated) rests)
+if_change_is_at (Err e) change s st settled tabulated is rests = tt
+
 -- a stop in a change leaves the old tables or the new ones
-pub change_stops : (change : ChangeEntry) (s : OfficeState) (old new : State) → HasCleanDisk new → IsAt s old → Survives old new (Stores (tables_of (with_change change s)))
-    → (trees : Trees) → new.may_leave trees → Stores (tables_of s) trees ⊎ Stores (tables_of (with_change change s)) trees
-change_stops change s old new honest at survives trees may = elim (survives.crash honest trees may) [
+pub change_stops : (change : Change) (s : OfficeState) (old new : State) → HasCleanDisk new → IsAt s old → IsTabulated s change → Survives old new (Stores (changed_tables change s))
+    → (trees : Trees) → new.may_leave trees → Stores (tables_of s) trees ⊎ Stores (tables_of (with_change (change_entry change) s)) trees
+change_stops change s old new honest at tabulated survives trees may = elim (survives.crash honest trees may) [
   | inl was ↦ let it = at.leaves trees was in inl (subst (λ (x : OfficeState). Stores (tables_of x) trees) it.1 it.2.stores)
-  | inr made ↦ inr made
+  | inr made ↦ inr (stores_same _ _ trees (changed_same change s tabulated) made)
 ]
 
 -- and so the old state or the new one
-pub change_leaves : (change : ChangeEntry) (s : OfficeState) (old new : State) → HasCleanDisk new → IsAt s old → IsState (with_change change s) → Survives old new (Stores (tables_of (with_change change s))) → LeavesState new (λ x. (x ≡ s) ⊎ (x ≡ with_change change s))
-change_leaves change s old new honest at after survives trees may = elim (survives.crash honest trees may) [
+pub change_leaves : (change : Change) (s : OfficeState) (old new : State) → HasCleanDisk new → IsAt s old → IsTabulated s change → IsState (with_change (change_entry change) s) → Survives old new (Stores (changed_tables change s))
+    → LeavesState new (λ x. (x ≡ s) ⊎ (x ≡ with_change (change_entry change) s))
+change_leaves change s old new honest at tabulated after survives trees may = elim (survives.crash honest trees may) [
   | inl was ↦ let it = at.leaves trees was in (it.0, inl it.1, it.2)
-  | inr made ↦ (with_change change s, inr refl, record { is = after; stores = made })
+  | inr made ↦ (with_change (change_entry change) s, inr refl, record { is = after; stores = stores_same _ _ trees (changed_same change s tabulated) made })
 ]
 
 -- a database that holds a state, found by reads alone, is kept at it

@@ -2,6 +2,7 @@ pub mod RowLemmas
 pub mod StateLemmas
 pub mod DoneLemmas
 pub mod FitLemmas
+pub mod CountFits
 pub mod FindLemmas
 pub mod KeyingLemmas
 pub mod WriteLemmas

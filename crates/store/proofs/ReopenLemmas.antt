@@ -12,7 +12,7 @@ use Rattle.register.specs.Offices.{OfficeState}
 use Rattle.tables.specs.declared.fault.Fault.{Fault}
 use Rattle.tables.specs.declared.fault.Fault.TheVariants.{Memory, Store, Damaged, Closed, WrongDatabase, NewerSchema}
 use Rattle.tables.specs.declared.table.Table.{Table}
-use Rattle.tables.specs.declared.table.Table.TheVariants.{Office, Ward, Candidate, Batch, Keying, Verdict, Lot, Receipt}
+use Rattle.tables.specs.declared.table.Table.TheVariants.{Office, Ward, Candidate, Batch, Keying, Verdict, Lot, Receipt, Bundle, Vote}
 use Rattle.tables.specs.Schema.{IsOfficeSchema, changes_rows}
 use Rattle.tables.specs.Contents.{Contents, IsOffice}
 use Rattle.tables.specs.Presence.{has_table, IsOurs}
@@ -77,13 +77,15 @@ changing_has Keying changes = refl
 changing_has Verdict changes = refl
 changing_has Lot changes = refl
 changing_has Receipt changes = refl
+changing_has Bundle changes = refl
+changing_has Vote changes = refl
 
 -- rowids are the rows' own, so the store failed where that is told
 own_there : (s : OfficeState) (db : Database) → HoldsState db s → ¬ SharesRowids db
 unfolding IsOffice
 own_there s db held shared =
     let t = shared.0 in
-    own_rowids t (tables_of s t) db.trees (held.office.holds t) (tables_rise s held.is.rise t (changing_has t shared.1)) shared.1 shared.2
+    own_rowids t (tables_of s t) db.trees (held.office.holds t) (tables_rise s held.is t (changing_has t shared.1)) shared.1 shared.2
 
 pub left_failed : (s : OfficeState) (db : Database) (old new : State) (f : Fault) → IsLeftAt s db → IsToldBy db f → FailsToList db old new f → FailsBy old new f
 left_failed s db old new f left told fails = elim (left_told s db f left told) [

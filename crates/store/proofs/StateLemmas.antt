@@ -1,8 +1,8 @@
 -- Rows tell their entries, so equal tables are those of equal states.
-use Rattle.std.proofs.Common.{◌≡◌, ℕ, zero, suc, pos, List, [], true, refl, sym, ap, ◌∙◌, true≢false}
+use Rattle.std.proofs.Common.{◌≡◌, ℕ, zero, suc, pos, List, [], Bool, true, false, refl, sym, ap, ◌∙◌, true≢false}
 use Rattle.std.specs.List.Sorted.{IsStrictlySortedBy}
 use Rattle.sqlite.specs.declared.types.Value.{Value}
-use Rattle.sqlite.specs.declared.types.Value.TheVariants.{Int, Text}
+use Rattle.sqlite.specs.declared.types.Value.TheVariants.{Int, Text, Blob}
 use Rattle.sqlite.specs.Order.{Row, column}
 use Rattle.sqlite.specs.Effect.{Database}
 use Rattle.register.specs.declared.phase.Phase.{Phase}
@@ -10,14 +10,16 @@ use Rattle.register.specs.declared.phase.Phase.TheVariants.{Nominations, Keying 
 use Rattle.register.specs.Phases.{phase_number}
 use Rattle.register.specs.Offices.{WardEntry, CandidateEntry, BatchEntry, KeyedEntry, JudgedEntry, LotEntry, ReceiptEntry, OfficeState, MapsRise, ward_cmp, candidate_cmp, batch_cmp, keyed_cmp, judged_cmp, lot_cmp, receipt_cmp}
 use Rattle.register.specs.Items.{IsState}
+use Rattle.register.specs.Tabulated.{PlacedEntry, FigureEntry, TabulationEntries, tabulation_of, placed_cmp, figure_cmp}
+use Rattle.register.proofs.TabulatedLemmas.{tabulation_rises}
 use Rattle.tables.specs.declared.table.Table.{Table}
-use Rattle.tables.specs.declared.table.Table.TheVariants.{Office, Ward, Candidate, Batch, Keying, Verdict, Lot, Receipt}
+use Rattle.tables.specs.declared.table.Table.TheVariants.{Office, Ward, Candidate, Batch, Keying, Verdict, Lot, Receipt, Bundle, Vote}
 use Rattle.tables.specs.Rows.{row_cmp}
 use Rattle.tables.specs.Contents.{SameContents, IsOffice}
-use Rattle.store.specs.EntryRows.{row_of_ward, row_of_candidate, row_of_batch, row_of_keyed, row_of_judged, row_of_lot, row_of_receipt}
-use Rattle.store.specs.Offices.{tables_of, HoldsState}
+use Rattle.store.specs.EntryRows.{row_of_ward, row_of_candidate, row_of_batch, row_of_keyed, row_of_judged, row_of_lot, row_of_receipt, row_of_placed, row_of_figure}
+use Rattle.store.specs.Offices.{tables_of, tables_with, HoldsState}
 use Rattle.store.specs.Openings.{has_entries}
-use Rattle.tables.proofs.OrderLemmas.{one_number, two_numbers, four_numbers, number_and_text, rows_rise}
+use Rattle.tables.proofs.OrderLemmas.{one_number, two_numbers, three_numbers, four_numbers, number_and_text, number_and_bytes, rows_rise}
 use Rattle.tables.proofs.SameLemmas.{one_contents}
 use Rattle.store.proofs.RowLemmas.{entries_rise, entries_same}
 
@@ -30,6 +32,10 @@ number_in _ = 0
 abbrev text_in : Value → List ℕ
 text_in (Text t) = t
 text_in _ = []
+
+abbrev bytes_in : Value → List ℕ
+bytes_in (Blob b) = b
+bytes_in _ = []
 
 abbrev phase_of : ℕ → Phase
 phase_of (suc (suc zero)) = Keyed
@@ -85,6 +91,18 @@ receipt_in r = record { actor = number_in (column r 0); id = text_in (column r 1
 pub receipt_back : (r : ReceiptEntry) → receipt_in (row_of_receipt r) ≡ r
 receipt_back r = refl
 
+abbrev pub bundle_in : Row → PlacedEntry
+bundle_in r = record { ward = number_in (column r 0); list = bytes_in (column r 1); papers = number_in (column r 2); holder = number_in (column r 3); value = number_in (column r 4) }
+
+pub bundle_back : (b : PlacedEntry) → bundle_in (row_of_placed b) ≡ b
+bundle_back b = refl
+
+abbrev pub figure_in : Row → FigureEntry
+figure_in r = record { ward = number_in (column r 0); stage = number_in (column r 1); candidate = number_in (column r 2); units = number_in (column r 3); mark = number_in (column r 4) }
+
+pub figure_back : (f : FigureEntry) → figure_in (row_of_figure f) ≡ f
+figure_back f = refl
+
 -- ---- the order of the keys
 
 wards_alike : (a b : WardEntry) → row_cmp Ward (row_of_ward a) (row_of_ward b) ≡ ward_cmp a b
@@ -108,22 +126,51 @@ lots_alike a b = two_numbers a.ward a.stage b.ward b.stage
 receipts_alike : (a b : ReceiptEntry) → row_cmp Receipt (row_of_receipt a) (row_of_receipt b) ≡ receipt_cmp a b
 receipts_alike a b = number_and_text a.actor b.actor a.id b.id
 
+bundles_alike : (a b : PlacedEntry) → row_cmp Bundle (row_of_placed a) (row_of_placed b) ≡ placed_cmp a b
+bundles_alike a b = number_and_bytes a.ward b.ward a.list b.list
+
+figures_alike : (a b : FigureEntry) → row_cmp Vote (row_of_figure a) (row_of_figure b) ≡ figure_cmp a b
+figures_alike a b = three_numbers a.ward a.stage a.candidate b.ward b.stage b.candidate
+
+-- the tables of the maps of a state
+abbrev has_map : Table → Bool
+has_map Office = false
+has_map Bundle = false
+has_map Vote = false
+has_map _ = true
+
 -- the rows of maps that rise rise
-pub tables_rise : (s : OfficeState) → MapsRise s → (t : Table) → has_entries t ≡ true → IsStrictlySortedBy (row_cmp t) (tables_of s t)
-unfolding tables_of
-tables_rise s rise Ward has = rows_rise row_of_ward (row_cmp Ward) ward_cmp wards_alike s.wards rise.wards
-tables_rise s rise Candidate has = rows_rise row_of_candidate (row_cmp Candidate) candidate_cmp candidates_alike s.candidates rise.candidates
-tables_rise s rise Batch has = rows_rise row_of_batch (row_cmp Batch) batch_cmp batches_alike s.batches rise.batches
-tables_rise s rise Keying has = rows_rise row_of_keyed (row_cmp Keying) keyed_cmp keyings_alike s.keyings rise.keyings
-tables_rise s rise Verdict has = rows_rise row_of_judged (row_cmp Verdict) judged_cmp verdicts_alike s.verdicts rise.verdicts
-tables_rise s rise Lot has = rows_rise row_of_lot (row_cmp Lot) lot_cmp lots_alike s.lots rise.lots
-tables_rise s rise Receipt has = rows_rise row_of_receipt (row_cmp Receipt) receipt_cmp receipts_alike s.receipts rise.receipts
-tables_rise s rise Office has = absurd (true≢false (sym has))
+maps_up : (s : OfficeState) (t : TabulationEntries) → MapsRise s → (u : Table) → has_map u ≡ true → IsStrictlySortedBy (row_cmp u) (tables_with s t u)
+unfolding tables_with
+maps_up s t rise Ward has = rows_rise row_of_ward (row_cmp Ward) ward_cmp wards_alike s.wards rise.wards
+maps_up s t rise Candidate has = rows_rise row_of_candidate (row_cmp Candidate) candidate_cmp candidates_alike s.candidates rise.candidates
+maps_up s t rise Batch has = rows_rise row_of_batch (row_cmp Batch) batch_cmp batches_alike s.batches rise.batches
+maps_up s t rise Keying has = rows_rise row_of_keyed (row_cmp Keying) keyed_cmp keyings_alike s.keyings rise.keyings
+maps_up s t rise Verdict has = rows_rise row_of_judged (row_cmp Verdict) judged_cmp verdicts_alike s.verdicts rise.verdicts
+maps_up s t rise Lot has = rows_rise row_of_lot (row_cmp Lot) lot_cmp lots_alike s.lots rise.lots
+maps_up s t rise Receipt has = rows_rise row_of_receipt (row_cmp Receipt) receipt_cmp receipts_alike s.receipts rise.receipts
+maps_up s t rise Office has = absurd (true≢false (sym has))
+maps_up s t rise Bundle has = absurd (true≢false (sym has))
+maps_up s t rise Vote has = absurd (true≢false (sym has))
+
+-- the rows of a state rise, and those of what is tabulated of its counts
+pub tables_rise : (s : OfficeState) → IsState s → (u : Table) → has_entries u ≡ true → IsStrictlySortedBy (row_cmp u) (tables_of s u)
+unfolding tables_of tables_with
+tables_rise s is Bundle has = rows_rise row_of_placed (row_cmp Bundle) placed_cmp bundles_alike (tabulation_of s).bundles (tabulation_rises s is).bundles
+tables_rise s is Vote has = rows_rise row_of_figure (row_cmp Vote) figure_cmp figures_alike (tabulation_of s).figures (tabulation_rises s is).figures
+tables_rise s is Office has = absurd (true≢false (sym has))
+tables_rise s is Ward has = maps_up s (tabulation_of s) is.rise Ward refl
+tables_rise s is Candidate has = maps_up s (tabulation_of s) is.rise Candidate refl
+tables_rise s is Batch has = maps_up s (tabulation_of s) is.rise Batch refl
+tables_rise s is Keying has = maps_up s (tabulation_of s) is.rise Keying refl
+tables_rise s is Verdict has = maps_up s (tabulation_of s) is.rise Verdict refl
+tables_rise s is Lot has = maps_up s (tabulation_of s) is.rise Lot refl
+tables_rise s is Receipt has = maps_up s (tabulation_of s) is.rise Receipt refl
 
 -- maps whose rows rise, rise
-pub maps_rise : (s : OfficeState) → ((t : Table) → has_entries t ≡ true → IsStrictlySortedBy (row_cmp t) (tables_of s t)) → MapsRise s
-unfolding tables_of
-maps_rise s each = record {
+pub maps_rise : (s : OfficeState) (t : TabulationEntries) → ((u : Table) → has_entries u ≡ true → IsStrictlySortedBy (row_cmp u) (tables_with s t u)) → MapsRise s
+unfolding tables_with
+maps_rise s t each = record {
   wards = entries_rise row_of_ward (row_cmp Ward) ward_cmp wards_alike s.wards (each Ward refl);
   candidates = entries_rise row_of_candidate (row_cmp Candidate) candidate_cmp candidates_alike s.candidates (each Candidate refl);
   batches = entries_rise row_of_batch (row_cmp Batch) batch_cmp batches_alike s.batches (each Batch refl);
@@ -135,30 +182,39 @@ maps_rise s each = record {
 
 -- ---- states
 
--- maps that rise and have the same rows are equal
-pub equal_maps : (s t : OfficeState) → MapsRise s → MapsRise t → SameContents (tables_of s) (tables_of t) → s ≡ t
-unfolding tables_of
-equal_maps s t rise also same =
-    let wards = entries_same Ward row_of_ward ward_in ward_back s.wards t.wards (tables_rise s rise Ward refl) (tables_rise t also Ward refl) (same Ward) in
-    let candidates = entries_same Candidate row_of_candidate candidate_in candidate_back s.candidates t.candidates (tables_rise s rise Candidate refl) (tables_rise t also Candidate refl) (same Candidate) in
-    let batches = entries_same Batch row_of_batch batch_in batch_back s.batches t.batches (tables_rise s rise Batch refl) (tables_rise t also Batch refl) (same Batch) in
-    let keyings = entries_same Keying row_of_keyed keyed_in keyed_back s.keyings t.keyings (tables_rise s rise Keying refl) (tables_rise t also Keying refl) (same Keying) in
-    let verdicts = entries_same Verdict row_of_judged judged_in judged_back s.verdicts t.verdicts (tables_rise s rise Verdict refl) (tables_rise t also Verdict refl) (same Verdict) in
-    let lots = entries_same Lot row_of_lot lot_in lot_back s.lots t.lots (tables_rise s rise Lot refl) (tables_rise t also Lot refl) (same Lot) in
-    let receipts = entries_same Receipt row_of_receipt receipt_in receipt_back s.receipts t.receipts (tables_rise s rise Receipt refl) (tables_rise t also Receipt refl) (same Receipt) in
+-- maps that rise and have the same rows are equal, whatever is tabulated beside them
+pub equal_maps : (s x : OfficeState) (t u : TabulationEntries) → MapsRise s → MapsRise x → SameContents (tables_with s t) (tables_with x u) → s ≡ x
+unfolding tables_with
+equal_maps s x t u rise also same =
+    let wards = entries_same Ward row_of_ward ward_in ward_back s.wards x.wards (maps_up s t rise Ward refl) (maps_up x u also Ward refl) (same Ward) in
+    let candidates = entries_same Candidate row_of_candidate candidate_in candidate_back s.candidates x.candidates (maps_up s t rise Candidate refl) (maps_up x u also Candidate refl) (same Candidate) in
+    let batches = entries_same Batch row_of_batch batch_in batch_back s.batches x.batches (maps_up s t rise Batch refl) (maps_up x u also Batch refl) (same Batch) in
+    let keyings = entries_same Keying row_of_keyed keyed_in keyed_back s.keyings x.keyings (maps_up s t rise Keying refl) (maps_up x u also Keying refl) (same Keying) in
+    let verdicts = entries_same Verdict row_of_judged judged_in judged_back s.verdicts x.verdicts (maps_up s t rise Verdict refl) (maps_up x u also Verdict refl) (same Verdict) in
+    let lots = entries_same Lot row_of_lot lot_in lot_back s.lots x.lots (maps_up s t rise Lot refl) (maps_up x u also Lot refl) (same Lot) in
+    let receipts = entries_same Receipt row_of_receipt receipt_in receipt_back s.receipts x.receipts (maps_up s t rise Receipt refl) (maps_up x u also Receipt refl) (same Receipt) in
     ap (λ l. record s { wards = l }) wards
-    ∙ ap (λ l. record s { wards = t.wards; candidates = l }) candidates
-    ∙ ap (λ l. record s { wards = t.wards; candidates = t.candidates; batches = l }) batches
-    ∙ ap (λ l. record s { wards = t.wards; candidates = t.candidates; batches = t.batches; keyings = l }) keyings
-    ∙ ap (λ l. record t { verdicts = l; lots = s.lots; receipts = s.receipts }) verdicts
-    ∙ ap (λ l. record t { lots = l; receipts = s.receipts }) lots
-    ∙ ap (λ l. record t { receipts = l }) receipts
+    ∙ ap (λ l. record s { wards = x.wards; candidates = l }) candidates
+    ∙ ap (λ l. record s { wards = x.wards; candidates = x.candidates; batches = l }) batches
+    ∙ ap (λ l. record s { wards = x.wards; candidates = x.candidates; batches = x.batches; keyings = l }) keyings
+    ∙ ap (λ l. record x { verdicts = l; lots = s.lots; receipts = s.receipts }) verdicts
+    ∙ ap (λ l. record x { lots = l; receipts = s.receipts }) lots
+    ∙ ap (λ l. record x { receipts = l }) receipts
 
 -- states with the same tables are equal
 pub equal_states : (s t : OfficeState) → IsState s → IsState t → SameContents (tables_of s) (tables_of t) → s ≡ t
-equal_states s t is also same = equal_maps s t is.rise also.rise same
+unfolding tables_of
+equal_states s t is also same = equal_maps s t (tabulation_of s) (tabulation_of t) is.rise also.rise same
 
 -- a database stands for one state
 pub one_state : (db : Database) (s t : OfficeState) → HoldsState db s → HoldsState db t → s ≡ t
 unfolding IsOffice
 one_state db s t first second = equal_states s t first.is second.is (one_contents (tables_of s) (tables_of t) db.trees first.office.holds second.office.holds)
+
+-- what is tabulated beside a state is tabulated of its counts, where its rows rise and are those of the state
+pub tabulated_same : (s x : OfficeState) (t : TabulationEntries) → IsState x → ((u : Table) → has_entries u ≡ true → IsStrictlySortedBy (row_cmp u) (tables_with s t u)) → SameContents (tables_of x) (tables_with s t) → t ≡ tabulation_of x
+unfolding tables_of tables_with
+tabulated_same s x t is each same =
+    let bundles = entries_same Bundle row_of_placed bundle_in bundle_back (tabulation_of x).bundles t.bundles (tables_rise x is Bundle refl) (each Bundle refl) (same Bundle) in
+    let figures = entries_same Vote row_of_figure figure_in figure_back (tabulation_of x).figures t.figures (tables_rise x is Vote refl) (each Vote refl) (same Vote) in
+    ap (λ l. record t { bundles = l }) (sym bundles) ∙ ap (λ l. record (tabulation_of x) { figures = l }) (sym figures)

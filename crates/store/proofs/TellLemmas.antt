@@ -14,22 +14,23 @@ use Rattle.sqlite.specs.State.{State, IsLive}
 use Rattle.sqlite.proofs.Callers.{one_permutation}
 use Rattle.register.specs.Offices.{OfficeState, MapsRise}
 use Rattle.register.specs.Items.{IsState}
+use Rattle.register.specs.Tabulated.{TabulationEntries, tabulation_of}
 use Rattle.tables.specs.declared.fault.Fault.{Fault}
 use Rattle.tables.specs.declared.fault.Fault.TheVariants.{Memory, Store, Damaged, Closed, WrongDatabase, NewerSchema}
 use Rattle.tables.specs.declared.table.Table.{Table}
-use Rattle.tables.specs.declared.table.Table.TheVariants.{Office, Ward, Candidate, Batch, Keying, Verdict, Lot, Receipt}
+use Rattle.tables.specs.declared.table.Table.TheVariants.{Office, Ward, Candidate, Batch, Keying, Verdict, Lot, Receipt, Bundle, Vote}
 use Rattle.tables.specs.Schema.{BeginsTo, IsOfficeSchema}
 use Rattle.tables.specs.Rows.{tuples, at, column_places, begins_with}
 use Rattle.tables.specs.Contents.{SameContents, HoldsTable, RestsAt, IsOffice}
 use Rattle.tables.specs.Presence.{has_table, has_every_table}
 use Rattle.tables.specs.Reading.{Lists, ListsKeyed, HoldsNone}
 use Rattle.store.specs.EntryRows.{office_row}
-use Rattle.store.specs.Offices.{HoldsState, tables_of}
-use Rattle.store.specs.Openings.{HasNoOffice, IsNewer, HoldsNoState, IsToldBy, TellsNoState, IsVersion, TellsRow, TellsRows, HasVersion, TellsOffice, has_entries, ListsMaps, HoldsEntries}
+use Rattle.store.specs.Offices.{HoldsState, tables_of, tables_with}
+use Rattle.store.specs.Openings.{HasNoOffice, IsNewer, HoldsNoState, IsToldBy, TellsNoState, IsVersion, TellsRow, TellsRows, HasVersion, TellsOffice, has_entries, ListsMaps, IsTabulatedAs, HoldsEntries}
 use Rattle.tables.proofs.ListLemmas.{mapped_length}
 use Rattle.tables.proofs.HoldLemmas.{lists_all, shown_rows, rows_held, held_listed}
 use Rattle.tables.proofs.ListingLemmas.{begins_to}
-use Rattle.store.proofs.StateLemmas.{tables_rise, maps_rise, equal_maps}
+use Rattle.store.proofs.StateLemmas.{tables_rise, maps_rise, equal_maps, tabulated_same}
 
 -- ---- the tables, by what an opening makes of them
 
@@ -43,10 +44,16 @@ which_kind Keying = inr refl
 which_kind Verdict = inr refl
 which_kind Lot = inr refl
 which_kind Receipt = inr refl
+which_kind Bundle = inr refl
+which_kind Vote = inr refl
 
 office_rows : (s : OfficeState) → tables_of s Office ≡ office_row 1 ∷ []
-unfolding tables_of
+unfolding tables_of tables_with
 office_rows s = refl
+
+office_with : (s : OfficeState) (t : TabulationEntries) → tables_with s t Office ≡ office_row 1 ∷ []
+unfolding tables_with
+office_with s t = refl
 
 -- ---- faults
 
@@ -60,26 +67,32 @@ pub told_entries : (t : Table) (IsRow : Row → Type 0) → has_entries t ≡ tr
 unfolding IsOffice
 told_entries t IsRow has fits db f (inl memory) = told_store db f (inl memory)
 told_entries t IsRow has fits db f (inr (inl store)) = told_store db f (inr store)
-told_entries t IsRow has fits db f (inr (inr none)) = subst (TellsNoState db) (sym none.0) (λ s holds. none.1 (tables_of s t) (fits s holds.is) (tables_rise s holds.is.rise t has) (holds.office.holds t))
+told_entries t IsRow has fits db f (inr (inr none)) = subst (TellsNoState db) (sym none.0) (λ s holds. none.1 (tables_of s t) (fits s holds.is) (tables_rise s holds.is t has) (holds.office.holds t))
 
 -- ---- the entries of a state
 
--- maps whose rows the tables hold are those of each state that the database holds
-maps_same : (db : Database) (s x : OfficeState) → ListsMaps db s → HoldsState db x → SameContents (tables_of x) (tables_of s)
+-- maps and a tabulation whose rows the tables hold are those of each state that the database holds
+maps_same : (db : Database) (s x : OfficeState) (t : TabulationEntries) → ListsMaps db s t → HoldsState db x → SameContents (tables_of x) (tables_with s t)
 unfolding IsOffice
-maps_same db s x lists holds t = elim (which_kind t) [
-  | inl office ↦ subst (λ (u : Table). IsPermutation (tables_of x u) (tables_of s u)) (sym office) (subst (λ l. IsPermutation l (tables_of s Office)) (sym (office_rows x)) (subst (IsPermutation (office_row 1 ∷ [])) (sym (office_rows s)) (IsPermutation-refl _)))
-  | inr has ↦ held_listed t db (tables_of s t) (lists t has).all.lists (tables_of x t) (holds.office.holds t)
+maps_same db s x t lists holds u = elim (which_kind u) [
+  | inl office ↦ subst (λ (v : Table). IsPermutation (tables_of x v) (tables_with s t v)) (sym office) (subst (λ l. IsPermutation l (tables_with s t Office)) (sym (office_rows x)) (subst (IsPermutation (office_row 1 ∷ [])) (sym (office_with s t)) (IsPermutation-refl _)))
+  | inr has ↦ held_listed u db (tables_with s t u) (lists u has).all.lists (tables_of x u) (holds.office.holds u)
 ]
 
-pub lists_rise : (db : Database) (s : OfficeState) → ListsMaps db s → MapsRise s
-lists_rise db s lists = maps_rise s (λ t has. (lists t has).rise)
+pub lists_rise : (db : Database) (s : OfficeState) (t : TabulationEntries) → ListsMaps db s t → MapsRise s
+lists_rise db s t lists = maps_rise s t (λ u has. (lists u has).rise)
 
-pub maps_are : (db : Database) (s x : OfficeState) → ListsMaps db s → HoldsState db x → x ≡ s
-maps_are db s x lists holds = equal_maps x s holds.is.rise (lists_rise db s lists) (maps_same db s x lists holds)
+-- such a state has just these maps, and that tabulation is the one of its counts
+pub maps_are : (db : Database) (s x : OfficeState) (t : TabulationEntries) → ListsMaps db s t → HoldsState db x → IsTabulatedAs s t
+unfolding tables_of
+maps_are db s x t lists holds =
+    let contents = maps_same db s x t lists holds in
+    let same : x ≡ s = equal_maps x s (tabulation_of x) t holds.is.rise (lists_rise db s t lists) contents in
+    subst (λ (y : OfficeState). IsTabulatedAs y t) same (holds.is, tabulated_same s x t holds.is (λ u has. (lists u has).rise) contents)
 
-pub entries_held : (db : Database) → IsOfficeSchema db.schema → IsDatabase db → (s : OfficeState) → IsState s → ListsMaps db s → HoldsEntries db s
-entries_held db begins sound s is lists = record { is = is; entries = λ t has. rows_held t db (begins_to t db.schema begins) sound (tables_of s t) (lists t has).all (lists t has).typed }
+pub entries_held : (db : Database) → IsOfficeSchema db.schema → IsDatabase db → (s : OfficeState) (t : TabulationEntries) → IsTabulatedAs s t → ListsMaps db s t → HoldsEntries db s
+unfolding tables_of
+entries_held db begins sound s t is lists = record { is = is.0; entries = λ u has. subst (λ (v : TabulationEntries). HoldsTable u (tables_with s v u) db.trees) is.1 (rows_held u db (begins_to u db.schema begins) sound (tables_with s t u) (lists u has).all (lists u has).typed) }
 
 -- ---- tables with no row
 

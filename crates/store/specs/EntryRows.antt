@@ -1,12 +1,13 @@
 -- The rows that entries stand in.
 use Rattle.std.specs.Prelude.{◌≡◌, pos, ℕ, [], ◌∷◌}
 use Rattle.sqlite.specs.declared.types.Value.{Value}
-use Rattle.sqlite.specs.declared.types.Value.TheVariants.{Int, Text}
+use Rattle.sqlite.specs.declared.types.Value.TheVariants.{Int, Text, Blob}
 use Rattle.sqlite.specs.Order.{Row, column}
 use Rattle.register.specs.declared.phase.Phase.{Phase}
 use Rattle.register.specs.Phases.{phase_number}
 use Rattle.register.specs.Offices.{WardEntry, CandidateEntry, BatchEntry, KeyedEntry, JudgedEntry, LotEntry, ReceiptEntry}
-use Rattle.tables.specs.Cells.{IsNumber, IsText}
+use Rattle.register.specs.Tabulated.{PlacedEntry, FigureEntry}
+use Rattle.tables.specs.Cells.{IsNumber, IsAmount, IsText, IsBytes}
 
 -- the number of a phase
 abbrev pub IsPhase : Value → Type 0
@@ -71,3 +72,19 @@ row_of_receipt r = Int (pos r.actor) ∷ Text r.id ∷ Text r.subject ∷ Text r
 -- a row that reads as a receipt's
 abbrev pub IsReceiptRow : Row → Type 0
 IsReceiptRow r = IsNumber (column r 0) × IsText (column r 1) × IsText (column r 2) × IsText (column r 3)
+
+-- the row of a bundle where it lies
+abbrev pub row_of_placed : PlacedEntry → Row
+row_of_placed b = Int (pos b.ward) ∷ Blob b.list ∷ Int (pos b.papers) ∷ Int (pos b.holder) ∷ Int (pos b.value) ∷ []
+
+-- a row that reads as such a bundle's
+abbrev pub IsPlacedRow : Row → Type 0
+IsPlacedRow r = IsNumber (column r 0) × IsBytes (column r 1) × IsNumber (column r 2) × IsNumber (column r 3) × IsAmount (column r 4)
+
+-- the row of a figure
+abbrev pub row_of_figure : FigureEntry → Row
+row_of_figure f = Int (pos f.ward) ∷ Int (pos f.stage) ∷ Int (pos f.candidate) ∷ Int (pos f.units) ∷ Int (pos f.mark) ∷ []
+
+-- a row that reads as a figure's
+abbrev pub IsFigureRow : Row → Type 0
+IsFigureRow r = IsNumber (column r 0) × IsNumber (column r 1) × IsNumber (column r 2) × IsAmount (column r 3) × IsNumber (column r 4)

@@ -9,14 +9,18 @@ use Rattle.register.specs.declared.keyings.KeyedPaper.{KeyedPaper}
 use Rattle.register.specs.declared.verdicts.JudgedPaper.{JudgedPaper}
 use Rattle.register.specs.declared.counts.DrawnLot.{DrawnLot}
 use Rattle.register.specs.declared.receipt.Receipt.{Receipt as ReceiptValue}
+use Rattle.register.specs.declared.tabulated.PlacedBundle.{PlacedBundle}
+use Rattle.register.specs.declared.tabulated.StageFigure.{StageFigure}
 use Rattle.register.specs.Offices.{ward_entry, candidate_entry, batch_entry, keyed_entry, judged_entry, lot_entry, receipt_entry}
-use Rattle.tables.specs.declared.table.Table.TheVariants.{Ward, Candidate, Batch, Keying, Verdict, Lot, Receipt}
+use Rattle.register.specs.Tabulated.{placed_entry, figure_entry}
+use Rattle.tables.specs.declared.table.Table.TheVariants.{Ward, Candidate, Batch, Keying, Verdict, Lot, Receipt, Bundle, Vote}
 use Rattle.tables.specs.Rows.{row_cmp}
 use Rattle.tables.specs.Reading.{ListsEntries}
 use Rattle.store.specs.declared.listing.Contests.{Contests}
 use Rattle.store.specs.declared.listing.Papers.{Papers}
 use Rattle.store.specs.declared.listing.Records.{Records}
-use Rattle.store.specs.EntryRows.{row_of_ward, row_of_candidate, row_of_batch, row_of_keyed, row_of_judged, row_of_lot, row_of_receipt}
+use Rattle.store.specs.declared.listing.Counts.{Counts}
+use Rattle.store.specs.EntryRows.{row_of_ward, row_of_candidate, row_of_batch, row_of_keyed, row_of_judged, row_of_lot, row_of_receipt, row_of_placed, row_of_figure}
 
 -- all rows of the wards and of the candidates
 pub record ListsContests (db : Database) (contests : Contests) : Type 0 where
@@ -49,3 +53,13 @@ pub record ListsRecords (db : Database) (records : Records) : Type 0 where
 pub record RecordsRise (records : Records) : Type 0 where
   pub lots : IsStrictlySortedBy (row_cmp Lot) (map (λ (l : DrawnLot). row_of_lot (lot_entry l)) records.lots.items)
   pub receipts : IsStrictlySortedBy (row_cmp Receipt) (map (λ (r : ReceiptValue). row_of_receipt (receipt_entry r)) records.receipts.items)
+
+-- all rows of the bundles and of the figures
+pub record ListsCounts (db : Database) (counts : Counts) : Type 0 where
+  pub bundles : ListsEntries Bundle db (map (λ (b : PlacedBundle). row_of_placed (placed_entry b)) counts.bundles.items)
+  pub figures : ListsEntries Vote db (map (λ (f : StageFigure). row_of_figure (figure_entry f)) counts.figures.items)
+
+-- each row's key is above that of the one before
+pub record CountsRise (counts : Counts) : Type 0 where
+  pub bundles : IsStrictlySortedBy (row_cmp Bundle) (map (λ (b : PlacedBundle). row_of_placed (placed_entry b)) counts.bundles.items)
+  pub figures : IsStrictlySortedBy (row_cmp Vote) (map (λ (f : StageFigure). row_of_figure (figure_entry f)) counts.figures.items)

@@ -7,13 +7,14 @@ use Rattle.sqlite.specs.State.{State, HasCleanDisk}
 use Rattle.register.specs.Offices.{OfficeState}
 use Rattle.register.specs.Items.{IsState}
 use Rattle.register.specs.Effects.{ChangeEntry, with_change}
-use Rattle.tables.specs.declared.table.Table.TheVariants.{Office, Ward, Candidate, Batch, Keying, Verdict, Lot, Receipt}
+use Rattle.register.specs.Tabulated.{TabulationEntries, tabulation_of, AdditionEntries, with_addition}
+use Rattle.tables.specs.declared.table.Table.TheVariants.{Office, Ward, Candidate, Batch, Keying, Verdict, Lot, Receipt, Bundle, Vote}
 use Rattle.tables.specs.Contents.{Contents, filled, IsOffice, Stores, Rests}
-use Rattle.store.specs.EntryRows.{office_row, row_of_ward, row_of_candidate, row_of_batch, row_of_keyed, row_of_judged, row_of_lot, row_of_receipt}
+use Rattle.store.specs.EntryRows.{office_row, row_of_ward, row_of_candidate, row_of_batch, row_of_keyed, row_of_judged, row_of_lot, row_of_receipt, row_of_placed, row_of_figure}
 
--- the rows that stand for a state, table by table; opaque, so that a search does not compute it
-unfoldable pub tables_of : OfficeState → Contents
-tables_of s =
+-- the rows that stand for a state and for what is tabulated of its counts, table by table; opaque, so that a search does not compute it
+unfoldable pub tables_with : OfficeState → TabulationEntries → Contents
+tables_with s t =
     filled (
     (Office, office_row 1 ∷ [])
     ∷ (Ward, map row_of_ward s.wards)
@@ -23,14 +24,20 @@ tables_of s =
     ∷ (Verdict, map row_of_judged s.verdicts)
     ∷ (Lot, map row_of_lot s.lots)
     ∷ (Receipt, map row_of_receipt s.receipts)
+    ∷ (Bundle, map row_of_placed t.bundles)
+    ∷ (Vote, map row_of_figure t.figures)
     ∷ []
     )
 
--- contents that are the tables of a state, and those that a change makes of them
-pub record ChangesTo (change : ChangeEntry) (before after : Contents) : Type 0 where
+-- the rows that stand for a state, which tells what is tabulated of its counts
+unfoldable pub tables_of : OfficeState → Contents
+tables_of s = tables_with s (tabulation_of s)
+
+-- contents that are the tables of a state, and those that a change and what it adds to the tabulation make of them
+pub record ChangesTo (change : ChangeEntry) (addition : AdditionEntries) (before after : Contents) : Type 0 where
   pub old : OfficeState
   pub from : before ≡ tables_of old
-  pub to : after ≡ tables_of (with_change change old)
+  pub to : after ≡ tables_with (with_change change old) (with_addition addition (tabulation_of old))
 
 -- the database holds exactly the tables of this state
 pub record HoldsState (db : Database) (s : OfficeState) : Type 0 where

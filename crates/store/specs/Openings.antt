@@ -6,17 +6,18 @@ use Rattle.sqlite.specs.Effect.{Database, IsDatabase}
 use Rattle.sqlite.specs.State.{State}
 use Rattle.register.specs.Offices.{OfficeState}
 use Rattle.register.specs.Items.{IsState}
+use Rattle.register.specs.Tabulated.{TabulationEntries, item8}
 use Rattle.tables.specs.declared.fault.Fault.{Fault}
 use Rattle.tables.specs.declared.fault.Fault.TheVariants.{Memory, Store, Damaged, Closed, WrongDatabase, NewerSchema}
 use Rattle.tables.specs.declared.table.Table.{Table}
-use Rattle.tables.specs.declared.table.Table.TheVariants.{Office, Ward, Candidate, Batch, Keying, Verdict, Lot, Receipt}
+use Rattle.tables.specs.declared.table.Table.TheVariants.{Office, Ward, Candidate, Batch, Keying, Verdict, Lot, Receipt, Bundle, Vote}
 use Rattle.tables.specs.Schema.{no_schema}
 use Rattle.tables.specs.Rows.{tuples, at, column_places}
 use Rattle.tables.specs.Contents.{HoldsTable, Stores}
 use Rattle.tables.specs.Presence.{has_table}
 use Rattle.tables.specs.Reading.{ListsEntries}
 use Rattle.store.specs.EntryRows.{office_row}
-use Rattle.store.specs.Offices.{tables_of, HoldsState}
+use Rattle.store.specs.Offices.{tables_of, tables_with, HoldsState}
 
 -- there is no office table, or no row in it
 abbrev pub HasNoOffice : Database → Type 0
@@ -105,7 +106,7 @@ TellsOffice db Closed = ⊥
 TellsOffice db WrongDatabase = tuples Office db.trees ≡ []
 TellsOffice db NewerSchema = IsNewer db
 
--- the tables whose rows are the entries of a state
+-- the tables whose rows are the entries of a state, and what is tabulated of its counts
 abbrev pub has_entries : Table → Bool
 has_entries Ward = true
 has_entries Candidate = true
@@ -114,11 +115,17 @@ has_entries Keying = true
 has_entries Verdict = true
 has_entries Lot = true
 has_entries Receipt = true
+has_entries Bundle = true
+has_entries Vote = true
 has_entries Office = false
 
--- all rows of each table of entries, those of these maps
-abbrev pub ListsMaps : Database → OfficeState → Type 0
-ListsMaps db s = (t : Table) → has_entries t ≡ true → ListsEntries t db (tables_of s t)
+-- all rows of each table of entries, those of these maps and of this tabulation
+abbrev pub ListsMaps : Database → OfficeState → TabulationEntries → Type 0
+ListsMaps db s t = (u : Table) → has_entries u ≡ true → ListsEntries u db (tables_with s t u)
+
+-- maps are a state, and this is what is tabulated of its counts
+abbrev pub IsTabulatedAs : OfficeState → TabulationEntries → Type 0
+IsTabulatedAs s t = IsState s × item8 t s
 
 -- each table of entries holds those of the state
 pub record HoldsEntries (db : Database) (s : OfficeState) : Type 0 where

@@ -1,9 +1,31 @@
 //! What the rows of each table stand for.
 
+ghost use Rattle.std.specs.Prelude.{◌≡◌, pos, IfOk, IfErr};
+ghost use Rattle.sqlite.specs.Value.{owned};
+ghost use Rattle.sqlite.specs.declared.types.Value.TheVariants.{Int};
+
 pub(crate) mod batches;
+pub(crate) mod bundles;
 pub(crate) mod candidates;
+pub(crate) mod figures;
 pub(crate) mod keyings;
 pub(crate) mod lots;
 pub(crate) mod receipts;
 pub(crate) mod verdicts;
 pub(crate) mod wards;
+
+use sqlite_value::value::ValueRef;
+use tables::Fault;
+use tables::cells::amount;
+
+/// Units of a count as a parameter. `Memory` where a column can't hold them: no machine has the memory for
+/// so many papers.
+fn units<'a>(n: u64) -> Result<ValueRef<'a>, Fault>
+    ensures value { IfOk result (λ value. owned value ≡ Int (pos n)) }
+    ensures cause { IfErr result (λ f. f ≡ Fault.Memory) }
+{
+    if n >= 1 << 63 {
+        return Err(Fault::Memory);
+    }
+    Ok(amount(n))
+}

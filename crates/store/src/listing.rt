@@ -5,21 +5,25 @@ ghost use Rattle.sqlite.specs.Effect.{Database};
 ghost use Rattle.sqlite.specs.State.{HasCleanDisk};
 ghost use Rattle.sqlite.specs.Held.{state};
 ghost use Rattle.register.specs.Offices.{MapsRise};
-ghost use Rattle.rowcheck.specs.States.{state_of};
+ghost use Rattle.rowcheck.specs.States.{state_of, tabulated};
 ghost use Rattle.tables.specs.Schema.{IsOfficeSchema};
 ghost use Rattle.tables.specs.Contents.{RestsAt};
 ghost use Rattle.tables.specs.Reading.{OnlyReads, FailsToList};
 ghost use Rattle.store.specs.Openings.{TellsNoState, ListsMaps};
-ghost use Rattle.store.specs.Listings.{ListsContests, ContestsRise, ListsPapers, PapersRise, ListsRecords, RecordsRise};
+ghost use Rattle.store.specs.Listings.{ListsContests, ContestsRise, ListsPapers, PapersRise, ListsRecords, RecordsRise, ListsCounts, CountsRise};
 
 use crate::entries::batches::Batches;
+use crate::entries::bundles::PlacedBundles;
 use crate::entries::candidates::Candidates;
+use crate::entries::figures::StageFigures;
 use crate::entries::keyings::KeyedPapers;
 use crate::entries::lots::Lots;
 use crate::entries::receipts::Receipts;
 use crate::entries::verdicts::JudgedPapers;
 use crate::entries::wards::Wards;
-use register::{Batch, Candidate, DrawnLot, JudgedPaper, KeyedPaper, Receipt, Ward};
+use register::{
+    Batch, Candidate, DrawnLot, JudgedPaper, KeyedPaper, PlacedBundle, Receipt, StageFigure, Ward,
+};
 use rowcheck::Rows;
 use sqlite::{Alter, Connection};
 use std::alloc::Global;
@@ -46,6 +50,13 @@ struct Papers {
 struct Records {
     lots: Vec<DrawnLot>,
     receipts: Vec<Receipt>,
+}
+
+/// What is tabulated of the counts: the bundles where they lie, and the figures.
+#[derive(Drop)]
+struct Counts {
+    bundles: Vec<PlacedBundle>,
+    figures: Vec<StageFigure>,
 }
 
 /// The wards and the candidates of a database. `Damaged` where the rows are those of no state.
@@ -110,12 +121,31 @@ fn all_records<S: Alter>(alloc: Global, conn: &mut Connection<S>) -> Result<Reco
     Ok(Records { lots, receipts })
 }
 
+/// What is tabulated in a database of the counts. `Damaged` where the rows are those of no state.
+fn all_counts<S: Alter>(alloc: Global, conn: &mut Connection<S>) -> Result<Counts, Fault>
+    requires { conn.old.in_transaction ≡ false }
+    ensures lists { HasCleanDisk (state S.Store conn.new) → (db : Database) → IsOfficeSchema db.schema → RestsAt db (state S.Store conn.old)
+        → IfOk result (ListsCounts db) }
+    ensures told { HasCleanDisk (state S.Store conn.new) → (db : Database) → IsOfficeSchema db.schema → RestsAt db (state S.Store conn.old)
+        → IfErr result (TellsNoState db) }
+    ensures fails { HasCleanDisk (state S.Store conn.new) → (db : Database) → IsOfficeSchema db.schema → RestsAt db (state S.Store conn.old)
+        → IfErr result (FailsToList db (state S.Store conn.old) (state S.Store conn.new)) }
+    ensures rise { IfOk result CountsRise }
+    ensures opens { HasCleanDisk (state S.Store conn.new) → OnOk result (IsTrue (state S.Store conn.new).is_open) }
+    ensures reads { OnlyReads (state S.Store conn.old) (state S.Store conn.new) }
+    ensures outside { conn.new.in_transaction ≡ false }
+{
+    let bundles = all_entries::<PlacedBundles, S>(alloc, conn)?;
+    let figures = all_entries::<StageFigures, S>(alloc, conn)?;
+    Ok(Counts { bundles, figures })
+}
+
 /// The entries of a database, each table's in the order of its key. `Damaged` where the rows are those of
 /// no state.
 pub(crate) fn all_rows<S: Alter>(alloc: Global, conn: &mut Connection<S>) -> Result<Rows, Fault>
     requires { conn.old.in_transaction ≡ false }
     ensures lists { HasCleanDisk (state S.Store conn.new) → (db : Database) → IsOfficeSchema db.schema → RestsAt db (state S.Store conn.old)
-        → IfOk result (λ rows. ListsMaps db (state_of rows)) }
+        → IfOk result (λ rows. ListsMaps db (state_of rows) (tabulated rows)) }
     ensures told { HasCleanDisk (state S.Store conn.new) → (db : Database) → IsOfficeSchema db.schema → RestsAt db (state S.Store conn.old)
         → IfErr result (TellsNoState db) }
     ensures fails { HasCleanDisk (state S.Store conn.new) → (db : Database) → IsOfficeSchema db.schema → RestsAt db (state S.Store conn.old)
@@ -132,6 +162,7 @@ pub(crate) fn all_rows<S: Alter>(alloc: Global, conn: &mut Connection<S>) -> Res
         verdicts,
     } = all_papers(alloc, conn)?;
     let Records { lots, receipts } = all_records(alloc, conn)?;
+    let Counts { bundles, figures } = all_counts(alloc, conn)?;
     Ok(Rows {
         wards,
         candidates,
@@ -140,5 +171,7 @@ pub(crate) fn all_rows<S: Alter>(alloc: Global, conn: &mut Connection<S>) -> Res
         verdicts,
         lots,
         receipts,
+        bundles,
+        figures,
     })
 }

@@ -5,17 +5,16 @@ ghost use Rattle.sqlite.specs.Effect.{Database, IsDatabase};
 ghost use Rattle.sqlite.specs.State.{HasCleanDisk};
 ghost use Rattle.sqlite.specs.Held.{state};
 ghost use Rattle.register.specs.Offices.{OfficeState, MapsRise};
-ghost use Rattle.register.specs.Items.{IsState};
-ghost use Rattle.rowcheck.specs.States.{state_of};
+ghost use Rattle.rowcheck.specs.States.{state_of, tabulated};
 ghost use Rattle.tables.specs.Schema.{BeginsTo, IsOfficeSchema};
 ghost use Rattle.tables.specs.Contents.{RestsAt};
 ghost use Rattle.tables.specs.Presence.{IsOurs};
 ghost use Rattle.tables.specs.Reading.{OnlyReads, FailsToList};
 ghost use Rattle.store.specs.Offices.{HoldsState};
-ghost use Rattle.store.specs.Openings.{IsToldBy, TellsNoState, IsVersion, TellsRow, TellsRows, HasVersion, TellsOffice, HoldsEntries};
+ghost use Rattle.store.specs.Openings.{IsToldBy, TellsNoState, IsVersion, TellsRow, TellsRows, HasVersion, TellsOffice, IsTabulatedAs, HoldsEntries};
 
 use crate::listing::all_rows;
-use rowcheck::{Rows, item1, item2, item3, item4, item5, item6, item7};
+use rowcheck::{Rows, item1, item2, item3, item4, item5, item6, item7, item8};
 use sqlite::{Alter, Connection, Row};
 use std::alloc::Global;
 use tables::cells::integer_at;
@@ -76,11 +75,12 @@ fn check_office<S: Alter>(conn: &mut Connection<S>) -> Result<(), Fault>
     Ok(())
 }
 
-/// Whether maps in the order of their keys are a state. An error is `Memory`.
+/// Whether maps in the order of their keys are a state, beside what is tabulated of its counts. An error is
+/// `Memory`.
 fn are_of_state(alloc: Global, rows: &Rows) -> Result<bool, Fault>
     requires { MapsRise (state_of rows.now) }
-    ensures some { IfOk result (λ yes. yes ≡ true → IsState (state_of rows.now)) }
-    ensures none { IfOk result (λ yes. yes ≡ false → ¬ IsState (state_of rows.now)) }
+    ensures some { IfOk result (λ yes. yes ≡ true → IsTabulatedAs (state_of rows.now) (tabulated rows.now)) }
+    ensures none { IfOk result (λ yes. yes ≡ false → ¬ IsTabulatedAs (state_of rows.now) (tabulated rows.now)) }
     ensures cause { IfErr result (λ f. f ≡ Fault.Memory) }
 {
     if !item1(rows) {
@@ -102,7 +102,8 @@ fn are_of_state(alloc: Global, rows: &Rows) -> Result<bool, Fault>
         return Ok(false);
     }
     match item7(alloc, rows) {
-        Ok(yes) => Ok(yes),
+        Ok(Some(counted)) => Ok(item8(rows, &counted)),
+        Ok(None) => Ok(false),
         Err(_) => Err(Fault::Memory),
     }
 }

@@ -7,6 +7,7 @@ ghost use Rattle.sqlite.specs.Held.{state};
 ghost use Rattle.register.specs.Offices.{OfficeState, empty_office};
 ghost use Rattle.register.specs.Items.{IsState};
 ghost use Rattle.register.specs.Effects.{change_entry, with_change};
+ghost use Rattle.register.specs.Tabulated.{addition_entries, IsTabulated};
 ghost use Rattle.sqlite.specs.Effect.{Database};
 ghost use Rattle.tables.specs.Contents.{Contents, SameContents, Rests, RestsAt, Stores};
 ghost use Rattle.tables.specs.Presence.{has_some_table, has_every_table, IsOurs};
@@ -50,9 +51,9 @@ fn commit_change<S: Alter>(
     change: &Change,
 ) -> Result<(), Fault>
     requires { conn.old.in_transaction ≡ false }
-    ensures done { HasCleanDisk (state S.Store conn.new) → (c d : Contents) → ChangesTo (change_entry change.now) c d → Rests c (state S.Store conn.old)
+    ensures done { HasCleanDisk (state S.Store conn.new) → (c d : Contents) → ChangesTo (change_entry change.now) (addition_entries change.now.addition) c d → Rests c (state S.Store conn.old)
         → OnOk result (Rests d (state S.Store conn.new)) }
-    ensures survives { (c d : Contents) → ChangesTo (change_entry change.now) c d → Rests c (state S.Store conn.old)
+    ensures survives { (c d : Contents) → ChangesTo (change_entry change.now) (addition_entries change.now.addition) c d → Rests c (state S.Store conn.old)
         → Survives (state S.Store conn.old) (state S.Store conn.new) (Stores d) }
     ensures wears { Wears (state S.Store conn.old) (state S.Store conn.new) }
     ensures clean { HasCleanDisk (state S.Store conn.new) → HasCleanDisk (state S.Store conn.old) }
@@ -159,11 +160,11 @@ impl<S: Alter> Store<S> {
     /// takes no memory and can't fail.
     pub fn commit(&mut self, change: &Change) -> Result<(), Fault>
         ensures done { HasCleanDisk (state S.Store self.new) → IsTrue (state S.Store self.old).is_open → (s : OfficeState) → IsAt s (state S.Store self.old)
-            → IsState (with_change (change_entry change.now) s) → OnOk result (IsAt (with_change (change_entry change.now) s) (state S.Store self.new)) }
+            → IsTabulated s change.now → IsState (with_change (change_entry change.now) s) → OnOk result (IsAt (with_change (change_entry change.now) s) (state S.Store self.new)) }
         ensures stops { HasCleanDisk (state S.Store self.new) → IsTrue (state S.Store self.old).is_open → (s : OfficeState) → IsAt s (state S.Store self.old)
-            → (trees : Trees) → (state S.Store self.new).may_leave trees → Stores (tables_of s) trees ⊎ Stores (tables_of (with_change (change_entry change.now) s)) trees }
+            → IsTabulated s change.now → (trees : Trees) → (state S.Store self.new).may_leave trees → Stores (tables_of s) trees ⊎ Stores (tables_of (with_change (change_entry change.now) s)) trees }
         ensures leaves { HasCleanDisk (state S.Store self.new) → IsTrue (state S.Store self.old).is_open → (s : OfficeState) → IsAt s (state S.Store self.old)
-            → IsState (with_change (change_entry change.now) s) → LeavesState (state S.Store self.new) (λ x. (x ≡ s) ⊎ (x ≡ with_change (change_entry change.now) s)) }
+            → IsTabulated s change.now → IsState (with_change (change_entry change.now) s) → LeavesState (state S.Store self.new) (λ x. (x ≡ s) ⊎ (x ≡ with_change (change_entry change.now) s)) }
         ensures wears { Wears (state S.Store self.old) (state S.Store self.new) }
         ensures clean { HasCleanDisk (state S.Store self.new) → HasCleanDisk (state S.Store self.old) }
         ensures cause { IfErr result (λ f. (f ≡ Fault.Memory) ⊎ (f ≡ Fault.Store)) }

@@ -6,10 +6,11 @@ ghost use Rattle.sqlite.specs.State.{HasCleanDisk, KeepsCommit, Survives};
 ghost use Rattle.sqlite.specs.Held.{state};
 ghost use Rattle.register.specs.Offices.{OfficeState, empty_office, receipt_entry};
 ghost use Rattle.register.specs.Effects.{effect_entry, change_entry, with_effect, with_receipt};
+ghost use Rattle.register.specs.Tabulated.{TabulationEntries, addition_entries};
 ghost use Rattle.tables.specs.Schema.{no_schema};
 ghost use Rattle.tables.specs.Contents.{Contents, Sees};
 ghost use Rattle.tables.specs.Making.{no_contents};
-ghost use Rattle.store.specs.Offices.{tables_of, ChangesTo};
+ghost use Rattle.store.specs.Offices.{tables_of, tables_with, ChangesTo};
 
 mod batches;
 mod candidates;
@@ -20,7 +21,7 @@ mod wards;
 use crate::entries::receipts::Receipts;
 use crate::writing::batches::{write_batch, write_round};
 use crate::writing::candidates::{remove_candidate, write_candidate};
-use crate::writing::counts::{write_lot, write_stage};
+use crate::writing::counts::{write_addition, write_lot, write_stage};
 use crate::writing::papers::{write_keying, write_verdict};
 use crate::writing::wards::{write_phase, write_ward};
 use register::{Change, Effect, Receipt};
@@ -42,8 +43,8 @@ pub(crate) fn write_effect<S: Alter>(
     effect: &Effect,
 ) -> Result<(), Fault>
     ensures same_reference { tx.new.conn.ghost_name ≡ tx.old.conn.ghost_name }
-    ensures writes { HasCleanDisk (state S.Store tx.new.conn.now) → (s : OfficeState) → Sees (tables_of s) (state S.Store tx.old.conn.now)
-        → OnOk result (Sees (tables_of (with_effect (effect_entry effect.now) s)) (state S.Store tx.new.conn.now)) }
+    ensures writes { HasCleanDisk (state S.Store tx.new.conn.now) → (s : OfficeState) (t : TabulationEntries) → Sees (tables_with s t) (state S.Store tx.old.conn.now)
+        → OnOk result (Sees (tables_with (with_effect (effect_entry effect.now) s) t) (state S.Store tx.new.conn.now)) }
     ensures keeps { HasCleanDisk (state S.Store tx.new.conn.now) → KeepsCommit (state S.Store tx.old.conn.now) (state S.Store tx.new.conn.now) }
     ensures survives { Survives (state S.Store tx.old.conn.now) (state S.Store tx.new.conn.now) (λ _. ⊥) }
     ensures cause { IfErr result (λ f. (f ≡ Fault.Memory) ⊎ (f ≡ Fault.Store)) }
@@ -71,8 +72,8 @@ pub(crate) fn write_receipt<S: Alter>(
     receipt: &Receipt,
 ) -> Result<(), Fault>
     ensures same_reference { tx.new.conn.ghost_name ≡ tx.old.conn.ghost_name }
-    ensures writes { HasCleanDisk (state S.Store tx.new.conn.now) → (s : OfficeState) → Sees (tables_of s) (state S.Store tx.old.conn.now)
-        → OnOk result (Sees (tables_of (with_receipt (receipt_entry receipt.now) s)) (state S.Store tx.new.conn.now)) }
+    ensures writes { HasCleanDisk (state S.Store tx.new.conn.now) → (s : OfficeState) (t : TabulationEntries) → Sees (tables_with s t) (state S.Store tx.old.conn.now)
+        → OnOk result (Sees (tables_with (with_receipt (receipt_entry receipt.now) s) t) (state S.Store tx.new.conn.now)) }
     ensures keeps { HasCleanDisk (state S.Store tx.new.conn.now) → KeepsCommit (state S.Store tx.old.conn.now) (state S.Store tx.new.conn.now) }
     ensures survives { Survives (state S.Store tx.old.conn.now) (state S.Store tx.new.conn.now) (λ _. ⊥) }
     ensures cause { IfErr result (λ f. (f ≡ Fault.Memory) ⊎ (f ≡ Fault.Store)) }
@@ -80,20 +81,21 @@ pub(crate) fn write_receipt<S: Alter>(
     add_entry::<Receipts, S>(alloc, tx, receipt)
 }
 
-/// Writes a change: its effect, and the receipt beside it.
+/// Writes a change: its effect, what it adds to the tabulation, and the receipt beside them.
 pub(crate) fn write_change<S: Alter>(
     alloc: Global,
     tx: &mut Transaction<'_, S>,
     change: &Change,
 ) -> Result<(), Fault>
     ensures same_reference { tx.new.conn.ghost_name ≡ tx.old.conn.ghost_name }
-    ensures writes { HasCleanDisk (state S.Store tx.new.conn.now) → (c d : Contents) → ChangesTo (change_entry change.now) c d → Sees c (state S.Store tx.old.conn.now)
+    ensures writes { HasCleanDisk (state S.Store tx.new.conn.now) → (c d : Contents) → ChangesTo (change_entry change.now) (addition_entries change.now.addition) c d → Sees c (state S.Store tx.old.conn.now)
         → OnOk result (Sees d (state S.Store tx.new.conn.now)) }
     ensures keeps { HasCleanDisk (state S.Store tx.new.conn.now) → KeepsCommit (state S.Store tx.old.conn.now) (state S.Store tx.new.conn.now) }
     ensures survives { Survives (state S.Store tx.old.conn.now) (state S.Store tx.new.conn.now) (λ _. ⊥) }
     ensures cause { IfErr result (λ f. (f ≡ Fault.Memory) ⊎ (f ≡ Fault.Store)) }
 {
     write_effect(alloc, tx, &change.effect)?;
+    write_addition(alloc, tx, &change.addition)?;
     write_receipt(alloc, tx, &change.receipt)?;
     Ok(())
 }

@@ -5,8 +5,9 @@ ghost use Rattle.sqlite.specs.State.{HasCleanDisk, KeepsCommit, Survives};
 ghost use Rattle.sqlite.specs.Held.{state};
 ghost use Rattle.register.specs.Offices.{OfficeState};
 ghost use Rattle.register.specs.Effects.{effect_entry, with_effect};
+ghost use Rattle.register.specs.Tabulated.{TabulationEntries};
 ghost use Rattle.tables.specs.Contents.{Sees};
-ghost use Rattle.store.specs.Offices.{tables_of};
+ghost use Rattle.store.specs.Offices.{tables_with};
 
 use crate::entries::batches::Batches;
 use register::{Batch, Effect};
@@ -24,8 +25,8 @@ pub(crate) fn write_batch<S: Alter>(
     batch: &Batch,
 ) -> Result<(), Fault>
     ensures same_reference { tx.new.conn.ghost_name ≡ tx.old.conn.ghost_name }
-    ensures writes { HasCleanDisk (state S.Store tx.new.conn.now) → (s : OfficeState) → Sees (tables_of s) (state S.Store tx.old.conn.now)
-        → OnOk result (Sees (tables_of (with_effect (effect_entry (Effect.BatchAdded batch.now)) s)) (state S.Store tx.new.conn.now)) }
+    ensures writes { HasCleanDisk (state S.Store tx.new.conn.now) → (s : OfficeState) (t : TabulationEntries) → Sees (tables_with s t) (state S.Store tx.old.conn.now)
+        → OnOk result (Sees (tables_with (with_effect (effect_entry (Effect.BatchAdded batch.now)) s) t) (state S.Store tx.new.conn.now)) }
     ensures keeps { HasCleanDisk (state S.Store tx.new.conn.now) → KeepsCommit (state S.Store tx.old.conn.now) (state S.Store tx.new.conn.now) }
     ensures survives { Survives (state S.Store tx.old.conn.now) (state S.Store tx.new.conn.now) (λ _. ⊥) }
     ensures cause { IfErr result (λ f. (f ≡ Fault.Memory) ⊎ (f ≡ Fault.Store)) }
@@ -40,8 +41,8 @@ pub(crate) fn write_round<S: Alter>(
     round: u32,
 ) -> Result<(), Fault>
     ensures same_reference { tx.new.conn.ghost_name ≡ tx.old.conn.ghost_name }
-    ensures writes { HasCleanDisk (state S.Store tx.new.conn.now) → (s : OfficeState) → Sees (tables_of s) (state S.Store tx.old.conn.now)
-        → OnOk result (Sees (tables_of (with_effect (effect_entry (Effect.BatchReopened batch round)) s)) (state S.Store tx.new.conn.now)) }
+    ensures writes { HasCleanDisk (state S.Store tx.new.conn.now) → (s : OfficeState) (t : TabulationEntries) → Sees (tables_with s t) (state S.Store tx.old.conn.now)
+        → OnOk result (Sees (tables_with (with_effect (effect_entry (Effect.BatchReopened batch round)) s) t) (state S.Store tx.new.conn.now)) }
     ensures keeps { HasCleanDisk (state S.Store tx.new.conn.now) → KeepsCommit (state S.Store tx.old.conn.now) (state S.Store tx.new.conn.now) }
     ensures survives { Survives (state S.Store tx.old.conn.now) (state S.Store tx.new.conn.now) (λ _. ⊥) }
     ensures cause { IfErr result (λ f. (f ≡ Fault.Memory) ⊎ (f ≡ Fault.Store)) }

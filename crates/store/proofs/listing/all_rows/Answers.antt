@@ -7,23 +7,29 @@ use Rattle.store.proofs.listing.all_rows.Goals as goal
 
 pub returns-clause-lists : goal.returns-clause-lists
 returns-clause-lists g c clean db has rests =
-    let second = c.all_records.ensures.reads.clean clean in
+    let third = c.all_counts.ensures.reads.clean clean in
+    let second = c.all_records.ensures.reads.clean third in
     let first = c.all_papers.ensures.reads.clean second in
     let mid = c.all_contests.ensures.reads.rests first (c.in_ok-wards.ensures.opens first) db rests in
     let late = c.all_papers.ensures.reads.rests second (c.in_ok-batches.ensures.opens second) db mid in
-    lists_maps _ _ _ db (c.in_ok-wards.ensures.lists first db has rests) (c.in_ok-batches.ensures.lists second db has mid) (c.in_ok-lots.ensures.lists clean db has late)
+    let last = c.all_records.ensures.reads.rests third (c.in_ok-lots.ensures.opens third) db late in
+    lists_maps _ _ _ _ db (c.in_ok-wards.ensures.lists first db has rests) (c.in_ok-batches.ensures.lists second db has mid) (c.in_ok-lots.ensures.lists third db has late) (c.in_ok-bundles.ensures.lists clean db has last)
 
 pub returns-clause-rise : goal.returns-clause-rise
-returns-clause-rise g c = rows_of_maps_rise _ _ _ c.in_ok-wards.ensures.rise c.in_ok-batches.ensures.rise c.in_ok-lots.ensures.rise
+returns-clause-rise g c = rows_of_maps_rise _ _ _ _ c.in_ok-wards.ensures.rise c.in_ok-batches.ensures.rise c.in_ok-lots.ensures.rise c.in_ok-bundles.ensures.rise
 
 pub returns-clause-reads : goal.returns-clause-reads
-returns-clause-reads g c = only_reads_then _ _ _ c.all_contests.ensures.reads (only_reads_then _ _ _ c.all_papers.ensures.reads c.all_records.ensures.reads)
+returns-clause-reads g c = only_reads_then _ _ _ c.all_contests.ensures.reads (only_reads_then _ _ _ c.all_papers.ensures.reads (only_reads_then _ _ _ c.all_records.ensures.reads c.all_counts.ensures.reads))
 
 pub returns-in_err-batches-clause-reads : goal.returns-in_err-batches-clause-reads
 returns-in_err-batches-clause-reads g c = only_reads_then _ _ _ c.all_contests.ensures.reads c.all_papers.ensures.reads
 
 pub returns-in_err-lots-clause-reads : goal.returns-in_err-lots-clause-reads
 returns-in_err-lots-clause-reads g c = only_reads_then _ _ _ c.all_contests.ensures.reads (only_reads_then _ _ _ c.all_papers.ensures.reads c.all_records.ensures.reads)
+
+pub returns-in_err-bundles-clause-reads : goal.returns-in_err-bundles-clause-reads
+returns-in_err-bundles-clause-reads g c =
+    only_reads_then _ _ _ c.all_contests.ensures.reads (only_reads_then _ _ _ c.all_papers.ensures.reads (only_reads_then _ _ _ c.all_records.ensures.reads c.all_counts.ensures.reads))
 
 pub returns-in_err-wards-clause-told : goal.returns-in_err-wards-clause-told
 returns-in_err-wards-clause-told g c clean db has rests =
@@ -46,6 +52,17 @@ returns-in_err-lots-clause-told g c clean db has rests =
     let p = err_from_is_err_and c.from_residual-in_err-lots.result c.from_residual-in_err-lots.ensures.1 in
     rw (p.1, p.2) (c.in_err-lots.ensures.told clean db has late)
 
+pub returns-in_err-bundles-clause-told : goal.returns-in_err-bundles-clause-told
+returns-in_err-bundles-clause-told g c clean db has rests =
+    let third = c.all_counts.ensures.reads.clean clean in
+    let second = c.all_records.ensures.reads.clean third in
+    let first = c.all_papers.ensures.reads.clean second in
+    let mid = c.all_contests.ensures.reads.rests first (c.in_ok-wards.ensures.opens first) db rests in
+    let late = c.all_papers.ensures.reads.rests second (c.in_ok-batches.ensures.opens second) db mid in
+    let last = c.all_records.ensures.reads.rests third (c.in_ok-lots.ensures.opens third) db late in
+    let p = err_from_is_err_and c.from_residual-in_err-bundles.result c.from_residual-in_err-bundles.ensures.1 in
+    rw (p.1, p.2) (c.in_err-bundles.ensures.told clean db has last)
+
 pub returns-in_err-wards-clause-fails : goal.returns-in_err-wards-clause-fails
 returns-in_err-wards-clause-fails g c clean db has rests =
     let p = err_from_is_err_and c.from_residual.result c.from_residual.ensures.1 in
@@ -67,3 +84,15 @@ returns-in_err-lots-clause-fails g c clean db has rests =
     let p = err_from_is_err_and c.from_residual-in_err-lots.result c.from_residual-in_err-lots.ensures.1 in
     let both = only_reads_then _ _ _ c.all_contests.ensures.reads c.all_papers.ensures.reads in
     rw (p.1, p.2) (lists_later db _ _ _ _ both c.all_records.ensures.reads clean (c.in_err-lots.ensures.fails clean db has late))
+
+pub returns-in_err-bundles-clause-fails : goal.returns-in_err-bundles-clause-fails
+returns-in_err-bundles-clause-fails g c clean db has rests =
+    let third = c.all_counts.ensures.reads.clean clean in
+    let second = c.all_records.ensures.reads.clean third in
+    let before = c.all_papers.ensures.reads.clean second in
+    let mid = c.all_contests.ensures.reads.rests before (c.in_ok-wards.ensures.opens before) db rests in
+    let late = c.all_papers.ensures.reads.rests second (c.in_ok-batches.ensures.opens second) db mid in
+    let last = c.all_records.ensures.reads.rests third (c.in_ok-lots.ensures.opens third) db late in
+    let p = err_from_is_err_and c.from_residual-in_err-bundles.result c.from_residual-in_err-bundles.ensures.1 in
+    let all = only_reads_then _ _ _ c.all_contests.ensures.reads (only_reads_then _ _ _ c.all_papers.ensures.reads c.all_records.ensures.reads) in
+    rw (p.1, p.2) (lists_later db _ _ _ _ all c.all_counts.ensures.reads clean (c.in_err-bundles.ensures.fails clean db has last))
