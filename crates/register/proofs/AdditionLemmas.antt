@@ -1,25 +1,23 @@
 -- A stage more of a ward's count: with what it adds, the tabulation before it is the one after it.
-use Rattle.std.proofs.Common.{◌≡◌, ℕ, zero, suc, ◌+◌, ◌==◌, Bool, true, false, cond, not, ◌&&◌, List, [], ◌∷◌, ◌++◌, length, map, Some, refl, sym, ap, subst, ◌∙◌, append_assoc, append-nil, arith}
-use Rattle.std.specs.List.{flat_map, list_all}
+use Rattle.std.proofs.Common.{◌≡◌, ℕ, suc, ◌+◌, ◌==◌, true, false, cond, not, List, [], ◌∷◌, ◌++◌, length, map, Some, refl, sym, ap, subst, ◌∙◌, append_assoc, arith}
+use Rattle.std.specs.List.{flat_map}
 use Rattle.std.specs.List.Sorted.{IsPermutation}
 use Rattle.std.proofs.lemmas.Bool.{and_parts, and_from, not-true, ne_eqb}
 use Rattle.std.proofs.lemmas.Grind.{flat_map-append}
 use Rattle.std.proofs.lemmas.List.Folds.{list_all-append}
-use Rattle.std.proofs.lemmas.List.Sorted.{IsPermutation-refl, IsPermutation-trans, IsPermutation-append_left, IsPermutation-append_right, IsPermutation-append_comm}
-use Rattle.count.specs.Bundles.{Bundle, bundled}
+use Rattle.std.proofs.lemmas.List.Sorted.{IsPermutation-refl, IsPermutation-append_left, IsPermutation-append_comm}
+use Rattle.count.specs.Bundles.{bundled}
 use Rattle.count.specs.Law.Contest.{History}
 use Rattle.count.specs.Law.Count.{stage_of}
 use Rattle.count.specs.Law.Places.{place}
 use Rattle.count.specs.declared.stages.Action.{Action}
 use Rattle.count.specs.declared.stages.Stage.{Stage}
-use Rattle.count.specs.declared.stages.Due.TheVariants.{Act}
-use Rattle.register.specs.declared.phase.Phase.TheVariants.{Sealed}
-use Rattle.register.specs.Offices.{WardEntry, OfficeState, changed, ward_compared, ward_at}
+use Rattle.register.specs.Offices.{WardEntry, OfficeState, ward_at}
 use Rattle.register.specs.Marks.{columns_of}
 use Rattle.register.specs.Effects.{at_stage, stage_counted, with_effect}
-use Rattle.register.specs.Elections.{ElectionEntry, election_of, has_count, contest_of, stages_of, due_of}
+use Rattle.register.specs.Elections.{ElectionEntry, election_of, has_count, contest_of, stages_of}
 use Rattle.register.specs.Items.{IsState}
-use Rattle.register.specs.Tabulated.{PlacedEntry, FigureEntry, TabulationEntries, AdditionEntries, has_stages, bundles_in, figures_to, figures_in, tabulation_of, with_addition, SameTabulation}
+use Rattle.register.specs.Tabulated.{PlacedEntry, FigureEntry, has_stages, bundles_in, figures_to, figures_in, tabulation_of, with_addition, SameTabulation}
 use Rattle.register.specs.Additions.{placed_after, moved_between, figures_added, addition_by, addition_at}
 use Rattle.register.proofs.SplitLemmas.{are_others, IsSplit, changed_split, flat_split}
 use Rattle.register.proofs.StageLemmas.{stage_added}

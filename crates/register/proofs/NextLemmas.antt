@@ -1,5 +1,5 @@
 -- What a count that is shown comes to by the stage that is due, and what this adds to the tabulation.
-use Rattle.std.proofs.Common.{◌≡◌, ℕ, suc, ◌+◌, ◌==◌, true, false, List, [], ◌∷◌, map, length, reverse, Option, Some, refl, sym, ap, ◌∙◌, arith}
+use Rattle.std.proofs.Common.{◌≡◌, ℕ, suc, ◌+◌, ◌==◌, true, false, List, [], ◌∷◌, map, length, reverse, Some, refl, ap, ◌∙◌, arith}
 use Rattle.std.proofs.lemmas.Bool.{both_ways, eqb-true, eq-eqb}
 use Rattle.std.proofs.lemmas.List.{reverse-reverse, length-reverse}
 use Rattle.count.specs.Books.{placed}

@@ -1,23 +1,21 @@
 -- What leaves the counts of all wards as they are leaves the tabulation of a state as it is.
-use Rattle.std.proofs.Common.{◌≡◌, ℕ, Bool, true, false, cond, not, ◌&&◌, ◌==◌, List, [], ◌∷◌, ◌++◌, map, Some, refl, sym, ap, ◌∙◌}
+use Rattle.std.proofs.Common.{◌≡◌, ℕ, true, false, cond, not, ◌==◌, List, [], ◌∷◌, ◌++◌, map, Some, refl, sym, ap, ◌∙◌}
 use Rattle.std.specs.Prelude.{⊤}
-use Rattle.std.specs.List.{flat_map, list_all}
-use Rattle.std.specs.List.Sorted.{IsStrictlySortedBy}
-use Rattle.std.specs.Ordering.{nat_cmp, on}
-use Rattle.std.proofs.lemmas.Bool.{and_parts, and_left, and_right, eqb-true, not-true, not_from_true}
+use Rattle.std.specs.List.{flat_map}
+use Rattle.std.proofs.lemmas.Bool.{and_parts, and_right, not-true, not_from_true}
 use Rattle.std.proofs.lemmas.Grind.{flat_map-append}
 use Rattle.count.specs.Bundles.{Bundle, bundled}
 use Rattle.count.specs.Law.Contest.{History}
 use Rattle.count.specs.Law.Places.{place}
 use Rattle.register.specs.declared.phase.Phase.{Phase}
-use Rattle.register.specs.Offices.{WardEntry, CandidateEntry, BatchEntry, KeyedEntry, JudgedEntry, LotEntry, OfficeState, put, changed, ward_cmp, ward_compared, ward_at}
+use Rattle.register.specs.Offices.{WardEntry, CandidateEntry, BatchEntry, KeyedEntry, JudgedEntry, LotEntry, OfficeState, ward_cmp, ward_compared, ward_at}
 use Rattle.register.specs.Marks.{columns_of}
 use Rattle.register.specs.Elections.{ElectionEntry, election_of, has_count, contest_of, stages_of, is_counted, is_uncounted}
-use Rattle.register.specs.Effects.{EffectEntry, ward_added, ward_moved, stage_counted, lot_drawn, in_phase, with_effect}
+use Rattle.register.specs.Effects.{EffectEntry, ward_added, ward_moved, stage_counted, in_phase, with_effect}
 use Rattle.register.specs.Items.{IsState}
 use Rattle.register.specs.Tabulated.{PlacedEntry, FigureEntry, TabulationEntries, has_stages, placed_at, bundles_in, figures_to, figures_in, tabulation_of}
 use Rattle.register.proofs.MapLemmas.{found_passes}
-use Rattle.register.proofs.SplitLemmas.{flat_alike, flat_put, flat_changed, are_others, IsSplit, split_at}
+use Rattle.register.proofs.SplitLemmas.{flat_put, flat_changed, are_others, IsSplit, split_at}
 use Rattle.register.proofs.ElectionLemmas.{is_sound, sound_of, uncounted_before, unsealed}
 use Rattle.register.proofs.ElsewhereLemmas.{with_polls}
 use Rattle.register.proofs.ProgressLemmas.{in_phase_of, with_lots}
