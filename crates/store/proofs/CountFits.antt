@@ -97,12 +97,12 @@ module _ (ward : ℕ) (number : ward < 2 ^ 32) where
   figure_fits stage few f candidate mark = ((ward, number, refl), (stage, few, refl), (f.candidate, candidate, refl), (f.units, refl), (f.mark, mark, refl))
 
   shown_fit : (stage : ℕ) → stage < 2 ^ 32 → (s : Stage) (before : History) (low : ℕ) (cs : List ℕ) → Ascends low cs
-      → AllByRecursion IsFigureRow (map row_of_figure (map (figure_at ward stage) (map (figure_of s before) cs ++ record { candidate = 99; units = s.lost; mark = 0 } ∷ [])))
+      → AllByRecursion IsFigureRow (map row_of_figure (map (figure_at ward stage) (map (figure_of s (s ∷ before)) cs ++ record { candidate = 99; units = s.lost; mark = 0 } ∷ [])))
   shown_fit stage few s before low [] up = (figure_fits stage few (record { candidate = 99; units = s.lost; mark = 0 }) (omega arith) (omega arith), tt)
   shown_fit stage few s before low (c ∷ cs) up =
       let candidate = up.1 in
       let mark = mark_few s.action c (standing_mark (s ∷ before) c) (standing_few (s ∷ before) c) in
-      (figure_fits stage few (figure_of s before c) (omega (arith, candidate)) (omega (arith, mark)), shown_fit stage few s before c cs up.2)
+      (figure_fits stage few (figure_of s (s ∷ before) c) (omega (arith, candidate)) (omega (arith, mark)), shown_fit stage few s before c cs up.2)
 
   figures_to_fit : (cs : List ℕ) → Ascends 0 cs → (stages : History) → length stages < 2 ^ 32 → AllByRecursion IsFigureRow (map row_of_figure (figures_to ward cs stages))
   figures_to_fit cs up [] few = tt
