@@ -4,7 +4,8 @@
 use super::disks::{Act, play_all};
 use std::test::Fail;
 
-/// A surplus whose values are cut to 0.33333, and an exclusion that fills the last vacancy.
+/// A surplus whose values are cut to 0.33333, and an exclusion that fills the last vacancy. The first `UP_TO_SEAL` parts
+/// lead to its seal.
 pub const SURPLUS_CUT_BY_FRACTIONS: &[Act] = &[
     Act::Typed(
         "$ init
@@ -41,7 +42,10 @@ batch 12 added
     Act::Typed(
         "$ seal 7 --id s1
 ward 7 sealed: 9 valid, 0 rejected, quota 4.00000
-$ sheet 7
+",
+    ),
+    Act::Typed(
+        "$ sheet 7
 Ward 7 Harbour
 Seats 2, valid 9, quota 4.00000
 Rejected 1: 0, 2: 0, 3: 0, 4: 0, 5: 0
@@ -75,7 +79,56 @@ Stage 2: surplus of 1
  3       2.66666 - Cy
          0.00000 non-transferable
          0.00002 lost by fractions
-$ advance 7 --id n3
+",
+    ),
+    // the rows that the two stages leave, and rows that are a little different
+    Act::Damage(
+        "# DELETE FROM bundle; DELETE FROM vote; INSERT INTO bundle VALUES (7, x'0102', 4, 2, 33333); INSERT INTO bundle VALUES (7, x'0103', 2, 3, 33333); INSERT INTO bundle VALUES (7, x'02', 1, 2, 100000); INSERT INTO bundle VALUES (7, x'03', 2, 3, 100000); INSERT INTO vote VALUES (7, 1, 0, 0, 0); INSERT INTO vote VALUES (7, 1, 1, 600000, 1); INSERT INTO vote VALUES (7, 1, 2, 100000, 0); INSERT INTO vote VALUES (7, 1, 3, 200000, 0); INSERT INTO vote VALUES (7, 1, 99, 0, 0); INSERT INTO vote VALUES (7, 2, 0, 0, 0); INSERT INTO vote VALUES (7, 2, 1, 400000, 3); INSERT INTO vote VALUES (7, 2, 2, 233332, 0); INSERT INTO vote VALUES (7, 2, 3, 266666, 0); INSERT INTO vote VALUES (7, 2, 99, 2, 0)
+ward 8 added
+# UPDATE bundle SET value = 33334 WHERE papers = 4
+3| fault 103: damaged
+# UPDATE bundle SET holder = 3 WHERE papers = 4
+3| fault 103: damaged
+# UPDATE bundle SET papers = 5 WHERE papers = 4
+3| fault 103: damaged
+# UPDATE bundle SET prefs = x'0201' WHERE papers = 4
+3| fault 103: damaged
+# UPDATE bundle SET prefs = x'00' WHERE papers = 4
+3| fault 103: damaged
+# UPDATE bundle SET holder = -1 WHERE papers = 4
+3| fault 103: damaged
+# DELETE FROM bundle WHERE papers = 1
+3| fault 103: damaged
+# DELETE FROM bundle
+3| fault 103: damaged
+# INSERT INTO bundle VALUES (7, x'01', 1, 1, 100000)
+3| fault 103: damaged
+# INSERT INTO bundle VALUES (8, x'01', 1, 1, 100000)
+3| fault 103: damaged
+# UPDATE vote SET units = 233333 WHERE stage = 2 AND candidate = 2
+3| fault 103: damaged
+# UPDATE vote SET units = 3 WHERE stage = 2 AND candidate = 99
+3| fault 103: damaged
+# UPDATE vote SET mark = 1 WHERE stage = 2 AND candidate = 1
+3| fault 103: damaged
+# DELETE FROM vote WHERE stage = 1 AND candidate = 0
+3| fault 103: damaged
+# DELETE FROM vote WHERE stage = 1
+3| fault 103: damaged
+# INSERT INTO vote VALUES (7, 3, 0, 0, 0)
+3| fault 103: damaged
+# INSERT INTO vote VALUES (8, 1, 1, 0, 0)
+3| fault 103: damaged
+# UPDATE ward SET done = 1
+3| fault 103: damaged
+# DROP TABLE bundle
+3| fault 103: damaged
+# DROP TABLE vote
+3| fault 103: damaged
+",
+    ),
+    Act::Typed(
+        "$ advance 7 --id n3
 ward 7 stage 3 exclusion of 2, last vacancies
 $ sheet 7
 Ward 7 Harbour
@@ -111,6 +164,9 @@ Elected
 ",
     ),
 ];
+
+/// How many parts of it lead to the seal of its ward.
+pub const UP_TO_SEAL: usize = 3;
 
 /// Equal surpluses, settled by lot.
 const LOT_BETWEEN_SURPLUSES: &[Act] = &[

@@ -208,7 +208,7 @@ $ advance 7 --id v4
 # UPDATE ward SET done = 4000000000
 3| fault 103: damaged
 # UPDATE ward SET done = 1
-ward 8 added
+3| fault 103: damaged
 # UPDATE ward SET done = 0
 3| fault 103: damaged
 # UPDATE ward SET phase = 2
@@ -220,7 +220,7 @@ ward 8 added
 # UPDATE lot SET candidate = 1
 3| fault 103: damaged
 # UPDATE lot SET candidate = 2
-ward 8 added
+3| fault 103: damaged
 # UPDATE lot SET stage = 3
 3| fault 103: damaged
 # INSERT INTO lot VALUES (7, 3, 2)

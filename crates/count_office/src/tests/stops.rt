@@ -3,6 +3,7 @@
 //! behind one who met the stop is told that the office is closed.
 
 use super::clients::Client;
+use super::counts::{SURPLUS_CUT_BY_FRACTIONS, UP_TO_SEAL};
 use super::disks::{Act, Disks, File, play_acts};
 use super::http::{BEGUN, KEYED, KEYING};
 use super::keyings::NOMINATED;
@@ -137,6 +138,13 @@ $ declare 7 --id d1
 ward 7 declared: 3
 ";
 
+/// The first two stages of a ward with papers: all its bundles come into their table, and those of a surplus move.
+const STAGES: &str = "$ advance 7 --id n1
+ward 7 stage 1 first preferences
+$ advance 7 --id n2
+ward 7 stage 2 surplus of 1
+";
+
 /// A batch whose two keyings differ.
 const DIFFERING: &str = "$ close 7 --id n1
 ward 7 polled
@@ -204,6 +212,13 @@ fn orders_to_verdicts_stop_whole_at_their_log(rt: HostRuntime) -> Result<(), Fai
 #[test]
 fn a_count_stops_whole_at_its_log(rt: HostRuntime) -> Result<(), Fail> {
     stop_orders(&rt, &[Act::Typed(POLLING)], TO_DECLARATION, File::Log)
+}
+
+#[test]
+fn stages_stop_whole(rt: HostRuntime) -> Result<(), Fail> {
+    let before = &SURPLUS_CUT_BY_FRACTIONS[..UP_TO_SEAL];
+    stop_orders(&rt, before, STAGES, File::Log)?;
+    stop_orders(&rt, before, STAGES, File::Database)
 }
 
 #[test]
