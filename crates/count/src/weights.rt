@@ -135,7 +135,8 @@ pub fn figured(
     requires sound { AllByRecursion IsSound places.now }
     requires sound_moved { AllByRecursion IsSound moved.now }
     requires lost { newest_lost_of (reverse stages.now) ≤ max_units }
-    ensures { IsDueInBook (contest_on terms.now bundles.now) (reverse stages.now) bundles.now places.now action.now → moved.now ≡ places_of (contest_on terms.now bundles.now) (begun action.now [] ∷ reverse stages.now) bundles.now
+    ensures { IsDueInBook (contest_on terms.now bundles.now) (reverse stages.now) bundles.now places.now action.now
+        → moved.now ≡ places_of (contest_on terms.now bundles.now) (begun action.now [] ∷ reverse stages.now) bundles.now
         → IsFigured (contest_on terms.now bundles.now) (reverse stages.now) action.now result }
 {
     let _few = bundles.papers();
