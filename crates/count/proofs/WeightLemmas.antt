@@ -110,12 +110,11 @@ lost_at contest (s ∷ before) (Surplus c) fair right due =
 lost_at contest before (Exclude c) fair right due = omega (arith, newest_lost-is contest (λ h t. candidate_of t.action) before right)
 lost_at contest before (ExcludeLast c) fair right due = omega (arith, newest_lost-is contest (λ h t. candidate_of t.action) before right)
 
-pub lost-figured : (contest : Contest) (before : History) (action : Action) (bundles : List Bundle) (places moved : List Placed) (old new : ℕ) → IsDueInBook contest before bundles places action →
-    moved ≡ places_of contest (begun action [] ∷ before) bundles → old ≡ worth_placed value_of places bundles → new ≡ worth_placed value_of moved bundles →
-    lost_from contest.quota before action old new ≡ lost_after contest (begun action [] ∷ before)
-lost-figured contest before action bundles places moved old new due are old_is new_is =
-    ap (λ n. lost_from contest.quota before action n new) (old_is ∙ worth-all contest before bundles places due.book.papers_are due.book.places_are)
-    ∙ ap (lost_from contest.quota before action (all_values contest before)) (new_is ∙ worth-all contest (begun action [] ∷ before) bundles moved due.book.papers_are are)
+pub lost-figured : (contest : Contest) (before : History) (action : Action) (bundles : List Bundle) (places moved : List Placed) → IsDueInBook contest before bundles places action → moved ≡ places_of contest (begun action [] ∷ before) bundles →
+    lost_from contest.quota before action (worth_placed value_of places bundles) (worth_placed value_of moved bundles) ≡ lost_after contest (begun action [] ∷ before)
+lost-figured contest before action bundles places moved due are =
+    ap (λ n. lost_from contest.quota before action n (worth_placed value_of moved bundles)) (worth-all contest before bundles places due.book.papers_are due.book.places_are)
+    ∙ ap (lost_from contest.quota before action (all_values contest before)) (worth-all contest (begun action [] ∷ before) bundles moved due.book.papers_are are)
     ∙ lost_at contest before action due.book.fair due.book.right due.due
 
 -- where no bundle is left, nothing is worth anything

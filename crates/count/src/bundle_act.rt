@@ -28,8 +28,10 @@ pub fn acted_on_bundles(
 ) -> Result<(Vec<Placed>, Vec<Stage>), AllocError>
     requires sound { AllByRecursion IsSound places.now }
     requires lost { newest_lost (reverse stages.now) ≤ max_units }
-    ensures places { IfOk result (λ next. IsDueInBook (contest_on terms.now bundles.now) (reverse stages.now) bundles.now places.now action.now → next.0.items ≡ places_of (contest_on terms.now bundles.now) (reverse next.1.items) bundles.now) }
-    ensures stage { IfOk result (λ next. IsDueInBook (contest_on terms.now bundles.now) (reverse stages.now) bundles.now places.now action.now → Adds (contest_on terms.now bundles.now) (reverse stages.now) action.now (reverse next.1.items)) }
+    ensures places { IfOk result (λ next. IsDueInBook (contest_on terms.now bundles.now) (reverse stages.now) bundles.now places.now action.now
+        → next.0.items ≡ places_of (contest_on terms.now bundles.now) (reverse next.1.items) bundles.now) }
+    ensures stage { IfOk result (λ next. IsDueInBook (contest_on terms.now bundles.now) (reverse stages.now) bundles.now places.now action.now
+        → Adds (contest_on terms.now bundles.now) (reverse stages.now) action.now (reverse next.1.items)) }
 {
     let moved = moved_places(alloc, terms, bundles, places, stages, action)?;
     let stage = figured(terms, bundles, stages, action, places, &moved);

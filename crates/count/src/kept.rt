@@ -1,16 +1,14 @@
 //! A count that goes on from where it was kept.
 
-ghost use Rattle.std.specs.Prelude.{◌≡◌, ℕ, List, [], map, reverse, length, Some, None, IfOk, IfSome, IsSome};
-ghost use Rattle.count.specs.Bundles.{Bundle, bundled};
-ghost use Rattle.count.specs.Kept.{CountKept, IsKeptOf, places_after};
+ghost use Rattle.std.specs.Prelude.{◌≡◌, ◌+◌, ◌*◌, ◌<◌, ◌≤◌, ◌↔◌, [], reverse, length, IfOk, IfSome, IsSome, IsTrue};
+ghost use Rattle.std.specs.List.{AllByRecursion};
+ghost use Rattle.votes.specs.Units.{one_vote, max_units};
+ghost use Rattle.count.specs.Bundles.{bundled, papers_of};
+ghost use Rattle.count.specs.Kept.{IsKeptOf, places_after};
 ghost use Rattle.count.specs.Law.Contest.{Contest, History, IsContest};
-ghost use Rattle.count.specs.Law.Count.{with_stage, with_next, due_by as due_by_lots};
+ghost use Rattle.count.specs.Law.Count.{with_next, due_by as due_by_lots};
 ghost use Rattle.count.specs.Law.Due.{next_action as next_action_of};
 ghost use Rattle.count.specs.Law.Elected.{elected_after};
-ghost use Rattle.std.specs.List.{AllByRecursion};
-ghost use Rattle.std.specs.Prelude.{◌↔◌, ◌+◌, ◌*◌, ◌<◌, ◌≤◌, IsTrue};
-ghost use Rattle.votes.specs.Units.{one_vote, max_units};
-ghost use Rattle.count.specs.Bundles.{papers_of};
 ghost use Rattle.count.specs.Inside.Holdings.{newest_lost as newest_lost_of};
 ghost use Rattle.count.specs.Inside.Placing.{IsSound};
 
@@ -66,7 +64,8 @@ impl KeptCount {
         seats: u8,
         bundles: Bundles,
     ) -> Result<KeptCount, AllocError>
-        ensures is { IfOk result (λ kept. (contest : Contest) → IsContest contest → contest.candidates ≡ candidates → contest.seats ≡ seats → bundles ≡ bundled contest.papers → IsKeptOf contest [] kept) }
+        ensures is { IfOk result (λ kept. (contest : Contest) → IsContest contest → contest.candidates ≡ candidates
+            → contest.seats ≡ seats → bundles ≡ bundled contest.papers → IsKeptOf contest [] kept) }
     {
         let places = no_places(alloc, &bundles)?;
         Ok(KeptCount {
@@ -78,7 +77,7 @@ impl KeptCount {
     }
 
     /// A count that was kept. None where it is out of the range of any count: more stages than a count can have, a holder
-    /// who is no candidate's number, a value above one vote, or more lost than there is. Takes no memory.
+    /// above `MAX_CANDIDATES`, a value above one vote, or more lost at the newest stage than all papers give. Takes no memory.
     pub fn resume(
         candidates: Columns,
         seats: u8,
@@ -87,7 +86,8 @@ impl KeptCount {
         stages: Vec<Stage>,
     ) -> Option<KeptCount>
         ensures is { IfSome result (λ kept. kept ≡ record { candidates = candidates; seats = seats; bundles = bundles; places = places.items; stages = stages.items }) }
-        ensures some { (contest : Contest) (history : History) → IsKeptOf contest history (record { candidates = candidates; seats = seats; bundles = bundles; places = places.items; stages = stages.items }) → IsSome result }
+        ensures some { (contest : Contest) (history : History)
+            → IsKeptOf contest history (record { candidates = candidates; seats = seats; bundles = bundles; places = places.items; stages = stages.items }) → IsSome result }
     {
         let terms = terms_on(candidates, seats, &bundles);
         if !is_in_range(&candidates, &bundles, &places, &stages) {
@@ -196,7 +196,8 @@ fn is_in_range(candidates: &Columns, bundles: &Bundles, places: &[Placed], stage
     ensures sound { IsTrue result → AllByRecursion IsSound places.now }
     ensures few { IsTrue result → length stages.now < 255 }
     ensures lost { IsTrue result → newest_lost_of (reverse stages.now) ≤ max_units }
-    ensures when { AllByRecursion IsSound places.now → length stages.now ≤ length candidates.now + 1 → newest_lost_of (reverse stages.now) ≤ one_vote * length (papers_of bundles.now) → IsTrue result }
+    ensures when { AllByRecursion IsSound places.now → length stages.now ≤ length candidates.now + 1
+        → newest_lost_of (reverse stages.now) ≤ one_vote * length (papers_of bundles.now) → IsTrue result }
 {
     if stages.len() > candidates.len() + 1 {
         return false;

@@ -145,7 +145,8 @@ fn places_by_surplus(
     c: u8,
 ) -> Result<Vec<Placed>, AllocError>
     requires sound { AllByRecursion IsSound places.now }
-    ensures is { IfOk result (λ moved. IsDueInBook (contest_on terms.now bundles.now) (reverse stages.now) bundles.now places.now (Action.Surplus c) → moved.items ≡ places_of (contest_on terms.now bundles.now) (begun (Action.Surplus c) [] ∷ reverse stages.now) bundles.now) }
+    ensures is { IfOk result (λ moved. IsDueInBook (contest_on terms.now bundles.now) (reverse stages.now) bundles.now places.now (Action.Surplus c)
+        → moved.items ≡ places_of (contest_on terms.now bundles.now) (begun (Action.Surplus c) [] ∷ reverse stages.now) bundles.now) }
     ensures sound { IfOk result (λ moved. AllByRecursion IsSound moved.items) }
 {
     match share_of(terms.quota, stages, c) {
@@ -171,7 +172,8 @@ pub fn moved_places(
     action: &Action,
 ) -> Result<Vec<Placed>, AllocError>
     requires sound { AllByRecursion IsSound places.now }
-    ensures is { IfOk result (λ moved. IsDueInBook (contest_on terms.now bundles.now) (reverse stages.now) bundles.now places.now action.now → moved.items ≡ places_of (contest_on terms.now bundles.now) (begun action.now [] ∷ reverse stages.now) bundles.now) }
+    ensures is { IfOk result (λ moved. IsDueInBook (contest_on terms.now bundles.now) (reverse stages.now) bundles.now places.now action.now
+        → moved.items ≡ places_of (contest_on terms.now bundles.now) (begun action.now [] ∷ reverse stages.now) bundles.now) }
     ensures sound { IfOk result (λ moved. AllByRecursion IsSound moved.items) }
 {
     match action {

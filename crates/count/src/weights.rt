@@ -96,18 +96,26 @@ fn all_votes_from(
     votes
 }
 
-/// What is lost by fractions after an action, where all papers were worth `old` and are worth `new` now: a
-/// surplus leaves the quota.
-fn lost_from(quota: Votes, stages: &[Stage], action: &Action, old: u64, new: u64) -> Votes
+/// What is lost by fractions after an action that brought bundles to new places: a surplus leaves the quota.
+fn lost_from(
+    quota: Votes,
+    bundles: &Bundles,
+    stages: &[Stage],
+    action: &Action,
+    places: &[Placed],
+    moved: &[Placed],
+) -> Votes
     requires lost { newest_lost_of (reverse stages.now) ≤ max_units }
-    requires old { old ≤ max_units }
-    ensures { result ≡ lost_from_of quota (reverse stages.now) action.now old new }
+    requires old { worth_placed value_of places.now bundles.now ≤ max_units }
+    requires new { worth_placed value_of moved.now bundles.now ≤ max_units }
+    ensures { result ≡ lost_from_of quota (reverse stages.now) action.now (worth_placed value_of places.now bundles.now) (worth_placed value_of moved.now bundles.now) }
 {
     let before = newest_lost(stages);
     match action {
         Action::First => Votes::from_units(before),
         Action::Surplus(_) => {
-            Votes::from_units(before + old.saturating_sub(new).saturating_sub(quota.units()))
+            let given = worth(bundles, places).saturating_sub(worth(bundles, moved));
+            Votes::from_units(before + given.saturating_sub(quota.units()))
         }
         Action::Exclude(_) => Votes::from_units(before),
         Action::ExcludeLast(_) => Votes::from_units(before),
@@ -127,18 +135,17 @@ pub fn figured(
     requires sound { AllByRecursion IsSound places.now }
     requires sound_moved { AllByRecursion IsSound moved.now }
     requires lost { newest_lost_of (reverse stages.now) ≤ max_units }
-    ensures { IsDueInBook (contest_on terms.now bundles.now) (reverse stages.now) bundles.now places.now action.now → moved.now ≡ places_of (contest_on terms.now bundles.now) (begun action.now [] ∷ reverse stages.now) bundles.now
+    ensures { IsDueInBook (contest_on terms.now bundles.now) (reverse stages.now) bundles.now places.now action.now
+        → moved.now ≡ places_of (contest_on terms.now bundles.now) (begun action.now [] ∷ reverse stages.now) bundles.now
         → IsFigured (contest_on terms.now bundles.now) (reverse stages.now) action.now result }
 {
     let _few = bundles.papers();
-    let old = worth(bundles, places);
-    let new = worth(bundles, moved);
     let sums = sums(bundles, moved);
     Stage {
         action: *action,
         votes: all_votes_from(terms.quota, stages, action, &sums),
         elected: Columns::empty(),
         non_transferable: Votes::from_units(sums[0]),
-        lost: lost_from(terms.quota, stages, action, old, new),
+        lost: lost_from(terms.quota, bundles, stages, action, places, moved),
     }
 }

@@ -1,6 +1,7 @@
 -- The lemmas, by subject.
 pub mod PaddedLists
 pub mod Rankings
+pub mod ByteOrder
 pub mod ColumnSets
 pub mod Standings
 pub mod Fields

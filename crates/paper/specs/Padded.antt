@@ -1,5 +1,5 @@
 -- Lists of numbers in arrays.
-use Rattle.std.specs.Prelude.{ℕ, ◌-◌, ◌==◌, List, ◌++◌, length, replicate}
+use Rattle.std.specs.Prelude.{ℕ, ◌+◌, ◌-◌, ◌*◌, ◌^◌, ◌==◌, List, [], ◌∷◌, ◌++◌, length, replicate}
 use Rattle.std.specs.List.{before_first}
 use Rattle.paper.specs.Columns.{max_candidates}
 
@@ -10,3 +10,8 @@ listed numbers = before_first (λ n. n == 0) numbers
 -- the array that a list of no more numbers than candidates stands in, with zeros behind it
 abbrev pub padded : List ℕ → List ℕ
 padded list = list ++ replicate (max_candidates - length list) 0
+
+-- the number that bytes are, the first one the highest
+abbrev pub number_of : List ℕ → ℕ
+number_of [] = 0
+number_of (x ∷ xs) = x * 256 ^ length xs + number_of xs

@@ -1,10 +1,13 @@
 //! Lists of at most `MAX_CANDIDATES` numbers in arrays: the list, and zeros behind it.
 
-ghost use Rattle.std.specs.Prelude.{◌≡◌, ◌≤◌, length};
+ghost use Rattle.std.specs.Prelude.{◌≡◌, ◌≤◌, length, take};
+ghost use Rattle.std.specs.Cmp.Lexicographic.{slice_cmp};
+ghost use Rattle.std.specs.Ordering.{nat_cmp};
 ghost use Rattle.paper.specs.Columns.{max_candidates};
-ghost use Rattle.paper.specs.Padded.{listed, padded};
+ghost use Rattle.paper.specs.Padded.{listed, padded, number_of};
 
 use crate::columns::MAX_CANDIDATES;
+use std::cmp::Ordering;
 
 /// The list that stands in an array.
 #[tactic(auto, using(crate::proofs::PaddedLists::listed_by_length))]
@@ -31,4 +34,25 @@ pub fn padded_numbers(list: &[u8]) -> [u8; MAX_CANDIDATES]
     let mut numbers = [0; MAX_CANDIDATES];
     numbers[..list.len()].copy_from_slice(list);
     numbers
+}
+
+/// The first eight numbers of an array as one, in whose order they stand.
+fn beginning(numbers: &[u8; MAX_CANDIDATES]) -> u64
+    ensures { result ≡ number_of (take 8 numbers.now) }
+{
+    u64::from_be_bytes([
+        numbers[0], numbers[1], numbers[2], numbers[3], numbers[4], numbers[5], numbers[6],
+        numbers[7],
+    ])
+}
+
+/// The order of two arrays. Mostly their first eight numbers decide, which are compared at once.
+pub fn padded_cmp(numbers: &[u8; MAX_CANDIDATES], others: &[u8; MAX_CANDIDATES]) -> Ordering
+    ensures { result ≡ slice_cmp nat_cmp numbers.now others.now }
+{
+    let (own, other) = (beginning(numbers), beginning(others));
+    if own == other {
+        return numbers.cmp(others);
+    }
+    own.cmp(&other)
 }

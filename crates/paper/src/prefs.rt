@@ -9,7 +9,7 @@ ghost use Rattle.paper.specs.Padded.{listed, padded};
 ghost use Rattle.paper.specs.Ranking.{IsRanking};
 
 use crate::columns::MAX_CANDIDATES;
-use crate::padded::{list_in, padded_numbers};
+use crate::padded::{list_in, padded_cmp, padded_numbers};
 use std::cmp::Ordering;
 use std::marker::Model;
 
@@ -119,7 +119,7 @@ impl Ord for Prefs {
 
     // The arrays stand in the order of their lists, since no candidate has the number 0; so no list's end is looked for.
     fn cmp(&self, other: &Prefs) -> Ordering {
-        self.numbers.cmp(&other.numbers)
+        padded_cmp(&self.numbers, &other.numbers)
     }
 }
 

@@ -5,17 +5,14 @@ use Rattle.count.specs.Inside.Placing.{contest_on}
 use Rattle.count.proofs.WeightLemmas.{worth-few, holder-few, votes-figured, none-figured, lost-figured}
 use Rattle.count.proofs.weights.figured.Goals as goal
 
-pub worth-old-requires : goal.worth-old-requires
-worth-old-requires c = worth-few c.args.places.now c.args.bundles.now c.requires.sound (omega (arith, c.papers-few.ensures.is, c.papers-few.ensures.few))
-
-pub worth-new-requires : goal.worth-new-requires
-worth-new-requires c = worth-few c.args.moved.now c.args.bundles.now c.requires.sound_moved (omega (arith, c.papers-few.ensures.is, c.papers-few.ensures.few))
-
 pub sums-sums-requires-clause-small : goal.sums-sums-requires-clause-small
 sums-sums-requires-clause-small c = holder-few c.args.moved.now c.args.bundles.now c.requires.sound_moved (omega (arith, c.papers-few.ensures.is, c.papers-few.ensures.few))
 
 pub lost_from-requires-clause-old : goal.lost_from-requires-clause-old
-lost_from-requires-clause-old c = omega (arith, c.worth-old.ensures, worth-few c.args.places.now c.args.bundles.now c.requires.sound (omega (arith, c.papers-few.ensures.is, c.papers-few.ensures.few)))
+lost_from-requires-clause-old c = worth-few c.args.places.now c.args.bundles.now c.requires.sound (omega (arith, c.papers-few.ensures.is, c.papers-few.ensures.few))
+
+pub lost_from-requires-clause-new : goal.lost_from-requires-clause-new
+lost_from-requires-clause-new c = worth-few c.args.moved.now c.args.bundles.now c.requires.sound_moved (omega (arith, c.papers-few.ensures.is, c.papers-few.ensures.few))
 
 pub returns : goal.returns
 returns c due are =
@@ -25,5 +22,5 @@ returns c due are =
       of_action = refl;
       votes_are = c.all_votes_from.ensures ∙ votes-figured contest before c.args.action.now c.args.bundles.now c.args.moved.now c.sums-sums.result refl are c.sums-sums.ensures.each;
       non_transferable_is = c.from_units.ensures ∙ none-figured contest before c.args.action.now c.args.bundles.now c.args.moved.now c.sums-sums.result refl are c.sums-sums.ensures.each;
-      lost_is = c.lost_from.ensures ∙ lost-figured contest before c.args.action.now c.args.bundles.now c.args.places.now c.args.moved.now c.worth-old.result c.worth-new.result due are c.worth-old.ensures c.worth-new.ensures;
+      lost_is = c.lost_from.ensures ∙ lost-figured contest before c.args.action.now c.args.bundles.now c.args.places.now c.args.moved.now due are;
     }
