@@ -1,16 +1,22 @@
 -- What is read for the count of a ward is what the state has.
-use Rattle.std.proofs.Common.{◌≡◌, ◌≤◌, ℕ, Option, Some, None, MatchOption, option_map, length, true, refl, ap, subst, arith}
+use Rattle.std.proofs.Common.{◌≡◌, ◌≤◌, ◌==◌, ◌&&◌, not, ℕ, Option, Some, None, MatchOption, IfSome, IsSome, option_map, true, false, refl, sym, ap, subst, ◌∙◌, true≢false, arith}
+use Rattle.std.proofs.Math.Bool.{and-false}
+use Rattle.std.proofs.lemmas.Bool.{and_parts, and_from, ne_eqb}
+use Rattle.register.specs.declared.elections.Count.{Count}
 use Rattle.register.specs.Offices.{WardEntry, OfficeState, ward_at}
 use Rattle.register.specs.declared.elections.Election.{Election}
-use Rattle.register.specs.Elections.{ElectionEntry, IsElection, election_of, has_count, contest_of}
+use Rattle.register.specs.Elections.{ElectionEntry, election_of, has_count}
 use Rattle.register.specs.Items.{IsState}
 use Rattle.register.proofs.MapLemmas.{found_number}
-use Rattle.register.proofs.ContestLemmas.{seats_and_papers_are_few, contest_is_fair}
-use Rattle.votes.specs.Units.{max_seats, max_papers}
-use Rattle.count.specs.Law.Contest.{IsContest}
+use Rattle.register.proofs.ContestLemmas.{seats_and_papers_are_few}
+use Rattle.votes.specs.Units.{max_seats}
 use Rattle.register.specs.Counts.{poll_for, due_for, elected_for}
 use Rattle.register.specs.Parts.{empty_part}
-use Rattle.store.specs.Elections.{IsFoundFor, polled_part, counted_part}
+use Rattle.register.specs.declared.command.Command.TheVariants.{Count as counting}
+use Rattle.register.specs.declared.counts.CountCommand.TheVariants.{Advance}
+use Rattle.register.specs.Tabulated.{has_stages, IsCountFor}
+use Rattle.store.specs.Elections.{IsFoundFor, polled_part, counted_part, IsCount, IsBook, IsHeld, IsCountedFor, IsShown}
+use Rattle.store.specs.declared.views.counts.WardCount.{WardCount}
 
 -- the part with the poll, of a ward that may be there
 pub part_polled : (s : OfficeState) (ward : Option WardEntry) → polled_part (option_map (election_of s) ward) ≡ record empty_part { ward = ward; poll = poll_for s ward }
@@ -22,20 +28,18 @@ pub part_counted : (s : OfficeState) (ward : Option WardEntry) → counted_part 
 part_counted s None = refl
 part_counted s (Some w) = refl
 
--- ---- a poll and a count can be had of each election of a state
+-- ---- a poll can be had of each election of a state
 
--- its seats and its papers are few, and a count of it can be held
+-- its seats are few
 record IsSound (e : ElectionEntry) : Type 0 where
   some_seats : 1 ≤ e.ward.seats
   few_seats : e.ward.seats ≤ max_seats
-  few_papers : length e.ballots.papers ≤ max_papers
-  fair : has_count e ≡ true → IsContest (contest_of e)
 
 ward_is_sound : (s : OfficeState) (ward : ℕ) (w : WardEntry) → IsState s → ward_at s ward ≡ Some w → IsSound (election_of s w)
 ward_is_sound s ward w is found =
     let there : ward_at s w.number ≡ Some w = subst (λ (n : ℕ). ward_at s n ≡ Some w) (found_number (λ (x : WardEntry). x.number) s.wards ward w found) found in
     let few = seats_and_papers_are_few s w is.in_range is.keyed is.rise there in
-    record { some_seats = few.0; few_seats = few.1; few_papers = few.2; fair = contest_is_fair s w is.in_range is.keyed is.rise there }
+    record { some_seats = few.0; few_seats = few.1 }
 
 -- so what asks that of an election that was found has it
 pub sound_polled : {R : Type 0} (s : OfficeState) (ward : ℕ) (found : Option Election) → IsState s → IsFoundFor found (option_map (election_of s) (ward_at s ward))
@@ -50,11 +54,49 @@ sound_polled {R = R} s ward (Some e) is there r = by_ward (ward_at s ward) refl 
         let seats : e.ward.seats ≡ w.seats = ap (λ (x : WardEntry). x.seats) made.ward_is in
         r (omega (arith, seats, it.some_seats)) (omega (arith, seats, it.few_seats))
 
-pub sound_counted : {Q R : Type 0} (s : OfficeState) (ward : ℕ) (found : Option Election) → IsState s → IsFoundFor found (option_map (election_of s) (ward_at s ward))
-    → MatchOption found Q (λ e. (entry : ElectionEntry) → IsElection e entry → (has_count entry ≡ true → IsContest (contest_of entry)) → R) → (Q → R) → R
-sound_counted s ward None is there r other = other r
-sound_counted {R = R} s ward (Some e) is there r other = by_ward (ward_at s ward) refl there
-  where
-    by_ward : (o : Option WardEntry) → ward_at s ward ≡ o → IsFoundFor (Some e) (option_map (election_of s) o) → R
-    by_ward None none gone = absurd gone
-    by_ward (Some w) at made = r (election_of s w) made (ward_is_sound s ward w is at).fair
+-- ---- the count
+
+-- the ward of a number is there by its own
+pub ward_there : (s : OfficeState) (ward : ℕ) (w : WardEntry) → ward_at s ward ≡ Some w → ward_at s w.number ≡ Some w
+ward_there s ward w found = subst (λ (n : ℕ). ward_at s n ≡ Some w) (found_number (λ (x : WardEntry). x.number) s.wards ward w found) found
+
+-- what was found, of which that holds
+pub some_found : {X : Type 0} {P : X → Type 0} (found : Option X) → IsSome found → IfSome found P → (x : X) × (found ≡ Some x) × P x
+some_found None some holds = absurd (true≢false (sym some))
+some_found (Some x) some holds = (x, refl, holds)
+
+-- a count with a stage is one of a contested ward
+pub stages_contested : (e : ElectionEntry) → has_stages e ≡ true → has_count e ≡ true
+stages_contested e begun = (and_parts (has_count e) (not (e.ward.done == 0)) begun).0
+
+-- where no stage is done, or the ward isn't contested, there is none
+pub uncontested_bare : (e : ElectionEntry) → has_count e ≡ false → has_stages e ≡ false
+uncontested_bare e none = ap (λ b. b && not (e.ward.done == 0)) none
+
+pub fresh_bare : (e : ElectionEntry) → e.ward.done ≡ 0 → has_stages e ≡ false
+fresh_bare e fresh = ap (λ n. has_count e && not (n == 0)) fresh ∙ and-false (has_count e)
+
+pub begun_stages : (e : ElectionEntry) → has_count e ≡ true → (e.ward.done ≡ 0 → ⊥) → has_stages e ≡ true
+begun_stages e contested some = and_from _ _ contested (ap not (ne_eqb e.ward.done 0 some))
+
+-- a count that was found, of an election that has a stage, or that is contested
+pub book_found : (e : ElectionEntry) (found : Option Count) → has_stages e ≡ true → IsCount e found → IsBook e found
+book_found e found begun is = subst (IsBook e) (sym is.1) (begun, is.2)
+
+pub held_found : (e : ElectionEntry) (found : Option Count) → has_count e ≡ true → IsCount e found → IsHeld e found
+held_found e found contested is = subst (IsHeld e) (sym is.1) (contested, is.2)
+
+-- what a command sees of a count that was found
+pub held_shown : (e : ElectionEntry) (found : Option Count) → IsHeld e found → has_count e ≡ true → IsCount e found
+held_shown e None none contested = absurd (true≢false (sym contested ∙ none))
+held_shown e (Some count) is contested = (count, refl, is.1)
+
+pub counted_shown : (entry : Option ElectionEntry) (found : Option WardCount) (there : WardCount) → found ≡ Some there → IsCountedFor entry found → IsShown entry there.count
+counted_shown None found there is none = tt
+counted_shown (Some e) found there is counted =
+    let same : counted.0 ≡ there = let one : Some counted.0 ≡ Some there = sym counted.1 ∙ is in cc in
+    held_shown e there.count (subst (λ (x : WardCount). IsHeld e x.count) same counted.2.count_is)
+
+-- it is the count to which a stage is added
+pub shown_for : (s : OfficeState) (ward : ℕ) (shown : Option Count) → IsShown (option_map (election_of s) (ward_at s ward)) shown → IsCountFor s (counting (Advance ward)) shown
+shown_for s ward shown is = λ w at. subst (λ (o : Option WardEntry). IsShown (option_map (election_of s) o) shown) at is

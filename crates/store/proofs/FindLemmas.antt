@@ -12,11 +12,13 @@ use Rattle.sqlite.specs.declared.types.Value.TheVariants.{Int, Text}
 use Rattle.register.specs.Offices.{OfficeState, KeyedEntry, entry_at, ward_at, candidate_compared, candidate_at, candidates_of, keyed_cmp, batch_compared, batch_at, keying_of, judged_compared, verdict_at, verdicts_of, lots_of, receipt_at}
 use Rattle.register.specs.Papers.{batches_of}
 use Rattle.register.specs.Items.{IsState}
-use Rattle.tables.specs.declared.table.Table.TheVariants.{Ward, Candidate, Batch, Keying, Verdict, Lot, Receipt}
+use Rattle.register.specs.Tabulated.{tabulation_of}
+use Rattle.tables.specs.declared.table.Table.TheVariants.{Ward, Candidate, Batch, Keying, Verdict, Lot, Receipt, Bundle, Vote}
 use Rattle.tables.specs.declared.table.Reference.TheVariants.{WardOfBatch}
 use Rattle.tables.specs.Rows.{begins_with, refers_to}
 use Rattle.tables.specs.Reading.{Finds}
-use Rattle.store.specs.EntryRows.{row_of_ward, IsWardRow, row_of_candidate, IsCandidateRow, row_of_batch, IsBatchRow, row_of_keyed, IsKeyedRow, row_of_judged, IsJudgedRow, row_of_lot, row_of_receipt, IsReceiptRow}
+use Rattle.store.specs.EntryRows.{row_of_ward, IsWardRow, row_of_candidate, IsCandidateRow, row_of_batch, IsBatchRow, row_of_keyed, IsKeyedRow, row_of_judged, IsJudgedRow, row_of_lot, row_of_receipt, IsReceiptRow, row_of_placed, row_of_figure}
+use Rattle.store.specs.Elections.{bundles_at, figures_at}
 use Rattle.store.specs.Offices.{tables_of, tables_with}
 use Rattle.tables.proofs.OrderLemmas.{equal-number, key_of_number, key_of_two_numbers, key_of_three_numbers, key_of_number_and_text, same_number, same_three_numbers}
 use Rattle.store.proofs.StateLemmas.{tables_rise}
@@ -168,6 +170,20 @@ pub lots_listed : (s : OfficeState) → IsState s → (ward : ℕ) (rows : List 
 unfolding tables_of tables_with
 lots_listed s is ward rows finds =
     listed_as Lot row_of_lot (begins_with (Int (pos ward) ∷ [])) (λ l. l.ward == ward) (λ l. same_number ward l.ward) s.lots (tables_rise s is Lot refl) rows finds.same finds.sorted
+
+-- ---- what is tabulated
+
+-- the rows that begin with a ward are those of its bundles, in the order of their lists
+pub bundles_listed : (s : OfficeState) → IsState s → (ward : ℕ) (rows : List Row) → Finds Bundle (begins_with (Int (pos ward) ∷ [])) (tables_of s) rows → rows ≡ map row_of_placed (bundles_at s ward)
+unfolding tables_of tables_with
+bundles_listed s is ward rows finds =
+    listed_as Bundle row_of_placed (begins_with (Int (pos ward) ∷ [])) (λ b. b.ward == ward) (λ b. same_number ward b.ward) (tabulation_of s).bundles (tables_rise s is Bundle refl) rows finds.same finds.sorted
+
+-- and those of its figures, in the order of stages and candidates
+pub figures_listed : (s : OfficeState) → IsState s → (ward : ℕ) (rows : List Row) → Finds Vote (begins_with (Int (pos ward) ∷ [])) (tables_of s) rows → rows ≡ map row_of_figure (figures_at s ward)
+unfolding tables_of tables_with
+figures_listed s is ward rows finds =
+    listed_as Vote row_of_figure (begins_with (Int (pos ward) ∷ [])) (λ f. f.ward == ward) (λ f. same_number ward f.ward) (tabulation_of s).figures (tables_rise s is Vote refl) rows finds.same finds.sorted
 
 -- ---- receipts
 

@@ -64,6 +64,11 @@ reads_none {st = st} outside is_open told = record { found = λ clean s at. told
 pub reads_as : {X Y : Type 0} {P : OfficeState → X → Type 0} {Q : OfficeState → Y → Type 0} {old new : State} {x : X} {y : Y} → Reads old new (Ok x) P → ((s : OfficeState) → IsState s → P s x → Q s y) → Reads old new (Ok y) Q
 reads_as one told = record { found = λ clean s at. told s at.is (one.found clean s at); cause = λ clean s at. tt; opens = one.opens; reads = one.reads; outside = one.outside }
 
+-- the same of what a read told, if it told anything
+pub reads_told : {X : Type 0} {P Q : OfficeState → X → Type 0} {old new : State} {r : Result X Fault} → Reads old new r P → ((s : OfficeState) (x : X) → P s x → Q s x) → Reads old new r Q
+reads_told {r = Ok x} one told = record { found = λ clean s at. told s x (one.found clean s at); cause = λ clean s at. tt; opens = one.opens; reads = one.reads; outside = one.outside }
+reads_told {r = Err f} one told = record { found = λ clean s at. tt; cause = one.cause; opens = one.opens; reads = one.reads; outside = one.outside }
+
 -- one read, and then another
 pub reads_both : {X Y : Type 0} {P : OfficeState → X → Type 0} {Q : OfficeState → Y → Type 0} {old mid new : State} {x : X} {y : Y} → Reads old mid (Ok x) P → Reads mid new (Ok y) Q → Reads old new (Ok y) (λ s v. P s x × Q s v)
 reads_both {old = old} {mid = mid} {new = new} one two = record {

@@ -1,11 +1,16 @@
 -- What is read for the count of a ward.
-use Rattle.std.specs.Prelude.{map, Option, Some, None, ⊤}
-use Rattle.register.specs.Offices.{keyed_entry, judged_entry}
+use Rattle.std.specs.Prelude.{◌≡◌, ◌==◌, map, ℕ, true, false, List, Option, Some, None, ⊤}
+use Rattle.std.specs.List.{filter}
+use Rattle.count.specs.Kept.{CountKept, IsKeptOf}
+use Rattle.register.specs.Offices.{WardEntry, CandidateEntry, OfficeState, ward_at, candidates_of, ward_entry, candidate_entry, keyed_entry, judged_entry}
 use Rattle.register.specs.Polls.{Pile, poll_of}
+use Rattle.register.specs.declared.elections.Count.{Count}
 use Rattle.register.specs.declared.elections.Election.{Election}
-use Rattle.register.specs.Elections.{ElectionEntry, IsElection, due_of, elected_of}
+use Rattle.register.specs.Elections.{ElectionEntry, IsElection, has_count, contest_of, stages_of, due_of, elected_of}
 use Rattle.register.specs.Parts.{PartEntries, empty_part}
+use Rattle.register.specs.Tabulated.{PlacedEntry, FigureEntry, tabulation_of, has_stages, IsCountOf}
 use Rattle.store.specs.declared.views.elections.BatchPapers.{BatchPapers}
+use Rattle.store.specs.declared.views.counts.WardCount.{WardCount}
 
 -- what the papers of a batch stand for
 abbrev pub pile_by : BatchPapers → Pile
@@ -27,3 +32,59 @@ polled_part (Some e) = record empty_part { ward = Some e.ward; poll = Some (poll
 abbrev pub counted_part : Option ElectionEntry → PartEntries
 counted_part None = empty_part
 counted_part (Some e) = record empty_part { ward = Some e.ward; due = Some (due_of e); elected = elected_of e }
+
+-- ---- the count
+
+-- the bundles and the figures of a ward
+abbrev pub bundles_at : OfficeState → ℕ → List PlacedEntry
+bundles_at s ward = filter (λ (b : PlacedEntry). b.ward == ward) (tabulation_of s).bundles
+
+abbrev pub figures_at : OfficeState → ℕ → List FigureEntry
+figures_at s ward = filter (λ (f : FigureEntry). f.ward == ward) (tabulation_of s).figures
+
+-- the ward is there, and these are its candidates
+abbrev pub IsThere : OfficeState → WardEntry → List CandidateEntry → Type 0
+IsThere s w candidates = (ward_at s w.number ≡ Some w) × (candidates ≡ candidates_of s w.number)
+
+-- this was found, and kept of the count of an election
+abbrev pub IsKept : ElectionEntry → Option CountKept → Type 0
+IsKept e found = (kept : CountKept) × (found ≡ Some kept) × IsKeptOf (contest_of e) (stages_of e) kept
+
+-- the count of an election was found
+abbrev pub IsCount : ElectionEntry → Option Count → Type 0
+IsCount e found = (count : Count) × (found ≡ Some count) × IsCountOf e count
+
+-- the count of an election that has a stage, and else none
+abbrev pub IsBook : ElectionEntry → Option Count → Type 0
+IsBook e None = has_stages e ≡ false
+IsBook e (Some count) = (has_stages e ≡ true) × IsCountOf e count
+
+-- the same of an election that may be there
+abbrev pub IsBookFor : Option ElectionEntry → Option Count → Type 0
+IsBookFor None found = found ≡ None
+IsBookFor (Some e) found = IsBook e found
+
+-- the count of a contested election, and else none
+abbrev pub IsHeld : ElectionEntry → Option Count → Type 0
+IsHeld e None = has_count e ≡ false
+IsHeld e (Some count) = (has_count e ≡ true) × IsCountOf e count
+
+-- the ward and the candidates of an election, and its count
+pub record IsWardCount (e : ElectionEntry) (found : WardCount) : Type 0 where
+  pub ward_is : ward_entry found.ward ≡ e.ward
+  pub candidates_are : map candidate_entry found.candidates.items ≡ e.candidates
+  pub count_is : IsHeld e found.count
+
+-- they were found
+abbrev pub IsCounted : ElectionEntry → Option WardCount → Type 0
+IsCounted e found = (count : WardCount) × (found ≡ Some count) × IsWardCount e count
+
+-- they were found where the election is there
+abbrev pub IsCountedFor : Option ElectionEntry → Option WardCount → Type 0
+IsCountedFor None found = found ≡ None
+IsCountedFor (Some e) found = IsCounted e found
+
+-- the count of an election is shown, where it is there and contested
+abbrev pub IsShown : Option ElectionEntry → Option Count → Type 0
+IsShown None shown = ⊤
+IsShown (Some e) shown = has_count e ≡ true → IsCount e shown

@@ -9,7 +9,7 @@ ghost use Rattle.std.specs.List.Sorted.{IsPermutation};
 ghost use Rattle.count.specs.Bundles.{papers_of};
 ghost use Rattle.register.specs.Polls.{piles_of, ballots_in, StandFor, are_listed, are_bundled};
 ghost use Rattle.register.specs.Elections.{lot_pair, election_of};
-ghost use Rattle.store.specs.Elections.{IsFoundFor};
+ghost use Rattle.store.specs.Elections.{IsFoundFor, IsBookFor};
 ghost use Rattle.register.specs.Standings.{status_entry, status_of, status_at, columns_at};
 ghost use Rattle.tables.specs.Reading.{OnlyReads, FailsBy};
 ghost use Rattle.store.specs.Offices.{IsAt};
@@ -18,6 +18,7 @@ ghost use Rattle.store.specs.Reads.{Reads};
 
 use crate::storage::Store;
 use crate::views::batches::{find_batch, list_batches};
+use crate::views::books::find_book;
 use crate::views::candidates::list_candidates;
 use crate::views::elections::{find_ballots, find_election, recorded_lots};
 use crate::views::papers::{Keyings, keyings_of, list_verdicts};
@@ -26,7 +27,7 @@ use count::{Bundles, bundles_count_alike};
 use paper::{Columns, Prefs};
 use register::marks::columns_of;
 use register::papers::{are_taken, count_open, differ};
-use register::{Ballots, Batch, Election, JudgedPaper, Status, Ward};
+use register::{Ballots, Batch, Count, Election, JudgedPaper, Status, Ward};
 use sqlite::{Alter, Connection};
 use std::alloc::Global;
 use tables::Fault;
@@ -202,6 +203,20 @@ impl<S: Alter> Store<S> {
         ensures keeps { HasCleanDisk (state S.Store self.new) → (s : OfficeState) → IsAt s (state S.Store self.old) → IsAt s (state S.Store self.new) }
     {
         find_election(self.alloc, &mut self.conn, ward)
+    }
+
+    /// The count of the ward of this number as it was kept, by what is tabulated of it and by its lots, and
+    /// no paper is read: where the ward is there and contested, once a stage is done, and else none. It
+    /// changes nothing, and adds nothing to what a stop may leave. `Memory` or `Store` where a row can't be
+    /// read.
+    pub fn load_book(&mut self, ward: u32) -> Result<Option<Count>, Fault>
+        ensures shows { HasCleanDisk (state S.Store self.new) → (s : OfficeState) → IsAt s (state S.Store self.old) → IfOk result (λ found. IsBookFor (option_map (election_of s) (ward_at s ward)) found) }
+        ensures cause { HasCleanDisk (state S.Store self.new) → (s : OfficeState) → IsAt s (state S.Store self.old) → IfErr result (FailsBy (state S.Store self.old) (state S.Store self.new)) }
+        ensures opens { HasCleanDisk (state S.Store self.new) → OnOk result (IsTrue (state S.Store self.new).is_open) }
+        ensures reads { OnlyReads (state S.Store self.old) (state S.Store self.new) }
+        ensures keeps { HasCleanDisk (state S.Store self.new) → (s : OfficeState) → IsAt s (state S.Store self.old) → IsAt s (state S.Store self.new) }
+    {
+        find_book(self.alloc, &mut self.conn, ward)
     }
 
     /// What the papers of a ward come to: the preferences of each valid paper of the batches that are

@@ -6,12 +6,14 @@ ghost use Rattle.sqlite.specs.Held.{state};
 ghost use Rattle.register.specs.Offices.{OfficeState};
 ghost use Rattle.register.specs.Parts.{part_entries};
 ghost use Rattle.register.specs.Machine.{part_of};
+ghost use Rattle.register.specs.Tabulated.{IsCountFor};
 ghost use Rattle.register.specs.Views.{IsViewOf};
 ghost use Rattle.tables.specs.Reading.{OnlyReads, FailsBy};
 ghost use Rattle.store.specs.Offices.{IsAt};
 ghost use Rattle.store.specs.Reads.{Reads};
 
 pub(crate) mod batches;
+pub(crate) mod books;
 pub(crate) mod candidates;
 mod counts;
 pub(crate) mod elections;
@@ -31,7 +33,7 @@ use sqlite::{Alter, Connection};
 use std::alloc::Global;
 use tables::Fault;
 
-/// The part of the state that an actor's command needs.
+/// The part of the state that an actor's command needs, and the count that a stage is to be added to.
 fn find_part<S: Alter>(
     alloc: Global,
     conn: &mut Connection<S>,
@@ -39,7 +41,7 @@ fn find_part<S: Alter>(
     command: &Command,
 ) -> Result<Part, Fault>
     requires { conn.old.in_transaction ≡ false }
-    ensures { Reads (state S.Store conn.old) (state S.Store conn.new) result (λ s part. part_entries part ≡ part_of s actor command.now) }
+    ensures { Reads (state S.Store conn.old) (state S.Store conn.new) result (λ s part. (part_entries part ≡ part_of s actor command.now) × IsCountFor s command.now part.count) }
 {
     match command {
         Command::Ward(WardCommand::Add { ward, .. }) => ward_part(alloc, conn, *ward),

@@ -3,7 +3,7 @@
 ghost use Rattle.std.specs.Prelude.{◌≡◌, ◌++◌, ◌∷◌, [], false, map, option_map, IfOk, IfErr, IsTrue};
 ghost use Rattle.sqlite.specs.State.{HasCleanDisk};
 ghost use Rattle.sqlite.specs.Held.{state};
-ghost use Rattle.register.specs.Offices.{ward_entry, batch_entry, lot_entry, ward_at, candidates_of, lots_of};
+ghost use Rattle.register.specs.Offices.{ward_entry, candidate_entry, batch_entry, lot_entry, ward_at, candidates_of, lots_of};
 ghost use Rattle.register.specs.Marks.{columns_of};
 ghost use Rattle.register.specs.Polls.{pile_of, piles_of, ballots_in, StandFor};
 ghost use Rattle.register.specs.Elections.{IsElection, lot_pair, election_of};
@@ -19,7 +19,7 @@ use count::Bundles;
 use paper::Columns;
 use register::elections::lot_pairs;
 use register::marks::columns_of;
-use register::{Ballots, Batch, DrawnLot, Election, JudgedPaper, KeepsPapers, Ward};
+use register::{Ballots, Batch, Candidate, DrawnLot, Election, JudgedPaper, KeepsPapers, Ward};
 use sqlite::{Alter, Connection};
 use std::alloc::Global;
 use tables::Fault;
@@ -147,16 +147,17 @@ pub(crate) fn find_ballots<S: Alter, P: KeepsPapers + Drop>(
     Ok(ballots)
 }
 
-/// The election in a ward.
-fn ward_election<S: Alter>(
+/// The election in a ward, whose candidates these are.
+pub(crate) fn ward_election<S: Alter>(
     alloc: Global,
     conn: &mut Connection<S>,
     ward: Ward,
+    candidates: Vec<Candidate>,
 ) -> Result<Election, Fault>
     requires { conn.old.in_transaction ≡ false }
-    ensures { Reads (state S.Store conn.old) (state S.Store conn.new) result (λ s found. IsElection found (election_of s (ward_entry ward))) }
+    ensures { Reads (state S.Store conn.old) (state S.Store conn.new) result
+        (λ s found. map candidate_entry candidates.items ≡ candidates_of s ward.number → IsElection found (election_of s (ward_entry ward))) }
 {
-    let candidates = list_candidates(alloc, conn, ward.number)?;
     let none = Bundles::new(alloc);
     let ballots = ward_ballots(alloc, conn, none, ward.number, columns_of(&candidates))?;
     let lots = recorded_lots(alloc, conn, ward.number)?;
@@ -180,7 +181,8 @@ pub(crate) fn find_election<S: Alter>(
     let found = find_ward(conn, ward)?;
     match found {
         Some(ward) => {
-            let election = ward_election(alloc, conn, ward)?;
+            let candidates = list_candidates(alloc, conn, ward.number)?;
+            let election = ward_election(alloc, conn, ward, candidates)?;
             Ok(Some(election))
         }
         None => Ok(None),

@@ -8,19 +8,15 @@ use Rattle.store.proofs.views.elections.ward_election.Goals as goal
 
 pub returns : goal.returns
 returns g c =
-    reads_as (reads_both (reads_both c.in_ok-candidates.ensures c.in_ok-ballots.ensures) c.in_ok-lots.ensures)
-    (λ s is told.
-    let candidates = told.0.0 in
+    reads_as (reads_both c.in_ok-ballots.ensures c.in_ok-lots.ensures)
+    (λ s is told candidates.
     let columns = c.columns_of.ensures.is ∙ ap columns_of (ap (map candidate_entry) c.deref.ensures.value ∙ candidates) in
     record {
       ward_is = refl;
       candidates_are = candidates;
-      ballots_are = subst (λ (columns : List ℕ). StandFor are_bundled c.in_ok-ballots.ballots (ballots_in columns (piles_of s c.args.ward.number))) columns told.0.1;
+      ballots_are = subst (λ (columns : List ℕ). StandFor are_bundled c.in_ok-ballots.ballots (ballots_in columns (piles_of s c.args.ward.number))) columns told.0;
       lots_are = told.1;
     })
 
-pub returns-in_err-ballots : goal.returns-in_err-ballots
-returns-in_err-ballots g c = reads_cut c.from_residual-in_err-ballots.ensures.1 c.in_ok-candidates.ensures c.in_err-ballots.ensures
-
 pub returns-in_err-lots : goal.returns-in_err-lots
-returns-in_err-lots g c = reads_cut c.from_residual-in_err-lots.ensures.1 (reads_both c.in_ok-candidates.ensures c.in_ok-ballots.ensures) c.in_err-lots.ensures
+returns-in_err-lots g c = reads_cut c.from_residual-in_err-lots.ensures.1 c.in_ok-ballots.ensures c.in_err-lots.ensures

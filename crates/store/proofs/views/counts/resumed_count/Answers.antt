@@ -1,0 +1,16 @@
+-- Why `resumed_count` keeps its promise.
+use Rattle.std.proofs.Common.{Some, subst, refl}
+use Rattle.register.specs.Offices.{ward_entry}
+use Rattle.register.specs.Elections.{election_of}
+use Rattle.store.specs.Elections.{IsCount}
+use Rattle.store.proofs.ElectionLemmas.{stages_contested, held_found}
+use Rattle.store.proofs.ReadsLemmas.{reads_as}
+use Rattle.store.proofs.views.counts.resumed_count.Goals as goal
+
+pub returns-in-Some : goal.returns-in-Some
+returns-in-Some g c =
+    reads_as (rw c.deref.ensures.value at c.in_ok-found.ensures)
+    (λ s is told there begun.
+    let e = election_of s (ward_entry c.args.ward) in
+    let count = subst (IsCount e) c.in-Some.is (told there begun) in
+    (_, refl, record { ward_is = refl; candidates_are = there.1; count_is = held_found e (Some c.in-Some.count) (stages_contested e begun) count }))
