@@ -7,8 +7,8 @@ use Rattle.sqlite.specs.State.{State, HasCleanDisk, Survives}
 use Rattle.register.specs.Offices.{OfficeState}
 use Rattle.register.specs.Items.{IsState}
 use Rattle.register.specs.declared.decision.Change.{Change}
-use Rattle.register.specs.Effects.{ChangeEntry, change_entry, with_change}
-use Rattle.register.specs.Tabulated.{TabulationEntries, tabulation_of, SameTabulation, AdditionEntries, addition_entries, with_addition, IsTabulated}
+use Rattle.register.specs.Effects.{change_entry, with_change}
+use Rattle.register.specs.Tabulated.{TabulationEntries, tabulation_of, SameTabulation, addition_entries, with_addition, IsTabulated}
 use Rattle.tables.specs.declared.table.Table.TheVariants.{Office, Ward, Candidate, Batch, Keying, Verdict, Lot, Receipt, Bundle, Vote}
 use Rattle.tables.specs.Contents.{Contents, SameContents, Stores, Rests, RestsAt}
 use Rattle.tables.specs.Reading.{OnlyReads}

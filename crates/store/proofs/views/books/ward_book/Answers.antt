@@ -1,6 +1,6 @@
 -- Why `ward_book` keeps its promise.
-use Rattle.std.proofs.Common.{rules, ◌≡◌, ◌∙◌, ℕ, true, map, ap, sym}
-use Rattle.register.specs.Offices.{CandidateEntry, ward_entry, candidate_entry}
+use Rattle.std.proofs.Common.{rules, ◌≡◌, ◌∙◌, true, map, ap, sym}
+use Rattle.register.specs.Offices.{ward_entry, candidate_entry}
 use Rattle.register.specs.Nominations.{is_contested}
 use Rattle.register.specs.Elections.{election_of}
 use Rattle.store.proofs.ElectionLemmas.{begun_stages, book_found}

@@ -1,6 +1,5 @@
 -- Why `begun_count` keeps its promise.
-use Rattle.std.proofs.Common.{◌≡◌, ◌≤◌, ap, sym, ◌∙◌, map, refl, arith, true≢false}
-use Rattle.votes.specs.Units.{max_seats}
+use Rattle.std.proofs.Common.{◌≡◌, ap, sym, ◌∙◌, map, refl, arith, true≢false}
 use Rattle.register.specs.Offices.{WardEntry, ward_entry, candidate_entry}
 use Rattle.register.specs.Elections.{election_of}
 use Rattle.store.proofs.ReadsLemmas.{reads_as}
