@@ -1,7 +1,7 @@
 //! Worked elections, keyed alike by two clerks, sealed, counted stage by stage, and declared: one with a surplus and an
 //! exclusion, and one with a lot. (Ten are counted in layer_tests.)
 
-use super::disks::{Act, play_all};
+use super::disks::{Act, play_acts, play_all};
 use std::test::Fail;
 
 /// A surplus whose values are cut to 0.33333, and an exclusion that fills the last vacancy. The first `UP_TO_SEAL` parts
@@ -79,11 +79,58 @@ Stage 2: surplus of 1
  3       2.66666 - Cy
          0.00000 non-transferable
          0.00002 lost by fractions
+$ advance 7 --id n3
+ward 7 stage 3 exclusion of 2, last vacancies
+$ sheet 7
+Ward 7 Harbour
+Seats 2, valid 9, quota 4.00000
+Rejected 1: 0, 2: 0, 3: 0, 4: 0, 5: 0
+Stage 1: first preferences
+ 1       6.00000 E Ann
+ 2       1.00000 - Bob
+ 3       2.00000 - Cy
+         0.00000 non-transferable
+         0.00000 lost by fractions
+Stage 2: surplus of 1
+ 1       4.00000 e Ann
+ 2       2.33332 - Bob
+ 3       2.66666 - Cy
+         0.00000 non-transferable
+         0.00002 lost by fractions
+Stage 3: exclusion of 2, last vacancies
+ 1       4.00000 e Ann
+ 2       2.33332 x Bob
+ 3       2.66666 E Cy
+         0.00000 non-transferable
+         0.00002 lost by fractions
+$ advance 7 --id n4
+1| refused 25: count finished
+$ declare 7 --id d1
+ward 7 declared: 1, 3
+$ result 7
+Ward 7 Harbour
+Elected
+ 1 Ann
+ 3 Cy
 ",
     ),
-    // the rows that the two stages leave, and rows that are a little different
-    Act::Damage(
-        "# DELETE FROM bundle; DELETE FROM vote; INSERT INTO bundle VALUES (7, x'0102', 4, 2, 33333); INSERT INTO bundle VALUES (7, x'0103', 2, 3, 33333); INSERT INTO bundle VALUES (7, x'02', 1, 2, 100000); INSERT INTO bundle VALUES (7, x'03', 2, 3, 100000); INSERT INTO vote VALUES (7, 1, 0, 0, 0); INSERT INTO vote VALUES (7, 1, 1, 600000, 1); INSERT INTO vote VALUES (7, 1, 2, 100000, 0); INSERT INTO vote VALUES (7, 1, 3, 200000, 0); INSERT INTO vote VALUES (7, 1, 99, 0, 0); INSERT INTO vote VALUES (7, 2, 0, 0, 0); INSERT INTO vote VALUES (7, 2, 1, 400000, 3); INSERT INTO vote VALUES (7, 2, 2, 233332, 0); INSERT INTO vote VALUES (7, 2, 3, 266666, 0); INSERT INTO vote VALUES (7, 2, 99, 2, 0)
+];
+
+/// How many parts of it lead to the seal of its ward.
+pub const UP_TO_SEAL: usize = 3;
+
+/// Its first two stages.
+const TWO_STAGES: Act = Act::Typed(
+    "$ advance 7 --id n1
+ward 7 stage 1 first preferences
+$ advance 7 --id n2
+ward 7 stage 2 surplus of 1
+",
+);
+
+/// The rows of bundles and votes that these leave, and rows that are a little different.
+const ROWS: Act = Act::Damage(
+    "# DELETE FROM bundle; DELETE FROM vote; INSERT INTO bundle VALUES (7, x'0102', 4, 2, 33333); INSERT INTO bundle VALUES (7, x'0103', 2, 3, 33333); INSERT INTO bundle VALUES (7, x'02', 1, 2, 100000); INSERT INTO bundle VALUES (7, x'03', 2, 3, 100000); INSERT INTO vote VALUES (7, 1, 0, 0, 0); INSERT INTO vote VALUES (7, 1, 1, 600000, 1); INSERT INTO vote VALUES (7, 1, 2, 100000, 0); INSERT INTO vote VALUES (7, 1, 3, 200000, 0); INSERT INTO vote VALUES (7, 1, 99, 0, 0); INSERT INTO vote VALUES (7, 2, 0, 0, 0); INSERT INTO vote VALUES (7, 2, 1, 400000, 3); INSERT INTO vote VALUES (7, 2, 2, 233332, 0); INSERT INTO vote VALUES (7, 2, 3, 266666, 0); INSERT INTO vote VALUES (7, 2, 99, 2, 0)
 ward 8 added
 # UPDATE bundle SET value = 33334 WHERE papers = 4
 3| fault 103: damaged
@@ -126,47 +173,7 @@ ward 8 added
 # DROP TABLE vote
 3| fault 103: damaged
 ",
-    ),
-    Act::Typed(
-        "$ advance 7 --id n3
-ward 7 stage 3 exclusion of 2, last vacancies
-$ sheet 7
-Ward 7 Harbour
-Seats 2, valid 9, quota 4.00000
-Rejected 1: 0, 2: 0, 3: 0, 4: 0, 5: 0
-Stage 1: first preferences
- 1       6.00000 E Ann
- 2       1.00000 - Bob
- 3       2.00000 - Cy
-         0.00000 non-transferable
-         0.00000 lost by fractions
-Stage 2: surplus of 1
- 1       4.00000 e Ann
- 2       2.33332 - Bob
- 3       2.66666 - Cy
-         0.00000 non-transferable
-         0.00002 lost by fractions
-Stage 3: exclusion of 2, last vacancies
- 1       4.00000 e Ann
- 2       2.33332 x Bob
- 3       2.66666 E Cy
-         0.00000 non-transferable
-         0.00002 lost by fractions
-$ advance 7 --id n4
-1| refused 25: count finished
-$ declare 7 --id d1
-ward 7 declared: 1, 3
-$ result 7
-Ward 7 Harbour
-Elected
- 1 Ann
- 3 Cy
-",
-    ),
-];
-
-/// How many parts of it lead to the seal of its ward.
-pub const UP_TO_SEAL: usize = 3;
+);
 
 /// Equal surpluses, settled by lot.
 const LOT_BETWEEN_SURPLUSES: &[Act] = &[
@@ -289,4 +296,11 @@ Elected
 #[test]
 fn elections_are_counted(rt: HostRuntime) -> Result<(), Fail> {
     play_all(&rt, &[SURPLUS_CUT_BY_FRACTIONS, LOT_BETWEEN_SURPLUSES])
+}
+
+#[test]
+fn rows_of_stages_are_those_of_the_count(rt: HostRuntime) -> Result<(), Fail> {
+    let sealed = play_acts(&rt, &SURPLUS_CUT_BY_FRACTIONS[..UP_TO_SEAL])?;
+    sealed.act(&rt, &TWO_STAGES)?.act(&rt, &ROWS)?;
+    Ok(())
 }

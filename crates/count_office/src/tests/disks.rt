@@ -187,7 +187,7 @@ impl Disks {
         Ok(())
     }
 
-    fn act(self, rt: &(impl Abort + AllocGlobal), act: &Act) -> Result<Disks, Fail> {
+    pub fn act(self, rt: &(impl Abort + AllocGlobal), act: &Act) -> Result<Disks, Fail> {
         match act {
             Act::Typed(transcript) => self.follow(rt, transcript),
             Act::Unchanged(transcript) => self.follow_unchanged(rt, transcript),

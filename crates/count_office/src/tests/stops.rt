@@ -215,10 +215,23 @@ fn a_count_stops_whole_at_its_log(rt: HostRuntime) -> Result<(), Fail> {
 }
 
 #[test]
-fn stages_stop_whole(rt: HostRuntime) -> Result<(), Fail> {
-    let before = &SURPLUS_CUT_BY_FRACTIONS[..UP_TO_SEAL];
-    stop_orders(&rt, before, STAGES, File::Log)?;
-    stop_orders(&rt, before, STAGES, File::Database)
+fn stages_stop_whole_at_their_log(rt: HostRuntime) -> Result<(), Fail> {
+    stop_orders(
+        &rt,
+        &SURPLUS_CUT_BY_FRACTIONS[..UP_TO_SEAL],
+        STAGES,
+        File::Log,
+    )
+}
+
+#[test]
+fn stages_stop_whole_at_their_database(rt: HostRuntime) -> Result<(), Fail> {
+    stop_orders(
+        &rt,
+        &SURPLUS_CUT_BY_FRACTIONS[..UP_TO_SEAL],
+        STAGES,
+        File::Database,
+    )
 }
 
 #[test]
