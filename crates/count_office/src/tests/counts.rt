@@ -4,11 +4,9 @@
 use super::disks::{Act, play_acts, play_all};
 use std::test::Fail;
 
-/// A surplus whose values are cut to 0.33333, and an exclusion that fills the last vacancy. The first `UP_TO_SEAL` parts
-/// lead to its seal.
-pub const SURPLUS_CUT_BY_FRACTIONS: &[Act] = &[
-    Act::Typed(
-        "$ init
+/// Nominations in ward 7, and a batch of nine papers.
+const OPENED: Act = Act::Typed(
+    "$ init
 office ready
 $ ward 7 2 Harbour --id w1
 ward 7 added
@@ -25,9 +23,11 @@ ward 7 polled
 $ batch 12 7 9 4 9 --id b1
 batch 12 added
 ",
-    ),
-    Act::Keyed(
-        "paper,1,2,3
+);
+
+/// The papers.
+const PAPERS: Act = Act::Keyed(
+    "paper,1,2,3
 1,1,2,
 2,1,2,
 3,1,2,
@@ -38,12 +38,23 @@ batch 12 added
 8,,,1
 9,,,1
 ",
-    ),
-    Act::Typed(
-        "$ seal 7 --id s1
+);
+
+/// They are sealed.
+const SEAL: Act = Act::Typed(
+    "$ seal 7 --id s1
 ward 7 sealed: 9 valid, 0 rejected, quota 4.00000
 ",
-    ),
+);
+
+/// Ward 7 with nine papers, up to its seal.
+pub const SEALED: &[Act] = &[OPENED, PAPERS, SEAL];
+
+/// A surplus whose values are cut to 0.33333, and an exclusion that fills the last vacancy.
+pub const SURPLUS_CUT_BY_FRACTIONS: &[Act] = &[
+    OPENED,
+    PAPERS,
+    SEAL,
     Act::Typed(
         "$ sheet 7
 Ward 7 Harbour
@@ -116,10 +127,7 @@ Elected
     ),
 ];
 
-/// How many parts of it lead to the seal of its ward.
-pub const UP_TO_SEAL: usize = 3;
-
-/// Its first two stages.
+/// The first two stages of that ward.
 const TWO_STAGES: Act = Act::Typed(
     "$ advance 7 --id n1
 ward 7 stage 1 first preferences
@@ -300,7 +308,7 @@ fn elections_are_counted(rt: HostRuntime) -> Result<(), Fail> {
 
 #[test]
 fn rows_of_stages_are_those_of_the_count(rt: HostRuntime) -> Result<(), Fail> {
-    let sealed = play_acts(&rt, &SURPLUS_CUT_BY_FRACTIONS[..UP_TO_SEAL])?;
+    let sealed = play_acts(&rt, SEALED)?;
     sealed.act(&rt, &TWO_STAGES)?.act(&rt, &ROWS)?;
     Ok(())
 }

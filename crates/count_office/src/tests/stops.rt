@@ -3,7 +3,7 @@
 //! behind one who met the stop is told that the office is closed.
 
 use super::clients::Client;
-use super::counts::{SURPLUS_CUT_BY_FRACTIONS, UP_TO_SEAL};
+use super::counts::SEALED;
 use super::disks::{Act, Disks, File, play_acts};
 use super::http::{BEGUN, KEYED, KEYING};
 use super::keyings::NOMINATED;
@@ -138,10 +138,13 @@ $ declare 7 --id d1
 ward 7 declared: 3
 ";
 
-/// The first two stages of a ward with papers: all its bundles come into their table, and those of a surplus move.
-const STAGES: &str = "$ advance 7 --id n1
+/// The first stage of a ward with papers: all its bundles come into their table.
+const FIRST_STAGE: &str = "$ advance 7 --id n1
 ward 7 stage 1 first preferences
-$ advance 7 --id n2
+";
+
+/// The next one: those of a surplus move.
+const SECOND_STAGE: &str = "$ advance 7 --id n2
 ward 7 stage 2 surplus of 1
 ";
 
@@ -214,24 +217,39 @@ fn a_count_stops_whole_at_its_log(rt: HostRuntime) -> Result<(), Fail> {
     stop_orders(&rt, &[Act::Typed(POLLING)], TO_DECLARATION, File::Log)
 }
 
+/// Stops a stage, after others, at each call of one file.
+fn stop_stage(
+    rt: &(impl Abort + AllocGlobal),
+    before: &str,
+    stage: &str,
+    file: File,
+) -> Result<(), Fail> {
+    let disks = play_acts(rt, SEALED)?.follow(rt, before)?;
+    for order in &read(rt.alloc(), stage)? {
+        stop_each(
+            rt,
+            disks.copied(rt.alloc(), file, u64::MAX)?,
+            order.case(),
+            file,
+        )?;
+    }
+    Ok(())
+}
+
 #[test]
-fn stages_stop_whole_at_their_log(rt: HostRuntime) -> Result<(), Fail> {
-    stop_orders(
-        &rt,
-        &SURPLUS_CUT_BY_FRACTIONS[..UP_TO_SEAL],
-        STAGES,
-        File::Log,
-    )
+fn a_first_stage_stops_whole(rt: HostRuntime) -> Result<(), Fail> {
+    stop_stage(&rt, "", FIRST_STAGE, File::Log)
+}
+
+#[test]
+fn a_later_stage_stops_whole(rt: HostRuntime) -> Result<(), Fail> {
+    stop_stage(&rt, FIRST_STAGE, SECOND_STAGE, File::Log)
 }
 
 #[test]
 fn stages_stop_whole_at_their_database(rt: HostRuntime) -> Result<(), Fail> {
-    stop_orders(
-        &rt,
-        &SURPLUS_CUT_BY_FRACTIONS[..UP_TO_SEAL],
-        STAGES,
-        File::Database,
-    )
+    stop_stage(&rt, "", FIRST_STAGE, File::Database)?;
+    stop_stage(&rt, FIRST_STAGE, SECOND_STAGE, File::Database)
 }
 
 #[test]
