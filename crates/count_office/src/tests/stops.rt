@@ -99,9 +99,9 @@ $ ward 7 2 Harbour --id w1
 ward 7 added
 ";
 
-/// The orders of one request each from nominations to verdicts. (An import of candidates is a request a
-/// record, so a stop may leave some of them.)
-const TO_VERDICTS: &str = "$ withdraw 7 3 --id x1
+/// The orders of one request each from nominations to a batch. (An import of candidates is a request a record, so
+/// a stop may leave some of them.)
+const TO_BATCH: &str = "$ withdraw 7 3 --id x1
 candidate 3 of ward 7 withdrawn
 $ candidate 7 3 Cy --id c4
 candidate 3 of ward 7 added
@@ -109,7 +109,10 @@ $ close 7 --id n1
 ward 7 polled
 $ batch 12 7 1 4 9 --id b1
 batch 12 added
-$ import-keying 4 12 1 FILE --id k1
+";
+
+/// Those from a batch that is given out to its verdict.
+const TO_VERDICT: &str = "$ import-keying 4 12 1 FILE --id k1
 < paper,1,2,3
 < 1,D,,
 batch 12 round 1 keyed
@@ -121,8 +124,8 @@ $ judge 12 1 reject:3 --id j1
 batch 12 paper 1 rejected 3
 ";
 
-/// The orders of a ward without a batch, from its seal to its declaration.
-const TO_DECLARATION: &str = "$ seal 7 --id s1
+/// The orders of a ward without a batch, from its seal to its second stage.
+const TO_STAGE: &str = "$ seal 7 --id s1
 ward 7 sealed: 0 valid, 0 rejected, quota 1.00000
 $ advance 7 --id a1
 ward 7 stage 1 first preferences
@@ -130,7 +133,10 @@ $ lot 7 2 1 --id l1
 lot at ward 7 stage 2: candidate 1
 $ advance 7 --id a2
 ward 7 stage 2 exclusion of 1
-$ lot 7 3 2 --id l2
+";
+
+/// Those behind them, up to its declaration.
+const TO_DECLARATION: &str = "$ lot 7 3 2 --id l2
 lot at ward 7 stage 3: candidate 2
 $ advance 7 --id a3
 ward 7 stage 3 exclusion of 2, last vacancies
@@ -178,8 +184,7 @@ const CLIENT: &str = r#"> POST /clerks/4/batches/12/keying HTTP/1.1
 "#;
 
 /// What was done before, and the orders that are stopped then, one after the other, each at each call.
-const STOPS: [(&[Act], &str); 3] = [
-    (&[], FIRST),
+const STOPS: [(&[Act], &str); 2] = [
     (&[Act::Typed(NOMINATED), Act::Typed(DIFFERING)], NEW_ROUND),
     (BEGUN, CLIENT),
 ];
@@ -200,6 +205,11 @@ fn stop_orders(
 
 // Each test has a minute: the many calls of the log are parted.
 #[test]
+fn the_first_orders_stop_whole_at_their_log(rt: HostRuntime) -> Result<(), Fail> {
+    stop_orders(&rt, &[], FIRST, File::Log)
+}
+
+#[test]
 fn an_order_stops_whole_at_its_log(rt: HostRuntime) -> Result<(), Fail> {
     for (before, orders) in STOPS {
         stop_orders(&rt, before, orders, File::Log)?;
@@ -208,13 +218,25 @@ fn an_order_stops_whole_at_its_log(rt: HostRuntime) -> Result<(), Fail> {
 }
 
 #[test]
-fn orders_to_verdicts_stop_whole_at_their_log(rt: HostRuntime) -> Result<(), Fail> {
-    stop_orders(&rt, &[Act::Typed(NOMINATED)], TO_VERDICTS, File::Log)
+fn orders_to_a_batch_stop_whole_at_their_log(rt: HostRuntime) -> Result<(), Fail> {
+    stop_orders(&rt, &[Act::Typed(NOMINATED)], TO_BATCH, File::Log)
+}
+
+#[test]
+fn orders_to_a_verdict_stop_whole_at_their_log(rt: HostRuntime) -> Result<(), Fail> {
+    let before = [Act::Typed(NOMINATED), Act::Typed(TO_BATCH)];
+    stop_orders(&rt, &before, TO_VERDICT, File::Log)
 }
 
 #[test]
 fn a_count_stops_whole_at_its_log(rt: HostRuntime) -> Result<(), Fail> {
-    stop_orders(&rt, &[Act::Typed(POLLING)], TO_DECLARATION, File::Log)
+    stop_orders(&rt, &[Act::Typed(POLLING)], TO_STAGE, File::Log)
+}
+
+#[test]
+fn the_end_of_a_count_stops_whole_at_its_log(rt: HostRuntime) -> Result<(), Fail> {
+    let before = [Act::Typed(POLLING), Act::Typed(TO_STAGE)];
+    stop_orders(&rt, &before, TO_DECLARATION, File::Log)
 }
 
 /// Stops a stage, after others, at each call of one file.
@@ -254,11 +276,21 @@ fn stages_stop_whole_at_their_database(rt: HostRuntime) -> Result<(), Fail> {
 
 #[test]
 fn an_order_stops_whole_at_its_database(rt: HostRuntime) -> Result<(), Fail> {
+    stop_orders(&rt, &[], FIRST, File::Database)?;
     for (before, orders) in STOPS {
         stop_orders(&rt, before, orders, File::Database)?;
     }
-    stop_orders(&rt, &[Act::Typed(NOMINATED)], TO_VERDICTS, File::Database)?;
-    stop_orders(&rt, &[Act::Typed(POLLING)], TO_DECLARATION, File::Database)
+    Ok(())
+}
+
+#[test]
+fn orders_stop_whole_at_their_database(rt: HostRuntime) -> Result<(), Fail> {
+    stop_orders(&rt, &[Act::Typed(NOMINATED)], TO_BATCH, File::Database)?;
+    let batch = [Act::Typed(NOMINATED), Act::Typed(TO_BATCH)];
+    stop_orders(&rt, &batch, TO_VERDICT, File::Database)?;
+    stop_orders(&rt, &[Act::Typed(POLLING)], TO_STAGE, File::Database)?;
+    let stage = [Act::Typed(POLLING), Act::Typed(TO_STAGE)];
+    stop_orders(&rt, &stage, TO_DECLARATION, File::Database)
 }
 
 /// A batch of as many papers as one may have.
