@@ -1,14 +1,14 @@
 -- Elections and their counts: what keeps what is done of a count right.
-use Rattle.std.proofs.Common.{◌≡◌, ℕ, suc, Bool, true, false, cond, not, ◌&&◌, ◌||◌, ◌==◌, List, [], ◌∷◌, length, map, None, is_some, refl, ap, ◌∙◌, arith}
+use Rattle.std.proofs.Common.{◌≡◌, ℕ, suc, Bool, true, false, Some, cond, not, ◌&&◌, ◌||◌, ◌==◌, List, [], ◌∷◌, length, map, None, is_some, refl, ap, ◌∙◌, arith}
 use Rattle.std.specs.List.{list_all}
 use Rattle.std.proofs.lemmas.Bool.{and_parts, and_from, eqb-true}
 use Rattle.count.specs.Law.Count.{stages_to}
-use Rattle.register.specs.Offices.{WardEntry, CandidateEntry, LotEntry, OfficeState, ward_at, lots_of}
+use Rattle.register.specs.Offices.{WardEntry, CandidateEntry, LotEntry, OfficeState, ward_compared, ward_at, lots_of}
 use Rattle.register.specs.Marks.{columns_of}
 use Rattle.register.specs.Polls.{Pile, ballots_in}
 use Rattle.register.specs.Elections.{ElectionEntry, lot_pair, election_of, has_count, stages_of, is_counted, is_drawn_for, is_declared, is_right_so_far, is_in_count, is_uncounted, is_agreed, is_counted_right}
 use Rattle.register.specs.Items.{item6, item7, IsState}
-use Rattle.register.proofs.MapLemmas.{list_all_weaker, list_all_both, filter_none}
+use Rattle.register.proofs.MapLemmas.{list_all_weaker, list_all_both, filter_none, found_passes}
 
 -- ---- the sixth and the seventh condition, for a ward
 
@@ -49,6 +49,15 @@ no_lots_of s n placed none = filter_none (λ (l : LotEntry). l.ward == n) s.lots
     go l true same there =
         let lost : ward_at s l.ward ≡ None = ap (ward_at s) (eqb-true l.ward n same) ∙ none in
         absurd (let nowhere = rw lost at there in cc)
+
+-- at a state each batch of a ward in count is settled
+pub settled_in_count : (s : OfficeState) (w : WardEntry) → IsState s → ward_at s w.number ≡ Some w → is_in_count (election_of s w) ≡ true → (election_of s w).ballots.settled ≡ true
+unfolding item6
+settled_in_count s w is there counted = go (is_in_count (election_of s w)) counted (found_passes (ward_compared w.number) (λ x. is_agreed (election_of s x)) w s.wards is.agreed there)
+  where
+    go : (b : Bool) → b ≡ true → (not b || (election_of s w).ballots.settled) ≡ true → (election_of s w).ballots.settled ≡ true
+    go true in_count settled = settled
+    go false in_count settled = absurd (cc)
 
 -- ---- an election by its parts
 

@@ -1,11 +1,13 @@
 -- The papers of a ward with a batch more.
-use Rattle.std.proofs.Common.{◌≡◌, ℕ, ◌+◌, ◌==◌, ◌&&◌, Bool, true, false, cond, List, [], ◌∷◌, ◌++◌, length, map, filter, fold, refl, sym, ap, ◌∙◌, arith, append-nil, append_assoc}
+use Rattle.std.proofs.Common.{◌≡◌, ℕ, ◌+◌, ◌==◌, ◌&&◌, Bool, true, false, cond, List, [], ◌∷◌, ◌++◌, length, map, filter, fold, refl, sym, ap, subst, ◌∙◌, arith, append-nil, append_assoc}
 use Rattle.std.specs.List.{flat_map, list_all}
+use Rattle.std.proofs.lemmas.Bool.{and_parts}
 use Rattle.std.proofs.lemmas.List.Concat.{flat_map-append}
 use Rattle.std.proofs.lemmas.List.Folds.{list_all-append}
 use Rattle.register.specs.declared.polls.Judgement.{Judgement}
+use Rattle.register.specs.declared.polls.Ballots.{Ballots}
 use Rattle.register.specs.Papers.{is_open}
-use Rattle.register.specs.Polls.{Pile, BallotsEntry, is_taken, is_settled, judgements_on, judgements_in, judgements, preferences_by, is_rejected, rejected_with, ballots_in}
+use Rattle.register.specs.Polls.{Pile, BallotsEntry, is_taken, is_settled, judgements_on, judgements_in, judgements, first_judgements, preferences_by, is_rejected, rejected_with, ballots_in, ballots_by, StandFor}
 use Rattle.register.specs.Walks.{and_rejected}
 
 -- the codes of rejection
@@ -64,3 +66,33 @@ added columns piles pile old new was taken papers rejected settled =
 
     last : (list_all is_settled piles && (length (filter (is_open pile.verdicts) pile.first) == 0)) ≡ (list_all is_settled piles && list_all is_settled (pile ∷ []))
     last = rw taken (ap (λ b. list_all is_settled piles && b) (end (length (filter (is_open pile.verdicts) pile.first) == 0)))
+
+-- ---- batches that are settled
+
+-- a paper that is counted adds its judgement
+pub judged_more : {P : Type 0} (holds : P → List (List ℕ) → Type 0) (old new : Ballots P) (js : List Judgement) (j : Judgement)
+    → ((papers : List (List ℕ)) → holds old.papers papers → holds new.papers (papers ++ preferences_by j)) → new.rejected ≡ and_rejected old.rejected j → new.settled ≡ old.settled
+    → StandFor holds old (ballots_by js) → StandFor holds new (ballots_by (js ++ j ∷ []))
+judged_more holds old new js j papers rejected settled was = record {
+  papers_held = subst (holds new.papers) (sym (flat_map-append preferences_by js (j ∷ []) ∙ ap (λ ps. flat_map preferences_by js ++ ps) (append-nil (preferences_by j)))) (papers (flat_map preferences_by js) was.papers_held);
+  rejected_are = rejected ∙ (ap (λ (r : List ℕ). and_rejected r j) was.rejected_are ∙ rejected_one js j);
+  settled_is = settled ∙ was.settled_is;
+}
+
+-- of settled batches each paper of the first keyings has its judgement
+judged_alone : (columns : List ℕ) (piles : List Pile) → list_all is_settled piles ≡ true → judgements columns piles ≡ first_judgements columns piles
+judged_alone columns [] settled = refl
+judged_alone columns (pile ∷ piles) settled =
+    let parts = and_parts (is_settled pile) (list_all is_settled piles) settled in
+    let own : judgements_in columns pile ≡ judgements_on columns pile.verdicts pile.first = rw (and_parts (is_taken pile) _ parts.0).0 refl in
+    ap (λ (js : List Judgement). js ++ judgements columns piles) own ∙ ap (λ (js : List Judgement). judgements_on columns pile.verdicts pile.first ++ js) (judged_alone columns piles parts.1)
+
+-- so these are all that the papers come to
+pub settled_alone : (columns : List ℕ) (piles : List Pile) → list_all is_settled piles ≡ true → ballots_in columns piles ≡ ballots_by (first_judgements columns piles)
+settled_alone columns piles settled = go (judgements columns piles) (list_all is_settled piles) (judged_alone columns piles settled) settled
+  where
+    entry : List Judgement → Bool → BallotsEntry
+    entry js b = record { papers = flat_map preferences_by js; rejected = map (rejected_with js) five; settled = b }
+
+    go : (js : List Judgement) (b : Bool) → js ≡ first_judgements columns piles → b ≡ true → entry js b ≡ ballots_by (first_judgements columns piles)
+    go js b alone is = rw (alone, is) refl

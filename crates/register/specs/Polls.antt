@@ -1,5 +1,5 @@
 -- The ballot papers of a ward: which are valid, and why the others are rejected.
-use Rattle.std.specs.Prelude.{◌≡◌, ℕ, ◌+◌, Bool, false, ◌&&◌, ◌==◌, if◌then◌else◌, List, [], ◌∷◌, map, length, slice_index, find, Option, Some, None, Result, Ok, Err}
+use Rattle.std.specs.Prelude.{◌≡◌, ℕ, ◌+◌, Bool, true, false, ◌&&◌, ◌==◌, if◌then◌else◌, List, [], ◌∷◌, map, length, slice_index, find, Option, Some, None, Result, Ok, Err}
 use Rattle.std.specs.List.{filter, flat_map, list_all}
 use Rattle.votes.specs.Units.{quota_of}
 use Rattle.std.specs.Global.{Vec}
@@ -76,6 +76,10 @@ judgements_in columns pile = (if is_taken pile then judgements_on columns pile.v
 abbrev pub judgements : List ℕ → List Pile → List Judgement
 judgements columns piles = flat_map (judgements_in columns) piles
 
+-- and of all batches' first keyings, taken or not
+abbrev pub first_judgements : List ℕ → List Pile → List Judgement
+first_judgements columns piles = flat_map (λ (pile : Pile). judgements_on columns pile.verdicts pile.first) piles
+
 -- ---- what they come to
 
 -- the preferences of a paper that is valid
@@ -109,6 +113,15 @@ ballots_in columns piles =
       papers = flat_map preferences_by js;
       rejected = map (rejected_with js) (1 ∷ 2 ∷ 3 ∷ 4 ∷ 5 ∷ []);
       settled = list_all is_settled piles;
+    }
+
+-- what some judgements come to, where each batch is settled
+abbrev pub ballots_by : List Judgement → BallotsEntry
+ballots_by js =
+    record {
+      papers = flat_map preferences_by js;
+      rejected = map (rejected_with js) (1 ∷ 2 ∷ 3 ∷ 4 ∷ 5 ∷ []);
+      settled = true;
     }
 
 -- what is told of a ward's papers: how many are valid, how many rejected by each code, the quota, and whether each batch is settled

@@ -1,21 +1,22 @@
 //! What the count of a ward rests on: the ward, its candidates, its ballot papers, and the lots drawn.
 
-ghost use Rattle.std.specs.Prelude.{◌≡◌, ◌+◌, ◌≤◌, true, length, map, sum_by, [], Some, IfOk, IfSome, IsSome};
+ghost use Rattle.std.specs.Prelude.{◌≡◌, ℕ, List, ◌&&◌, ◌+◌, ◌≤◌, true, length, map, sum_by, [], Some, IfOk, IfSome, IsSome};
 ghost use Rattle.std.specs.List.{list_all};
 ghost use Rattle.votes.specs.Units.{max_seats, max_papers};
 ghost use Rattle.count.specs.Bundles.{papers_of};
 ghost use Rattle.count.specs.Law.Contest.{contest_for, IsContest};
 ghost use Rattle.register.specs.Papers.{batches_of};
-ghost use Rattle.register.specs.Polls.{all_rejected, poll_of, poll_entry};
-ghost use Rattle.register.specs.Offices.{WardEntry, OfficeState, MapsRise, lot_entry, ward_at, candidates_of};
+ghost use Rattle.register.specs.Polls.{all_rejected, poll_of, poll_entry, piles_of, ballots_in, ballots_by, first_judgements};
+ghost use Rattle.register.specs.Offices.{WardEntry, OfficeState, MapsRise, ward_entry, candidate_entry, lot_entry, ward_at, candidates_of};
 ghost use Rattle.register.specs.Nominations.{is_contested};
-ghost use Rattle.register.specs.Elections.{ElectionEntry, IsElection, IsCounted, lot_pair, election_of, has_count, contest_of, due_of, elected_of};
+ghost use Rattle.register.specs.Elections.{ElectionEntry, IsElection, IsCounted, lot_pair, election_of, has_count, is_counted, is_in_count, contest_of, due_of, elected_of};
 ghost use Rattle.register.specs.Items.{item1, item4, is_lot, IsState};
 ghost use Rattle.register.specs.Tabulated.{IsCountOf};
 
 use crate::candidates::Candidate;
 use crate::counts::DrawnLot;
 use crate::marks::columns_of;
+use crate::phase::Phase;
 use crate::polls::{Ballots, Poll};
 use crate::ranges::{is_candidate_number, is_lot_stage};
 use crate::wards::{Ward, is_contested};
@@ -65,6 +66,23 @@ pub fn elections_are_fair()
     ensures adds_up { (s : OfficeState) (w : WardEntry) → IsState s → (election_of s w).ballots.settled ≡ true
         → length (election_of s w).ballots.papers + all_rejected (election_of s w).ballots.rejected ≡ sum_by (λ b. b.size) (batches_of s w.number) }
 {}
+
+/// The law of the papers of a ward that is in count: at a state each of its batches is settled, so that
+/// its papers come to what those that the first clerks keyed come to alone.
+pub fn first_keyings_suffice()
+    ensures { (s : OfficeState) (w : WardEntry) (columns : List ℕ) → IsState s → ward_at s w.number ≡ Some w → is_in_count (election_of s w) ≡ true
+        → ballots_in columns (piles_of s w.number) ≡ ballots_by (first_judgements columns (piles_of s w.number)) }
+{}
+
+/// Whether a ward with these candidates is in count: it has been sealed, and its election is contested.
+pub fn is_in_count(ward: &Ward, candidates: &[Candidate]) -> bool
+    ensures { result ≡ (is_counted ward.now.phase && is_contested (ward_entry ward.now) (map candidate_entry candidates.now)) }
+{
+    match ward.phase {
+        Phase::Nominations | Phase::Keying => false,
+        Phase::Sealed | Phase::Declared => is_contested(ward, candidates),
+    }
+}
 
 #[tactic(auto, unfolding(crate::specs::Items::is_lot))]
 /// A lot as the count takes it: its stage, counted from 1, and its candidate. None where a number is out of

@@ -6,7 +6,7 @@ ghost use Rattle.paper.specs.MarksText.{reading};
 ghost use Rattle.paper.specs.Preferences.{rejection_of};
 ghost use Rattle.register.specs.Offices.{keyed_entry, judged_entry};
 ghost use Rattle.register.specs.Walks.{and_rejected};
-ghost use Rattle.register.specs.Polls.{Pile, StandFor, are_listed, are_bundled, by_rejection, by_reading, by_verdict, judgement_on, judgements_on, preferences_by, ballots_in};
+ghost use Rattle.register.specs.Polls.{Pile, StandFor, are_listed, are_bundled, by_rejection, by_reading, by_verdict, judgement_on, judgements_on, preferences_by, ballots_in, ballots_by};
 
 use crate::keyings::KeyedPaper;
 use crate::papers::{are_taken, count_open};
@@ -194,6 +194,19 @@ impl<P: KeepsPapers> Ballots<P> {
         }
         self.settled &= count_open(first, verdicts) == 0;
         self.count_each(columns, verdicts, first)
+    }
+
+    /// Adds a paper more, of a batch that is settled, as it is keyed, with the verdicts on the batch's papers.
+    /// An error is want of memory, and the papers before are spoilt then.
+    pub fn add_settled(
+        &mut self,
+        columns: Columns,
+        verdicts: &[JudgedPaper],
+        keyed: &KeyedPaper,
+    ) -> Result<(), AllocError>
+        ensures { IfOk result (λ _. (js : _) → StandFor P.holds self.old (ballots_by js) → StandFor P.holds self.new (ballots_by (js ++ judgement_on columns (map judged_entry verdicts.now) (keyed_entry keyed.now) ∷ []))) }
+    {
+        self.count(judgement_on(columns, verdicts, keyed))
     }
 
     /// Counts each paper of a keying by the judgement on it.

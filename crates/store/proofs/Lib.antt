@@ -15,3 +15,4 @@ pub mod WorkLemmas
 pub mod PartLemmas
 pub mod ElectionLemmas
 pub mod ReadsLemmas
+pub mod SettledLemmas

@@ -1,5 +1,5 @@
 -- Reads, one after the other.
-use Rattle.std.proofs.Common.{◌≡◌, inl, ℕ, ◌+◌, ◌<◌, ◌≤◌, Bool, true, false, List, [], ◌∷◌, ◌++◌, map, filter, length, take, get_or, Option, option_map, IfSome, Result, Ok, Err, IfOk, IfErr, OnOk, IsTrue, sym, ap, subst, ◌∙◌, arith}
+use Rattle.std.proofs.Common.{◌≡◌, ◌⊎◌, inl, inr, ℕ, ◌+◌, ◌<◌, ◌≤◌, Bool, true, false, List, [], ◌∷◌, ◌++◌, map, filter, length, take, get_or, Option, option_map, IfSome, Result, Ok, Err, IfOk, IfErr, OnOk, IsTrue, sym, ap, subst, ◌∙◌, arith}
 use Rattle.std.proofs.lemmas.List.{take_more, take_all}
 use Rattle.std.specs.Option.{option_to_list}
 use Rattle.std.specs.List.{AllByRecursion}
@@ -14,6 +14,7 @@ use Rattle.tables.specs.declared.fault.Fault.TheVariants.{Memory}
 use Rattle.tables.specs.declared.table.Table.{Table}
 use Rattle.tables.specs.Contents.{Contents, RestsIfOpen}
 use Rattle.tables.specs.Reading.{OnlyReads, FailsBy, Finds}
+use Rattle.tables.specs.Walking.{TakesFound}
 use Rattle.tables.proofs.ListLemmas.{get_mapped, mapped_length}
 use Rattle.tables.proofs.ReadLemmas.{only_reads_then, only_reads_itself}
 use Rattle.tables.proofs.CauseLemmas.{fails_later}
@@ -133,3 +134,38 @@ entries_more {B = B} entry xs k none within =
 -- the entries of all items
 pub entries_all : {A B : Type 0} (entry : A → B) (xs : List A) (k : ℕ) → length xs ≤ k → take k (map entry xs) ≡ map entry xs
 entries_all entry xs k past = take_all k (map entry xs) (omega (arith, mapped_length entry xs, past))
+
+-- ---- rows taken in one after the other
+
+-- a walk over the entries that pass a test, which are those of a state: they are taken in, in their order
+pub reads_walked : {V E X : Type 0} {old new : State} {v visitor : V} {t : Table} {test : Row → Bool} (HasTaken : V → List E → Type 0) (entry : E → X) (row : X → Row) (back : Row → X) → ((x : X) → back (row x) ≡ x) → (there : OfficeState → List X)
+    → ((s : OfficeState) → IsState s → (rows : List Row) → Finds t test (tables_of s) rows → rows ≡ map row (there s))
+    → (HasCleanDisk new → (c : Contents) → RestsIfOpen c old → TakesFound HasTaken (λ e. row (entry e)) t test c visitor v)
+    → (HasCleanDisk new → IsTrue new.is_open) → OnlyReads old new → new.in_transaction ≡ false
+    → HasTaken visitor [] → Reads old new (Ok v) (λ s u. (found : List E) × (map entry found ≡ there s) × HasTaken u found)
+reads_walked {V} {E} {X} {old} {new} {v} {visitor} {t} {test} HasTaken entry row back returns there is told opens reads outside none = record {
+  found = λ clean s at. taken s at.is (told clean (tables_of s) at.rests);
+  cause = λ clean s at. tt;
+  opens = opens;
+  reads = reads;
+  outside = outside;
+}
+  where
+    taken : (s : OfficeState) → IsState s → TakesFound HasTaken (λ e. row (entry e)) t test (tables_of s) visitor v → (found : List E) × (map entry found ≡ there s) × HasTaken v found
+    taken s state (found, finds, takes) = (found, if_entries_told {W = List E} {F = Fault} (λ es. es) entry row back returns (Ok found) (there s) (Finds t test (tables_of s)) (is s state) finds, takes [] none)
+
+-- a walk that stops for want of memory, or fails
+pub reads_unwalked : {X : Type 0} {P : OfficeState → X → Type 0} {old new : State} {f : Fault} {t : Table} {IsRow : Row → Type 0} {kinds : Bool} → ((s : OfficeState) → IsState s → AllByRecursion IsRow (tables_of s t))
+    → (HasCleanDisk new → (c : Contents) → RestsIfOpen c old → kinds ≡ true → AllByRecursion IsRow (c t) → FailsBy old new f ⊎ (f ≡ Memory))
+    → kinds ≡ true → OnlyReads old new → new.in_transaction ≡ false → Reads old new (Err f) P
+reads_unwalked {old = old} {new = new} {f = f} fits fails kinds reads outside = record {
+  found = λ clean s at. tt;
+  cause = λ clean s at. caused (fails clean (tables_of s) at.rests kinds (fits s at.is));
+  opens = λ clean. tt;
+  reads = reads;
+  outside = outside;
+}
+  where
+    caused : FailsBy old new f ⊎ (f ≡ Memory) → FailsBy old new f
+    caused (inl failed) = failed
+    caused (inr memory) = inl memory

@@ -1,12 +1,13 @@
 -- What is read for the count of a ward.
-use Rattle.std.specs.Prelude.{◌≡◌, ◌==◌, map, ℕ, true, false, List, Option, Some, None, ⊤}
+use Rattle.std.specs.Prelude.{◌≡◌, ◌==◌, map, ℕ, true, false, List, Option, Some, None, ⊤, Bool, ◌&&◌}
 use Rattle.std.specs.List.{filter}
 use Rattle.count.specs.Kept.{CountKept, IsKeptOf}
 use Rattle.register.specs.Offices.{WardEntry, CandidateEntry, OfficeState, ward_at, candidates_of, ward_entry, candidate_entry, keyed_entry, judged_entry}
 use Rattle.register.specs.Polls.{Pile, poll_of}
 use Rattle.register.specs.declared.elections.Count.{Count}
 use Rattle.register.specs.declared.elections.Election.{Election}
-use Rattle.register.specs.Elections.{ElectionEntry, IsElection, has_count, contest_of, stages_of, due_of, elected_of}
+use Rattle.register.specs.Elections.{ElectionEntry, IsElection, has_count, contest_of, stages_of, due_of, elected_of, election_of, is_counted, is_in_count}
+use Rattle.register.specs.Nominations.{is_contested}
 use Rattle.register.specs.Parts.{PartEntries, empty_part}
 use Rattle.register.specs.Tabulated.{PlacedEntry, FigureEntry, tabulation_of, has_stages, IsCountOf}
 use Rattle.store.specs.declared.views.elections.BatchPapers.{BatchPapers}
@@ -15,6 +16,15 @@ use Rattle.store.specs.declared.views.counts.WardCount.{WardCount}
 -- what the papers of a batch stand for
 abbrev pub pile_by : BatchPapers → Pile
 pile_by papers = record { first = map keyed_entry papers.keyings.first.items; second = map keyed_entry papers.keyings.second.items; verdicts = map judged_entry papers.verdicts.items }
+
+-- a ward that was found has been sealed, and its election is contested with these candidates
+abbrev pub is_counted_with : Option WardEntry → List CandidateEntry → Bool
+is_counted_with None candidates = false
+is_counted_with (Some w) candidates = is_counted w.phase && is_contested w candidates
+
+-- the ward of this number is there, and in count
+abbrev pub IsInCount : OfficeState → ℕ → Type 0
+IsInCount s ward = (w : WardEntry) × (ward_at s ward ≡ Some w) × (is_in_count (election_of s w) ≡ true)
 
 -- an election that was found stands for this one, where there is one
 abbrev pub IsFoundFor : Option Election → Option ElectionEntry → Type 0

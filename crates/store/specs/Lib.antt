@@ -5,3 +5,4 @@ pub mod Listings
 pub mod Tallies
 pub mod Elections
 pub mod Reads
+pub mod Settled

@@ -19,6 +19,7 @@ mod counts;
 pub(crate) mod elections;
 pub(crate) mod papers;
 mod receipts;
+pub(crate) mod settled;
 pub(crate) mod wards;
 
 use crate::storage::Store;

@@ -1,23 +1,24 @@
 //! What the count of a ward rests on, read from the tables.
 
-ghost use Rattle.std.specs.Prelude.{◌≡◌, ◌++◌, ◌∷◌, [], false, map, option_map, IfOk, IfErr, IsTrue};
+ghost use Rattle.std.specs.Prelude.{◌≡◌, ◌++◌, ◌∷◌, [], true, false, map, Some, option_map, IfOk, IfErr, IsTrue};
 ghost use Rattle.sqlite.specs.State.{HasCleanDisk};
 ghost use Rattle.sqlite.specs.Held.{state};
 ghost use Rattle.register.specs.Offices.{ward_entry, candidate_entry, batch_entry, lot_entry, ward_at, candidates_of, lots_of};
 ghost use Rattle.register.specs.Marks.{columns_of};
 ghost use Rattle.register.specs.Polls.{pile_of, piles_of, ballots_in, StandFor};
 ghost use Rattle.register.specs.Elections.{IsElection, lot_pair, election_of};
-ghost use Rattle.store.specs.Elections.{pile_by, IsFoundFor};
+ghost use Rattle.store.specs.Elections.{pile_by, is_counted_with, IsInCount, IsFoundFor};
 ghost use Rattle.store.specs.Reads.{Reads};
 
 use crate::entries::lots::Lots;
 use crate::views::batches::list_batches;
 use crate::views::candidates::list_candidates;
 use crate::views::papers::{Keyings, keyings_of, list_verdicts};
+use crate::views::settled::settled_ballots;
 use crate::views::wards::find_ward;
 use count::Bundles;
 use paper::Columns;
-use register::elections::lot_pairs;
+use register::elections::{first_keyings_suffice, is_in_count, lot_pairs};
 use register::marks::columns_of;
 use register::{Ballots, Batch, Candidate, DrawnLot, Election, JudgedPaper, KeepsPapers, Ward};
 use sqlite::{Alter, Connection};
@@ -113,21 +114,38 @@ fn ballots_of<S: Alter, P: KeepsPapers + Drop>(
     Ok(ballots)
 }
 
-/// What the papers of a ward come to, whose columns these are.
+/// What the papers of a ward come to, whose columns these are. Where it is in count they are taken in row by
+/// row, as the first clerks keyed them; else the keyings of both clerks are read, one batch after the other.
 fn ward_ballots<S: Alter, P: KeepsPapers + Drop>(
     alloc: Global,
     conn: &mut Connection<S>,
     kept: P,
     ward: u32,
     columns: Columns,
+    in_count: bool,
 ) -> Result<Ballots<P>, Fault>
     requires none { P.holds kept [] }
     requires outside { conn.old.in_transaction ≡ false }
-    ensures { Reads (state S.Store conn.old) (state S.Store conn.new) result (λ s ballots. StandFor P.holds ballots (ballots_in columns (piles_of s ward))) }
+    ensures { Reads (state S.Store conn.old) (state S.Store conn.new) result (λ s ballots. (in_count ≡ true → IsInCount s ward) → StandFor P.holds ballots (ballots_in columns (piles_of s ward))) }
 {
+    first_keyings_suffice();
     let batches = list_batches(alloc, conn, ward)?;
+    if in_count {
+        let settled = settled_ballots(alloc, conn, kept, columns, &batches)?;
+        return Ok(settled);
+    }
     let ballots = ballots_of(alloc, conn, kept, columns, &batches)?;
     Ok(ballots)
+}
+
+/// Whether a ward was found that is in count with these candidates.
+fn is_found_in_count(found: &Option<Ward>, candidates: &[Candidate]) -> bool
+    ensures { result ≡ is_counted_with (option_map ward_entry found.now) (map candidate_entry candidates.now) }
+{
+    match found {
+        Some(ward) => is_in_count(ward, candidates),
+        None => false,
+    }
 }
 
 /// What the papers of the ward of this number come to, by the columns of its candidates, kept in what holds
@@ -142,12 +160,15 @@ pub(crate) fn find_ballots<S: Alter, P: KeepsPapers + Drop>(
     requires outside { conn.old.in_transaction ≡ false }
     ensures { Reads (state S.Store conn.old) (state S.Store conn.new) result (λ s ballots. StandFor P.holds ballots (ballots_in (columns_of (candidates_of s ward)) (piles_of s ward))) }
 {
+    let found = find_ward(conn, ward)?;
     let candidates = list_candidates(alloc, conn, ward)?;
-    let ballots = ward_ballots(alloc, conn, kept, ward, columns_of(&candidates))?;
+    let in_count = is_found_in_count(&found, &candidates);
+    let columns = columns_of(&candidates);
+    let ballots = ward_ballots(alloc, conn, kept, ward, columns, in_count)?;
     Ok(ballots)
 }
 
-/// The election in a ward, whose candidates these are.
+/// The election in a ward as it was found, whose candidates these are.
 pub(crate) fn ward_election<S: Alter>(
     alloc: Global,
     conn: &mut Connection<S>,
@@ -156,10 +177,12 @@ pub(crate) fn ward_election<S: Alter>(
 ) -> Result<Election, Fault>
     requires { conn.old.in_transaction ≡ false }
     ensures { Reads (state S.Store conn.old) (state S.Store conn.new) result
-        (λ s found. map candidate_entry candidates.items ≡ candidates_of s ward.number → IsElection found (election_of s (ward_entry ward))) }
+        (λ s found. ward_at s ward.number ≡ Some (ward_entry ward) → map candidate_entry candidates.items ≡ candidates_of s ward.number → IsElection found (election_of s (ward_entry ward))) }
 {
+    let in_count = is_in_count(&ward, &candidates);
+    let columns = columns_of(&candidates);
     let none = Bundles::new(alloc);
-    let ballots = ward_ballots(alloc, conn, none, ward.number, columns_of(&candidates))?;
+    let ballots = ward_ballots(alloc, conn, none, ward.number, columns, in_count)?;
     let lots = recorded_lots(alloc, conn, ward.number)?;
     Ok(Election {
         ward,

@@ -11,7 +11,7 @@ returns-in-Ok-Some g c =
     (λ s is told there contested fresh.
     let w = ward_entry c.args.ward in
     let e = election_of s w in
-    let of = told there.1 in
+    let of = told there.0 there.1 in
     let same = rw c.in-Ok-Some.field-0-is at c.in-Ok-Some.ensures.same in
     let fair = c.elections_are_fair.ensures.fair s w is.in_range is.keyed is.rise there.0 contested in (
       _,
@@ -29,5 +29,5 @@ returns-in-Ok-None g c =
     (λ s is told there contested fresh.
     let w = ward_entry c.args.ward in
     let few = (c.elections_are_fair.ensures.few s w is.in_range is.keyed is.rise there.0).1 in
-    let seats : c.in_ok-election.election.ward.seats ≡ w.seats = ap (λ (x : WardEntry). x.seats) (told there.1).ward_is in
+    let seats : c.in_ok-election.election.ward.seats ≡ w.seats = ap (λ (x : WardEntry). x.seats) (told there.0 there.1).ward_is in
     absurd (true≢false (sym ((rw c.in-Ok-None.field-0-is at c.in-Ok-None.ensures.some) (omega (arith, seats, few))))))
