@@ -16,7 +16,8 @@ use Rattle.count.specs.Law.Laws.{IsConserved, IsShort, FillsSeats, OnlyCandidate
 use Rattle.count.specs.Law.Right.{IsRightBy, IsRightByItself, IsRightForSome, candidate_of}
 use Rattle.count.specs.Inside.Keeping.{with_newly, IsAdded}
 use Rattle.count.specs.Inside.Holdings.{newest_lost}
-use Rattle.count.specs.Inside.Placing.{contest_on, places_of, IsBundled, IsFigured, IsSound}
+use Rattle.count.specs.Kept.{places_after}
+use Rattle.count.specs.Inside.Placing.{contest_on, IsBundled, IsFigured, IsSound}
 use Rattle.votes.specs.Units.{max_units}
 use Rattle.count.specs.declared.placed.Placed.{Placed}
 use Rattle.count.specs.declared.stages.Action.{Action}
@@ -94,14 +95,14 @@ figured-adds terms bundles old new action bare figured is_added =
     }
 
 -- the places that the action gives are those after its stage
-pub places-adds : (contest : Contest) (old new : History) (action : Action) (bundles : List Bundle) → Adds contest old action new → places_of contest (begun action [] ∷ old) bundles ≡ places_of contest new bundles
+pub places-adds : (contest : Contest) (old new : History) (action : Action) (bundles : List Bundle) → Adds contest old action new → places_after contest (begun action [] ∷ old) bundles ≡ places_after contest new bundles
 places-adds contest old new action bundles adds =
-    ap (λ (a : Action). places_of contest (begun a [] ∷ old) bundles) (sym adds.of_action)
-    ∙ ap (λ (h : History). places_of contest h bundles) (sym adds.one_more)
+    ap (λ (a : Action). places_after contest (begun a [] ∷ old) bundles) (sym adds.of_action)
+    ∙ ap (λ (h : History). places_after contest h bundles) (sym adds.one_more)
 
 -- a book that advances stays one
 pub adds-bundled : (contest : Contest) (before : History) (lot : Option ℕ) (action : Action) (after : History) (bundles : List Bundle) (old new : List Placed) → IsBundled contest before bundles old → drawn contest before lot (due_after contest before) ≡ Some action →
-    Adds contest before action after → new ≡ places_of contest after bundles → IsBundled contest after bundles new
+    Adds contest before action after → new ≡ places_after contest after bundles → IsBundled contest after bundles new
 adds-bundled contest before lot action after bundles old new book was adds are =
     record { fair = book.fair; right = adds-right contest before lot action after book.right was adds; bundles_are = book.bundles_are; papers_are = book.papers_are; places_are = are }
 

@@ -16,7 +16,7 @@ use Rattle.count.specs.Law.Laws.{IsConserved}
 use Rattle.count.specs.Law.Places.{place}
 use Rattle.count.specs.Law.Right.{IsRightForSome, reordered}
 use Rattle.count.specs.Inside.Holdings.{newest_lost}
-use Rattle.count.specs.Inside.Placing.{contest_on, places_of, IsBundled, IsDueInBook, IsSound, nowhere}
+use Rattle.count.specs.Inside.Placing.{contest_on, IsBundled, IsDueInBook, IsSound, nowhere}
 use Rattle.count.specs.Inside.Resuming.{IsInRange}
 use Rattle.count.specs.declared.placed.Placed.{Placed}
 use Rattle.count.specs.declared.stages.Action.{Action}
@@ -76,10 +76,10 @@ kept-tells tell x terms bundles places stages lent seen contest history view sam
     ∙ ap (λ (k : Contest). tell (reordered k contest.papers) (reverse lent)) (kept-terms contest history terms bundles places stages range own)
     ∙ ap (tell contest) stages_are
 
-places-same : (contest : Contest) (papers : List (List ℕ)) (history : History) (bundles : List Bundle) → places_of (reordered contest papers) history bundles ≡ places_of contest history bundles
+places-same : (contest : Contest) (papers : List (List ℕ)) (history : History) (bundles : List Bundle) → places_after (reordered contest papers) history bundles ≡ places_after contest history bundles
 places-same contest papers history [] = refl
 places-same contest papers history (b ∷ bs) =
-    ap (λ at. placed at ∷ places_of (reordered contest papers) history bs) (same_place contest papers history b.0)
+    ap (λ at. placed at ∷ places_after (reordered contest papers) history bs) (same_place contest papers history b.0)
     ∙ ap (λ l. placed (place contest history b.0) ∷ l) (places-same contest papers history bs)
 
 right-on : (contest : Contest) (history : History) (bundles : List Bundle) → bundles ≡ bundled contest.papers → IsRightForSome contest history → IsRightForSome (reordered contest (papers_of bundles)) history
@@ -153,7 +153,7 @@ kept-first contest kept fair candidates_are seats_are bundles_are places_are sta
 pub kept-next : (contest : Contest) (history : History) (lots : List (ℕ × ℕ)) (terms : Terms) (bundles : List Bundle) (places new_places : List Placed) (stages new_stages : List Stage) (action : Action) →
     IsInRange terms bundles places stages → IsKeptOf contest history (kept_of terms bundles places stages) →
     ((papers : List (List ℕ)) → Some action ≡ next_action (contest_of terms papers) lots (reverse stages)) →
-    (IsDueInBook (contest_on terms bundles) (reverse stages) bundles places action → new_places ≡ places_of (contest_on terms bundles) (reverse new_stages) bundles) →
+    (IsDueInBook (contest_on terms bundles) (reverse stages) bundles places action → new_places ≡ places_after (contest_on terms bundles) (reverse new_stages) bundles) →
     (IsDueInBook (contest_on terms bundles) (reverse stages) bundles places action → Adds (contest_on terms bundles) (reverse stages) action (reverse new_stages)) →
     (new_places ≡ places_after contest (with_next contest lots history) bundles) × (new_stages ≡ reverse (with_next contest lots history))
 kept-next contest history lots terms bundles places new_places stages new_stages action range kept comes moved acted =
@@ -177,8 +177,8 @@ kept-next contest history lots terms bundles places new_places stages new_stages
     ∙ ap (with_next (reordered contest papers) lots) stages_are
     ∙ next_reordered contest papers history (next_action contest lots history) order in (
       moved due
-          ∙ ap (λ (h : History). places_of on h bundles) longer
-          ∙ ap (λ (k : Contest). places_of k next bundles) same
+          ∙ ap (λ (h : History). places_after on h bundles) longer
+          ∙ ap (λ (k : Contest). places_after k next bundles) same
           ∙ places-same contest papers next bundles,
       sym (reverse-reverse new_stages) ∙ ap reverse longer,
     )

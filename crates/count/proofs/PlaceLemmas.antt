@@ -14,7 +14,8 @@ use Rattle.count.specs.Law.Count.{begun}
 use Rattle.count.specs.Law.Elected.{is_continuing, continuing_after}
 use Rattle.count.specs.Law.Places.{Place, place, moved, passed_on, first_of, after, next_available, surplus_of}
 use Rattle.count.specs.Inside.Holdings.{new_value, IsTransferRule, OnlyColumns}
-use Rattle.count.specs.Inside.Placing.{places_of, IsSound, first_places, passed_at, passed_places}
+use Rattle.count.specs.Kept.{places_after}
+use Rattle.count.specs.Inside.Placing.{IsSound, first_places, passed_at, passed_places}
 use Rattle.count.specs.declared.parcel.TransferRule.{TransferRule}
 use Rattle.count.specs.declared.parcel.TransferRule.TheVariants.{AsReceived, Share}
 use Rattle.count.specs.declared.placed.Placed.{Placed}
@@ -70,7 +71,7 @@ holder-few contest [] p fair r = omega arith
 holder-few contest (s ∷ before) p fair r = moved_few contest before s.action p (place contest before p) fair r (holder-few contest before p fair r)
 
 -- all places are sound
-pub sound-places : (contest : Contest) (stages : History) (bundles : List Bundle) → IsContest contest → AllByRecursion IsBundle bundles → AllByRecursion IsSound (places_of contest stages bundles)
+pub sound-places : (contest : Contest) (stages : History) (bundles : List Bundle) → IsContest contest → AllByRecursion IsBundle bundles → AllByRecursion IsSound (places_after contest stages bundles)
 sound-places contest stages [] fair each = tt
 sound-places contest stages (b ∷ bs) fair each = ((holder-few contest stages b.0 fair each.0.2, value-small contest stages b.0), sound-places contest stages bs fair each.1)
 
@@ -85,12 +86,12 @@ passed-one contest before c rule p at = passed_choice (eqb at.holder c) (next_av
 -- an action that passes a candidate's papers on brings bundles to where the law has them
 passed-all : (contest : Contest) (before : History) (c : ℕ) (rule : TransferRule) (action : Action) (bundles : List Bundle) →
     ((p : List ℕ) (at : Place) → passed_on contest before c p at (new_value rule at.value) ≡ moved contest before action p at) →
-    passed_places (is_continuing contest before) rule c (places_of contest before bundles) bundles ≡ places_of contest (begun action [] ∷ before) bundles
+    passed_places (is_continuing contest before) rule c (places_after contest before bundles) bundles ≡ places_after contest (begun action [] ∷ before) bundles
 passed-all contest before c rule action [] by = refl
 passed-all contest before c rule action (b ∷ bs) by =
     let at : Place = place contest before b.0 in
     let here : passed_at (is_continuing contest before) rule c b.0 (placed at) ≡ placed (moved contest before action b.0 at) = passed-one contest before c rule b.0 at ∙ ap placed (by b.0 at) in
-    ap (λ (x : Placed). x ∷ passed_places (is_continuing contest before) rule c (places_of contest before bs) bs) here
+    ap (λ (x : Placed). x ∷ passed_places (is_continuing contest before) rule c (places_after contest before bs) bs) here
     ∙ ap (λ (l : List Placed). placed (moved contest before action b.0 at) ∷ l) (passed-all contest before c rule action bs by)
 
 -- who continues may be told by another test that says the same
@@ -103,16 +104,16 @@ passed-same p q rule c (at ∷ places) (b ∷ bs) same =
     ∙ ap (λ (l : List Placed). passed_at q rule c b.0 at ∷ l) (passed-same p q rule c places bs same)
 
 -- what a surplus passes on, and what an exclusion does
-pub surplus-places : (contest : Contest) (before : History) (c : ℕ) (continues : ℕ → Bool) (places : List Placed) (bundles : List Bundle) → ((d : ℕ) → continues d ≡ is_continuing contest before d) → places ≡ places_of contest before bundles →
-    passed_places continues (Share (surplus_of contest before c) (newest_votes before c)) c places bundles ≡ places_of contest (begun (Surplus c) [] ∷ before) bundles
+pub surplus-places : (contest : Contest) (before : History) (c : ℕ) (continues : ℕ → Bool) (places : List Placed) (bundles : List Bundle) → ((d : ℕ) → continues d ≡ is_continuing contest before d) → places ≡ places_after contest before bundles →
+    passed_places continues (Share (surplus_of contest before c) (newest_votes before c)) c places bundles ≡ places_after contest (begun (Surplus c) [] ∷ before) bundles
 surplus-places contest before c continues places bundles same are =
     let rule : TransferRule = Share (surplus_of contest before c) (newest_votes before c) in
     passed-same continues (is_continuing contest before) rule c places bundles same
     ∙ ap (λ (l : List Placed). passed_places (is_continuing contest before) rule c l bundles) are
     ∙ passed-all contest before c rule (Surplus c) bundles (λ p at. refl)
 
-pub exclude-places : (contest : Contest) (before : History) (c : ℕ) (continues : ℕ → Bool) (places : List Placed) (bundles : List Bundle) → ((d : ℕ) → continues d ≡ is_continuing contest before d) → places ≡ places_of contest before bundles →
-    passed_places continues AsReceived c places bundles ≡ places_of contest (begun (Exclude c) [] ∷ before) bundles
+pub exclude-places : (contest : Contest) (before : History) (c : ℕ) (continues : ℕ → Bool) (places : List Placed) (bundles : List Bundle) → ((d : ℕ) → continues d ≡ is_continuing contest before d) → places ≡ places_after contest before bundles →
+    passed_places continues AsReceived c places bundles ≡ places_after contest (begun (Exclude c) [] ∷ before) bundles
 exclude-places contest before c continues places bundles same are =
     passed-same continues (is_continuing contest before) AsReceived c places bundles same
     ∙ ap (λ (l : List Placed). passed_places (is_continuing contest before) AsReceived c l bundles) are

@@ -17,7 +17,8 @@ use Rattle.count.specs.Law.Figures.{votes_after, non_transferable_after, lost_af
 use Rattle.count.specs.Law.Places.{place}
 use Rattle.count.specs.Law.Right.{IsRightByItself, candidate_of}
 use Rattle.count.specs.Inside.Holdings.{newest_lost}
-use Rattle.count.specs.Inside.Placing.{places_of, IsDueInBook, IsSound, value_of, value_to, worth_placed, votes_from, lost_from}
+use Rattle.count.specs.Kept.{places_after}
+use Rattle.count.specs.Inside.Placing.{IsDueInBook, IsSound, value_of, value_to, worth_placed, votes_from, lost_from}
 use Rattle.count.specs.declared.placed.Placed.{Placed}
 use Rattle.count.specs.declared.stages.Action.{Action}
 use Rattle.count.specs.declared.stages.Action.TheVariants.{First, Surplus, Exclude, ExcludeLast}
@@ -39,18 +40,18 @@ worth-papers f at [] = refl
 worth-papers f at (b ∷ bs) = ap (λ n. b.1 * f (at b.0) + n) (worth-papers f at bs) ∙ sym (sum-papers (λ p. f (at p)) b bs)
 
 -- the same at the places of a contest's papers
-worth-places : (f : Placed → ℕ) (contest : Contest) (stages : History) (bundles : List Bundle) (places : List Placed) → contest.papers ≡ papers_of bundles → places ≡ places_of contest stages bundles →
+worth-places : (f : Placed → ℕ) (contest : Contest) (stages : History) (bundles : List Bundle) (places : List Placed) → contest.papers ≡ papers_of bundles → places ≡ places_after contest stages bundles →
     worth_placed f places bundles ≡ sum_by (λ p. f (placed (place contest stages p))) contest.papers
 worth-places f contest stages bundles places papers are =
     ap (λ (l : List Placed). worth_placed f l bundles) are
     ∙ worth-papers f (λ p. placed (place contest stages p)) bundles
     ∙ ap (sum_by (λ p. f (placed (place contest stages p)))) (sym papers)
 
-pub worth-all : (contest : Contest) (stages : History) (bundles : List Bundle) (places : List Placed) → contest.papers ≡ papers_of bundles → places ≡ places_of contest stages bundles →
+pub worth-all : (contest : Contest) (stages : History) (bundles : List Bundle) (places : List Placed) → contest.papers ≡ papers_of bundles → places ≡ places_after contest stages bundles →
     worth_placed value_of places bundles ≡ all_values contest stages
 worth-all contest stages bundles places papers are = worth-places value_of contest stages bundles places papers are
 
-pub worth-held : (h : ℕ) (contest : Contest) (stages : History) (bundles : List Bundle) (places : List Placed) → contest.papers ≡ papers_of bundles → places ≡ places_of contest stages bundles →
+pub worth-held : (h : ℕ) (contest : Contest) (stages : History) (bundles : List Bundle) (places : List Placed) → contest.papers ≡ papers_of bundles → places ≡ places_after contest stages bundles →
     worth_placed (value_to h) places bundles ≡ held contest stages h
 worth-held h contest stages bundles places papers are = worth-places (value_to h) contest stages bundles places papers are
 
@@ -81,7 +82,7 @@ pub lost-few : (contest : Contest) (stages : History) → IsContest contest → 
 lost-few contest stages fair right = (newest_small contest (λ h t. candidate_of t.action) stages [] fair right (omega arith)).lost_small
 
 -- the sums of the holders give the votes of all numbers,
-pub votes-figured : (contest : Contest) (before : History) (action : Action) (bundles : List Bundle) (moved : List Placed) (sums : List ℕ) → contest.papers ≡ papers_of bundles → moved ≡ places_of contest (begun action [] ∷ before) bundles →
+pub votes-figured : (contest : Contest) (before : History) (action : Action) (bundles : List Bundle) (moved : List Placed) (sums : List ℕ) → contest.papers ≡ papers_of bundles → moved ≡ places_after contest (begun action [] ∷ before) bundles →
     ((h : ℕ) → h ≤ max_candidates → slice_index sums h ≡ worth_placed (value_to h) moved bundles) →
     map (votes_from contest.quota before action sums) numbers ≡ map (votes_after contest (begun action [] ∷ before)) numbers
 votes-figured contest before action bundles moved sums papers are each =
@@ -89,7 +90,7 @@ votes-figured contest before action bundles moved sums papers are each =
     ap (λ n. cond (transfers action c || is_transferred before c) contest.quota n) (each c column.1 ∙ worth-held c contest (begun action [] ∷ before) bundles moved papers are))
 
 -- and the non-transferable;
-pub none-figured : (contest : Contest) (before : History) (action : Action) (bundles : List Bundle) (moved : List Placed) (sums : List ℕ) → contest.papers ≡ papers_of bundles → moved ≡ places_of contest (begun action [] ∷ before) bundles →
+pub none-figured : (contest : Contest) (before : History) (action : Action) (bundles : List Bundle) (moved : List Placed) (sums : List ℕ) → contest.papers ≡ papers_of bundles → moved ≡ places_after contest (begun action [] ∷ before) bundles →
     ((h : ℕ) → h ≤ max_candidates → slice_index sums h ≡ worth_placed (value_to h) moved bundles) →
     slice_index sums 0 ≡ non_transferable_after contest (begun action [] ∷ before)
 none-figured contest before action bundles moved sums papers are each = each 0 (omega arith) ∙ worth-held 0 contest (begun action [] ∷ before) bundles moved papers are
@@ -110,7 +111,7 @@ lost_at contest (s ∷ before) (Surplus c) fair right due =
 lost_at contest before (Exclude c) fair right due = omega (arith, newest_lost-is contest (λ h t. candidate_of t.action) before right)
 lost_at contest before (ExcludeLast c) fair right due = omega (arith, newest_lost-is contest (λ h t. candidate_of t.action) before right)
 
-pub lost-figured : (contest : Contest) (before : History) (action : Action) (bundles : List Bundle) (places moved : List Placed) → IsDueInBook contest before bundles places action → moved ≡ places_of contest (begun action [] ∷ before) bundles →
+pub lost-figured : (contest : Contest) (before : History) (action : Action) (bundles : List Bundle) (places moved : List Placed) → IsDueInBook contest before bundles places action → moved ≡ places_after contest (begun action [] ∷ before) bundles →
     lost_from contest.quota before action (worth_placed value_of places bundles) (worth_placed value_of moved bundles) ≡ lost_after contest (begun action [] ∷ before)
 lost-figured contest before action bundles places moved due are =
     ap (λ n. lost_from contest.quota before action n (worth_placed value_of moved bundles)) (worth-all contest before bundles places due.book.papers_are due.book.places_are)

@@ -5,7 +5,8 @@ ghost use Rattle.std.specs.List.{AllByRecursion};
 ghost use Rattle.votes.specs.Units.{max_units};
 ghost use Rattle.count.specs.Advance.{Adds};
 ghost use Rattle.count.specs.Inside.Holdings.{newest_lost};
-ghost use Rattle.count.specs.Inside.Placing.{contest_on, places_of, IsDueInBook, IsSound};
+ghost use Rattle.count.specs.Kept.{places_after};
+ghost use Rattle.count.specs.Inside.Placing.{contest_on, IsDueInBook, IsSound};
 
 use crate::bundles::Bundles;
 use crate::placed::Placed;
@@ -29,7 +30,7 @@ pub fn acted_on_bundles(
     requires sound { AllByRecursion IsSound places.now }
     requires lost { newest_lost (reverse stages.now) ≤ max_units }
     ensures places { IfOk result (λ next. IsDueInBook (contest_on terms.now bundles.now) (reverse stages.now) bundles.now places.now action.now
-        → next.0.items ≡ places_of (contest_on terms.now bundles.now) (reverse next.1.items) bundles.now) }
+        → next.0.items ≡ places_after (contest_on terms.now bundles.now) (reverse next.1.items) bundles.now) }
     ensures stage { IfOk result (λ next. IsDueInBook (contest_on terms.now bundles.now) (reverse stages.now) bundles.now places.now action.now
         → Adds (contest_on terms.now bundles.now) (reverse stages.now) action.now (reverse next.1.items)) }
 {

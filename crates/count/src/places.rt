@@ -8,7 +8,8 @@ ghost use Rattle.paper.specs.Standing.{is_continuing, from_first};
 ghost use Rattle.count.specs.Law.Count.{begun};
 ghost use Rattle.count.specs.Law.Contest.{newest_votes as newest_votes_of};
 ghost use Rattle.count.specs.Inside.Holdings.{IsTransferRule, OnlyColumns};
-ghost use Rattle.count.specs.Inside.Placing.{contest_on, places_of, IsDueInBook, IsSound, nowhere, first_places, passed_at, passed_places as passed_places_of};
+ghost use Rattle.count.specs.Kept.{places_after};
+ghost use Rattle.count.specs.Inside.Placing.{contest_on, IsDueInBook, IsSound, nowhere, first_places, passed_at, passed_places as passed_places_of};
 
 use crate::bundles::Bundles;
 use crate::elected::{newest_votes, standing};
@@ -146,7 +147,7 @@ fn places_by_surplus(
 ) -> Result<Vec<Placed>, AllocError>
     requires sound { AllByRecursion IsSound places.now }
     ensures is { IfOk result (λ moved. IsDueInBook (contest_on terms.now bundles.now) (reverse stages.now) bundles.now places.now (Action.Surplus c)
-        → moved.items ≡ places_of (contest_on terms.now bundles.now) (begun (Action.Surplus c) [] ∷ reverse stages.now) bundles.now) }
+        → moved.items ≡ places_after (contest_on terms.now bundles.now) (begun (Action.Surplus c) [] ∷ reverse stages.now) bundles.now) }
     ensures sound { IfOk result (λ moved. AllByRecursion IsSound moved.items) }
 {
     match share_of(terms.quota, stages, c) {
@@ -173,7 +174,7 @@ pub fn moved_places(
 ) -> Result<Vec<Placed>, AllocError>
     requires sound { AllByRecursion IsSound places.now }
     ensures is { IfOk result (λ moved. IsDueInBook (contest_on terms.now bundles.now) (reverse stages.now) bundles.now places.now action.now
-        → moved.items ≡ places_of (contest_on terms.now bundles.now) (begun action.now [] ∷ reverse stages.now) bundles.now) }
+        → moved.items ≡ places_after (contest_on terms.now bundles.now) (begun action.now [] ∷ reverse stages.now) bundles.now) }
     ensures sound { IfOk result (λ moved. AllByRecursion IsSound moved.items) }
 {
     match action {

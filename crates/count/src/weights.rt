@@ -7,7 +7,8 @@ ghost use Rattle.paper.specs.Columns.{max_candidates};
 ghost use Rattle.count.specs.Law.Contest.{numbers};
 ghost use Rattle.count.specs.Law.Count.{begun};
 ghost use Rattle.count.specs.Inside.Holdings.{holder_count, newest_lost as newest_lost_of};
-ghost use Rattle.count.specs.Inside.Placing.{contest_on, places_of, IsDueInBook, IsSound, IsFigured, value_of, value_to, worth_placed, votes_from as votes_from_of, lost_from as lost_from_of};
+ghost use Rattle.count.specs.Kept.{places_after};
+ghost use Rattle.count.specs.Inside.Placing.{contest_on, IsDueInBook, IsSound, IsFigured, value_of, value_to, worth_placed, votes_from as votes_from_of, lost_from as lost_from_of};
 
 use crate::bundles::Bundles;
 use crate::elected::is_transferred_with;
@@ -136,7 +137,7 @@ pub fn figured(
     requires sound_moved { AllByRecursion IsSound moved.now }
     requires lost { newest_lost_of (reverse stages.now) ≤ max_units }
     ensures { IsDueInBook (contest_on terms.now bundles.now) (reverse stages.now) bundles.now places.now action.now
-        → moved.now ≡ places_of (contest_on terms.now bundles.now) (begun action.now [] ∷ reverse stages.now) bundles.now
+        → moved.now ≡ places_after (contest_on terms.now bundles.now) (begun action.now [] ∷ reverse stages.now) bundles.now
         → IsFigured (contest_on terms.now bundles.now) (reverse stages.now) action.now result }
 {
     let _few = bundles.papers();

@@ -27,10 +27,14 @@ candidate_shown c = (c.number, c.name)
 abbrev pub poll_shown : ElectionEntry → Option Poll
 poll_shown e = if has_count e then Some (record { valid = length e.ballots.papers; rejected = e.ballots.rejected }) else None
 
--- what the texts tell of an election
+-- what the texts tell of an election, with these papers
+abbrev pub shown_with : Option Poll → ElectionEntry → SheetEntry
+shown_with poll e =
+    record { number = e.ward.number; name = e.ward.name; seats = e.ward.seats; candidates = map candidate_shown e.candidates; poll = poll }
+
+-- with its own
 abbrev pub election_shown : ElectionEntry → SheetEntry
-election_shown e =
-    record { number = e.ward.number; name = e.ward.name; seats = e.ward.seats; candidates = map candidate_shown e.candidates; poll = poll_shown e }
+election_shown e = shown_with (poll_shown e) e
 
 -- a candidate whose number is in range
 abbrev pub is_numbered : CandidateEntry → Bool
@@ -78,11 +82,16 @@ text_found text s (Some w) = if is_told_in text w.phase then Ok (text_shown text
 abbrev pub text_told : Text → OfficeState → ℕ → Result (List ℕ) Reason
 text_told text s ward = if is_ward_number ward then text_found text s (ward_at s ward) else Err NumberOutOfRange
 
+-- why a text isn't written: memory was wanting and the office stays open, or a fault closed it
+abbrev pub StopsWriting : Bool → Stop → Type 0
+StopsWriting closed (Refused why) = ⊥
+StopsWriting closed (Failed f) = ((f ≡ Memory) × (closed ≡ false)) ⊎ ((f ≡ Store) × (closed ≡ true))
+
 -- why no text of a ward in a phase is told: it isn't told in that phase, or memory was wanting and the office stays open; or a
 -- fault closed the office
 abbrev pub StopsText : Text → Phase → Bool → Stop → Type 0
 StopsText text phase closed (Refused why) = (why ≡ WrongPhase) × (is_told_in text phase ≡ false) × (closed ≡ false)
-StopsText text phase closed (Failed f) = ((f ≡ Memory) × (closed ≡ false)) ⊎ ((f ≡ Store) × (closed ≡ true))
+StopsText text phase closed (Failed f) = StopsWriting closed (Failed f)
 
 -- a fault, if it is one, is want of memory
 abbrev pub IsOfMemory : Stop → Type 0

@@ -1,24 +1,25 @@
 //! What the office tells of its state, which no read changes.
 
-ghost use Rattle.std.specs.Prelude.{◌≡◌, ◌⊎◌, Bool, true, false, map, IfOk, IfErr, IfSome, IfNone, OnOk, Some, None, Ok, Err, string_bytes};
+ghost use Rattle.std.specs.Prelude.{◌≡◌, ◌⊎◌, Bool, true, false, map, IfOk, IfErr, IfSome, IfNone, IsSome, OnOk, Some, None, Ok, Err, string_bytes};
 ghost use Rattle.sqlite.specs.Held.{state};
 ghost use Rattle.register.specs.Standings.{status_entry, work_entry, work_of};
 ghost use Rattle.register.specs.Seen.{seen_by};
 ghost use Rattle.register.specs.declared.refusal.Reason.{Reason};
 ghost use Rattle.tables.specs.Reading.{OnlyReads};
-ghost use Rattle.register.specs.Elections.{ElectionEntry, IsElection};
+ghost use Rattle.register.specs.Elections.{ElectionEntry};
+ghost use Rattle.register.specs.Tabulated.{IsCountedWard, IsSheetOf};
 ghost use Rattle.office.specs.Answers.{WhenOpenAt};
 ghost use Rattle.office.specs.Reads.{Read, status_told, columns_told, work_told, StopsFor, StopsBy, ClosesAt};
-ghost use Rattle.office.specs.Sheets.{is_told_in, text_shown, text_told, StopsText, IsTextual, IsOfMemory};
+ghost use Rattle.office.specs.Sheets.{is_told_in, text_shown, text_told, StopsText, StopsWriting, IsTextual, IsOfMemory};
 
 use crate::answers::Stop;
 use crate::offices::Office;
-use crate::sheets::{Text, text_of, texts_are_there};
+use crate::sheets::{Text, declaration, stage_sheet, texts_are_there};
 use paper::Columns;
 use register::ranges::{is_batch_number, is_clerk, is_ward_number};
-use register::{Election, Reason, Refusal, Status, Work};
+use register::{CountedWard, Reason, Refusal, Status, WardSheet, Work};
 use sqlite::Alter;
-use std::alloc::Global;
+use std::alloc::{AllocError, Global};
 use store::Fault;
 
 /// A refusal for a reason, or want of memory.
@@ -146,7 +147,15 @@ impl<S: Alter> Office<S> {
         ensures cause { WhenOpenAt (state S.Store) self.old self.new (λ s. IfErr result (StopsBy (state S.Store self.old.held) (state S.Store self.new.held))) }
         ensures closed { self.old.closed ≡ true → (result ≡ Err (Stop.Fault Fault.Closed)) × (self.new ≡ self.old) }
     {
-        self.text(ward, Text::Sheet)
+        if let Some(stop) = self.stop_before(is_ward_number(ward)) {
+            return Err(stop);
+        }
+        texts_are_there();
+        match self.store.load_sheet(ward) {
+            Ok(Some(sheet)) => self.sheet_of(&sheet),
+            Ok(None) => Err(refused(self.alloc, Reason::NoSuchWard)),
+            Err(fault) => Err(self.stopped_by(fault)),
+        }
     }
 
     /// The declaration of a ward: who is elected.
@@ -162,47 +171,63 @@ impl<S: Alter> Office<S> {
         ensures cause { WhenOpenAt (state S.Store) self.old self.new (λ s. IfErr result (StopsBy (state S.Store self.old.held) (state S.Store self.new.held))) }
         ensures closed { self.old.closed ≡ true → (result ≡ Err (Stop.Fault Fault.Closed)) × (self.new ≡ self.old) }
     {
-        self.text(ward, Text::Declaration)
-    }
-
-    /// A text of a ward: what `sheet` and `result` give.
-    #[tactic(auto, using(crate::proofs::StopLemmas::stops_of_memory))]
-    fn text(&mut self, ward: u32, text: Text) -> Result<String, Stop>
-        ensures reads { WhenOpenAt (state S.Store) self.old self.new
-            (λ s. Read string_bytes s (text_told text s ward) result self.new.closed (state S.Store self.new.held)) }
-        ensures same { OnlyReads (state S.Store self.old.held) (state S.Store self.new.held) }
-        ensures closes { IfErr result (ClosesAt self.new.closed) }
-        ensures cause { WhenOpenAt (state S.Store) self.old self.new (λ s. IfErr result (StopsBy (state S.Store self.old.held) (state S.Store self.new.held))) }
-        ensures closed { self.old.closed ≡ true → (result ≡ Err (Stop.Fault Fault.Closed)) × (self.new ≡ self.old) }
-    {
         if let Some(stop) = self.stop_before(is_ward_number(ward)) {
             return Err(stop);
         }
         texts_are_there();
-        match self.store.load_election(ward) {
-            Ok(Some(election)) => self.text_of(&election, text),
+        match self.store.load_counted(ward) {
+            Ok(Some(counted)) => self.declaration_of(&counted),
             Ok(None) => Err(refused(self.alloc, Reason::NoSuchWard)),
             Err(fault) => Err(self.stopped_by(fault)),
         }
     }
 
-    /// A text of the ward of an election that was read. Only want of memory fails it where its texts can be
-    /// written, as those of each ward of an office can.
-    fn text_of(&mut self, election: &Election, text: Text) -> Result<String, Stop>
-        ensures told { IfOk result (λ told. (is_told_in text election.now.ward.phase ≡ true) × ((e : ElectionEntry) → IsElection election.now e → string_bytes told ≡ text_shown text e)) }
-        ensures stopped { self.old.closed ≡ false → IfErr result (λ stop. StopsText text election.now.ward.phase self.new.closed stop) }
+    /// A text as it was written; none of rows that no office has, which closes the office.
+    fn told(&mut self, written: Result<Option<String>, AllocError>) -> Result<String, Stop>
+        ensures told { IfOk result (λ text. written ≡ Ok (Some text)) }
+        ensures stopped { self.old.closed ≡ false → IfErr result (StopsWriting self.new.closed) }
         ensures closes { IfErr result (ClosesAt self.new.closed) }
-        ensures cause { (e : ElectionEntry) → IsElection election.now e → IsTextual e → IfErr result IsOfMemory }
+        ensures cause { IfOk written IsSome → IfErr result IsOfMemory }
         ensures held { self.new.held ≡ self.old.held }
         ensures open_still { OnOk result (self.new.closed ≡ self.old.closed) }
     {
-        if !text.is_told_in(election.ward.phase) {
-            return Err(refused(self.alloc, Reason::WrongPhase));
-        }
-        match text_of(self.alloc, election, text) {
-            Ok(Some(told)) => Ok(told),
+        match written {
+            Ok(Some(text)) => Ok(text),
             Ok(None) => Err(self.stopped_by(Fault::Store)),
             Err(_) => Err(self.stopped_by(Fault::Memory)),
         }
+    }
+
+    /// The stage sheet of a ward that was read. Only want of memory fails it where the ward's texts can be
+    /// written, as those of each ward of an office can.
+    fn sheet_of(&mut self, sheet: &WardSheet) -> Result<String, Stop>
+        ensures told { IfOk result (λ text. (is_told_in Text.Sheet sheet.now.counted.ward.phase ≡ true) × ((e : ElectionEntry) → IsSheetOf e sheet.now → string_bytes text ≡ text_shown Text.Sheet e)) }
+        ensures stopped { self.old.closed ≡ false → IfErr result (λ stop. StopsText Text.Sheet sheet.now.counted.ward.phase self.new.closed stop) }
+        ensures closes { IfErr result (ClosesAt self.new.closed) }
+        ensures cause { (e : ElectionEntry) → IsSheetOf e sheet.now → IsTextual e → IfErr result IsOfMemory }
+        ensures held { self.new.held ≡ self.old.held }
+        ensures open_still { OnOk result (self.new.closed ≡ self.old.closed) }
+    {
+        if !Text::Sheet.is_told_in(sheet.counted.ward.phase) {
+            return Err(refused(self.alloc, Reason::WrongPhase));
+        }
+        let written = stage_sheet(self.alloc, sheet);
+        self.told(written)
+    }
+
+    /// The declaration of a ward that was read, in the same way.
+    fn declaration_of(&mut self, counted: &CountedWard) -> Result<String, Stop>
+        ensures told { IfOk result (λ text. (is_told_in Text.Declaration counted.now.ward.phase ≡ true) × ((e : ElectionEntry) → IsCountedWard e counted.now → string_bytes text ≡ text_shown Text.Declaration e)) }
+        ensures stopped { self.old.closed ≡ false → IfErr result (λ stop. StopsText Text.Declaration counted.now.ward.phase self.new.closed stop) }
+        ensures closes { IfErr result (ClosesAt self.new.closed) }
+        ensures cause { (e : ElectionEntry) → IsCountedWard e counted.now → IsTextual e → IfErr result IsOfMemory }
+        ensures held { self.new.held ≡ self.old.held }
+        ensures open_still { OnOk result (self.new.closed ≡ self.old.closed) }
+    {
+        if !Text::Declaration.is_told_in(counted.ward.phase) {
+            return Err(refused(self.alloc, Reason::WrongPhase));
+        }
+        let written = declaration(self.alloc, counted);
+        self.told(written)
     }
 }

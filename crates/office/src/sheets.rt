@@ -1,21 +1,20 @@
 //! The stage sheet and the declaration of a ward, written from its election.
 
-ghost use Rattle.std.specs.Prelude.{◌≡◌, ◌≤◌, true, map, Some, IfOk, IfSome, IsSome, string_bytes};
+ghost use Rattle.std.specs.Prelude.{◌≡◌, true, map, reverse, Some, IfOk, IfSome, IsSome, string_bytes};
 ghost use Rattle.std.specs.List.{list_all};
-ghost use Rattle.votes.specs.Units.{max_seats};
 ghost use Rattle.register.specs.Ranges.{is_candidate_number};
 ghost use Rattle.register.specs.Offices.{WardEntry, OfficeState, ward_at, candidate_entry};
 ghost use Rattle.register.specs.Items.{IsState};
-ghost use Rattle.register.specs.Elections.{ElectionEntry, IsElection, election_of, elected_of};
+ghost use Rattle.register.specs.Elections.{ElectionEntry, election_of, elected_of, has_count, is_counted, stages_of as stages_done};
+ghost use Rattle.register.specs.Tabulated.{IsCountedWard, IsSheetOf};
 ghost use Rattle.sheet.specs.Entries.{shown};
-ghost use Rattle.sheet.specs.Wards.{CanBePrinted};
-ghost use Rattle.office.specs.Sheets.{is_numbered, CanBeCounted, IsTextual, candidate_shown, poll_shown, election_shown, sheet_of, declaration_of, is_told_in, text_shown};
+ghost use Rattle.sheet.specs.Wards.{HasFewPapers, CanBePrinted};
+ghost use Rattle.office.specs.Sheets.{is_numbered, IsTextual, candidate_shown, poll_shown, shown_with, sheet_of, declaration_of, is_told_in};
 
-use count::CountBook;
+use count::Stage;
 use paper::Columns;
 use register::marks::columns_of;
-use register::wards::is_contested;
-use register::{Candidate, Election, Phase};
+use register::{Candidate, CountedWard, Phase, WardSheet};
 use sheet::{Poll, Ward, can_be_printed, declaration_text, sheet_text};
 use std::alloc::{AllocError, Global};
 
@@ -78,121 +77,100 @@ fn candidate_lines(
     Ok(Some(lines))
 }
 
-/// What is told of the papers of a contested ward; none where it has no seats, or more than a ward can have,
-/// as no ward of an office has.
-fn poll_of(election: &Election) -> Option<Option<Poll>>
-    ensures is { IfSome result (λ poll. (e : ElectionEntry) → IsElection election.now e → poll ≡ poll_shown e) }
-    ensures some { 1 ≤ election.now.ward.seats → election.now.ward.seats ≤ max_seats → IsSome result }
+/// What is told of the papers of a ward in count.
+fn poll_of(sheet: &WardSheet) -> Option<Poll>
+    ensures { (e : ElectionEntry) → IsSheetOf e sheet.now → is_counted e.ward.phase ≡ true → result ≡ poll_shown e }
 {
-    if !is_contested(&election.ward, &election.candidates) {
-        return Some(None);
-    }
-    match election.poll() {
-        Some(poll) => {
-            let (valid, rejected) = (poll.valid, poll.rejected);
-            Some(Some(Poll { valid, rejected }))
-        }
+    match &sheet.counted.count {
+        Some(count) => Some(Poll {
+            valid: count.valid(),
+            rejected: sheet.rejected,
+        }),
         None => None,
     }
 }
 
-/// The ward of an election, as the texts show it, with these lines of its candidates; none where a number
-/// is out of range, as none of an office is.
-fn ward_of<'a>(election: &'a Election, candidates: &'a [(u8, String)]) -> Option<Ward<'a>>
-    ensures is { (e : ElectionEntry) → IsElection election.now e → map (λ line. (line.0, string_bytes line.1)) candidates.now ≡ map candidate_shown e.candidates
-        → IfSome result (λ ward. shown ward ≡ election_shown e) }
-    ensures some { (e : ElectionEntry) → IsElection election.now e → IsTextual e → IsSome result }
+/// A ward that was counted, as the texts show it, with these lines of its candidates and its papers; none
+/// where it can't be printed: a number is out of range, as none of an office is.
+fn ward_of<'a>(
+    counted: &'a CountedWard,
+    candidates: &'a [(u8, String)],
+    poll: Option<Poll>,
+) -> Option<Ward<'a>>
+    ensures is { (e : ElectionEntry) → IsCountedWard e counted.now → map (λ line. (line.0, string_bytes line.1)) candidates.now ≡ map candidate_shown e.candidates
+        → IfSome result (λ ward. shown ward ≡ shown_with poll e) }
+    ensures printed { IfSome result CanBePrinted }
+    ensures some { (e : ElectionEntry) → IsCountedWard e counted.now → map (λ line. (line.0, string_bytes line.1)) candidates.now ≡ map candidate_shown e.candidates
+        → IsTextual e → HasFewPapers poll → IsSome result }
 {
-    let Ok(number) = u8::try_from(election.ward.number) else {
+    let Ok(number) = u8::try_from(counted.ward.number) else {
         return None;
     };
-    let Ok(seats) = u8::try_from(election.ward.seats) else {
+    let Ok(seats) = u8::try_from(counted.ward.seats) else {
         return None;
     };
-    let Some(poll) = poll_of(election) else {
-        return None;
-    };
-    Some(Ward {
+    let ward = Ward {
         number,
-        name: election.ward.name.as_str(),
+        name: counted.ward.name.as_str(),
         seats,
         candidates,
         poll,
-    })
-}
-
-/// The stage sheet of a ward, of the stages that are done; none where no count can be held, as it can in
-/// each contested ward of an office. An error is want of memory.
-fn stage_sheet(
-    alloc: Global,
-    election: &Election,
-    ward: &Ward<'_>,
-) -> Result<Option<String>, AllocError>
-    requires { CanBePrinted ward.now }
-    ensures is { IfOk result (λ found. (e : ElectionEntry) → IsElection election.now e → shown ward.now ≡ election_shown e → IfSome found (λ text. string_bytes text ≡ sheet_of e)) }
-    ensures some { IfOk result (λ found. (e : ElectionEntry) → IsElection election.now e → CanBeCounted e → IsSome found) }
-{
-    if !is_contested(&election.ward, &election.candidates) {
-        return Ok(Some(sheet_text(alloc, ward, &[])?));
-    }
-    let Some(book) = election.counted(alloc)? else {
-        return Ok(None);
-    };
-    Ok(Some(sheet_text(alloc, ward, book.stages())?))
-}
-
-/// Who is elected; none where no count can be held, as it can in each contested ward of an office. An
-/// error is want of memory.
-fn elected_in(alloc: Global, election: &Election) -> Result<Option<Columns>, AllocError>
-    ensures is { IfOk result (λ found. IfSome found (λ elected. (e : ElectionEntry) → IsElection election.now e → elected ≡ elected_of e)) }
-    ensures some { IfOk result (λ found. (e : ElectionEntry) → IsElection election.now e → CanBeCounted e → IsSome found) }
-{
-    if !is_contested(&election.ward, &election.candidates) {
-        return Ok(Some(columns_of(&election.candidates)));
-    }
-    let Some(book) = election.counted(alloc)? else {
-        return Ok(None);
-    };
-    Ok(Some(book.elected()))
-}
-
-/// The declaration of a ward, by who is elected; none where no count can be held, as it can in each
-/// contested ward of an office. An error is want of memory.
-fn declaration(
-    alloc: Global,
-    election: &Election,
-    ward: &Ward<'_>,
-) -> Result<Option<String>, AllocError>
-    requires { CanBePrinted ward.now }
-    ensures is { IfOk result (λ found. (e : ElectionEntry) → IsElection election.now e → shown ward.now ≡ election_shown e → IfSome found (λ text. string_bytes text ≡ declaration_of e)) }
-    ensures some { IfOk result (λ found. (e : ElectionEntry) → IsElection election.now e → CanBeCounted e → IsSome found) }
-{
-    let Some(elected) = elected_in(alloc, election)? else {
-        return Ok(None);
-    };
-    Ok(Some(declaration_text(alloc, ward, elected)?))
-}
-
-/// A text of the ward of an election; none of rows that no office has. An error is want of memory.
-pub(crate) fn text_of(
-    alloc: Global,
-    election: &Election,
-    text: Text,
-) -> Result<Option<String>, AllocError>
-    ensures is { IfOk result (λ found. IfSome found (λ told. (e : ElectionEntry) → IsElection election.now e → string_bytes told ≡ text_shown text e)) }
-    ensures some { IfOk result (λ found. (e : ElectionEntry) → IsElection election.now e → IsTextual e → IsSome found) }
-{
-    let Some(candidates) = candidate_lines(alloc, &election.candidates)? else {
-        return Ok(None);
-    };
-    let Some(ward) = ward_of(election, &candidates) else {
-        return Ok(None);
     };
     if !can_be_printed(&ward) {
+        return None;
+    }
+    Some(ward)
+}
+
+/// The stages of a ward's count that are done; of an uncontested ward none.
+fn stages_of(counted: &CountedWard) -> &[Stage]
+    ensures { (e : ElectionEntry) → IsCountedWard e counted.now → has_count e ≡ true → is_counted e.ward.phase ≡ true → result.now ≡ reverse (stages_done e) }
+{
+    match &counted.count {
+        Some(count) => count.kept.stages(),
+        None => &[],
+    }
+}
+
+/// Who is elected; in an uncontested ward all its candidates.
+fn elected_in(counted: &CountedWard) -> Columns
+    ensures { (e : ElectionEntry) → IsCountedWard e counted.now → is_counted e.ward.phase ≡ true → result ≡ elected_of e }
+{
+    match &counted.count {
+        Some(count) => count.kept.elected(),
+        None => columns_of(&counted.candidates),
+    }
+}
+
+/// The stage sheet of a ward, of the stages that are done; none of rows that no office has. An error is want
+/// of memory.
+pub(crate) fn stage_sheet(alloc: Global, sheet: &WardSheet) -> Result<Option<String>, AllocError>
+    ensures is { IfOk result (λ found. IfSome found (λ text. (e : ElectionEntry) → IsSheetOf e sheet.now → is_counted e.ward.phase ≡ true → string_bytes text ≡ sheet_of e)) }
+    ensures some { IfOk result (λ found. (e : ElectionEntry) → IsSheetOf e sheet.now → is_counted e.ward.phase ≡ true → IsTextual e → IsSome found) }
+{
+    let counted = &sheet.counted;
+    let Some(candidates) = candidate_lines(alloc, &counted.candidates)? else {
         return Ok(None);
-    }
-    match text {
-        Text::Sheet => stage_sheet(alloc, election, &ward),
-        Text::Declaration => declaration(alloc, election, &ward),
-    }
+    };
+    let Some(ward) = ward_of(counted, &candidates, poll_of(sheet)) else {
+        return Ok(None);
+    };
+    Ok(Some(sheet_text(alloc, &ward, stages_of(counted))?))
+}
+
+/// The declaration of a ward, by who is elected; none of rows that no office has. An error is want of memory.
+pub(crate) fn declaration(
+    alloc: Global,
+    counted: &CountedWard,
+) -> Result<Option<String>, AllocError>
+    ensures is { IfOk result (λ found. IfSome found (λ text. (e : ElectionEntry) → IsCountedWard e counted.now → is_counted e.ward.phase ≡ true → string_bytes text ≡ declaration_of e)) }
+    ensures some { IfOk result (λ found. (e : ElectionEntry) → IsCountedWard e counted.now → is_counted e.ward.phase ≡ true → IsTextual e → IsSome found) }
+{
+    let Some(candidates) = candidate_lines(alloc, &counted.candidates)? else {
+        return Ok(None);
+    };
+    let Some(ward) = ward_of(counted, &candidates, None) else {
+        return Ok(None);
+    };
+    Ok(Some(declaration_text(alloc, &ward, elected_in(counted))?))
 }

@@ -15,8 +15,8 @@ use Rattle.count.specs.declared.stages.Action.{Action}
 use Rattle.count.specs.declared.stages.Stage.{Stage}
 use Rattle.register.specs.Marks.{columns_of}
 use Rattle.register.specs.Elections.{ElectionEntry, contest_of, stages_of}
-use Rattle.register.specs.Tabulated.{PlacedEntry, FigureEntry, AdditionEntries, figure_at}
-use Rattle.register.specs.Additions.{placed_after, moved_between, figures_added, addition_by, addition_at}
+use Rattle.register.specs.Tabulated.{PlacedEntry, FigureEntry, AdditionEntries, figure_at, placed_after}
+use Rattle.register.specs.Additions.{moved_between, figures_added, addition_by, addition_at}
 use Rattle.register.specs.Walks.{moved_bundles, last_figures, all_added, moves_added}
 use Rattle.register.proofs.MovedLemmas.{walked-moves}
 

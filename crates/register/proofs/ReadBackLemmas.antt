@@ -29,7 +29,7 @@ use Rattle.register.specs.Marks.{columns_of}
 use Rattle.register.specs.Polls.{piles_of}
 use Rattle.register.specs.Elections.{ElectionEntry, election_of, has_count, contest_of, stages_of}
 use Rattle.register.specs.Items.{IsState}
-use Rattle.register.specs.Tabulated.{PlacedEntry, FigureEntry, AreOfCount, bundle_of, placed_of, shown_of, placed_in, bundles_in, figure_at, figures_to, figures_in, has_stages}
+use Rattle.register.specs.Tabulated.{PlacedEntry, FigureEntry, AreOfCount, bundle_of, placed_of, shown_of, placed_after, bundles_in, figure_at, figures_to, figures_in, has_stages}
 use Rattle.register.proofs.MapLemmas.{each_weaker}
 use Rattle.register.proofs.ContestLemmas.{columns_are_set, papers_are_rankings, papers_have_some, contest_is_fair}
 
@@ -71,13 +71,13 @@ next_fits all bs rest b are few left =
 
 -- ---- what is read back from what an election has
 
-bundled_again : (e : ElectionEntry) (bs : List Bundle) → map bundle_of (map (placed_in e) bs) ≡ bs
+bundled_again : (e : ElectionEntry) (bs : List Bundle) → map bundle_of (map (placed_after e (stages_of e)) bs) ≡ bs
 bundled_again e [] = refl
 bundled_again e (b ∷ bs) = ap (λ (cs : List Bundle). b ∷ cs) (bundled_again e bs)
 
-placed_again : (e : ElectionEntry) (bs : List Bundle) → map placed_of (map (placed_in e) bs) ≡ places_after (contest_of e) (stages_of e) bs
+placed_again : (e : ElectionEntry) (bs : List Bundle) → map placed_of (map (placed_after e (stages_of e)) bs) ≡ places_after (contest_of e) (stages_of e) bs
 placed_again e [] = refl
-placed_again e (b ∷ bs) = ap (λ (ps : List Placed). placed_of (placed_in e b) ∷ ps) (placed_again e bs)
+placed_again e (b ∷ bs) = ap (λ (ps : List Placed). placed_of (placed_after e (stages_of e) b) ∷ ps) (placed_again e bs)
 
 shown_again : (ward stage : ℕ) (fs : List Figure) → map shown_of (map (figure_at ward stage) fs) ≡ fs
 shown_again ward stage [] = refl
@@ -92,7 +92,7 @@ all_shown_again ward candidates (s ∷ before) =
     ∙ ap (λ fs. all_figures candidates before ++ fs) (shown_again ward (length before + 1) new)
 
 module _ (e : ElectionEntry) (candidates : List ℕ) (seats : ℕ) (bundles : List PlacedEntry) (figures : List FigureEntry) (of : AreOfCount e candidates seats bundles figures) where
-  all_placed : bundles ≡ map (placed_in e) (bundled e.ballots.papers)
+  all_placed : bundles ≡ map (placed_after e (stages_of e)) (bundled e.ballots.papers)
   all_placed = of.bundles_are ∙ cond-true (has_stages e) _ _ of.begun
 
   pub read_bundles : map bundle_of bundles ≡ bundled e.ballots.papers

@@ -22,7 +22,7 @@ use Rattle.register.specs.Offices.{WardEntry, OfficeState, entry_at, ward_at}
 use Rattle.register.specs.Marks.{columns_of}
 use Rattle.register.specs.Elections.{ElectionEntry, election_of, stages_of}
 use Rattle.register.specs.Items.{IsState}
-use Rattle.register.specs.Tabulated.{PlacedEntry, FigureEntry, TabulationRises, placed_cmp, figure_cmp, has_stages, placed_in, bundles_in, figure_at, figures_to, figures_in, tabulation_of}
+use Rattle.register.specs.Tabulated.{PlacedEntry, FigureEntry, TabulationRises, placed_cmp, figure_cmp, has_stages, placed_after, bundles_in, figure_at, figures_to, figures_in, tabulation_of}
 use Rattle.register.proofs.MapLemmas.{each_weaker, same_number, other_number}
 use Rattle.register.proofs.ContestLemmas.{columns_are_set}
 
@@ -119,16 +119,16 @@ bundled_rise bs [] up = up
 bundled_rise bs (paper ∷ papers) up = bundled_rise (with_papers bs paper 1) papers (rise-with_papers paper 1 bs up)
 
 module _ (e : ElectionEntry) where
-  placed_above : (b : Bundle) (bs : List Bundle) → AllByRecursion (λ list. list_cmp b.0 list ≡ Less) (keys_of bs) → AllByRecursion (λ p. placed_cmp (placed_in e b) p ≡ Less) (map (placed_in e) bs)
+  placed_above : (b : Bundle) (bs : List Bundle) → AllByRecursion (λ list. list_cmp b.0 list ≡ Less) (keys_of bs) → AllByRecursion (λ p. placed_cmp (placed_after e (stages_of e) b) p ≡ Less) (map (placed_after e (stages_of e)) bs)
   placed_above b [] above = tt
   placed_above b (c ∷ bs) above = (ap (λ o. ordering_then o (list_cmp b.0 c.0)) (tied e.ward.number e.ward.number refl) ∙ above.0, placed_above b bs above.1)
 
-  placed_rise : (bs : List Bundle) → IsStrictlySortedBy list_cmp (keys_of bs) → IsStrictlySortedBy placed_cmp (map (placed_in e) bs)
+  placed_rise : (bs : List Bundle) → IsStrictlySortedBy list_cmp (keys_of bs) → IsStrictlySortedBy placed_cmp (map (placed_after e (stages_of e)) bs)
   unfolding IsStrictlySortedBy
   placed_rise [] up = tt
   placed_rise (b ∷ bs) up = (placed_above b bs up.0, placed_rise bs up.1)
 
-  placed_own : (bs : List Bundle) → AllByRecursion (λ (p : PlacedEntry). p.ward ≡ e.ward.number) (map (placed_in e) bs)
+  placed_own : (bs : List Bundle) → AllByRecursion (λ (p : PlacedEntry). p.ward ≡ e.ward.number) (map (placed_after e (stages_of e)) bs)
   placed_own [] = tt
   placed_own (b ∷ bs) = (refl, placed_own bs)
 
@@ -136,14 +136,14 @@ module _ (e : ElectionEntry) where
   unfolding IsStrictlySortedBy
   bundles_rise = go (has_stages e)
     where
-      go : (b : Bool) → IsStrictlySortedBy placed_cmp (cond b (map (placed_in e) (bundled e.ballots.papers)) [])
+      go : (b : Bool) → IsStrictlySortedBy placed_cmp (cond b (map (placed_after e (stages_of e)) (bundled e.ballots.papers)) [])
       go true = placed_rise (bundled e.ballots.papers) (bundled_rise [] e.ballots.papers tt)
       go false = tt
 
   pub bundles_own : AllByRecursion (λ (p : PlacedEntry). p.ward ≡ e.ward.number) (bundles_in e)
   bundles_own = go (has_stages e)
     where
-      go : (b : Bool) → AllByRecursion (λ (p : PlacedEntry). p.ward ≡ e.ward.number) (cond b (map (placed_in e) (bundled e.ballots.papers)) [])
+      go : (b : Bool) → AllByRecursion (λ (p : PlacedEntry). p.ward ≡ e.ward.number) (cond b (map (placed_after e (stages_of e)) (bundled e.ballots.papers)) [])
       go true = placed_own (bundled e.ballots.papers)
       go false = tt
 

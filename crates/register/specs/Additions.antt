@@ -19,15 +19,11 @@ use Rattle.register.specs.declared.elections.Count.{Count as CountValue}
 use Rattle.register.specs.declared.tabulated.Addition.{Addition}
 use Rattle.register.specs.Marks.{columns_of}
 use Rattle.register.specs.Elections.{ElectionEntry, contest_of, stages_of}
-use Rattle.register.specs.Tabulated.{PlacedEntry, FigureEntry, AdditionEntries, placed_at, figure_at, no_addition, addition_entries, IsCountOf}
+use Rattle.register.specs.Tabulated.{PlacedEntry, FigureEntry, AdditionEntries, placed_after, figure_at, no_addition, addition_entries, IsCountOf}
 
 -- two places are one
 abbrev pub is_same_place : Place → Place → Bool
 is_same_place at other = (at.holder == other.holder) && (at.value == other.value)
-
--- a bundle of an election where its papers lie after some stages
-abbrev pub placed_after : ElectionEntry → History → Bundle → PlacedEntry
-placed_after e stages b = placed_at e.ward.number b (place (contest_of e) stages b.0)
 
 -- those bundles whose papers lie elsewhere after some stages than after others
 abbrev pub moved_between : ElectionEntry → History → History → List Bundle

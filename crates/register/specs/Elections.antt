@@ -68,13 +68,6 @@ due_of e = if has_count e then due_by (contest_of e) e.lots (stages_of e) else F
 abbrev pub elected_of : ElectionEntry → List ℕ
 elected_of e = if has_count e then elected_after (contest_of e) (stages_of e) else columns_of e.candidates
 
--- a book has counted the stages done, on the papers in another order, which makes no difference to what is read of it
-pub record IsCounted (e : ElectionEntry) (contest : Contest) (stages : History) : Type 0 where
-  pub stages_are : stages ≡ stages_of e
-  pub due_is : due_after contest stages ≡ due_after (contest_of e) (stages_of e)
-  pub drawn_is : due_by contest e.lots stages ≡ due_by (contest_of e) e.lots (stages_of e)
-  pub elected_are : elected_after contest stages ≡ elected_after (contest_of e) (stages_of e)
-
 -- ---- which counts a state may have
 
 -- the phase is that of a ward that has been sealed

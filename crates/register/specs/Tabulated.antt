@@ -1,5 +1,5 @@
 -- What an office tabulates of its counts: where each bundle of equal ballot papers lies, and every figure of every stage.
-use Rattle.std.specs.Prelude.{◌≡◌, ⊤, ℕ, ◌+◌, Bool, true, not, ◌&&◌, ◌==◌, if◌then◌else◌, List, [], ◌∷◌, ◌++◌, map, fold, length, Option, Some, None}
+use Rattle.std.specs.Prelude.{◌≡◌, ⊤, ℕ, ◌+◌, Bool, true, false, not, ◌&&◌, ◌==◌, if◌then◌else◌, List, [], ◌∷◌, ◌++◌, map, fold, length, Option, Some, None}
 use Rattle.std.specs.List.{flat_map}
 use Rattle.std.specs.List.Sorted.{IsStrictlySortedBy, IsPermutation}
 use Rattle.std.specs.Ordering.{nat_cmp, on, then_cmp, is_eq}
@@ -23,10 +23,12 @@ use Rattle.register.specs.declared.tabulated.StageFigure.{StageFigure}
 use Rattle.register.specs.declared.tabulated.Tabulation.{Tabulation}
 use Rattle.register.specs.declared.tabulated.Addition.{Addition}
 use Rattle.register.specs.declared.elections.Count.{Count as CountValue}
-use Rattle.register.specs.Offices.{WardEntry, OfficeState, ward_at}
+use Rattle.register.specs.declared.elections.CountedWard.{CountedWard}
+use Rattle.register.specs.declared.elections.WardSheet.{WardSheet}
+use Rattle.register.specs.Offices.{WardEntry, OfficeState, ward_at, ward_entry, candidate_entry}
 use Rattle.register.specs.Marks.{columns_of}
 use Rattle.register.specs.Effects.{change_entry, with_change}
-use Rattle.register.specs.Elections.{ElectionEntry, election_of, has_count, contest_of, stages_of}
+use Rattle.register.specs.Elections.{ElectionEntry, election_of, has_count, is_in_count, contest_of, stages_of}
 
 -- ---- entries
 
@@ -70,13 +72,13 @@ has_stages e = has_count e && not (e.ward.done == 0)
 abbrev pub placed_at : ℕ → Bundle → Place → PlacedEntry
 placed_at ward b at = record { ward = ward; list = b.0; papers = b.1; holder = at.holder; value = at.value }
 
--- a bundle of a ward where its papers lie after the stages done
-abbrev pub placed_in : ElectionEntry → Bundle → PlacedEntry
-placed_in e b = placed_at e.ward.number b (place (contest_of e) (stages_of e) b.0)
+-- a bundle of a ward where its papers lie after some stages
+abbrev pub placed_after : ElectionEntry → History → Bundle → PlacedEntry
+placed_after e stages b = placed_at e.ward.number b (place (contest_of e) stages b.0)
 
 -- all bundles of a ward, once its count has a stage
 abbrev pub bundles_in : ElectionEntry → List PlacedEntry
-bundles_in e = if has_stages e then map (placed_in e) (bundled e.ballots.papers) else []
+bundles_in e = if has_stages e then map (placed_after e (stages_of e)) (bundled e.ballots.papers) else []
 
 -- a figure of this stage of a ward's count
 abbrev pub figure_at : ℕ → ℕ → Figure → FigureEntry
@@ -182,7 +184,27 @@ pub record IsCountOf (e : ElectionEntry) (count : CountValue) : Type 0 where
   pub kept_is : IsKeptOf (contest_of e) (stages_of e) count.kept
   pub lots_are : count.lots.items ≡ e.lots
 
+-- it was found
+abbrev pub IsCount : ElectionEntry → Option CountValue → Type 0
+IsCount e found = (count : CountValue) × (found ≡ Some count) × IsCountOf e count
+
+-- the count of an election that is in count, and else none
+abbrev pub IsCountIn : ElectionEntry → Option CountValue → Type 0
+IsCountIn e None = is_in_count e ≡ false
+IsCountIn e (Some count) = (is_in_count e ≡ true) × IsCountOf e count
+
+-- the ward and the candidates of an election and, where it is in count, its count
+pub record IsCountedWard (e : ElectionEntry) (found : CountedWard) : Type 0 where
+  pub ward_is : ward_entry found.ward ≡ e.ward
+  pub candidates_are : map candidate_entry found.candidates.items ≡ e.candidates
+  pub count_is : IsCountIn e found.count
+
+-- the same, and how many of its papers are rejected
+pub record IsSheetOf (e : ElectionEntry) (sheet : WardSheet) : Type 0 where
+  pub counted_is : IsCountedWard e sheet.counted
+  pub rejected_are : is_in_count e ≡ true → sheet.rejected ≡ e.ballots.rejected
+
 -- where a stage is to be counted in a contested ward, its count is shown
 abbrev pub IsCountFor : OfficeState → Command → Option CountValue → Type 0
-IsCountFor s (Count (Advance ward)) shown = (w : WardEntry) → ward_at s ward ≡ Some w → has_count (election_of s w) ≡ true → (c : CountValue) × (shown ≡ Some c) × IsCountOf (election_of s w) c
+IsCountFor s (Count (Advance ward)) shown = (w : WardEntry) → ward_at s ward ≡ Some w → has_count (election_of s w) ≡ true → IsCount (election_of s w) shown
 IsCountFor s command shown = ⊤

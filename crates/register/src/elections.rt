@@ -9,21 +9,18 @@ ghost use Rattle.register.specs.Papers.{batches_of};
 ghost use Rattle.register.specs.Polls.{all_rejected, poll_of, poll_entry, piles_of, ballots_in, ballots_by, first_judgements};
 ghost use Rattle.register.specs.Offices.{WardEntry, OfficeState, MapsRise, ward_entry, candidate_entry, lot_entry, ward_at, candidates_of};
 ghost use Rattle.register.specs.Nominations.{is_contested};
-ghost use Rattle.register.specs.Elections.{ElectionEntry, IsElection, IsCounted, lot_pair, election_of, has_count, is_counted, is_in_count, contest_of, due_of, elected_of};
+ghost use Rattle.register.specs.Elections.{ElectionEntry, IsElection, lot_pair, election_of, has_count, is_counted, is_in_count, contest_of, due_of, elected_of};
 ghost use Rattle.register.specs.Items.{item1, item4, is_lot, IsState};
-ghost use Rattle.register.specs.Tabulated.{IsCountOf};
+ghost use Rattle.register.specs.Tabulated.{IsCount, IsCountOf};
 
 use crate::candidates::Candidate;
 use crate::counts::DrawnLot;
 use crate::marks::columns_of;
 use crate::phase::Phase;
-use crate::polls::{Ballots, Poll};
+use crate::polls::{Ballots, Poll, REJECTIONS};
 use crate::ranges::{is_candidate_number, is_lot_stage};
 use crate::wards::{Ward, is_contested};
-use count::{
-    BundleBook, Bundles, CountBook, Due, KeptCount, bundles_count_alike, count_to, due_by,
-    is_bundled_contest,
-};
+use count::{BundleBook, Bundles, Due, KeptCount, bundles_count_alike, is_bundled_contest};
 use paper::Columns;
 use std::alloc::{AllocError, Global};
 use votes::{MAX_SEATS, quota};
@@ -45,6 +42,22 @@ pub struct Election {
 pub struct Count {
     pub kept: KeptCount,
     pub lots: Vec<(u8, u8)>,
+}
+
+/// A ward, its candidates and, where it is in count, its count.
+#[derive(Debug, Drop)]
+pub struct CountedWard {
+    pub ward: Ward,
+    pub candidates: Vec<Candidate>,
+    pub count: Option<Count>,
+}
+
+/// What a stage sheet is written from: a ward with its count, and how many of its ballot papers are rejected,
+/// by code 1 to 5.
+#[derive(Debug, Drop)]
+pub struct WardSheet {
+    pub counted: CountedWard,
+    pub rejected: [u32; REJECTIONS],
 }
 
 /// Where a count stands: what is due by the recorded lots, and who is elected after the stages done.
@@ -145,6 +158,14 @@ impl Count {
             elected: self.kept.elected(),
         }
     }
+
+    /// How many valid papers it has. Takes no memory.
+    pub fn valid(&self) -> u32
+        ensures { (e : ElectionEntry) → IsCountOf e self.now → result ≡ length e.ballots.papers }
+    {
+        bundles_count_alike();
+        self.kept.bundles().papers()
+    }
 }
 
 impl Election {
@@ -166,47 +187,13 @@ impl Election {
         })
     }
 
-    /// A book with the stages done; none where no count can be held. An error is want of memory.
-    pub fn counted(&self, alloc: Global) -> Result<Option<BundleBook<'_>>, AllocError>
-        ensures is { IfOk result (λ found. IfSome found (λ book. (e : ElectionEntry) → IsElection self.now e → IsCounted e book.contest book.history)) }
-        ensures some { IfOk result (λ found. (e : ElectionEntry) → IsElection self.now e → IsContest (contest_of e) → IsSome found) }
-    {
-        bundles_count_alike();
-        let columns = columns_of(&self.candidates);
-        let Some(mut book) = book_of(alloc, columns, self.ward.seats, &self.ballots.papers)? else {
-            return Ok(None);
-        };
-        count_to(&mut book, &self.lots, self.ward.done as usize)?;
-        Ok(Some(book))
-    }
-
-    /// Where the count stands; none where it can't be held, as it can in each contested ward of an office.
-    /// The count of an uncontested ward is finished, and all its candidates are elected. An error is want
-    /// of memory.
-    pub fn progress(&self, alloc: Global) -> Result<Option<Progress>, AllocError>
-        ensures is { IfOk result (λ found. IfSome found (λ progress. (e : ElectionEntry) → IsElection self.now e → (progress.due ≡ due_of e) × (progress.elected ≡ elected_of e))) }
-        ensures some { IfOk result (λ found. (e : ElectionEntry) → IsElection self.now e → (has_count e ≡ true → IsContest (contest_of e)) → IsSome found) }
-    {
-        if !is_contested(&self.ward, &self.candidates) {
-            return Ok(Some(Progress {
-                due: Due::Finished,
-                elected: columns_of(&self.candidates),
-            }));
-        }
-        let Some(book) = self.counted(alloc)? else {
-            return Ok(None);
-        };
-        Ok(Some(Progress {
-            due: due_by(&book, &self.lots),
-            elected: book.elected(),
-        }))
-    }
-
-    /// The ward, its candidates, and their count, which has not begun: no stage is done in the ward. None where
-    /// it has more seats than a ward can have, as no ward of an office has. An error is want of memory.
-    pub fn begin(self, alloc: Global) -> Result<Option<(Ward, Vec<Candidate>, Count)>, AllocError>
-        ensures same { IfOk result (λ found. IfSome found (λ begun. (begun.0 ≡ self.ward) × (begun.1 ≡ self.candidates))) }
-        ensures is { IfOk result (λ found. IfSome found (λ begun. (e : ElectionEntry) → IsElection self e → e.ward.done ≡ 0 → IsContest (contest_of e) → IsCountOf e begun.2)) }
+    /// The ward with its count, which has not begun: no stage is done in it; and how many of its papers are
+    /// rejected. None where it has more seats than a ward can have, as no ward of an office has. An error is
+    /// want of memory.
+    pub fn begin(self, alloc: Global) -> Result<Option<WardSheet>, AllocError>
+        ensures same { IfOk result (λ found. IfSome found (λ begun. (begun.counted.ward ≡ self.ward) × (begun.counted.candidates ≡ self.candidates))) }
+        ensures is { IfOk result (λ found. IfSome found (λ begun. (e : ElectionEntry) → IsElection self e → e.ward.done ≡ 0 → IsContest (contest_of e) → IsCount e begun.counted.count)) }
+        ensures rejected { IfOk result (λ found. IfSome found (λ begun. (e : ElectionEntry) → IsElection self e → begun.rejected ≡ e.ballots.rejected)) }
         ensures some { IfOk result (λ found. self.ward.seats ≤ max_seats → IsSome found) }
     {
         if self.ward.seats > u32::from(MAX_SEATS) {
@@ -219,6 +206,14 @@ impl Election {
             kept,
             lots: self.lots,
         };
-        Ok(Some((self.ward, self.candidates, count)))
+        let counted = CountedWard {
+            ward: self.ward,
+            candidates: self.candidates,
+            count: Some(count),
+        };
+        Ok(Some(WardSheet {
+            counted,
+            rejected: self.ballots.rejected,
+        }))
     }
 }

@@ -1,6 +1,6 @@
 //! The ballot papers of a ward: which are valid, and why the others are rejected.
 
-ghost use Rattle.std.specs.Prelude.{◌≡◌, ℕ, List, ◌++◌, ◌∷◌, [], ◌==◌, Ok, Some, find, map, fold, IfOk};
+ghost use Rattle.std.specs.Prelude.{◌≡◌, ⊤, ℕ, List, ◌++◌, ◌∷◌, [], ◌==◌, Ok, Some, find, map, fold, IfOk};
 ghost use Rattle.std.specs.List.{flat_map};
 ghost use Rattle.paper.specs.MarksText.{reading};
 ghost use Rattle.paper.specs.Preferences.{rejection_of};
@@ -61,6 +61,18 @@ impl KeepsPapers for Bundles {
             return Err(AllocError);
         }
         self.add(paper)
+    }
+}
+
+/// Keeps no paper, for those who ask how many are rejected alone.
+#[derive(Debug, Drop)]
+pub struct NoPapers;
+
+impl KeepsPapers for NoPapers {
+    ghost holds = { λ kept papers. ⊤ };
+
+    fn keep(&mut self, _paper: Prefs) -> Result<(), AllocError> {
+        Ok(())
     }
 }
 

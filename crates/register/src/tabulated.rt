@@ -118,7 +118,7 @@ fn placed_bundle(
     papers: u32,
     at: &Placed,
 ) -> Result<PlacedBundle, AllocError>
-    ensures { IfOk result (λ bundle. (place : Place) → at.now ≡ placed place → placed_entry bundle ≡ placed_at ward (list.now, papers) place) }
+    ensures { IfOk result (λ bundle. placed_entry bundle ≡ record { ward = ward; list = list.now; papers = papers; holder = at.now.holder; value = at.now.value }) }
 {
     let list = Vec::from_slice(alloc, list.as_slice())?;
     Ok(PlacedBundle {
@@ -303,25 +303,6 @@ pub fn count_of(
     Ok(KeptCount::resume(candidates, seats, kept, places, stages))
 }
 
-/// A bundle of a ward at a place. An error is want of memory.
-fn bundle_at(
-    alloc: Global,
-    ward: u32,
-    list: &Prefs,
-    papers: u32,
-    at: Placed,
-) -> Result<PlacedBundle, AllocError>
-    ensures { IfOk result (λ bundle. placed_entry bundle ≡ record { ward = ward; list = list.now; papers = papers; holder = at.holder; value = at.value }) }
-{
-    Ok(PlacedBundle {
-        ward,
-        list: Vec::from_slice(alloc, list.as_slice())?,
-        papers,
-        holder: u32::from(at.holder),
-        value: at.value.units(),
-    })
-}
-
 /// The bundles of a ward that lie elsewhere than before, where they lie now. An error is want of memory.
 fn moved_bundles(
     alloc: Global,
@@ -342,7 +323,7 @@ fn moved_bundles(
             break;
         };
         if old != new {
-            moved.push(bundle_at(alloc, ward, list, *papers, *new)?)?;
+            moved.push(placed_bundle(alloc, ward, list, *papers, new)?)?;
         }
         old_places = other_old;
         new_places = other_new;
@@ -363,17 +344,9 @@ fn last_figures(
     let Ok(stage) = u32::try_from(stages.len()) else {
         return Err(AllocError);
     };
-    let of_stage = figures_of(alloc, candidates, stages)?;
+    let shown = figures_of(alloc, candidates, stages)?;
     let mut figures = Vec::new(alloc);
-    for figure in &of_stage {
-        figures.push(StageFigure {
-            ward,
-            stage,
-            candidate: figure.candidate,
-            units: figure.units,
-            mark: figure.mark,
-        })?;
-    }
+    add_stage(&mut figures, ward, stage, &shown)?;
     Ok(figures)
 }
 

@@ -15,7 +15,7 @@ use Rattle.register.specs.declared.wards.Ward.{Ward}
 use Rattle.register.specs.Offices.{WardEntry, ward_entry}
 use Rattle.register.specs.Marks.{columns_of}
 use Rattle.register.specs.Elections.{ElectionEntry, election_of, contest_of, stages_of}
-use Rattle.register.specs.Tabulated.{TabulationEntries, has_stages, placed_at, placed_in, bundles_in, figures_to, figures_in, tabulation_of}
+use Rattle.register.specs.Tabulated.{TabulationEntries, has_stages, placed_at, placed_after, bundles_in, figures_to, figures_in, tabulation_of}
 use Rattle.rowcheck.specs.declared.rows.Rows.{Rows}
 use Rattle.rowcheck.specs.States.{state_of}
 use Rattle.rowcheck.specs.Walks.Counts.{HasCounted}
@@ -47,9 +47,9 @@ module _ (e : ElectionEntry) (ward : WardEntry) (columns : List ℕ) (bundles : 
 
     pub counted-bundles : map (λ (b : Bundle). placed_at ward.number b (place book.contest book.history b.0)) bundles ≡ bundles_in e
     counted-bundles =
-        map-alike (λ (b : Bundle). placed_at ward.number b (place book.contest book.history b.0)) (placed_in e) bundles
+        map-alike (λ (b : Bundle). placed_at ward.number b (place book.contest book.history b.0)) (placed_after e (stages_of e)) bundles
         (λ b. ap (λ (w : WardEntry). placed_at w.number b (place book.contest book.history b.0)) has.ward_is ∙ ap (placed_at e.ward.number b) (counted_place b.0))
-        ∙ ap (map (placed_in e)) has.bundles_are
+        ∙ ap (map (placed_after e (stages_of e))) has.bundles_are
         ∙ sym (rw staged refl)
 
     pub counted-figures : (stages : History) → stages ≡ book.history → figures_to ward.number columns stages ≡ figures_in e

@@ -27,7 +27,7 @@ use Rattle.register.specs.Marks.{columns_of}
 use Rattle.register.specs.Polls.{piles_of}
 use Rattle.register.specs.Elections.{ElectionEntry, election_of, contest_of, stages_of}
 use Rattle.register.specs.Items.{is_ward, IsState}
-use Rattle.register.specs.Tabulated.{placed_in, bundles_in, figure_at, figures_to, figures_in, has_stages, tabulation_of}
+use Rattle.register.specs.Tabulated.{placed_after, bundles_in, figure_at, figures_to, figures_in, has_stages, tabulation_of}
 use Rattle.register.proofs.ContestLemmas.{columns_are_set, papers_are_fair, seats_and_papers_are_few}
 use Rattle.tables.specs.declared.table.Table.TheVariants.{Bundle as BundleTable, Vote}
 use Rattle.store.specs.EntryRows.{row_of_placed, IsPlacedRow, row_of_figure, IsFigureRow}
@@ -52,7 +52,7 @@ module _ (e : ElectionEntry) where
   ]
 
   placed_fit : e.ward.number < 2 ^ 32 → (bs : List Bundle) → AllByRecursion (λ (b : Bundle). b.1 ≤ max_papers) bs → AllByRecursion (λ (b : Bundle). AllByRecursion (λ c. In c (columns_of e.candidates)) b.0) bs
-      → AllByRecursion IsPlacedRow (map row_of_placed (map (placed_in e) bs))
+      → AllByRecursion IsPlacedRow (map row_of_placed (map (placed_after e (stages_of e)) bs))
   placed_fit number [] few among = tt
   placed_fit number (b ∷ bs) few among =
       let papers = few.0 in
@@ -65,7 +65,7 @@ module _ (e : ElectionEntry) where
   bundles_in_fit : e.ward.number < 2 ^ 32 → length e.ballots.papers ≤ max_papers → AreForCandidates (columns_of e.candidates) e.ballots.papers → AllByRecursion IsPlacedRow (map row_of_placed (bundles_in e))
   bundles_in_fit number few among = go (has_stages e)
     where
-      go : (b : Bool) → AllByRecursion IsPlacedRow (map row_of_placed (cond b (map (placed_in e) (bundled e.ballots.papers)) []))
+      go : (b : Bool) → AllByRecursion IsPlacedRow (map row_of_placed (cond b (map (placed_after e (stages_of e)) (bundled e.ballots.papers)) []))
       go true =
           let all = bundled-length e.ballots.papers in
           placed_fit number (bundled e.ballots.papers) (each_within max_papers (bundled e.ballots.papers) (omega (arith, all, few))) (lists-from (λ list. AllByRecursion (λ c. In c (columns_of e.candidates)) list) [] e.ballots.papers tt among)

@@ -5,13 +5,14 @@ use Rattle.count.specs.Kept.{CountKept, IsKeptOf}
 use Rattle.register.specs.Offices.{WardEntry, CandidateEntry, OfficeState, ward_at, candidates_of, ward_entry, candidate_entry, keyed_entry, judged_entry}
 use Rattle.register.specs.Polls.{Pile, poll_of}
 use Rattle.register.specs.declared.elections.Count.{Count}
+use Rattle.register.specs.declared.elections.CountedWard.{CountedWard}
+use Rattle.register.specs.declared.elections.WardSheet.{WardSheet}
 use Rattle.register.specs.declared.elections.Election.{Election}
 use Rattle.register.specs.Elections.{ElectionEntry, IsElection, has_count, contest_of, stages_of, due_of, elected_of, election_of, is_counted, is_in_count}
 use Rattle.register.specs.Nominations.{is_contested}
 use Rattle.register.specs.Parts.{PartEntries, empty_part}
-use Rattle.register.specs.Tabulated.{PlacedEntry, FigureEntry, tabulation_of, has_stages, IsCountOf}
+use Rattle.register.specs.Tabulated.{PlacedEntry, FigureEntry, tabulation_of, has_stages, IsCount, IsCountOf, IsCountedWard, IsSheetOf}
 use Rattle.store.specs.declared.views.elections.BatchPapers.{BatchPapers}
-use Rattle.store.specs.declared.views.counts.WardCount.{WardCount}
 
 -- what the papers of a batch stand for
 abbrev pub pile_by : BatchPapers → Pile
@@ -60,10 +61,6 @@ IsThere s w candidates = (ward_at s w.number ≡ Some w) × (candidates ≡ cand
 abbrev pub IsKept : ElectionEntry → Option CountKept → Type 0
 IsKept e found = (kept : CountKept) × (found ≡ Some kept) × IsKeptOf (contest_of e) (stages_of e) kept
 
--- the count of an election was found
-abbrev pub IsCount : ElectionEntry → Option Count → Type 0
-IsCount e found = (count : Count) × (found ≡ Some count) × IsCountOf e count
-
 -- the count of an election that has a stage, and else none
 abbrev pub IsBook : ElectionEntry → Option Count → Type 0
 IsBook e None = has_stages e ≡ false
@@ -80,17 +77,21 @@ IsHeld e None = has_count e ≡ false
 IsHeld e (Some count) = (has_count e ≡ true) × IsCountOf e count
 
 -- the ward and the candidates of an election, and its count
-pub record IsWardCount (e : ElectionEntry) (found : WardCount) : Type 0 where
+pub record IsWardCount (e : ElectionEntry) (found : CountedWard) : Type 0 where
   pub ward_is : ward_entry found.ward ≡ e.ward
   pub candidates_are : map candidate_entry found.candidates.items ≡ e.candidates
   pub count_is : IsHeld e found.count
 
 -- they were found
-abbrev pub IsCounted : ElectionEntry → Option WardCount → Type 0
-IsCounted e found = (count : WardCount) × (found ≡ Some count) × IsWardCount e count
+abbrev pub IsCounted : ElectionEntry → Option CountedWard → Type 0
+IsCounted e found = (count : CountedWard) × (found ≡ Some count) × IsWardCount e count
+
+-- they were found, and how many papers are rejected
+abbrev pub IsBegun : ElectionEntry → Option WardSheet → Type 0
+IsBegun e found = (sheet : WardSheet) × (found ≡ Some sheet) × IsWardCount e sheet.counted × (sheet.rejected ≡ e.ballots.rejected)
 
 -- they were found where the election is there
-abbrev pub IsCountedFor : Option ElectionEntry → Option WardCount → Type 0
+abbrev pub IsCountedFor : Option ElectionEntry → Option CountedWard → Type 0
 IsCountedFor None found = found ≡ None
 IsCountedFor (Some e) found = IsCounted e found
 
@@ -98,3 +99,21 @@ IsCountedFor (Some e) found = IsCounted e found
 abbrev pub IsShown : Option ElectionEntry → Option Count → Type 0
 IsShown None shown = ⊤
 IsShown (Some e) shown = has_count e ≡ true → IsCount e shown
+
+-- ---- the texts
+
+-- a ward was found with its count, where it is in count
+abbrev pub IsCountedIn : ElectionEntry → Option CountedWard → Type 0
+IsCountedIn e found = (counted : CountedWard) × (found ≡ Some counted) × IsCountedWard e counted
+
+abbrev pub IsCountedInFor : Option ElectionEntry → Option CountedWard → Type 0
+IsCountedInFor None found = found ≡ None
+IsCountedInFor (Some e) found = IsCountedIn e found
+
+-- what its sheet is written from was found
+abbrev pub IsSheet : ElectionEntry → Option WardSheet → Type 0
+IsSheet e found = (sheet : WardSheet) × (found ≡ Some sheet) × IsSheetOf e sheet
+
+abbrev pub IsSheetFor : Option ElectionEntry → Option WardSheet → Type 0
+IsSheetFor None found = found ≡ None
+IsSheetFor (Some e) found = IsSheet e found

@@ -3,9 +3,9 @@
 //! `Store` holds a connection between two transactions. `create` makes the tables of an empty office,
 //! `open_from` finds the state that the rows of a database stand for, `load_view` reads the part of it
 //! that one request needs, `load_status` and `load_columns` how a ward stands and what a batch's papers have
-//! as columns, `load_work` what a clerk has to key, `load_election` what the count of a ward rests on,
-//! `load_book` that count as it was kept, and `commit` keeps a change in one transaction, whole or not at
-//! all. `Fault` says why a call gave up.
+//! as columns, `load_work` what a clerk has to key, `load_sheet` and `load_counted` what the texts of a ward
+//! are written from, `load_book` its count as it was kept, and `commit` keeps a change in one transaction,
+//! whole or not at all. `Fault` says why a call gave up.
 //!
 //! ```text
 //! let mut store = Store::open_from(alloc, conn)?;

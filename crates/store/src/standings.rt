@@ -1,4 +1,4 @@
-//! How a ward stands, its election, and the columns of a batch's papers, read from the tables.
+//! How a ward stands, its count, its papers, and the columns of a batch's papers, read from the tables.
 
 ghost use Rattle.std.specs.Prelude.{◌≡◌, ◌+◌, ◌-◌, ◌^◌, min, if◌then◌else◌, false, [], ◌∷◌, map, option_map, IfOk, IfErr, OnOk, IsTrue};
 ghost use Rattle.sqlite.specs.State.{HasCleanDisk};
@@ -9,7 +9,7 @@ ghost use Rattle.std.specs.List.Sorted.{IsPermutation};
 ghost use Rattle.count.specs.Bundles.{papers_of};
 ghost use Rattle.register.specs.Polls.{piles_of, ballots_in, StandFor, are_listed, are_bundled};
 ghost use Rattle.register.specs.Elections.{lot_pair, election_of};
-ghost use Rattle.store.specs.Elections.{IsFoundFor, IsBookFor};
+ghost use Rattle.store.specs.Elections.{IsBookFor, IsCountedInFor, IsSheetFor};
 ghost use Rattle.register.specs.Standings.{status_entry, status_of, status_at, columns_at};
 ghost use Rattle.tables.specs.Reading.{OnlyReads, FailsBy};
 ghost use Rattle.store.specs.Offices.{IsAt};
@@ -20,14 +20,15 @@ use crate::storage::Store;
 use crate::views::batches::{find_batch, list_batches};
 use crate::views::books::find_book;
 use crate::views::candidates::list_candidates;
-use crate::views::elections::{find_ballots, find_election, recorded_lots};
+use crate::views::elections::{find_ballots, recorded_lots};
 use crate::views::papers::{Keyings, keyings_of, list_verdicts};
+use crate::views::sheets::{find_counted, find_sheet};
 use crate::views::wards::find_ward;
 use count::{Bundles, bundles_count_alike};
 use paper::{Columns, Prefs};
 use register::marks::columns_of;
 use register::papers::{are_taken, count_open, differ};
-use register::{Ballots, Batch, Count, Election, JudgedPaper, Status, Ward};
+use register::{Ballots, Batch, Count, CountedWard, JudgedPaper, Status, Ward, WardSheet};
 use sqlite::{Alter, Connection};
 use std::alloc::Global;
 use tables::Fault;
@@ -192,17 +193,30 @@ impl<S: Alter> Store<S> {
         find_status(self.alloc, &mut self.conn, ward)
     }
 
-    /// The election in the ward of this number, if there is one: what its sheet and its result are worked
-    /// out from. It changes nothing, and adds nothing to what a stop may leave. `Memory` or `Store` where
-    /// a row can't be read.
-    pub fn load_election(&mut self, ward: u32) -> Result<Option<Election>, Fault>
-        ensures shows { HasCleanDisk (state S.Store self.new) → (s : OfficeState) → IsAt s (state S.Store self.old) → IfOk result (λ found. IsFoundFor found (option_map (election_of s) (ward_at s ward))) }
+    /// The ward of this number with its count, if it is there: what its declaration is written from. The count
+    /// is there where the ward is in count; once a stage is done no paper is read for it. It changes nothing,
+    /// and adds nothing to what a stop may leave. `Memory` or `Store` where a row can't be read.
+    pub fn load_counted(&mut self, ward: u32) -> Result<Option<CountedWard>, Fault>
+        ensures shows { HasCleanDisk (state S.Store self.new) → (s : OfficeState) → IsAt s (state S.Store self.old) → IfOk result (λ found. IsCountedInFor (option_map (election_of s) (ward_at s ward)) found) }
         ensures cause { HasCleanDisk (state S.Store self.new) → (s : OfficeState) → IsAt s (state S.Store self.old) → IfErr result (FailsBy (state S.Store self.old) (state S.Store self.new)) }
         ensures opens { HasCleanDisk (state S.Store self.new) → OnOk result (IsTrue (state S.Store self.new).is_open) }
         ensures reads { OnlyReads (state S.Store self.old) (state S.Store self.new) }
         ensures keeps { HasCleanDisk (state S.Store self.new) → (s : OfficeState) → IsAt s (state S.Store self.old) → IsAt s (state S.Store self.new) }
     {
-        find_election(self.alloc, &mut self.conn, ward)
+        find_counted(self.alloc, &mut self.conn, ward)
+    }
+
+    /// What the stage sheet of the ward of this number is written from, if it is there: the same, and how many
+    /// of its papers are rejected, which is counted from the papers. It changes nothing, and adds nothing to
+    /// what a stop may leave. `Memory` or `Store` where a row can't be read.
+    pub fn load_sheet(&mut self, ward: u32) -> Result<Option<WardSheet>, Fault>
+        ensures shows { HasCleanDisk (state S.Store self.new) → (s : OfficeState) → IsAt s (state S.Store self.old) → IfOk result (λ found. IsSheetFor (option_map (election_of s) (ward_at s ward)) found) }
+        ensures cause { HasCleanDisk (state S.Store self.new) → (s : OfficeState) → IsAt s (state S.Store self.old) → IfErr result (FailsBy (state S.Store self.old) (state S.Store self.new)) }
+        ensures opens { HasCleanDisk (state S.Store self.new) → OnOk result (IsTrue (state S.Store self.new).is_open) }
+        ensures reads { OnlyReads (state S.Store self.old) (state S.Store self.new) }
+        ensures keeps { HasCleanDisk (state S.Store self.new) → (s : OfficeState) → IsAt s (state S.Store self.old) → IsAt s (state S.Store self.new) }
+    {
+        find_sheet(self.alloc, &mut self.conn, ward)
     }
 
     /// The count of the ward of this number as it was kept, by what is tabulated of it and by its lots, and

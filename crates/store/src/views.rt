@@ -20,6 +20,7 @@ pub(crate) mod elections;
 pub(crate) mod papers;
 mod receipts;
 pub(crate) mod settled;
+pub(crate) mod sheets;
 pub(crate) mod wards;
 
 use crate::storage::Store;

@@ -6,6 +6,7 @@ use Rattle.paper.specs.Standing.{from_first}
 use Rattle.count.specs.Advance.{IsDue}
 use Rattle.count.specs.Bundles.{Bundle, papers_of, AreBundles}
 use Rattle.count.specs.Books.{contest_of, placed}
+use Rattle.count.specs.Kept.{places_after}
 use Rattle.count.specs.Law.Contest.{Contest, History, IsContest, numbers}
 use Rattle.count.specs.Law.Count.{begun}
 use Rattle.count.specs.Law.Elected.{transfers, is_transferred}
@@ -24,17 +25,13 @@ use Rattle.count.specs.declared.terms.Terms.{Terms}
 abbrev pub contest_on : Terms → List Bundle → Contest
 contest_on terms bundles = contest_of terms (papers_of bundles)
 
--- where the papers of each bundle lie after some stages
-abbrev pub places_of : Contest → History → List Bundle → List Placed
-places_of contest stages bundles = map (λ (b : Bundle). placed (place contest stages b.0)) bundles
-
 -- what always holds of a book by bundles: each bundle lies where the law has its papers
 pub record IsBundled (contest : Contest) (history : History) (bundles : List Bundle) (places : List Placed) : Type 0 where
   pub fair : IsContest contest
   pub right : IsRightByItself contest history
   pub bundles_are : AreBundles bundles
   pub papers_are : contest.papers ≡ papers_of bundles
-  pub places_are : places ≡ places_of contest history bundles
+  pub places_are : places ≡ places_after contest history bundles
 
 -- an action is due in a book by bundles
 pub record IsDueInBook (contest : Contest) (history : History) (bundles : List Bundle) (places : List Placed) (action : Action) : Type 0 where

@@ -8,7 +8,7 @@ ghost use Rattle.register.specs.Elections.{ElectionEntry, election_of, has_count
 ghost use Rattle.register.specs.Counts.{poll_for, due_for, elected_for};
 ghost use Rattle.register.specs.Parts.{empty_part, part_entries};
 ghost use Rattle.register.specs.Tabulated.{has_stages};
-ghost use Rattle.store.specs.Elections.{IsFoundFor, polled_part, counted_part, IsThere, IsWardCount, IsCounted, IsCountedFor, IsShown};
+ghost use Rattle.store.specs.Elections.{IsFoundFor, polled_part, counted_part, IsThere, IsWardCount, IsBegun, IsCounted, IsCountedFor, IsShown};
 ghost use Rattle.store.specs.Reads.{Reads};
 
 use crate::views::books::kept_count;
@@ -19,7 +19,7 @@ use count::Due;
 use register::elections::{Progress, elections_are_fair};
 use register::marks::columns_of;
 use register::wards::is_contested;
-use register::{Candidate, Count, Election, Part, Ward};
+use register::{Candidate, CountedWard, Election, Part, Ward, WardSheet};
 use sqlite::{Alter, Connection};
 use std::alloc::Global;
 use tables::Fault;
@@ -59,69 +59,73 @@ pub(crate) fn seal_part<S: Alter>(
     Ok(part)
 }
 
-/// A ward, its candidates, and its count where it is contested.
-#[derive(Drop)]
-struct WardCount {
-    ward: Ward,
-    candidates: Vec<Candidate>,
-    count: Option<Count>,
-}
-
-impl WardCount {
-    /// Where the count stands. That of an uncontested ward is finished, and all its candidates are elected.
-    fn progress(&self) -> Progress
-        ensures { (e : ElectionEntry) → IsWardCount e self.now → (result.due ≡ due_of e) × (result.elected ≡ elected_of e) }
-    {
-        match &self.count {
-            Some(count) => count.progress(),
-            None => Progress {
-                due: Due::Finished,
-                elected: columns_of(&self.candidates),
-            },
-        }
+/// Where the count of a ward stands. That of an uncontested ward is finished, and all its candidates are
+/// elected.
+fn progress_of(found: &CountedWard) -> Progress
+    ensures { (e : ElectionEntry) → IsWardCount e found.now → (result.due ≡ due_of e) × (result.elected ≡ elected_of e) }
+{
+    match &found.count {
+        Some(count) => count.progress(),
+        None => Progress {
+            due: Due::Finished,
+            elected: columns_of(&found.candidates),
+        },
     }
 }
 
-/// The count of a contested ward with no stage done, whose candidates these are: begun on its papers. None
-/// where it has more seats than a ward can have, as none of an office has.
+/// The count of a contested ward with no stage done, whose candidates these are: begun on its papers; and how
+/// many of them are rejected. None where it has more seats than a ward can have, as none of an office has.
+pub(crate) fn begun_sheet<S: Alter>(
+    alloc: Global,
+    conn: &mut Connection<S>,
+    ward: Ward,
+    candidates: Vec<Candidate>,
+) -> Result<Option<WardSheet>, Fault>
+    requires { conn.old.in_transaction ≡ false }
+    ensures { Reads (state S.Store conn.old) (state S.Store conn.new) result
+        (λ s found. IsThere s (ward_entry ward) (map candidate_entry candidates.items) → has_count (election_of s (ward_entry ward)) ≡ true → ward.done ≡ 0 → IsBegun (election_of s (ward_entry ward)) found) }
+{
+    elections_are_fair();
+    let election = ward_election(alloc, conn, ward, candidates)?;
+    match election.begin(alloc) {
+        Ok(begun) => Ok(begun),
+        Err(_) => Err(Fault::Memory),
+    }
+}
+
+/// The same count alone.
 fn begun_count<S: Alter>(
     alloc: Global,
     conn: &mut Connection<S>,
     ward: Ward,
     candidates: Vec<Candidate>,
-) -> Result<Option<WardCount>, Fault>
+) -> Result<Option<CountedWard>, Fault>
     requires { conn.old.in_transaction ≡ false }
     ensures { Reads (state S.Store conn.old) (state S.Store conn.new) result
         (λ s found. IsThere s (ward_entry ward) (map candidate_entry candidates.items) → has_count (election_of s (ward_entry ward)) ≡ true → ward.done ≡ 0 → IsCounted (election_of s (ward_entry ward)) found) }
 {
-    elections_are_fair();
-    let election = ward_election(alloc, conn, ward, candidates)?;
-    match election.begin(alloc) {
-        Ok(Some((ward, candidates, count))) => Ok(Some(WardCount {
-            ward,
-            candidates,
-            count: Some(count),
-        })),
-        Ok(None) => Ok(None),
-        Err(_) => Err(Fault::Memory),
+    let begun = begun_sheet(alloc, conn, ward, candidates)?;
+    match begun {
+        Some(sheet) => Ok(Some(sheet.counted)),
+        None => Ok(None),
     }
 }
 
 /// The count of a contested ward that has a stage, whose candidates these are: as it was kept, by what is
 /// tabulated alone. None where that is of no count, as in no office.
-fn resumed_count<S: Alter>(
+pub(crate) fn resumed_count<S: Alter>(
     alloc: Global,
     conn: &mut Connection<S>,
     ward: Ward,
     candidates: Vec<Candidate>,
-) -> Result<Option<WardCount>, Fault>
+) -> Result<Option<CountedWard>, Fault>
     requires { conn.old.in_transaction ≡ false }
     ensures { Reads (state S.Store conn.old) (state S.Store conn.new) result
         (λ s found. IsThere s (ward_entry ward) (map candidate_entry candidates.items) → has_stages (election_of s (ward_entry ward)) ≡ true → IsCounted (election_of s (ward_entry ward)) found) }
 {
     let found = kept_count(alloc, conn, &ward, &candidates)?;
     match found {
-        Some(count) => Ok(Some(WardCount {
+        Some(count) => Ok(Some(CountedWard {
             ward,
             candidates,
             count: Some(count),
@@ -132,12 +136,12 @@ fn resumed_count<S: Alter>(
 
 /// The count of a contested ward, whose candidates these are: begun on its papers where no stage is done, and
 /// else by what is tabulated alone.
-fn contested_count<S: Alter>(
+pub(crate) fn contested_count<S: Alter>(
     alloc: Global,
     conn: &mut Connection<S>,
     ward: Ward,
     candidates: Vec<Candidate>,
-) -> Result<Option<WardCount>, Fault>
+) -> Result<Option<CountedWard>, Fault>
     requires { conn.old.in_transaction ≡ false }
     ensures { Reads (state S.Store conn.old) (state S.Store conn.new) result
         (λ s found. IsThere s (ward_entry ward) (map candidate_entry candidates.items) → has_count (election_of s (ward_entry ward)) ≡ true → IsCounted (election_of s (ward_entry ward)) found) }
@@ -154,14 +158,14 @@ fn ward_count<S: Alter>(
     alloc: Global,
     conn: &mut Connection<S>,
     ward: Ward,
-) -> Result<Option<WardCount>, Fault>
+) -> Result<Option<CountedWard>, Fault>
     requires { conn.old.in_transaction ≡ false }
     ensures { Reads (state S.Store conn.old) (state S.Store conn.new) result
         (λ s found. ward_at s ward.number ≡ Some (ward_entry ward) → IsCounted (election_of s (ward_entry ward)) found) }
 {
     let candidates = list_candidates(alloc, conn, ward.number)?;
     if !is_contested(&ward, &candidates) {
-        return Ok(Some(WardCount {
+        return Ok(Some(CountedWard {
             ward,
             candidates,
             count: None,
@@ -176,7 +180,7 @@ fn find_count<S: Alter>(
     alloc: Global,
     conn: &mut Connection<S>,
     ward: u32,
-) -> Result<Option<WardCount>, Fault>
+) -> Result<Option<CountedWard>, Fault>
     requires { conn.old.in_transaction ≡ false }
     ensures { Reads (state S.Store conn.old) (state S.Store conn.new) result (λ s found. IsCountedFor (option_map (election_of s) (ward_at s ward)) found) }
 {
@@ -193,15 +197,15 @@ fn find_count<S: Alter>(
 
 /// The part of a command that needs what is due in the count of a ward, if it is there, who is elected, and
 /// the count.
-fn counted(alloc: Global, found: Option<WardCount>) -> Part
+fn counted(alloc: Global, found: Option<CountedWard>) -> Part
     ensures part { (entry : Option ElectionEntry) → IsCountedFor entry found → part_entries result ≡ counted_part entry }
     ensures count { (entry : Option ElectionEntry) → IsCountedFor entry found → IsShown entry result.count }
 {
     let Some(found) = found else {
         return Part::empty(alloc);
     };
-    let progress = found.progress();
-    let WardCount { ward, count, .. } = found;
+    let progress = progress_of(&found);
+    let CountedWard { ward, count, .. } = found;
     Part {
         ward: Some(ward),
         due: Some(progress.due),

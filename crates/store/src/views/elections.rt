@@ -116,7 +116,7 @@ fn ballots_of<S: Alter, P: KeepsPapers + Drop>(
 
 /// What the papers of a ward come to, whose columns these are. Where it is in count they are taken in row by
 /// row, as the first clerks keyed them; else the keyings of both clerks are read, one batch after the other.
-fn ward_ballots<S: Alter, P: KeepsPapers + Drop>(
+pub(crate) fn ward_ballots<S: Alter, P: KeepsPapers + Drop>(
     alloc: Global,
     conn: &mut Connection<S>,
     kept: P,

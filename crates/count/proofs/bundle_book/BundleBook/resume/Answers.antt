@@ -3,7 +3,8 @@ use Rattle.std.proofs.Common.{◌≡◌, ◌∙◌, List, reverse, refl, sym, ap
 use Rattle.count.specs.Bundles.{papers_of}
 use Rattle.count.specs.Law.Contest.{Contest, contest_for, IsContest}
 use Rattle.count.specs.Law.Right.{IsRightByItself}
-use Rattle.count.specs.Inside.Placing.{contest_on, places_of}
+use Rattle.count.specs.Kept.{places_after}
+use Rattle.count.specs.Inside.Placing.{contest_on}
 use Rattle.count.specs.declared.stages.Stage.{Stage}
 use Rattle.count.proofs.BundleBookLemmas.{some-own}
 use Rattle.count.proofs.bundle_book.BundleBook.resume.Goals as goal
@@ -23,6 +24,6 @@ invariant_of-result c =
       papers_are = refl;
       places_are =
           c.in_ok-places.ensures.items ∙ c.requires.places
-          ∙ ap (λ (k : Contest). places_of k (reverse c.args.stages.now) c.args.bundles.now) (sym same)
-          ∙ ap (λ (l : List Stage). places_of contest (reverse l) c.args.bundles.now) (sym copied);
+          ∙ ap (λ (k : Contest). places_after k (reverse c.args.stages.now) c.args.bundles.now) (sym same)
+          ∙ ap (λ (l : List Stage). places_after contest (reverse l) c.args.bundles.now) (sym copied);
     }
