@@ -5,13 +5,14 @@ mod bundles;
 mod worked;
 
 use count::{
-    Action, AdvanceError, CountBook, CountEnd, Due, Kind, ParcelBook, Stage, count_to, due_by,
-    dues_to, is_contest, run_count,
+    Action, AdvanceError, BundleBook, Bundles, CountBook, CountEnd, Due, Kind, ParcelBook, Stage,
+    count_to, due_by, dues_to, is_bundled_contest, is_contest, run_count,
 };
 use paper::{Columns, Prefs};
 use std::alloc::{AllocError, Global};
 use std::process::Abort;
 use std::test::Fail;
+use votes::MAX_PAPERS;
 use worked::{Expected, WORKED, Worked};
 
 /// The candidates 1 to n.
@@ -175,13 +176,25 @@ fn recorded_lots_decide(rt: HostRuntime) -> Result<(), Fail> {
 }
 
 /// Adds a stage, and once more where a growth was refused, which has to leave the book as it was.
-fn advance_again(rt: &impl Abort, book: &mut ParcelBook, stages: usize) {
+fn advance_again<B: CountBook>(rt: &impl Abort, book: &mut B, stages: usize) {
     let due = book.due();
     if book.advance(None) == Err(AdvanceError::Memory) {
         assert!(rt; book.stages().len() == stages && book.due() == due);
         assert!(rt; book.advance(None).is_ok());
     }
     assert_eq!(rt; book.stages().len(), stages.saturating_add(1));
+}
+
+/// Adds a paper, and once more where a growth was refused, which has to leave the bundles as they were.
+fn add_again(rt: &impl Abort, bundles: &mut Bundles, paper: Prefs) {
+    let (papers, len) = (bundles.papers(), bundles.len());
+    if papers >= MAX_PAPERS {
+        return;
+    }
+    if bundles.add(paper).is_err() {
+        assert!(rt; (bundles.papers(), bundles.len()) == (papers, len));
+        assert!(rt; bundles.papers() < MAX_PAPERS && bundles.add(paper).is_ok());
+    }
 }
 
 // Run by `rt try --test --fail-alloc 1..`, which refuses each growth in turn.
@@ -197,6 +210,45 @@ fn a_refused_growth_leaves_the_book(rt: HostRuntime) -> Result<(), Fail> {
     for stages in 0..worked.stages.len() {
         advance_again(&rt, &mut book, stages);
     }
+    assert!(rt; book.due() == Due::Finished);
+    Ok(())
+}
+
+// Run by `rt try --test --fail-alloc 1..`, as above: each call that fails is made once more.
+#[test]
+fn a_refused_growth_leaves_the_bundles(rt: HostRuntime) -> Result<(), Fail> {
+    let alloc = rt.alloc();
+    let Some(worked) = WORKED.get(1) else {
+        return Err(Fail::from("no such election"));
+    };
+    let candidates = first_columns(worked.candidates);
+    let papers = papers_of(alloc, worked.papers)?;
+    let mut bundles = Bundles::new(alloc);
+    for paper in &papers {
+        add_again(&rt, &mut bundles, *paper);
+    }
+    assert!(rt; is_bundled_contest(&candidates, worked.seats, &bundles));
+    let mut book = match BundleBook::new(alloc, candidates, worked.seats, &bundles) {
+        Ok(book) => book,
+        Err(AllocError) => BundleBook::new(alloc, candidates, worked.seats, &bundles)?,
+    };
+    for stages in 0..worked.stages.len() {
+        advance_again(&rt, &mut book, stages);
+    }
+    let mut stood = BundleBook::new(alloc, candidates, worked.seats, &bundles)?;
+    count_to(&mut stood, worked.lots, worked.stages.len())?;
+    let (places, made) = (stood.places(), stood.stages());
+    let book = match BundleBook::resume(alloc, candidates, worked.seats, &bundles, places, made) {
+        Ok(book) => book,
+        Err(AllocError) => BundleBook::resume(
+            alloc,
+            candidates,
+            worked.seats,
+            &bundles,
+            places,
+            made,
+        )?,
+    };
     assert!(rt; book.due() == Due::Finished);
     Ok(())
 }

@@ -3,16 +3,16 @@
 ghost use Rattle.std.specs.Prelude.{◌≡◌, []};
 
 use super::worked::{WORKED, Worked};
-use super::{first_columns, papers_of, records};
+use super::{first_columns, papers_of, records, with_all};
 use count::{
-    BundleBook, Bundles, CountBook, CountEnd, ParcelBook, count_to, is_bundled_contest, is_contest,
-    run_count,
+    BundleBook, Bundles, CountBook, CountEnd, Due, KeptCount, NextStage, ParcelBook, Placed,
+    count_to, is_bundled_contest, is_contest, run_count,
 };
 use paper::Prefs;
 use std::alloc::Global;
 use std::process::Abort;
 use std::test::Fail;
-use votes::MAX_PAPERS;
+use votes::{MAX_PAPERS, ONE_VOTE, Votes};
 
 /// The papers of some groups as bundles, added one by one from the last to the first.
 pub fn bundles_of(alloc: Global, papers: &[Prefs]) -> Result<Bundles, Fail> {
@@ -119,6 +119,76 @@ fn counts_go_on_from_each_stage(rt: HostRuntime) -> Result<(), Fail> {
         for stages in 0..worked.stages.len() {
             goes_on_from(&rt, rt.alloc(), worked, &bundles, stages)?;
         }
+    }
+    Ok(())
+}
+
+/// Counts a worked election stage by stage, each by what was kept of the stage before.
+fn goes_on_from_what_was_kept(rt: &impl Abort, alloc: Global, worked: &Worked) -> Result<(), Fail> {
+    let candidates = first_columns(worked.candidates);
+    let papers = papers_of(alloc, worked.papers)?;
+    let bundles = bundles_of(alloc, &papers)?;
+    let mut kept = KeptCount::begin(alloc, candidates, worked.seats, bundles)?;
+    let mut elected = first_columns(0);
+    for expected in worked.stages {
+        let Some(next) = kept.next_stage(alloc, worked.lots)? else {
+            return Err(Fail::from("no stage is due"));
+        };
+        let NextStage { places, stages } = next;
+        let Some(stage) = stages.last() else {
+            return Err(Fail::from("no stage was made"));
+        };
+        assert!(rt; records(stage, expected), "{}: {stage:?}", worked.name);
+        elected = with_all(elected, expected.elected);
+        let bundles = bundles_of(alloc, &papers)?;
+        kept = KeptCount::resume(candidates, worked.seats, bundles, places, stages).ok_or(
+            "what was kept is of no count",
+        )?;
+        assert!(rt;
+            kept.elected() == elected,
+            "{}: {:?}",
+            worked.name,
+            kept.elected()
+        );
+    }
+    assert!(rt;
+        kept.next_stage(alloc, worked.lots)?.is_none(),
+        "{}",
+        worked.name
+    );
+    assert!(rt;
+        matches!(kept.due_by(worked.lots), Due::Finished),
+        "{}",
+        worked.name
+    );
+    Ok(())
+}
+
+#[test]
+fn counts_go_on_from_what_was_kept(rt: HostRuntime) -> Result<(), Fail> {
+    for worked in &WORKED {
+        goes_on_from_what_was_kept(&rt, rt.alloc(), worked)?;
+    }
+    Ok(())
+}
+
+#[test]
+fn places_that_no_count_has_are_not_taken_up(rt: HostRuntime) -> Result<(), Fail> {
+    let candidates = first_columns(3);
+    for (holder, value, is_taken_up) in [
+        (30, ONE_VOTE, true),
+        (31, ONE_VOTE, false),
+        (1, ONE_VOTE + 1, false),
+    ] {
+        let papers = papers_of(rt.alloc(), &[(2, &[1])])?;
+        let bundles = bundles_of(rt.alloc(), &papers)?;
+        let mut places = Vec::new(rt.alloc());
+        places.push(Placed {
+            holder,
+            value: Votes::from_units(value),
+        })?;
+        let kept = KeptCount::resume(candidates, 1, bundles, places, Vec::new(rt.alloc()));
+        assert_eq!(rt; kept.is_some(), is_taken_up, "{holder} {value}");
     }
     Ok(())
 }
