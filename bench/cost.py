@@ -42,7 +42,8 @@ def measured(count):
 def label(name):
     """What a reader of the page is told of an order."""
     name = re.sub(r"all [0-9]+ stages", "all stages", name).replace("ward 8 2 Quay", "ward of another ward")
-    return re.sub(r"^([a-z]+(-[a-z]+)?(?= |,|$))(?! keying of| sheet of| rows read)", r"`\1`", name)
+    name = re.sub(r"its [0-9]+ rows", "its rows", name)
+    return re.sub(r"^([a-z]+(-[a-z]+)?(?= |,|$))(?! keying of| sheet of| rows (read|added))", r"`\1`", name)
 
 
 def cell(seconds, peak):

@@ -5,16 +5,19 @@
 
 The ward has 10 candidates and 4 seats, and its papers come from the fixed generator of keying.py, none of them doubtful. Its
 batches are filled by the stock sqlite with the rows that the orders would have left; the program judges them at each opening.
-Each order is timed on a copy of the file, as the shortest of several runs.
+Each order is timed on a copy of the file, as the shortest of several runs. The first stage, which adds a row a bundle, is timed
+beside the stock sqlite that Python has, which adds the same rows in one transaction and does nothing else.
 """
 
 import os
 import random
+import shutil
 import sqlite3
 import sys
 import tempfile
+import time
 
-from keying import BATCH, CANDIDATES, PROGRAM, SEATS, best, build, papers, play, run
+from keying import BATCH, CANDIDATES, PROGRAM, RUNS, SEATS, best, build, papers, play, run
 
 
 def keep_batches(town, chance, batches):
@@ -53,6 +56,36 @@ def advance(town, stages, found=0):
     return done
 
 
+def rows_of_stages(town):
+    """The rows of the tables bundle and vote."""
+    base = sqlite3.connect(town)
+    rows = {table: base.execute(f"SELECT * FROM {table}").fetchall() for table in ("bundle", "vote")}
+    base.close()
+    return rows
+
+
+def adding_seconds(town):
+    """How many rows the first stage adds, and the shortest time in which the stock sqlite adds them in one transaction."""
+    counted = town + ".counted"
+    shutil.copyfile(town, counted)
+    advance(counted, 1)
+    rows = rows_of_stages(counted)
+    os.remove(counted)
+    times = []
+    for _ in range(RUNS):
+        copy = town + ".copy"
+        shutil.copyfile(town, copy)
+        began = time.perf_counter()
+        base = sqlite3.connect(copy)
+        with base:
+            for table, added in rows.items():
+                base.executemany(f"INSERT INTO {table} VALUES (?, ?, ?, ?, ?)", added)
+        base.close()
+        times.append(time.perf_counter() - began)
+        os.remove(copy)
+    return sum(map(len, rows.values())), min(times)
+
+
 def measure(folder, count):
     town = make_ward(folder, count)
     results = []
@@ -64,6 +97,10 @@ def measure(folder, count):
     timed("ward 8 2 Quay, in keying", *idle)
     timed("seal", "seal", "7", "--id", "x")
     play(folder, town, "seal", "7", "--id", "seal")
+    timed("ward 8 2 Quay, sealed", *idle)
+    timed("advance, the first stage", "advance", "7", "--id", "x")
+    added, seconds = adding_seconds(town)
+    results.append((f"its {added} rows added by the stock sqlite", seconds, None))
     advance(town, 3)
     timed("ward 8 2 Quay, 3 stages done", *idle)
     timed("advance", "advance", "7", "--id", "x")
@@ -91,7 +128,7 @@ def main():
                 name, seconds, peak = results[row]
                 if name.startswith("ward 8"):
                     bases[place] = seconds
-                line += f"{seconds * 1000:13.0f} ms {seconds / bases[place]:6.2f} {peak:8.0f}"
+                line += f"{seconds * 1000:13.0f} ms {seconds / bases[place]:6.2f} {peak or 0:8.0f}"
             print(line)
 
 

@@ -5,7 +5,7 @@
 
 Keyings: the batches of a ward, 500 papers each, are keyed by a clerk over loopback to one `serve`, a connection each, and on a
 copy of the file by one order each. Sheets: of a ward of so many papers with three stages done, over loopback, a connection
-each; its count is made anew for each. Both are told a second; the times of `serve` don't have its opening in them.
+each; its rows are read anew for each. Both are told a second; the times of `serve` don't have its opening in them.
 """
 
 import http.client
