@@ -101,7 +101,7 @@ fn serve<S: Alter, E: Sink>(
         Err((fault, conn)) => return (tell_failure(Failure::Office(fault), err), conn),
     };
     let served = match listen(rt, port) {
-        Some(listener) => serve_on(rt.alloc(), &listener, connections, &mut office),
+        Some(listener) => serve_on(rt.alloc(), rt, &listener, connections, &mut office),
         None => Err(Failure::Output),
     };
     let status = match served {

@@ -54,7 +54,7 @@ AdmitsAll {I = I} next from to clients wanted (Err failure) = (here : I) × Yiel
 abbrev pub IsFresh : {T U : Type 0} → Counted T × Counted U → Type 0
 IsFresh client = (failed_calls client.0 ≡ 0) × (failed_calls client.1 ≡ 0)
 
--- how long a client may keep the office waiting at one time, in nanoseconds: half a minute
+-- how long a client may take to send his request, and how long to take his answer, in nanoseconds: half a minute
 abbrev pub patience : ℕ
 patience = 30 * 1000000000
 

@@ -25,6 +25,7 @@ mod requests;
 // and those to lines and a status.
 mod import;
 pub mod lines;
+pub mod patience;
 pub mod perform;
 mod printing;
 pub mod progress;

@@ -1,81 +1,60 @@
 //! Clients, served one after the other.
 
 ghost use Rattle.std.specs.Prelude.{◌≡◌, ◌-◌, ◌^◌, ◌<◌, ◌≤◌, IfErr, IfOk, IfSome, List, OnOk, length, true, false};
-ghost use Rattle.std.specs.Duration.{as_nanos};
 ghost use Rattle.sqlite.specs.State.{HasCleanDisk};
 ghost use Rattle.sqlite.specs.Held.{state};
 ghost use Rattle.register.specs.Machine.{after};
 ghost use Rattle.register.specs.Offices.{empty_office};
 ghost use Rattle.register.specs.declared.command.Request.{Request};
 ghost use Rattle.store.specs.Offices.{IsAt};
-ghost use Rattle.desk.specs.Serving.{Admits, CountFailures, IsFresh, IsKeptOf, ServesClients, patience, streams_of};
+ghost use Rattle.desk.specs.Serving.{Admits, CountFailures, IsFresh, IsKeptOf, ServesClients, streams_of};
 
 use crate::lines::Failure;
+use crate::patience::Patient;
 use office::Office;
 use sqlite::Alter;
 use std::alloc::Global;
 use std::io;
-use std::io::{Read, Write};
 use std::net::{Incoming, TcpListener, TcpStream};
-use std::time::Duration;
+use std::time::Clock;
 use votes::{Counted, Sink, Source};
 use wire::serve_one;
 
-/// How long a client may keep the office waiting for his bytes, or for taking ours, at one time.
-fn patience() -> Duration
-    ensures { as_nanos result ≡ patience }
-{
-    Duration::from_secs(30)
-}
+/// A client who was let in: what he sends, and where his answer goes.
+pub type Client<'a, C> = (
+    Counted<Patient<'a, TcpStream, C>>,
+    Counted<Patient<'a, TcpStream, C>>,
+);
 
-/// Limits how long the office waits for a client, so that a silent one doesn't hold it for ever.
-pub fn limit_waiting(stream: &TcpStream) -> io::Result<()> {
-    let patience = Some(patience());
-    stream.set_read_timeout(patience)?;
-    stream.set_write_timeout(patience)
-}
-
-/// What a client sends. Where the waiting for him can't be limited, each read fails.
+/// The clients of a listener. Each has his time, which a clock tells.
 #[derive(Drop)]
-pub struct Sending(io::Result<TcpStream>);
-
-impl Sending {
-    fn new(stream: &TcpStream) -> Sending {
-        match limit_waiting(stream) {
-            Ok(()) => Sending(stream.try_clone()),
-            Err(error) => Sending(Err(error)),
-        }
-    }
+pub struct Clients<'a, C> {
+    incoming: Incoming<'a>,
+    clock: &'a C,
 }
 
-impl Read for Sending {
-    fn read(&mut self, room: &mut [u8]) -> io::Result<usize> {
-        match &mut self.0 {
-            Ok(stream) => stream.read(room),
-            Err(error) => Err(io::Error::from(error.kind())),
-        }
-    }
-}
-
-/// The clients of a listener: what each sends, and where his answer goes.
-#[derive(Drop)]
-pub struct Clients<'a>(Incoming<'a>);
-
-impl<'a> Clients<'a> {
+impl<'a, C: Clock> Clients<'a, C> {
     /// Those who come to a listener.
-    pub fn new(listener: &'a TcpListener) -> Clients<'a> {
-        Clients(listener.incoming())
+    pub fn new(listener: &'a TcpListener, clock: &'a C) -> Clients<'a, C> {
+        Clients {
+            incoming: listener.incoming(),
+            clock,
+        }
     }
 }
 
-impl Iterator for Clients<'_> {
-    type Item = io::Result<(Counted<Sending>, Counted<TcpStream>)>;
+impl<'a, C: Clock> Iterator for Clients<'a, C> {
+    type Item = io::Result<Client<'a, C>>;
 
     ghost next_gives = { λ _ next _. IfSome next (λ found. IfOk found IsFresh) };
 
-    fn next(&mut self) -> Option<io::Result<(Counted<Sending>, Counted<TcpStream>)>> {
-        match self.0.next()? {
-            Ok(stream) => Some(Ok((Counted::new(Sending::new(&stream)), Counted::new(stream)))),
+    fn next(&mut self) -> Option<io::Result<Client<'a, C>>> {
+        match self.incoming.next()? {
+            Ok(stream) => {
+                let sending = Patient::new(stream.try_clone(), self.clock);
+                let taking = Patient::new(Ok(stream), self.clock);
+                Some(Ok((Counted::new(sending), Counted::new(taking))))
+            }
             Err(error) => Some(Err(error)),
         }
     }
@@ -132,22 +111,29 @@ where
 
 /// Serves so many clients of a listener, as `serve_all` does.
 ///
-/// What a real socket gives and takes no clause can tell. Of an open office, whatever a stop leaves is the state
+/// A client has 30 seconds for his request, and as long to take his answer; then he is let go, as one whose line
+/// broke. What a real socket gives and takes no clause can tell. Of an open office, whatever a stop leaves is the state
 /// after the accepted requests of a beginning of all that were ever sent, of which those here are clerks'
 /// keyings, at most one a client.
-pub fn serve_on<S: Alter>(
+pub fn serve_on<'a, C: Clock, S: Alter>(
     alloc: Global,
-    listener: &TcpListener,
+    clock: &'a C,
+    listener: &'a TcpListener,
     connections: u32,
     office: &mut Office<S>,
 ) -> Result<(), Failure>
     ensures told { IfErr result (λ failure. failure ≡ Failure.Output) }
     ensures kept { HasCleanDisk (state S.Store office.new.held) → office.old.closed ≡ false → (earlier : List Request) → IsAt (after empty_office earlier) (state S.Store office.old.held)
         → (clients : _) × (length clients ≤ connections)
-        × IsKeptOf (streams_of ⟦<Counted<Sending> as Source>⟧.held ⟦<Counted<Sending> as Source>⟧.failed ⟦<Counted<TcpStream> as Sink>⟧.taken ⟦<Counted<TcpStream> as Sink>⟧.failed)
+        × IsKeptOf (streams_of ⟦<Counted<Patient<'a, TcpStream, C>> as Source>⟧.held ⟦<Counted<Patient<'a, TcpStream, C>> as Source>⟧.failed ⟦<Counted<Patient<'a, TcpStream, C>> as Sink>⟧.taken ⟦<Counted<Patient<'a, TcpStream, C>> as Sink>⟧.failed)
         earlier clients office.new.closed (state S.Store office.new.held) }
     ensures closed { office.old.closed ≡ true → office.new ≡ office.old }
     ensures clean { HasCleanDisk (state S.Store office.new.held) → HasCleanDisk (state S.Store office.old.held) }
 {
-    serve_all(alloc, &mut Clients::new(listener), connections, office)
+    serve_all(
+        alloc,
+        &mut Clients::new(listener, clock),
+        connections,
+        office,
+    )
 }

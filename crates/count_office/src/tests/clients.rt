@@ -3,11 +3,13 @@
 ghost use Rattle.std.specs.Prelude.{IfOk, IfSome};
 ghost use Rattle.desk.specs.Serving.{IsFresh};
 
+use desk::patience::Limits;
 use std::alloc::Global;
-use std::cell::RefCell;
+use std::cell::{Cell, RefCell};
 use std::io;
 use std::io::{ErrorKind, Read, Write};
 use std::test::Fail;
+use std::time::{Clock, Duration};
 use votes::Counted;
 
 /// A client: the bytes that it sends before it ends its side, after how many of them reading it fails, and
@@ -128,6 +130,69 @@ impl<'s, 'p> Iterator for Coming<'_, 's, 'p> {
             }
             None => Some(Err(io::Error::from(ErrorKind::ConnectionAborted))),
         }
+    }
+}
+
+/// A clock that is so many seconds later each time it is looked at.
+#[derive(Drop)]
+pub struct Jumping {
+    now: Cell<u64>,
+    by: u64,
+}
+
+impl Jumping {
+    pub fn by(seconds: u64) -> Jumping {
+        Jumping {
+            now: Cell::new(0),
+            by: seconds,
+        }
+    }
+}
+
+impl Clock for Jumping {
+    fn monotonic(&self) -> io::Result<Duration> {
+        let now = self.now.get();
+        self.now.set(now.saturating_add(self.by));
+        Ok(Duration::from_secs(now))
+    }
+
+    fn since_1970(&self) -> io::Result<Duration> {
+        self.monotonic()
+    }
+}
+
+/// A line that gives a byte a read and takes a byte a write, and how long it was let wait for the last one.
+#[derive(Drop)]
+pub struct Dripping<'a> {
+    pub limit: &'a Cell<Duration>,
+}
+
+impl Limits for Dripping<'_> {
+    fn limit(&self, left: Duration) -> io::Result<()> {
+        self.limit.set(left);
+        Ok(())
+    }
+}
+
+impl Read for Dripping<'_> {
+    fn read(&mut self, buffer: &mut [u8]) -> io::Result<usize> {
+        match buffer.first_mut() {
+            Some(byte) => {
+                *byte = b'x';
+                Ok(1)
+            }
+            None => Ok(0),
+        }
+    }
+}
+
+impl Write for Dripping<'_> {
+    fn write(&mut self, bytes: &[u8]) -> io::Result<usize> {
+        Ok(bytes.len().min(1))
+    }
+
+    fn flush(&mut self) -> io::Result<()> {
+        Ok(())
     }
 }
 

@@ -1,10 +1,12 @@
 //! Connections over loopback, in one process with their clients.
 
+use super::clients::{Dripping, Jumping};
 use super::disks::play_acts;
 use super::http::{BAD_REQUEST, BEGUN, KEYED, KEYING};
 use super::steps::Step;
-use desk::serving::limit_waiting;
-use std::io::{Read, Write};
+use desk::patience::{Limits, Patient};
+use std::cell::Cell;
+use std::io::{ErrorKind, Read, Write};
 use std::net::{OpenListener, OpenStream, Shutdown, TcpListener, TcpStream};
 use std::process::Abort;
 use std::test::Fail;
@@ -53,9 +55,42 @@ fn a_silent_connection_is_let_go(rt: HostRuntime) -> Result<(), Fail> {
 fn both_ways_of_waiting_are_limited(rt: HostRuntime) -> Result<(), Fail> {
     let listener = TcpListener::bind(&rt, "127.0.0.1:0")?;
     let stream = TcpStream::connect(&rt, listener.local_addr()?)?;
-    limit_waiting(&stream)?;
-    let half_a_minute = Some(Duration::from_secs(30));
-    assert!(rt; stream.read_timeout()? == half_a_minute);
-    assert!(rt; stream.write_timeout()? == half_a_minute);
+    let a_while = Duration::from_secs(7);
+    stream.limit(a_while)?;
+    assert!(rt; stream.read_timeout()? == Some(a_while));
+    assert!(rt; stream.write_timeout()? == Some(a_while));
+    Ok(())
+}
+
+#[test]
+fn a_client_who_sends_a_byte_now_and_then_is_let_go(rt: HostRuntime) -> Result<(), Fail> {
+    let (clock, limit) = (Jumping::by(10), Cell::new(Duration::ZERO));
+    let mut sending = Patient::new(Ok(Dripping { limit: &limit }), &clock);
+    let mut room = [0; 8];
+    for left in [30, 20, 10] {
+        assert_eq!(rt; sending.read(&mut room)?, 1);
+        assert!(rt; limit.get() == Duration::from_secs(left));
+    }
+    assert!(rt;
+        sending
+            .read(&mut room)
+            .is_err_and(|error| error.kind() == ErrorKind::TimedOut)
+    );
+    Ok(())
+}
+
+#[test]
+fn a_client_who_takes_a_byte_now_and_then_is_let_go(rt: HostRuntime) -> Result<(), Fail> {
+    let (clock, limit) = (Jumping::by(10), Cell::new(Duration::ZERO));
+    let mut taking = Patient::new(Ok(Dripping { limit: &limit }), &clock);
+    for left in [30, 20, 10] {
+        assert_eq!(rt; taking.write(b"answer")?, 1);
+        assert!(rt; limit.get() == Duration::from_secs(left));
+    }
+    assert!(rt;
+        taking
+            .write(b"answer")
+            .is_err_and(|error| error.kind() == ErrorKind::TimedOut)
+    );
     Ok(())
 }

@@ -2,7 +2,7 @@
 
 ghost use Rattle.std.specs.Prelude.{◌≡◌, ◌+◌, ◌-◌, ◌^◌, ◌<◌};
 
-use super::clients::{Client, Coming, Taking};
+use super::clients::{Client, Coming, Jumping, Taking};
 use desk::perform::perform;
 use desk::serving::serve_all;
 use desk::{order, serve_on, tell_words};
@@ -228,7 +228,8 @@ fn listen<S: Alter + Drop>(
     let Ok(mut office) = Office::open_from(alloc, conn) else {
         return Err(Fail::from("no office is opened"));
     };
-    let served = serve_on(alloc, listener, connections, &mut office);
+    let clock = Jumping::by(0);
+    let served = serve_on(alloc, &clock, listener, connections, &mut office);
     let conn = office.into_connection();
     let text = format!(in alloc; "{served:?}")?;
     Ok((Said::quietly(alloc, text), conn))
