@@ -28,11 +28,15 @@ pub record AreLeft (ward : ℕ) (at : List ℕ → Place) (items all : List Plac
 same_place : (p q : Placed) (ps qs : List Placed) → p ∷ ps ≡ q ∷ qs → (p ≡ q) × (ps ≡ qs)
 same_place p q ps qs same = (cc, cc)
 
-pub one_less : (ward : ℕ) (at : List ℕ → Place) (items new all : List PlacedEntry) (b : Bundle) (bs : List Bundle) (p : Placed) (ps : List Placed) (entry : PlacedEntry) → ((place : Place) → p ≡ placed place → entry ≡ placed_at ward b place)
+-- a bundle of a ward at a place that a book hands out
+abbrev at_placed : ℕ → Bundle → Placed → PlacedEntry
+at_placed ward b p = record { ward = ward; list = b.0; papers = b.1; holder = p.holder; value = p.value }
+
+pub one_less : (ward : ℕ) (at : List ℕ → Place) (items new all : List PlacedEntry) (b : Bundle) (bs : List Bundle) (p : Placed) (ps : List Placed) (entry : PlacedEntry) → entry ≡ at_placed ward b p
     → new ≡ items ++ entry ∷ [] → AreLeft ward at items all (b ∷ bs) (p ∷ ps) → AreLeft ward at new all bs ps
 one_less ward at items new all b bs p ps entry is pushed left =
     let heads = same_place p (placed (at b.0)) ps (lying at bs) left.lie in
-    let entry_is : entry ≡ placed_at ward b (at b.0) = is (at b.0) heads.0 in
+    let entry_is : entry ≡ placed_at ward b (at b.0) = is ∙ ap (at_placed ward b) heads.0 in
     record {
       lie = heads.1;
       make = ap (λ es. es ++ tabulated ward at bs) pushed ∙ append_assoc items (entry ∷ []) (tabulated ward at bs) ∙ ap (λ (x : PlacedEntry). items ++ x ∷ tabulated ward at bs) entry_is ∙ left.make;

@@ -2,15 +2,14 @@
 use Rattle.std.proofs.Common.{◌≡◌, ℕ, Bool, List, length, refl, sym, subst, ap, ◌∙◌}
 use Rattle.votes.specs.Units.{quota_of}
 use Rattle.count.specs.Bundles.{Bundle, papers_of, bundled}
-use Rattle.count.specs.Law.Contest.{Contest, History, contest_for, IsContest}
+use Rattle.count.specs.Law.Contest.{Contest, contest_for, IsContest}
 use Rattle.count.specs.Law.Due.{due_after}
-use Rattle.count.specs.Law.Elected.{elected_after}
-use Rattle.count.specs.Law.Count.{stages_to, due_by}
+use Rattle.count.specs.Law.Count.{stages_to}
 use Rattle.count.specs.Law.Right.{reordered}
 use Rattle.count.proofs.OrderLemmas.{bundled-length, contest-bundled, contest-reordered, stages-bundled}
 use Rattle.register.specs.Marks.{columns_of}
 use Rattle.register.specs.Polls.{PollEntry, poll_of}
-use Rattle.register.specs.Elections.{ElectionEntry, IsCounted, contest_of, stages_of}
+use Rattle.register.specs.Elections.{ElectionEntry, contest_of}
 
 -- the poll of papers in bundles is that of the papers
 pub poll-alike : (e : ElectionEntry) (valid seats quota : ℕ) (bundles : List Bundle) (rejected : List ℕ) (settled : Bool) → bundles ≡ bundled e.ballots.papers → valid ≡ length (papers_of bundles) →
@@ -46,17 +45,6 @@ module _ (e : ElectionEntry) (candidates : List ℕ) (seats : ℕ) (bundles : Li
         ∙ ap (λ ls. stages_to (contest_for (columns_of e.candidates) e.ward.seats (papers_of (bundled e.ballots.papers))) ls k) drawn
         ∙ stages-bundled (columns_of e.candidates) e.ward.seats e.ballots.papers e.lots k
 
-    -- with the same due after each,
+    -- with the same due after each
     pub due-alike : (k : ℕ) → due_after contest (stages_to contest lots k) ≡ due_after (contest_of e) (stages_to (contest_of e) e.lots k)
     due-alike k = ap (λ (c : Contest). due_after c (stages_to contest lots k)) other_order ∙ ap (due_after (contest_of e)) (stages-alike k)
-
-    -- so that who has counted those that are done there has counted them
-    pub counted-alike : (done : ℕ) (stages : History) → done ≡ e.ward.done → stages ≡ stages_to contest lots done → IsCounted e contest stages
-    counted-alike done stages were counted =
-        let are : stages ≡ stages_of e = counted ∙ ap (stages_to contest lots) were ∙ stages-alike e.ward.done in
-        record {
-          stages_are = are;
-          due_is = ap (λ (c : Contest). due_after c stages) other_order ∙ ap (due_after (contest_of e)) are;
-          drawn_is = ap (λ (c : Contest). due_by c e.lots stages) other_order ∙ ap (due_by (contest_of e) e.lots) are;
-          elected_are = ap (λ (c : Contest). elected_after c stages) other_order ∙ ap (elected_after (contest_of e)) are;
-        }

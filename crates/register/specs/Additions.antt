@@ -19,7 +19,7 @@ use Rattle.register.specs.declared.elections.Count.{Count as CountValue}
 use Rattle.register.specs.declared.tabulated.Addition.{Addition}
 use Rattle.register.specs.Marks.{columns_of}
 use Rattle.register.specs.Elections.{ElectionEntry, contest_of, stages_of}
-use Rattle.register.specs.Tabulated.{PlacedEntry, FigureEntry, AdditionEntries, placed_after, figure_at, no_addition, addition_entries, IsCountOf}
+use Rattle.register.specs.Tabulated.{FigureEntry, AdditionEntries, placed_after, figure_at, no_addition, addition_entries, IsCountOf}
 
 -- two places are one
 abbrev pub is_same_place : Place → Place → Bool

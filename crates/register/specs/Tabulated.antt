@@ -13,7 +13,7 @@ use Rattle.count.specs.Law.Places.{Place, place}
 use Rattle.count.specs.declared.figures.Figure.{Figure}
 use Rattle.count.specs.declared.placed.Placed.{Placed}
 use Rattle.register.specs.declared.command.Command.{Command}
-use Rattle.register.specs.declared.command.Command.TheVariants.{Ward, Candidate, Batch, Keying, Verdict, Count}
+use Rattle.register.specs.declared.command.Command.TheVariants.{Count}
 use Rattle.register.specs.declared.counts.CountCommand.TheVariants.{Advance}
 use Rattle.register.specs.declared.decision.Decision.{Decision}
 use Rattle.register.specs.declared.decision.Decision.TheVariants.{Accepted, Kept, Refused}

@@ -20,7 +20,7 @@ use crate::phase::Phase;
 use crate::polls::{Ballots, Poll, REJECTIONS};
 use crate::ranges::{is_candidate_number, is_lot_stage};
 use crate::wards::{Ward, is_contested};
-use count::{BundleBook, Bundles, Due, KeptCount, bundles_count_alike, is_bundled_contest};
+use count::{BundleBook, Bundles, Due, KeptCount, is_bundled_contest};
 use paper::Columns;
 use std::alloc::{AllocError, Global};
 use votes::{MAX_SEATS, quota};
@@ -163,7 +163,6 @@ impl Count {
     pub fn valid(&self) -> u32
         ensures { (e : ElectionEntry) → IsCountOf e self.now → result ≡ length e.ballots.papers }
     {
-        bundles_count_alike();
         self.kept.bundles().papers()
     }
 }
@@ -201,6 +200,7 @@ impl Election {
         }
         let seats = self.ward.seats as u8;
         let columns = columns_of(&self.candidates);
+        let rejected = self.ballots.rejected;
         let kept = KeptCount::begin(alloc, columns, seats, self.ballots.papers)?;
         let count = Count {
             kept,
@@ -211,9 +211,6 @@ impl Election {
             candidates: self.candidates,
             count: Some(count),
         };
-        Ok(Some(WardSheet {
-            counted,
-            rejected: self.ballots.rejected,
-        }))
+        Ok(Some(WardSheet { counted, rejected }))
     }
 }

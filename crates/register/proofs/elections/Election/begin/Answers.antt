@@ -1,5 +1,5 @@
 -- Why `Election::begin` keeps its promise.
-use Rattle.std.proofs.Common.{◌≡◌, [], map, ap, sym, ◌∙◌, subst}
+use Rattle.std.proofs.Common.{◌≡◌, [], map, ap, refl, sym, ◌∙◌, subst}
 use Rattle.count.specs.Kept.{IsKeptOf}
 use Rattle.count.specs.Law.Count.{stages_to}
 use Rattle.register.specs.Offices.{WardEntry, candidate_entry}
@@ -15,8 +15,14 @@ pub returns-clause-is : goal.returns-clause-is
 returns-clause-is c = λ e is none fair.
     let columns : c.columns_of-columns.result ≡ columns_of e.candidates =
     c.columns_of-columns.ensures.is ∙ ap (λ cs. columns_of (map candidate_entry cs)) c.deref.ensures.value ∙ ap columns_of is.candidates_are in
-    let seats : e.ward.seats ≡ c.args.self.ward.seats = ap (λ (w : WardEntry). w.seats) (sym is.ward_is) in
-    record {
-      kept_is = subst (λ h. IsKeptOf (contest_of e) h c.in_ok-kept.kept) (sym (none_done e none)) (c.in_ok-kept.ensures.is (contest_of e) fair (sym columns) seats is.ballots_are.papers_held);
-      lots_are = is.lots_are;
-    }
+    let seats : e.ward.seats ≡ c.args.self.ward.seats = ap (λ (w : WardEntry). w.seats) (sym is.ward_is) in (
+      record { kept = c.in_ok-kept.kept; lots = c.args.self.lots },
+      refl,
+      record {
+        kept_is = subst (λ h. IsKeptOf (contest_of e) h c.in_ok-kept.kept) (sym (none_done e none)) (c.in_ok-kept.ensures.is (contest_of e) fair (sym columns) seats is.ballots_are.papers_held);
+        lots_are = is.lots_are;
+      },
+    )
+
+pub returns-clause-rejected : goal.returns-clause-rejected
+returns-clause-rejected c = λ e is. is.ballots_are.rejected_are
