@@ -14,6 +14,7 @@ mod help;
 mod http;
 mod keyings;
 mod lists;
+mod loads;
 mod lots;
 mod nominations;
 mod offices;

@@ -128,7 +128,7 @@ Elected
 ];
 
 /// The first two stages of that ward.
-const TWO_STAGES: Act = Act::Typed(
+pub const TWO_STAGES: Act = Act::Typed(
     "$ advance 7 --id n1
 ward 7 stage 1 first preferences
 $ advance 7 --id n2

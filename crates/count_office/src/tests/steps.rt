@@ -3,6 +3,7 @@
 ghost use Rattle.std.specs.Prelude.{◌≡◌, ◌+◌, ◌-◌, ◌^◌, ◌<◌};
 
 use super::clients::{Client, Coming, Jumping, Taking};
+use super::loads::loads;
 use desk::perform::perform;
 use desk::serving::serve_all;
 use desk::{order, serve_on, tell_words};
@@ -28,6 +29,8 @@ pub enum Step<'a> {
     List(&'a [Request]),
     /// The office opened, and asked for the work of a clerk; what it tells stands as the output.
     Work(u32),
+    /// The store opened, and asked for a ward's papers and its count; what it reads stands as the output.
+    Loads(u32),
     /// The office opened, and a client served that sends these bytes; what it took stands as the output, and
     /// what came of serving as the error output.
     Ask(&'a [u8]),
@@ -76,7 +79,7 @@ pub struct Said {
 }
 
 impl Said {
-    fn quietly(alloc: Global, out: String) -> Said {
+    pub fn quietly(alloc: Global, out: String) -> Said {
         Said {
             status: 0,
             out,
@@ -282,6 +285,7 @@ fn done<S: Alter + Drop>(
         }
         Step::List(requests) => list(alloc, conn, requests),
         Step::Work(clerk) => work(alloc, conn, clerk),
+        Step::Loads(ward) => loads(alloc, conn, ward),
         Step::Ask(sends) => serve(alloc, conn, &[Some(Client::whole(sends))], 1),
         Step::Serve(clients, connections) => serve(alloc, conn, clients, connections),
         Step::Listen(listener, connections) => listen(alloc, conn, listener, connections),
