@@ -3,3 +3,4 @@ pub mod RunLemmas
 mod ClerkLemmas
 pub mod SheetLemmas
 pub mod StopLemmas
+mod TextLemmas

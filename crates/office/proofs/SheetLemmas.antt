@@ -1,10 +1,11 @@
 -- Why the texts of a textual election can be printed, and why the election of each ward of a state is textual.
-use Rattle.std.proofs.Common.{◌≡◌, ℕ, ◌≤◌, ◌&&◌, nat_le, ◌==◌, Bool, true, false, List, [], ◌∷◌, length, map, Some, None, if◌then◌else◌, string_bytes, String, refl, sym, subst, ap, ◌∙◌}
+use Rattle.std.proofs.Common.{◌≡◌, ℕ, ◌≤◌, ◌&&◌, nat_le, ◌==◌, Bool, true, false, List, [], ◌∷◌, length, map, Option, Some, None, if◌then◌else◌, string_bytes, String, refl, sym, subst, ap, ◌∙◌}
 use Rattle.std.specs.List.{list_all}
 use Rattle.std.specs.declared.alloc.Global.{Global}
 use Rattle.std.proofs.lemmas.Bool.{and_parts, leb-true}
 use Rattle.votes.specs.Units.{max_seats, max_papers}
 use Rattle.paper.specs.Columns.{IsColumnSet}
+use Rattle.sheet.specs.declared.ward.Poll.{Poll}
 use Rattle.sheet.specs.declared.ward.Ward.{Ward}
 use Rattle.sheet.specs.Entries.{SheetEntry, shown}
 use Rattle.sheet.specs.Wards.{HasFewPapers, CanBePrinted}
@@ -15,7 +16,7 @@ use Rattle.register.specs.Elections.{ElectionEntry, election_of, has_count}
 use Rattle.register.specs.Items.{is_ward, is_candidate, IsState}
 use Rattle.register.proofs.MapLemmas.{kept_all, found_passes, list_all_weaker}
 use Rattle.register.proofs.ContestLemmas.{columns_are_set, seats_and_papers_are_few, contest_is_fair}
-use Rattle.office.specs.Sheets.{candidate_shown, poll_shown, election_shown, is_numbered, IsTextual}
+use Rattle.office.specs.Sheets.{candidate_shown, poll_shown, shown_with, is_numbered, IsTextual}
 
 -- ---- what can be printed
 
@@ -27,16 +28,9 @@ numbers_of_shown : (cs : List CandidateEntry) → map (λ (line : ℕ × List �
 numbers_of_shown [] = refl
 numbers_of_shown (c ∷ cs) = ap (λ (ns : List ℕ). c.number ∷ ns) (numbers_of_shown cs)
 
-few_shown : (e : ElectionEntry) → length e.ballots.papers ≤ max_papers → HasFewPapers (poll_shown e)
-few_shown e few = go (has_count e)
-  where
-    go : (b : Bool) → HasFewPapers (if b then Some (record { valid = length e.ballots.papers; rejected = e.ballots.rejected }) else None)
-    go true = few
-    go false = tt
-
--- a ward that shows a textual election can be printed
-pub textual_can_be_printed : (ward : Ward) (e : ElectionEntry) → shown ward ≡ election_shown e → IsTextual e → CanBePrinted ward
-textual_can_be_printed ward e same textual =
+-- a ward that shows a textual election, with few papers, can be printed
+pub textual_can_be_printed : (ward : Ward) (poll : Option Poll) (e : ElectionEntry) → shown ward ≡ shown_with poll e → IsTextual e → HasFewPapers poll → CanBePrinted ward
+textual_can_be_printed ward poll e same textual few =
     let seats : e.ward.seats ≡ ward.seats = sym (ap (λ (x : SheetEntry). x.seats) same) in
     let numbers : map (λ (c : CandidateEntry). c.number) e.candidates ≡ map (λ (line : ℕ × String Global). line.0) ward.candidates.now =
     sym (numbers_of_shown e.candidates) ∙ (ap (λ (x : SheetEntry). map (λ (line : ℕ × List ℕ). line.0) x.candidates) (sym same) ∙ numbers_of_lines ward.candidates.now) in
@@ -44,8 +38,16 @@ textual_can_be_printed ward e same textual =
       some_seats = subst (λ (n : ℕ). 1 ≤ n) seats textual.some_seats;
       few_seats = subst (λ (n : ℕ). n ≤ max_seats) seats textual.few_seats;
       candidate_set = subst IsColumnSet numbers textual.ascending;
-      few_papers = subst HasFewPapers (ap (λ (x : SheetEntry). x.poll) (sym same)) (few_shown e textual.few_papers);
+      few_papers = subst HasFewPapers (ap (λ (x : SheetEntry). x.poll) (sym same)) few;
     }
+
+-- the papers of a textual election are few
+pub few_shown : (e : ElectionEntry) → length e.ballots.papers ≤ max_papers → HasFewPapers (poll_shown e)
+few_shown e few = go (has_count e)
+  where
+    go : (b : Bool) → HasFewPapers (if b then Some (record { valid = length e.ballots.papers; rejected = e.ballots.rejected }) else None)
+    go true = few
+    go false = tt
 
 -- ---- each ward of a state
 

@@ -139,6 +139,7 @@ impl<S: Alter> Office<S> {
     ///
     /// Refused where the number is outside 1 to 99, no ward has it, or the ward isn't sealed yet. Nothing is
     /// changed. `Memory` leaves the office open; any other fault closes it. A closed office tells `Closed`.
+    #[tactic(auto, using(crate::proofs::StopLemmas::stops_of_memory))]
     pub fn sheet(&mut self, ward: u32) -> Result<String, Stop>
         ensures reads { WhenOpenAt (state S.Store) self.old self.new
             (λ s. Read string_bytes s (text_told Text.Sheet s ward) result self.new.closed (state S.Store self.new.held)) }
@@ -163,6 +164,7 @@ impl<S: Alter> Office<S> {
     /// Refused where the number is outside 1 to 99, no ward has it, or the ward isn't declared yet. Nothing
     /// is changed. `Memory` leaves the office open; any other fault closes it. A closed office tells
     /// `Closed`.
+    #[tactic(auto, using(crate::proofs::StopLemmas::stops_of_memory))]
     pub fn result(&mut self, ward: u32) -> Result<String, Stop>
         ensures reads { WhenOpenAt (state S.Store) self.old self.new
             (λ s. Read string_bytes s (text_told Text.Declaration s ward) result self.new.closed (state S.Store self.new.held)) }
