@@ -1,22 +1,24 @@
 -- What is read for the count of a ward is what the state has.
-use Rattle.std.proofs.Common.{◌≡◌, ◌≤◌, ◌==◌, ◌&&◌, not, ℕ, Option, Some, None, MatchOption, IfSome, IsSome, option_map, true, false, refl, sym, ap, subst, ◌∙◌, true≢false, arith}
+use Rattle.std.proofs.Common.{◌≡◌, ◌≤◌, ◌==◌, ◌&&◌, not, ℕ, map, Option, Some, None, MatchOption, IfSome, IsSome, option_map, true, false, refl, sym, ap, subst, ◌∙◌, true≢false, arith}
 use Rattle.std.proofs.Math.Bool.{and-false}
 use Rattle.std.proofs.lemmas.Bool.{and_parts, and_from, ne_eqb}
 use Rattle.register.specs.declared.elections.Count.{Count}
-use Rattle.register.specs.Offices.{WardEntry, OfficeState, ward_at}
+use Rattle.register.specs.declared.elections.CountedWard.{CountedWard}
 use Rattle.register.specs.declared.elections.Election.{Election}
-use Rattle.register.specs.Elections.{ElectionEntry, election_of, has_count}
+use Rattle.register.specs.declared.elections.WardSheet.{WardSheet}
+use Rattle.register.specs.Offices.{WardEntry, OfficeState, ward_at, ward_entry, candidate_entry}
+use Rattle.register.specs.Elections.{ElectionEntry, IsElection, election_of, has_count, is_counted, is_in_count, contest_of}
 use Rattle.register.specs.Items.{IsState}
 use Rattle.register.proofs.MapLemmas.{found_number}
 use Rattle.register.proofs.ContestLemmas.{seats_and_papers_are_few}
+use Rattle.count.specs.Law.Contest.{IsContest}
 use Rattle.votes.specs.Units.{max_seats}
 use Rattle.register.specs.Counts.{poll_for, due_for, elected_for}
 use Rattle.register.specs.Parts.{empty_part}
 use Rattle.register.specs.declared.command.Command.TheVariants.{Count as counting}
 use Rattle.register.specs.declared.counts.CountCommand.TheVariants.{Advance}
-use Rattle.register.specs.Tabulated.{has_stages, IsCountFor}
-use Rattle.store.specs.Elections.{IsFoundFor, polled_part, counted_part, IsCount, IsBook, IsHeld, IsCountedFor, IsShown}
-use Rattle.store.specs.declared.views.counts.WardCount.{WardCount}
+use Rattle.register.specs.Tabulated.{has_stages, IsCount, IsCountIn, IsCountFor, IsCountedWard}
+use Rattle.store.specs.Elections.{IsFoundFor, polled_part, counted_part, IsBook, IsHeld, IsWardCount, IsBegun, IsCounted, IsCountedFor, IsShown, IsCountedIn, IsSheet}
 
 -- the part with the poll, of a ward that may be there
 pub part_polled : (s : OfficeState) (ward : Option WardEntry) → polled_part (option_map (election_of s) ward) ≡ record empty_part { ward = ward; poll = poll_for s ward }
@@ -86,17 +88,59 @@ book_found e found begun is = subst (IsBook e) (sym is.1) (begun, is.2)
 pub held_found : (e : ElectionEntry) (found : Option Count) → has_count e ≡ true → IsCount e found → IsHeld e found
 held_found e found contested is = subst (IsHeld e) (sym is.1) (contested, is.2)
 
+-- the sheet that an election begins with
+pub begun_found : (e : ElectionEntry) (from : Election) (found : Option WardSheet) → IsElection from e → has_count e ≡ true → e.ward.done ≡ 0 → IsContest (contest_of e) → IsSome found
+    → IfSome found (λ begun. (begun.counted.ward ≡ from.ward) × (begun.counted.candidates ≡ from.candidates))
+    → IfSome found (λ begun. (e : ElectionEntry) → IsElection from e → e.ward.done ≡ 0 → IsContest (contest_of e) → IsCount e begun.counted.count)
+    → IfSome found (λ begun. (e : ElectionEntry) → IsElection from e → begun.rejected ≡ e.ballots.rejected)
+    → IsBegun e found
+begun_found e from None of contested fresh fair some same is rejected = absurd (true≢false (sym some))
+begun_found e from (Some sheet) of contested fresh fair some same is rejected = (
+  sheet,
+  refl,
+  record {
+    ward_is = ap ward_entry same.0 ∙ of.ward_is;
+    candidates_are = ap (λ cs. map candidate_entry cs.items) same.1 ∙ of.candidates_are;
+    count_is = held_found e sheet.counted.count contested (is e of fresh fair);
+  },
+  rejected e of,
+)
+
 -- what a command sees of a count that was found
 pub held_shown : (e : ElectionEntry) (found : Option Count) → IsHeld e found → has_count e ≡ true → IsCount e found
 held_shown e None none contested = absurd (true≢false (sym contested ∙ none))
 held_shown e (Some count) is contested = (count, refl, is.1)
 
-pub counted_shown : (entry : Option ElectionEntry) (found : Option WardCount) (there : WardCount) → found ≡ Some there → IsCountedFor entry found → IsShown entry there.count
+pub counted_shown : (entry : Option ElectionEntry) (found : Option CountedWard) (there : CountedWard) → found ≡ Some there → IsCountedFor entry found → IsShown entry there.count
 counted_shown None found there is none = tt
 counted_shown (Some e) found there is counted =
     let same : counted.0 ≡ there = let one : Some counted.0 ≡ Some there = sym counted.1 ∙ is in cc in
-    held_shown e there.count (subst (λ (x : WardCount). IsHeld e x.count) same counted.2.count_is)
+    held_shown e there.count (subst (λ (x : CountedWard). IsHeld e x.count) same counted.2.count_is)
 
 -- it is the count to which a stage is added
 pub shown_for : (s : OfficeState) (ward : ℕ) (shown : Option Count) → IsShown (option_map (election_of s) (ward_at s ward)) shown → IsCountFor s (counting (Advance ward)) shown
 shown_for s ward shown is = λ w at. subst (λ (o : Option WardEntry). IsShown (option_map (election_of s) o) shown) at is
+
+-- ---- wards in count
+
+-- an election in count is contested
+pub in_count_contested : (e : ElectionEntry) → is_in_count e ≡ true → has_count e ≡ true
+in_count_contested e counted = (and_parts (is_counted e.ward.phase) (has_count e) counted).1
+
+-- the count of an election in count
+count_in_count : (e : ElectionEntry) (found : Option Count) → is_in_count e ≡ true → IsHeld e found → IsCountIn e found
+count_in_count e None counted none = absurd (true≢false (sym (in_count_contested e counted) ∙ none))
+count_in_count e (Some count) counted is = (counted, is.1)
+
+ward_in_count : (e : ElectionEntry) (found : CountedWard) → is_in_count e ≡ true → IsWardCount e found → IsCountedWard e found
+ward_in_count e found counted is = record { ward_is = is.ward_is; candidates_are = is.candidates_are; count_is = count_in_count e found.count counted is.count_is }
+
+pub found_counted : (e : ElectionEntry) (found : Option CountedWard) → is_in_count e ≡ true → IsCounted e found → IsCountedIn e found
+found_counted e found counted is = (is.0, is.1, ward_in_count e is.0 counted is.2)
+
+-- what its sheet is written from
+pub sheet_of : (e : ElectionEntry) (sheet : WardSheet) → is_in_count e ≡ true → IsWardCount e sheet.counted → sheet.rejected ≡ e.ballots.rejected → IsSheet e (Some sheet)
+sheet_of e sheet counted is rejected = (sheet, refl, record { counted_is = ward_in_count e sheet.counted counted is; rejected_are = λ yes. rejected })
+
+pub begun_sheet : (e : ElectionEntry) (found : Option WardSheet) → is_in_count e ≡ true → IsBegun e found → IsSheet e found
+begun_sheet e found counted is = subst (IsSheet e) (sym is.1) (sheet_of e is.0 counted is.2 is.3)

@@ -4,8 +4,8 @@ ghost use Rattle.std.specs.Prelude.{◌≡◌, true, false, map, option_map};
 ghost use Rattle.sqlite.specs.Held.{state};
 ghost use Rattle.register.specs.Offices.{ward_entry, candidate_entry, ward_at};
 ghost use Rattle.register.specs.Elections.{election_of};
-ghost use Rattle.register.specs.Tabulated.{placed_entry, figure_entry, has_stages};
-ghost use Rattle.store.specs.Elections.{bundles_at, figures_at, IsThere, IsKept, IsCount, IsBook, IsBookFor};
+ghost use Rattle.register.specs.Tabulated.{placed_entry, figure_entry, has_stages, IsCount};
+ghost use Rattle.store.specs.Elections.{bundles_at, figures_at, IsThere, IsKept, IsBook, IsBookFor};
 ghost use Rattle.store.specs.Reads.{Reads};
 
 use crate::entries::bundles::PlacedBundles;

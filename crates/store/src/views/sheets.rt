@@ -1,10 +1,10 @@
 //! What the declaration and the stage sheet of a ward are written from.
 
-ghost use Rattle.std.specs.Prelude.{◌≡◌, false, Some, map, option_map};
+ghost use Rattle.std.specs.Prelude.{◌≡◌, true, false, Some, map, option_map};
 ghost use Rattle.sqlite.specs.Held.{state};
 ghost use Rattle.register.specs.Offices.{ward_entry, candidate_entry, ward_at};
 ghost use Rattle.register.specs.Polls.{piles_of, ballots_in};
-ghost use Rattle.register.specs.Elections.{election_of, has_count, is_in_count as is_in_count_of};
+ghost use Rattle.register.specs.Elections.{election_of, is_in_count as is_in_count_of};
 ghost use Rattle.store.specs.Elections.{IsInCount, IsThere, IsCountedIn, IsCountedInFor, IsSheet, IsSheetFor};
 ghost use Rattle.store.specs.Reads.{Reads};
 

@@ -2,7 +2,7 @@
 use Rattle.std.proofs.Common.{Some, subst, refl}
 use Rattle.register.specs.Offices.{ward_entry}
 use Rattle.register.specs.Elections.{election_of}
-use Rattle.store.specs.Elections.{IsCount}
+use Rattle.register.specs.Tabulated.{IsCount}
 use Rattle.store.proofs.ElectionLemmas.{stages_contested, held_found}
 use Rattle.store.proofs.ReadsLemmas.{reads_as}
 use Rattle.store.proofs.views.counts.resumed_count.Goals as goal
