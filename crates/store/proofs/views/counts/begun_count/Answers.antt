@@ -1,5 +1,5 @@
 -- Why `begun_count` keeps its promise.
-use Rattle.std.proofs.Common.{◌≡◌, Some, None, sym, ◌∙◌, subst, refl}
+use Rattle.std.proofs.Common.{◌≡◌, Some, sym, ◌∙◌, subst, refl}
 use Rattle.register.specs.Offices.{ward_entry}
 use Rattle.register.specs.Elections.{election_of}
 use Rattle.register.specs.declared.elections.WardSheet.{WardSheet}
