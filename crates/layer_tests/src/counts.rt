@@ -4,6 +4,9 @@ mod books;
 mod bundles;
 mod worked;
 
+ghost use Rattle.count.specs.Bundles.{papers_of};
+ghost use Rattle.count.specs.Law.Contest.{IsContest, contest_for};
+
 use count::{
     Action, AdvanceError, BundleBook, Bundles, CountBook, CountEnd, Due, Kind, ParcelBook, Stage,
     count_to, due_by, dues_to, is_bundled_contest, is_contest, run_count,
@@ -197,6 +200,21 @@ fn add_again(rt: &impl Abort, bundles: &mut Bundles, paper: Prefs) {
     }
 }
 
+/// A new book, begun once more where a growth was refused.
+fn begin_again(
+    alloc: Global,
+    candidates: Columns,
+    seats: u8,
+    bundles: &Bundles,
+) -> Result<BundleBook<'_>, AllocError>
+    requires { IsContest (contest_for candidates seats (papers_of bundles.now)) }
+{
+    if let Ok(book) = BundleBook::new(alloc, candidates, seats, bundles) {
+        return Ok(book);
+    }
+    BundleBook::new(alloc, candidates, seats, bundles)
+}
+
 // Run by `rt try --test --fail-alloc 1..`, which refuses each growth in turn.
 #[test]
 fn a_refused_growth_leaves_the_book(rt: HostRuntime) -> Result<(), Fail> {
@@ -228,27 +246,10 @@ fn a_refused_growth_leaves_the_bundles(rt: HostRuntime) -> Result<(), Fail> {
         add_again(&rt, &mut bundles, *paper);
     }
     assert!(rt; is_bundled_contest(&candidates, worked.seats, &bundles));
-    let mut book = match BundleBook::new(alloc, candidates, worked.seats, &bundles) {
-        Ok(book) => book,
-        Err(AllocError) => BundleBook::new(alloc, candidates, worked.seats, &bundles)?,
-    };
+    let mut book = begin_again(alloc, candidates, worked.seats, &bundles)?;
     for stages in 0..worked.stages.len() {
         advance_again(&rt, &mut book, stages);
     }
-    let mut stood = BundleBook::new(alloc, candidates, worked.seats, &bundles)?;
-    count_to(&mut stood, worked.lots, worked.stages.len())?;
-    let (places, made) = (stood.places(), stood.stages());
-    let book = match BundleBook::resume(alloc, candidates, worked.seats, &bundles, places, made) {
-        Ok(book) => book,
-        Err(AllocError) => BundleBook::resume(
-            alloc,
-            candidates,
-            worked.seats,
-            &bundles,
-            places,
-            made,
-        )?,
-    };
     assert!(rt; book.due() == Due::Finished);
     Ok(())
 }
