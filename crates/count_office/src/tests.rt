@@ -16,6 +16,7 @@ mod keyings;
 mod lists;
 mod loads;
 mod lots;
+mod noise;
 mod nominations;
 mod offices;
 mod outputs;

@@ -13,6 +13,9 @@ const MIN_LOG: u64 = 512;
 /// has a page of 4096.
 const MIN_OFFICE: u64 = 20 * 4096;
 
+/// `sqlite` takes a file of so many bytes for an empty one.
+const MAX_EMPTY: u64 = 1;
+
 /// The length of the file at a path: none where none is there, and the greatest where it can't be looked at.
 fn length_at(rt: &HostRuntime, path: &str) -> Option<u64> {
     match fs::metadata(rt, path) {
@@ -49,11 +52,12 @@ impl Found {
         })
     }
 
-    /// No file is there, or an empty one whose log is missing or empty too: nothing that an office could be in.
+    /// No file is there, or one that is taken for empty, whose log is missing or empty too: nothing that an office
+    /// could be in.
     pub fn is_nothing(&self) -> bool {
         match self.database_length {
             None => true,
-            Some(0) => matches!(self.log_length, None | Some(0)),
+            Some(length) if length <= MAX_EMPTY => matches!(self.log_length, None | Some(0)),
             Some(_) => false,
         }
     }

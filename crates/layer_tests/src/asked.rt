@@ -188,15 +188,16 @@ fn bodies(rt: HostRuntime) -> Result<(), Fail> {
 
 #[test]
 fn long_heads_and_bodies(rt: HostRuntime) -> Result<(), Fail> {
-    for (length, asked) in [
-        (MAX_HEAD_BYTES, "Sheet { ward: 7 }"),
-        (MAX_HEAD_BYTES + 1, "BadRequest"),
+    for (length, end, asked) in [
+        (MAX_HEAD_BYTES, "\r\n\r\n", "Sheet { ward: 7 }"),
+        (MAX_HEAD_BYTES + 1, "\r\n\r\n", "BadRequest"),
+        (MAX_HEAD_BYTES + 1, "xxxx", "BadRequest"),
     ] {
         let mut request = String::from_str(rt.alloc(), "GET /wards/7/sheet HTTP/1.1\r\nA: ")?;
-        for _ in request.len()..length - 4 {
+        for _ in request.len()..length.saturating_sub(end.len()) {
             request.push('x')?;
         }
-        request.push_str("\r\n\r\n")?;
+        request.push_str(end)?;
         asks(&rt, request.as_bytes(), asked)?;
     }
     for (count, asked) in [

@@ -78,9 +78,9 @@ fn fault_text(alloc: Global, fault: FileFault) -> Result<String, AllocError> {
     format!(in alloc; "{fault}")
 }
 
-/// Files of a keying of the candidates 1, 2 and 3, and what each gives: its papers, or its fault. `~` stands
-/// for a byte that is no UTF-8.
-const KEYINGS: [(&str, &str); 9] = [
+/// Files of a keying of the candidates 1, 2 and 3, and what each gives: its papers, or its fault. `~` and `^` stand
+/// for the bytes FF and FE, which no UTF-8 has.
+const KEYINGS: [(&str, &str); 19] = [
     ("paper,1,2,3\n1,1,2,\n2,D,,\n", "|1,2,|D"),
     (
         "paper,1,2,3\n1,1,2,\n2,D",
@@ -102,13 +102,44 @@ const KEYINGS: [(&str, &str); 9] = [
         "paper,1,2,3\n1,~,,\n",
         "file fault 6 at record 1: not UTF-8",
     ),
+    // As people's programs save them: a byte order mark, other line ends, quotes, lines at the end that are empty
+    // or blank or of commas alone, other separators, UTF-16.
+    ("\u{feff}paper,1,2,3\n1,1,2,\n", "|1,2,"),
+    ("paper,1,2,3\r\n1,1,2,\r\n2,D,,\r\n", "|1,2,|D"),
+    ("paper,1,2,3\r1,1,2,\r2,D,,", "|1,2,|D"),
+    (
+        "\"paper\",\"1\",\"2\",\"3\"\n\"1\",\"1\",\"2\",\"\"\n",
+        "|1,2,",
+    ),
+    ("paper,1,2,3\n1,1,2,\n\n\r\n\n", "|1,2,"),
+    (
+        "paper,1,2,3\n1,1,2,\n \n",
+        "file fault 2 at record 2: record length",
+    ),
+    (
+        "paper,1,2,3\n1,1,2,\n,,,\n",
+        "file fault 3 at record 2: number",
+    ),
+    ("paper;1;2;3\n1;1;2;\n", "file fault 1 at record 0: header"),
+    (
+        "paper\t1\t2\t3\n1\t1\t2\t\n",
+        "file fault 1 at record 0: header",
+    ),
+    (
+        "~^p\u{0}a\u{0}p\u{0}e\u{0}r\u{0},\u{0}1\u{0}\n\u{0}",
+        "file fault 1 at record 0: header",
+    ),
 ];
 
-/// The bytes of a text in which `~` stands for one that is no UTF-8.
+/// The bytes of a text in which `~` and `^` stand for two that are no UTF-8.
 fn bytes_of(alloc: Global, text: &str) -> Result<Vec<u8>, AllocError> {
     let mut bytes = Vec::new(alloc);
     for byte in text.as_bytes() {
-        bytes.push(if *byte == b'~' { 0xff } else { *byte })?;
+        bytes.push(match *byte {
+            b'~' => 0xff,
+            b'^' => 0xfe,
+            byte => byte,
+        })?;
     }
     Ok(bytes)
 }

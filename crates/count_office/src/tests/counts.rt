@@ -5,7 +5,7 @@ use super::disks::{Act, play_acts, play_all};
 use std::test::Fail;
 
 /// Nominations in ward 7, and a batch of nine papers.
-const OPENED: Act = Act::Typed(
+pub const OPENED: Act = Act::Typed(
     "$ init
 office ready
 $ ward 7 2 Harbour --id w1
@@ -26,7 +26,7 @@ batch 12 added
 );
 
 /// The papers.
-const PAPERS: Act = Act::Keyed(
+pub const PAPERS: Act = Act::Keyed(
     "paper,1,2,3
 1,1,2,
 2,1,2,
@@ -41,7 +41,7 @@ const PAPERS: Act = Act::Keyed(
 );
 
 /// They are sealed.
-const SEAL: Act = Act::Typed(
+pub const SEAL: Act = Act::Typed(
     "$ seal 7 --id s1
 ward 7 sealed: 9 valid, 0 rejected, quota 4.00000
 ",
@@ -176,6 +176,8 @@ ward 8 added
 3| fault 103: damaged
 # UPDATE ward SET done = 1
 3| fault 103: damaged
+# UPDATE ward SET done = 3
+3| fault 103: damaged
 # DROP TABLE bundle
 3| fault 103: damaged
 # DROP TABLE vote
@@ -183,10 +185,9 @@ ward 8 added
 ",
 );
 
-/// Equal surpluses, settled by lot.
-const LOT_BETWEEN_SURPLUSES: &[Act] = &[
-    Act::Typed(
-        "$ init
+/// Nominations of five candidates for three seats of ward 7.
+const OPENED_FOR_FIVE: Act = Act::Typed(
+    "$ init
 office ready
 $ ward 7 3 Harbour --id w1
 ward 7 added
@@ -204,12 +205,18 @@ candidate 4 of ward 7 added
 candidate 5 of ward 7 added
 $ close 7 --id n0
 ward 7 polled
-$ batch 12 7 14 4 9 --id b1
+",
+);
+
+/// Papers by which two candidates have equal surpluses.
+const FOURTEEN: Act = Act::Typed(
+    "$ batch 12 7 14 4 9 --id b1
 batch 12 added
 ",
-    ),
-    Act::Keyed(
-        "paper,1,2,3,4,5
+);
+
+const EQUAL_SURPLUSES: Act = Act::Keyed(
+    "paper,1,2,3,4,5
 1,1,,2,,
 2,1,,2,,
 3,1,,2,,
@@ -225,13 +232,71 @@ batch 12 added
 13,,,,1,
 14,,,,,1
 ",
-    ),
-    Act::Typed(
-        "$ seal 7 --id s1
+);
+
+/// They are sealed, and counted to their first stage.
+const FIRST_OF_FOURTEEN: Act = Act::Typed(
+    "$ seal 7 --id s1
 ward 7 sealed: 14 valid, 0 rejected, quota 4.00000
 $ advance 7 --id n1
 ward 7 stage 1 first preferences
+",
+);
+
+/// The count waits for a lot between them.
+pub const WAITING_FOR_A_LOT: &[Act] = &[
+    OPENED_FOR_FIVE,
+    FOURTEEN,
+    EQUAL_SURPLUSES,
+    FIRST_OF_FOURTEEN,
+];
+
+/// Papers of which some go on from the first surplus to the second: the count after the first.
+pub const AFTER_A_SURPLUS: &[Act] = &[
+    OPENED_FOR_FIVE,
+    Act::Typed(
+        "$ batch 12 7 15 4 9 --id b1
+batch 12 added
+",
+    ),
+    Act::Keyed(
+        "paper,1,2,3,4,5
+1,1,2,3,,
+2,1,2,3,,
+3,1,2,3,,
+4,1,2,3,,
+5,1,2,3,,
+6,1,2,3,,
+7,1,2,3,,
+8,1,,,2,
+9,,1,2,,
+10,,1,2,,
+11,,1,2,,
+12,,,1,,
+13,,,,1,
+14,,,,1,
+15,,,,,1
+",
+    ),
+    Act::Typed(
+        "$ seal 7 --id s1
+ward 7 sealed: 15 valid, 0 rejected, quota 4.00000
+$ advance 7 --id n1
+ward 7 stage 1 first preferences
 $ advance 7 --id n2
+ward 7 stage 2 surplus of 1
+",
+    ),
+];
+
+/// Equal surpluses, settled by lot.
+const LOT_BETWEEN_SURPLUSES: &[Act] = &[
+    OPENED_FOR_FIVE,
+    FOURTEEN,
+    EQUAL_SURPLUSES,
+    FIRST_OF_FOURTEEN,
+    Act::Typed(
+        "$ advance 7 --id n2
 1| refused 26: lot needed at stage 2 among 1, 2
 $ lot 7 2 1 --id l2
 lot at ward 7 stage 2: candidate 1

@@ -179,11 +179,17 @@ impl Disks {
         Ok(disks)
     }
 
-    /// Makes a change in a copy, where the office must then tell this of another ward.
+    /// Makes a change in a copy, where the office must then tell this of another ward; a fault leaves each row.
     fn damage(&self, rt: &(impl Abort + AllocGlobal), typed: &Typed<'_>) -> Result<(), Fail> {
         let (change, told) = typed.case();
-        let copy = self.copied(rt.alloc(), File::Log, u64::MAX)?;
-        copy.hear(rt, &[(change, CHANGED), (QUAY, told)])?;
+        let copy = self
+            .copied(rt.alloc(), File::Log, u64::MAX)?
+            .hear(rt, &[(change, CHANGED)])?;
+        let quay = [(QUAY, told)];
+        match told.0 {
+            0 => copy.hear(rt, &quay)?,
+            _ => copy.hear_unchanged(rt, &quay)?,
+        };
         Ok(())
     }
 

@@ -2,11 +2,12 @@
 
 use super::clients::Client;
 use super::counts::SURPLUS_CUT_BY_FRACTIONS;
-use super::disks::{Act, play_acts};
+use super::disks::{Act, Disks, play_acts};
 use super::keyings::{GIVEN_OUT, NOMINATED};
 use super::steps::Step;
 use office::texts_are_there;
 use register::elections::elections_are_fair;
+use std::process::Abort;
 use std::test::Fail;
 
 /// Ward 7 in keying, with batch 12 of two papers for the clerks 4 and 9.
@@ -25,9 +26,6 @@ pub const BAD_REQUEST: &str =
 
 /// The work of clerk 4 from then on.
 const FOUR_KEYED: &str = "batch 12 ward 7 [1, 2, 3] size 2 round 1: keyed\n";
-
-/// How many bytes the head of that answer has.
-const KEYED_HEAD: usize = 90;
 
 /// Once clerk 4 has keyed: the same again; the other clerk; the clerks' work; and what is refused by the office, by its
 /// target or by its method.
@@ -158,24 +156,31 @@ Elected
 fn clerks_key_and_read_over_http(rt: HostRuntime) -> Result<(), Fail> {
     texts_are_there();
     elections_are_fair();
-    let keying = Client::whole(KEYING.as_bytes());
-    // Connections that break: within the request, and behind the head of the answer.
-    let unread = Some(Client {
-        heard: 100,
-        ..keying
-    });
-    let unwritten = Some(Client {
-        takes: KEYED_HEAD,
-        ..keying
-    });
-    let head = KEYED.get(..KEYED_HEAD).unwrap_or("");
-    play_acts(&rt, BEGUN)?
-        .follow_unchanged(&rt, BAD)?
-        .hear_unchanged(&rt, &[(Step::Serve(&[unread], 1), (0, "", "Ok(())"))])?
-        .hear(&rt, &[(Step::Serve(&[unwritten], 1), (0, head, "Ok(())"))])?
-        .follow(&rt, ASKED)?;
+    let disks = play_acts(&rt, BEGUN)?.follow_unchanged(&rt, BAD)?;
+    breaks_at_each_byte(&rt, disks)?.follow(&rt, ASKED)?;
     play_acts(&rt, SURPLUS_CUT_BY_FRACTIONS)?.follow_unchanged(&rt, COUNTED)?;
     Ok(())
+}
+
+/// Connections break at each byte of the request, of which nothing is kept; and at each byte of the answer, which
+/// the first of those clients is told of his keying, and the others again.
+fn breaks_at_each_byte(rt: &(impl Abort + AllocGlobal), disks: Disks) -> Result<Disks, Fail> {
+    let keying = Client::whole(KEYING.as_bytes());
+    let mut unheard = Vec::new(rt.alloc());
+    for heard in 0..KEYING.len() {
+        unheard.push(Some(Client { heard, ..keying }))?;
+    }
+    let mut untold = Vec::new(rt.alloc());
+    let mut page = String::new(rt.alloc());
+    for takes in 0..KEYED.len() {
+        untold.push(Some(Client { takes, ..keying }))?;
+        page.push_str(KEYED.get(..takes).unwrap_or(""))?;
+    }
+    let requests = u32::try_from(unheard.len())?;
+    let answers = u32::try_from(untold.len())?;
+    let unheard = (Step::Serve(&unheard, requests), (0, "", "Ok(())"));
+    let untold = (Step::Serve(&untold, answers), (0, page.as_str(), "Ok(())"));
+    disks.hear_unchanged(rt, &[unheard])?.hear(rt, &[untold])
 }
 
 #[test]

@@ -87,6 +87,11 @@ impl Said {
         }
     }
 
+    /// It ended well.
+    pub fn is_done(&self) -> bool {
+        self.status == 0
+    }
+
     /// It was told that the store stopped, by an order or over HTTP.
     pub fn is_stopped(&self) -> bool {
         self.told() == STOPPED || self.out.as_str() == STOPPED_ANSWER

@@ -3,7 +3,10 @@
 //! behind one who met the stop is told that the office is closed.
 
 use super::clients::Client;
-use super::counts::SEALED;
+use super::counts::{
+    AFTER_A_SURPLUS, OPENED as WARD, PAPERS as NINE_PAPERS, SEAL, SEALED, TWO_STAGES,
+    WAITING_FOR_A_LOT,
+};
 use super::disks::{Act, Disks, File, play_acts};
 use super::http::{BEGUN, KEYED, KEYING};
 use super::keyings::NOMINATED;
@@ -30,16 +33,47 @@ fn told_again<'a>(case: Case<'a>, whole: bool) -> Told<'a> {
     }
 }
 
-/// Does an order over disks of which one stops after so many calls, restarts them, and judges what is
-/// found: the rows before it, or those after it if it was answered or may have been. Tells whether the
-/// order was answered.
-fn stop_once(
+/// What is found where an order wasn't done, and where it was: the rows of every table, and the ward's sheet, if it has
+/// one then.
+#[derive(Drop)]
+struct Sides {
+    before: String,
+    after: String,
+    sheet: Option<String>,
+}
+
+const SHEET: Step<'static> = Step::Order(&["DB", "sheet", "7"]);
+
+/// Does an order over disks that last: both sides of it, and the disks behind it. Sent three times more it leaves the
+/// rows as they are.
+fn sides_of(
     rt: &(impl Abort + AllocGlobal),
     disks: Disks,
     case: Case<'_>,
-    before: &str,
-    after: &str,
-) -> Result<bool, Fail> {
+) -> Result<(Sides, Disks), Fail> {
+    let (before, disks) = disks.rows(rt.alloc())?;
+    let (after, disks) = disks.hear(rt, &[case])?.rows(rt.alloc())?;
+    let again = (case.0, told_again(case, true));
+    let disks = disks.hear_unchanged(rt, &[again, again, again])?;
+    let (said, disks) = disks.play(rt.alloc(), &[SHEET])?;
+    let sheet = match said.as_slice() {
+        [said] if said.is_done() => Some(String::from_str(rt.alloc(), said.told().1)?),
+        _ => None,
+    };
+    let sides = Sides {
+        before,
+        after,
+        sheet,
+    };
+    Ok((sides, disks))
+}
+
+/// Does an order over disks of which one stops after so many calls: whether it was answered, and the disks.
+fn stop_under(
+    rt: &(impl Abort + AllocGlobal),
+    disks: Disks,
+    case: Case<'_>,
+) -> Result<(bool, Disks), Fail> {
     let (order, reply) = case;
     let (said, left) = disks.play(rt.alloc(), &[order])?;
     let answered = match said.as_slice() {
@@ -51,15 +85,30 @@ fn stop_once(
         }
         _ => return Err(Fail::from("more was said than was asked")),
     };
-    let again = [Step::Contents, order, Step::Contents];
-    let (said, _) = left.restarted().play(rt.alloc(), &again)?;
-    let [found, told, end] = said.as_slice() else {
+    Ok((answered, left))
+}
+
+/// Does an order over disks of which one stops after so many calls, restarts them, and judges what is
+/// found: the rows before it, or those after it if it was answered or may have been. Sent again it ends as without
+/// the stop, and so does the ward's sheet. Tells whether the order was answered.
+fn stop_once(
+    rt: &(impl Abort + AllocGlobal),
+    disks: Disks,
+    case: Case<'_>,
+    sides: &Sides,
+) -> Result<bool, Fail> {
+    let (order, _) = case;
+    let (answered, left) = stop_under(rt, disks, case)?;
+    let again = [Step::Contents, order, Step::Contents, SHEET];
+    let steps = if sides.sheet.is_some() { 4 } else { 3 };
+    let (said, _) = left.restarted().play(rt.alloc(), &again[..steps])?;
+    let [found, told, end, sheets @ ..] = said.as_slice() else {
         return Err(Fail::from("a step is missing"));
     };
     let (_, found, _) = found.told();
-    let whole = found == after;
+    let whole = sides.after.as_str() == found;
     assert!(rt;
-        whole || (!answered && found == before),
+        whole || (!answered && sides.before.as_str() == found),
         "{order:?} left rows of neither side"
     );
     let (status, out, err) = told.told();
@@ -69,7 +118,17 @@ fn stop_once(
         out.as_bytes() == page.as_bytes() && err.as_bytes() == fault.as_bytes(),
         "{order:?} given again"
     );
-    assert_eq!(rt; end.told(), (0, after, ""), "{order:?} given again");
+    assert_eq!(rt;
+        end.told(),
+        (0, sides.after.as_str(), ""),
+        "{order:?} given again"
+    );
+    if let Some(sheet) = &sides.sheet {
+        assert!(rt;
+            matches!(sheets, [said] if said.told() == (0, sheet.as_str(), "")),
+            "{order:?}: {sheets:?}"
+        );
+    }
     Ok(answered)
 }
 
@@ -80,12 +139,11 @@ fn stop_each(
     case: Case<'_>,
     file: File,
 ) -> Result<Disks, Fail> {
-    let (before, _) = disks.copied(rt.alloc(), file, u64::MAX)?.rows(rt.alloc())?;
     let lasting = disks.copied(rt.alloc(), file, u64::MAX)?;
-    let (after, done) = lasting.hear(rt, &[case])?.rows(rt.alloc())?;
+    let (sides, done) = sides_of(rt, lasting, case)?;
     for calls in 0..CALLS {
         let stopping = disks.copied(rt.alloc(), file, calls)?;
-        if stop_once(rt, stopping, case, before.as_str(), after.as_str())? {
+        if stop_once(rt, stopping, case, &sides)? {
             return Ok(done);
         }
     }
@@ -124,24 +182,9 @@ $ judge 12 1 reject:3 --id j1
 batch 12 paper 1 rejected 3
 ";
 
-/// The orders of a ward without a batch, from its seal to its second stage.
-const TO_STAGE: &str = "$ seal 7 --id s1
+/// A ward without a batch is sealed.
+const TO_SEAL: &str = "$ seal 7 --id s1
 ward 7 sealed: 0 valid, 0 rejected, quota 1.00000
-$ advance 7 --id a1
-ward 7 stage 1 first preferences
-$ lot 7 2 1 --id l1
-lot at ward 7 stage 2: candidate 1
-$ advance 7 --id a2
-ward 7 stage 2 exclusion of 1
-";
-
-/// Those behind them, up to its declaration.
-const TO_DECLARATION: &str = "$ lot 7 3 2 --id l2
-lot at ward 7 stage 3: candidate 2
-$ advance 7 --id a3
-ward 7 stage 3 exclusion of 2, last vacancies
-$ declare 7 --id d1
-ward 7 declared: 3
 ";
 
 /// The first stage of a ward with papers: all its bundles come into their table.
@@ -152,6 +195,27 @@ ward 7 stage 1 first preferences
 /// The next one: those of a surplus move.
 const SECOND_STAGE: &str = "$ advance 7 --id n2
 ward 7 stage 2 surplus of 1
+";
+
+/// The last one, and the ward's declaration.
+const LAST_STAGE: &str = "$ advance 7 --id n3
+ward 7 stage 3 exclusion of 2, last vacancies
+";
+
+const DECLARATION: &str = "$ declare 7 --id d1
+ward 7 declared: 1, 3
+";
+
+/// Where the count waits for a lot between two surpluses: the lot, and the stage behind it.
+const LOT: &str = "$ lot 7 2 1 --id l2
+lot at ward 7 stage 2: candidate 1
+$ advance 7 --id n2
+ward 7 stage 2 surplus of 1
+";
+
+/// Where papers that came with a surplus go on with the next: their stage.
+const SECOND_SURPLUS: &str = "$ advance 7 --id n3
+ward 7 stage 3 surplus of 2
 ";
 
 /// A batch whose two keyings differ.
@@ -228,50 +292,62 @@ fn orders_to_a_verdict_stop_whole_at_their_log(rt: HostRuntime) -> Result<(), Fa
     stop_orders(&rt, &before, TO_VERDICT, File::Log)
 }
 
-#[test]
-fn a_count_stops_whole_at_its_log(rt: HostRuntime) -> Result<(), Fail> {
-    stop_orders(&rt, &[Act::Typed(POLLING)], TO_STAGE, File::Log)
-}
+/// Where a count stands, and the orders that are stopped there.
+const COUNTS: [(&[Act], &str); 6] = [
+    (&[Act::Typed(POLLING)], TO_SEAL),
+    (SEALED, FIRST_STAGE),
+    (
+        &[WARD, NINE_PAPERS, SEAL, Act::Typed(FIRST_STAGE)],
+        SECOND_STAGE,
+    ),
+    (
+        &[WARD, NINE_PAPERS, SEAL, TWO_STAGES, Act::Typed(LAST_STAGE)],
+        DECLARATION,
+    ),
+    (WAITING_FOR_A_LOT, LOT),
+    (AFTER_A_SURPLUS, SECOND_SURPLUS),
+];
 
-#[test]
-fn the_end_of_a_count_stops_whole_at_its_log(rt: HostRuntime) -> Result<(), Fail> {
-    let before = [Act::Typed(POLLING), Act::Typed(TO_STAGE)];
-    stop_orders(&rt, &before, TO_DECLARATION, File::Log)
-}
-
-/// Stops a stage, after others, at each call of one file.
-fn stop_stage(
+/// Stops the orders of some counts, each at each call of one file.
+fn stop_counts(
     rt: &(impl Abort + AllocGlobal),
-    before: &str,
-    stage: &str,
+    counts: &[(&[Act], &str)],
     file: File,
 ) -> Result<(), Fail> {
-    let disks = play_acts(rt, SEALED)?.follow(rt, before)?;
-    for order in &read(rt.alloc(), stage)? {
-        stop_each(
-            rt,
-            disks.copied(rt.alloc(), file, u64::MAX)?,
-            order.case(),
-            file,
-        )?;
+    for (before, orders) in counts {
+        stop_orders(rt, before, orders, file)?;
     }
     Ok(())
 }
 
 #[test]
-fn a_first_stage_stops_whole(rt: HostRuntime) -> Result<(), Fail> {
-    stop_stage(&rt, "", FIRST_STAGE, File::Log)
+fn a_count_is_begun_whole_at_its_log(rt: HostRuntime) -> Result<(), Fail> {
+    stop_counts(&rt, &COUNTS[..2], File::Log)
 }
 
 #[test]
-fn a_later_stage_stops_whole(rt: HostRuntime) -> Result<(), Fail> {
-    stop_stage(&rt, FIRST_STAGE, SECOND_STAGE, File::Log)
+fn a_count_goes_on_whole_at_its_log(rt: HostRuntime) -> Result<(), Fail> {
+    stop_counts(&rt, &COUNTS[2..4], File::Log)
 }
 
 #[test]
-fn stages_stop_whole_at_their_database(rt: HostRuntime) -> Result<(), Fail> {
-    stop_stage(&rt, "", FIRST_STAGE, File::Database)?;
-    stop_stage(&rt, FIRST_STAGE, SECOND_STAGE, File::Database)
+fn a_lot_stops_whole_at_its_log(rt: HostRuntime) -> Result<(), Fail> {
+    stop_counts(&rt, &COUNTS[4..5], File::Log)
+}
+
+#[test]
+fn a_second_surplus_stops_whole_at_its_log(rt: HostRuntime) -> Result<(), Fail> {
+    stop_counts(&rt, &COUNTS[5..], File::Log)
+}
+
+#[test]
+fn a_count_is_begun_whole_at_its_database(rt: HostRuntime) -> Result<(), Fail> {
+    stop_counts(&rt, &COUNTS[..3], File::Database)
+}
+
+#[test]
+fn a_count_ends_whole_at_its_database(rt: HostRuntime) -> Result<(), Fail> {
+    stop_counts(&rt, &COUNTS[3..], File::Database)
 }
 
 #[test]
@@ -287,10 +363,7 @@ fn an_order_stops_whole_at_its_database(rt: HostRuntime) -> Result<(), Fail> {
 fn orders_stop_whole_at_their_database(rt: HostRuntime) -> Result<(), Fail> {
     stop_orders(&rt, &[Act::Typed(NOMINATED)], TO_BATCH, File::Database)?;
     let batch = [Act::Typed(NOMINATED), Act::Typed(TO_BATCH)];
-    stop_orders(&rt, &batch, TO_VERDICT, File::Database)?;
-    stop_orders(&rt, &[Act::Typed(POLLING)], TO_STAGE, File::Database)?;
-    let stage = [Act::Typed(POLLING), Act::Typed(TO_STAGE)];
-    stop_orders(&rt, &stage, TO_DECLARATION, File::Database)
+    stop_orders(&rt, &batch, TO_VERDICT, File::Database)
 }
 
 /// A batch of as many papers as one may have.

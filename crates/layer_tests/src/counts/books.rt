@@ -1,15 +1,20 @@
 //! The same elections in both books: papers in parcels, and equal papers kept once.
 
-ghost use Rattle.std.specs.Prelude.{◌≡◌, []};
+ghost use Rattle.std.specs.Prelude.{◌≡◌, [], map, reverse, IfOk};
+ghost use Rattle.count.specs.Books.{placed};
+ghost use Rattle.count.specs.Bundles.{papers_of};
+ghost use Rattle.count.specs.Law.Contest.{IsContest, contest_for};
+ghost use Rattle.count.specs.Law.Places.{place as place_of};
+ghost use Rattle.count.specs.Law.Right.{IsRightForSome};
 
 use super::worked::{WORKED, Worked};
 use super::{first_columns, papers_of, records, with_all};
 use count::{
-    BundleBook, Bundles, CountBook, CountEnd, Due, KeptCount, NextStage, ParcelBook, Placed,
+    BundleBook, Bundles, CountBook, CountEnd, Due, KeptCount, NextStage, ParcelBook, Placed, Stage,
     count_to, is_bundled_contest, is_contest, run_count,
 };
-use paper::Prefs;
-use std::alloc::Global;
+use paper::{Columns, Prefs};
+use std::alloc::{AllocError, Global};
 use std::process::Abort;
 use std::test::Fail;
 use votes::{MAX_PAPERS, ONE_VOTE, Votes};
@@ -87,6 +92,26 @@ fn bundles_lie_where_their_papers_do(rt: HostRuntime) -> Result<(), Fail> {
     Ok(())
 }
 
+/// A book that goes on, taken up once more where a growth was refused.
+fn resume_again<'a>(
+    alloc: Global,
+    candidates: Columns,
+    seats: u8,
+    bundles: &'a Bundles,
+    places: &[Placed],
+    stages: &[Stage],
+) -> Result<BundleBook<'a>, AllocError>
+    requires contest { IsContest (contest_for candidates seats (papers_of bundles.now)) }
+    requires right { IsRightForSome (contest_for candidates seats (papers_of bundles.now)) (reverse stages.now) }
+    requires places { places.now ≡ map (λ b. placed (place_of (contest_for candidates seats (papers_of bundles.now)) (reverse stages.now) b.0)) bundles.now }
+    ensures { IfOk result (λ book. book ≡ record { contest = contest_for candidates seats (papers_of bundles.now); history = reverse stages.now; bundles = bundles.now }) }
+{
+    if let Ok(book) = BundleBook::resume(alloc, candidates, seats, bundles, places, stages) {
+        return Ok(book);
+    }
+    BundleBook::resume(alloc, candidates, seats, bundles, places, stages)
+}
+
 /// Takes a worked election up from where it stood after so many stages, and counts it to its end.
 fn goes_on_from(
     rt: &impl Abort,
@@ -101,7 +126,7 @@ fn goes_on_from(
     count_to(&mut stood, worked.lots, stages)?;
     let (places, made) = (stood.places(), stood.stages());
     assert_eq!(rt; places.len(), bundles.len(), "{}", worked.name);
-    let mut book = BundleBook::resume(alloc, candidates, worked.seats, bundles, places, made)?;
+    let mut book = resume_again(alloc, candidates, worked.seats, bundles, places, made)?;
     assert_eq!(rt; book.stages().len(), stages, "{}", worked.name);
     let end = run_count(&mut book, worked.lots)?;
     assert!(rt; end == CountEnd::Finished, "{}", worked.name);

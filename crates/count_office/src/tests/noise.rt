@@ -1,0 +1,145 @@
+//! Clients who send what a fixed generator makes of requests: noise, requests with bytes changed, and the beginning of
+//! one run into the end of another.
+
+use super::clients::Client;
+use super::disks::{Act, play_acts};
+use super::http::{BEGUN, KEYING};
+use super::steps::Step;
+use rand_core::utils::NextWord;
+use rand_pcg::Pcg32;
+use std::alloc::{AllocError, Global};
+use std::test::Fail;
+use votes::Counted;
+use wire::{Asked, Denial, read_asked};
+
+const CLIENTS: u32 = 10_000;
+
+/// What is asked, before it is spoilt.
+const REQUESTS: [&str; 5] = [
+    KEYING,
+    "GET /clerks/4/work HTTP/1.1\r\nHost: localhost\r\n\r\n",
+    "GET /wards/7/sheet HTTP/1.1\r\n\r\n",
+    "GET /wards/7/result HTTP/1.0\r\n\r\n",
+    "PUT /clerks/9/batches/12/keying HTTP/1.1\r\nContent-Length: 2\r\n\r\n{}",
+];
+
+/// Both clerks have keyed the batch, so that nothing more is taken of it.
+const BOTH_KEYED: &str = r#"> POST /clerks/4/batches/12/keying HTTP/1.1
+> Content-Length: 43
+>
+> {"id":"h1","round":1,"papers":["1,2,","D"]}
+200 OK
+{"reply":"batch 12 round 1 keyed"}
+> POST /clerks/9/batches/12/keying HTTP/1.1
+> Content-Length: 43
+>
+> {"id":"h1","round":1,"papers":["1,2,","D"]}
+200 OK
+{"reply":"batch 12 round 1 keyed"}
+"#;
+
+/// A number below a bound, or 0 where there is none.
+fn below(numbers: &mut Pcg32, bound: usize) -> usize {
+    (numbers.next_word() as usize)
+        .checked_rem(bound)
+        .unwrap_or(0)
+}
+
+/// A byte.
+fn byte(numbers: &mut Pcg32) -> u8 {
+    let [byte, ..] = numbers.next_word().to_le_bytes();
+    byte
+}
+
+/// One of the requests.
+fn request(numbers: &mut Pcg32) -> &'static [u8] {
+    match REQUESTS.get(below(numbers, REQUESTS.len())) {
+        Some(request) => request.as_bytes(),
+        None => &[],
+    }
+}
+
+/// Up to two hundred bytes of noise.
+fn noise(alloc: Global, numbers: &mut Pcg32) -> Result<Vec<u8>, AllocError> {
+    let mut bytes = Vec::new(alloc);
+    for _ in 0..below(numbers, 200) {
+        bytes.push(byte(numbers))?;
+    }
+    Ok(bytes)
+}
+
+/// A request of which one to four bytes are changed.
+fn changed(alloc: Global, numbers: &mut Pcg32) -> Result<Vec<u8>, AllocError> {
+    let mut bytes = Vec::from_slice(alloc, request(numbers))?;
+    for _ in 0..=below(numbers, 4) {
+        let at = below(numbers, bytes.len());
+        if let Some(old) = bytes.get_mut(at) {
+            *old = byte(numbers);
+        }
+    }
+    Ok(bytes)
+}
+
+/// The beginning of one request, and behind it the end of another.
+fn spliced(alloc: Global, numbers: &mut Pcg32) -> Result<Vec<u8>, AllocError> {
+    let (first, second) = (request(numbers), request(numbers));
+    let (begin, end) = (below(numbers, first.len()), below(numbers, second.len()));
+    let mut bytes = Vec::from_slice(alloc, first.get(..begin).unwrap_or(first))?;
+    bytes.extend_from_slice(second.get(end..).unwrap_or(second))?;
+    Ok(bytes)
+}
+
+/// What a client sends.
+fn sent(alloc: Global, numbers: &mut Pcg32) -> Result<Vec<u8>, AllocError> {
+    match below(numbers, 4) {
+        0 => noise(alloc, numbers),
+        1 => spliced(alloc, numbers),
+        _ => changed(alloc, numbers),
+    }
+}
+
+/// Whether a client who sends these bytes may be answered with this status.
+fn may_be_told(alloc: Global, bytes: &[u8], status: &str) -> bool {
+    match read_asked(alloc, &mut Counted::new(bytes)) {
+        Ok(Asked::Denied(Denial::BadRequest)) => status == "400",
+        Ok(Asked::Denied(Denial::NotFound)) => status == "404",
+        Ok(Asked::Denied(Denial::MethodNotAllowed { .. })) => status == "405",
+        Ok(Asked::Denied(Denial::TooLarge)) => status == "413",
+        Ok(_) => status == "200" || status == "409",
+        Err(_) => false,
+    }
+}
+
+/// The status of the first answer on a page, and what stands behind the answer.
+fn first_answer(page: &str) -> Option<(&str, &str)> {
+    let (head, behind) = page.split_once("\r\n\r\n")?;
+    let status = head.strip_prefix("HTTP/1.1 ")?.get(..3)?;
+    let (_, lengths) = head.split_once("Content-Length: ")?;
+    let (length, _) = lengths.split_once("\r\n")?;
+    Some((status, behind.get(length.parse().ok()?..)?))
+}
+
+#[test]
+fn ten_thousand_clients_are_answered_as_they_ask(rt: HostRuntime) -> Result<(), Fail> {
+    let alloc = rt.alloc();
+    let mut numbers = Pcg32::new(7, 1);
+    let mut all = Vec::new(alloc);
+    for _ in 0..CLIENTS {
+        all.push(sent(alloc, &mut numbers)?)?;
+    }
+    let clients: Vec<Option<Client<'_>>> = all
+        .iter()
+        .map(|bytes| Some(Client::whole(bytes)))
+        .collect(alloc)?;
+    let (before, disks) = play_acts(&rt, BEGUN)?.follow(&rt, BOTH_KEYED)?.rows(alloc)?;
+    let (said, disks) = disks.play(alloc, &[Step::Serve(&clients, CLIENTS)])?;
+    let mut page = said.first().ok_or("nothing was said")?.told().1;
+    for bytes in &all {
+        let (status, behind) = first_answer(page).ok_or("an answer is missing")?;
+        assert!(rt; may_be_told(alloc, bytes, status), "{bytes:?}: {status}");
+        page = behind;
+    }
+    let (after, _) = disks.rows(alloc)?;
+    assert!(rt; page.is_empty() && before == after, "{page} {after}");
+    Ok(())
+}
