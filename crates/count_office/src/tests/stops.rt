@@ -326,8 +326,13 @@ fn a_count_is_begun_whole_at_its_log(rt: HostRuntime) -> Result<(), Fail> {
 }
 
 #[test]
-fn a_count_goes_on_whole_at_its_log(rt: HostRuntime) -> Result<(), Fail> {
-    stop_counts(&rt, &COUNTS[2..4], File::Log)
+fn a_surplus_stops_whole_at_its_log(rt: HostRuntime) -> Result<(), Fail> {
+    stop_counts(&rt, &COUNTS[2..3], File::Log)
+}
+
+#[test]
+fn a_declaration_stops_whole_at_its_log(rt: HostRuntime) -> Result<(), Fail> {
+    stop_counts(&rt, &COUNTS[3..4], File::Log)
 }
 
 #[test]
