@@ -186,7 +186,7 @@ ward 8 added
 );
 
 /// Nominations of five candidates for three seats of ward 7.
-const OPENED_FOR_FIVE: Act = Act::Typed(
+pub const OPENED_FOR_FIVE: Act = Act::Typed(
     "$ init
 office ready
 $ ward 7 3 Harbour --id w1
@@ -209,13 +209,13 @@ ward 7 polled
 );
 
 /// Papers by which two candidates have equal surpluses.
-const FOURTEEN: Act = Act::Typed(
+pub const FOURTEEN: Act = Act::Typed(
     "$ batch 12 7 14 4 9 --id b1
 batch 12 added
 ",
 );
 
-const EQUAL_SURPLUSES: Act = Act::Keyed(
+pub const EQUAL_SURPLUSES: Act = Act::Keyed(
     "paper,1,2,3,4,5
 1,1,,2,,
 2,1,,2,,
@@ -235,7 +235,7 @@ const EQUAL_SURPLUSES: Act = Act::Keyed(
 );
 
 /// They are sealed, and counted to their first stage.
-const FIRST_OF_FOURTEEN: Act = Act::Typed(
+pub const FIRST_OF_FOURTEEN: Act = Act::Typed(
     "$ seal 7 --id s1
 ward 7 sealed: 14 valid, 0 rejected, quota 4.00000
 $ advance 7 --id n1

@@ -4,8 +4,8 @@
 
 use super::clients::Client;
 use super::counts::{
-    AFTER_A_SURPLUS, OPENED as WARD, PAPERS as NINE_PAPERS, SEAL, SEALED, TWO_STAGES,
-    WAITING_FOR_A_LOT,
+    AFTER_A_SURPLUS, EQUAL_SURPLUSES, FIRST_OF_FOURTEEN, FOURTEEN, OPENED as WARD,
+    OPENED_FOR_FIVE as FIVE, PAPERS as NINE_PAPERS, SEAL, SEALED, TWO_STAGES, WAITING_FOR_A_LOT,
 };
 use super::disks::{Act, Disks, File, play_acts};
 use super::http::{BEGUN, KEYED, KEYING};
@@ -206,11 +206,9 @@ const DECLARATION: &str = "$ declare 7 --id d1
 ward 7 declared: 1, 3
 ";
 
-/// Where the count waits for a lot between two surpluses: the lot, and the stage behind it.
+/// Where the count waits for a lot between two surpluses: the lot. The stage behind it is that of a surplus too.
 const LOT: &str = "$ lot 7 2 1 --id l2
 lot at ward 7 stage 2: candidate 1
-$ advance 7 --id n2
-ward 7 stage 2 surplus of 1
 ";
 
 /// Where papers that came with a surplus go on with the next: their stage.
@@ -293,7 +291,7 @@ fn orders_to_a_verdict_stop_whole_at_their_log(rt: HostRuntime) -> Result<(), Fa
 }
 
 /// Where a count stands, and the orders that are stopped there.
-const COUNTS: [(&[Act], &str); 6] = [
+const COUNTS: [(&[Act], &str); 7] = [
     (&[Act::Typed(POLLING)], TO_SEAL),
     (SEALED, FIRST_STAGE),
     (
@@ -305,6 +303,16 @@ const COUNTS: [(&[Act], &str); 6] = [
         DECLARATION,
     ),
     (WAITING_FOR_A_LOT, LOT),
+    (
+        &[
+            FIVE,
+            FOURTEEN,
+            EQUAL_SURPLUSES,
+            FIRST_OF_FOURTEEN,
+            Act::Typed(LOT),
+        ],
+        SECOND_STAGE,
+    ),
     (AFTER_A_SURPLUS, SECOND_SURPLUS),
 ];
 
@@ -341,8 +349,13 @@ fn a_lot_stops_whole_at_its_log(rt: HostRuntime) -> Result<(), Fail> {
 }
 
 #[test]
+fn a_stage_behind_a_lot_stops_whole_at_its_log(rt: HostRuntime) -> Result<(), Fail> {
+    stop_counts(&rt, &COUNTS[5..6], File::Log)
+}
+
+#[test]
 fn a_second_surplus_stops_whole_at_its_log(rt: HostRuntime) -> Result<(), Fail> {
-    stop_counts(&rt, &COUNTS[5..], File::Log)
+    stop_counts(&rt, &COUNTS[6..], File::Log)
 }
 
 #[test]
@@ -351,8 +364,13 @@ fn a_count_is_begun_whole_at_its_database(rt: HostRuntime) -> Result<(), Fail> {
 }
 
 #[test]
+fn a_count_goes_on_whole_at_its_database(rt: HostRuntime) -> Result<(), Fail> {
+    stop_counts(&rt, &COUNTS[3..5], File::Database)
+}
+
+#[test]
 fn a_count_ends_whole_at_its_database(rt: HostRuntime) -> Result<(), Fail> {
-    stop_counts(&rt, &COUNTS[3..], File::Database)
+    stop_counts(&rt, &COUNTS[5..], File::Database)
 }
 
 #[test]
