@@ -159,8 +159,9 @@ class Order:
 
     def put_file(self, folder):
         """Puts the file that the order names where it is looked for."""
-        with open(os.path.join(folder, FILE), "w", encoding="ascii") as file:
-            file.write("".join(f"{line}\n" for line in self.lines or []))
+        for name in [word for word in self.words if self.lines and word.endswith(".csv")]:
+            with open(os.path.join(folder, name), "w", encoding="ascii") as file:
+                file.write("".join(f"{line}\n" for line in self.lines))
 
     def done(self, folder, refusal=None):
         """((status, output, error output), whether something was refused); the output of `serve` is its answer."""
