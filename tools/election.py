@@ -168,15 +168,18 @@ class Order:
         note = folder + ".refused"
         if os.path.exists(note):
             os.remove(note)
-        around = {**os.environ, **(refusal or {}), "REFUSING_TOLD": note} if refusal else None
+        around = {**os.environ, **refusal, "REFUSING_TOLD": note} if refusal else None
         self.put_file(folder)
         words = ["serve", str(next(self.port)), "1"] if self.sends else self.words
         process = subprocess.Popen([PROGRAM, TOWN, *words], cwd=folder, env=around, stdout=subprocess.PIPE, stderr=subprocess.PIPE)
-        text = b""
-        if self.sends:
-            line = let_in(process, int(words[1]))
+        try:
+            line = let_in(process, int(words[1])) if self.sends else None
             text = answer(line, self.sends) if line else b""
-        out, err = process.communicate(timeout=SECONDS)
+            out, err = process.communicate(timeout=SECONDS)
+        except (TimeoutError, subprocess.TimeoutExpired) as error:
+            process.kill()
+            process.communicate()
+            raise Wrong(f"no end within {SECONDS} seconds") from error
         return (process.returncode, (out + text).decode(), err.decode()), os.path.exists(note)
 
     def answered(self, out):
