@@ -96,7 +96,10 @@ def copied(source, folder):
 
 
 def rows(source):
-    """Every row of every table, by the stock sqlite, of a copy; nothing where no office is there."""
+    """Every row of every table, by the stock sqlite, of a copy; nothing where no office is there.
+
+    An `init` that was stopped may leave a file without the first byte of a database's.
+    """
     folder = copied(source, source + ".rows")
     if not os.path.exists(os.path.join(folder, TOWN)):
         return None
@@ -108,6 +111,8 @@ def rows(source):
         tables = [name for (name,) in base.execute("SELECT name FROM sqlite_schema WHERE type = 'table' ORDER BY name")]
         return {name: sorted(base.execute(f"SELECT * FROM {name}").fetchall()) for name in tables} or None
     except sqlite3.DatabaseError as error:
+        if "file is not a database" in str(error):
+            return None
         raise Wrong(f"the stock sqlite: {error}") from error
     finally:
         base.close()
