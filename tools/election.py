@@ -1,0 +1,294 @@
+"""A small election, order by order: for tools that make its orders fail, and see what is left.
+
+Used by tools/refused-growths and tools/failing-disk, whose refusals come from tools/refusing.c, put before the program's C library;
+and by tools/shared-files and tools/killed-serving.
+"""
+import itertools
+import os
+import re
+import shutil
+import socket
+import sqlite3
+import subprocess
+import time
+
+ROOT = os.path.dirname(os.path.dirname(os.path.realpath(__file__)))
+PROGRAM = os.path.join(ROOT, "out", "count-office")
+TOWN, LOG, FILE = "town.db", "town.db-wal", "rows.csv"
+SECONDS = 60
+MADE = (3, "", "fault 105: wrong database\n")
+
+CANDIDATES = ["ward,candidate,name"] + [f"7,{c},Candidate {c}" for c in range(1, 5)]
+# Nine valid papers of two seats, and a doubtful one: the first candidate has the quota, the fourth is excluded, and a lot is drawn
+# between the two who are left. The second clerk errs once.
+MARKS = ["1,,,"] * 4 + [",1,,", ",1,,2", ",,1,", ",,1,", ",,,1", "D,,,"]
+ERROR = ["1,2,,"] + MARKS[1:]
+
+
+def keying(papers):
+    return ["paper,1,2,3,4"] + [f"{number},{marks}" for number, marks in enumerate(papers, 1)]
+
+
+# The orders, each with the lines of the file that it names.
+ELECTION = [
+    (["init"], None),
+    (["ward", "7", "2", "Harbour", "--id", "w1"], None),
+    (["import-candidates", FILE, "--id", "c"], CANDIDATES),
+    (["withdraw", "7", "4", "--id", "x1"], None),
+    (["candidate", "7", "4", "Dee", "--id", "c4"], None),
+    (["close", "7", "--id", "n1"], None),
+    (["batch", "12", "7", str(len(MARKS)), "4", "9", "--id", "b1"], None),
+    (["import-keying", "4", "12", "1", FILE, "--id", "k1"], keying(MARKS)),
+    (["import-keying", "9", "12", "1", FILE, "--id", "k1"], keying(ERROR)),
+    (["again", "12", "--id", "g1"], None),
+    (["import-keying", "4", "12", "2", FILE, "--id", "k2"], keying(MARKS)),
+    (["import-keying", "9", "12", "2", FILE, "--id", "k2"], keying(MARKS)),
+    (["judge", "12", str(len(MARKS)), "reject:5", "--id", "j1"], None),
+    (["seal", "7", "--id", "s1"], None),
+    (["advance", "7", "--id", "a1"], None),
+    (["advance", "7", "--id", "a2"], None),
+    (["lot", "7", "3", "2", "--id", "l3"], None),
+    (["advance", "7", "--id", "a3"], None),
+    (["declare", "7", "--id", "d1"], None),
+]
+# Orders that change nothing: each is tried over the office before the order of this number.
+READS = [
+    (len(ELECTION), ["status", "7"]), (len(ELECTION), ["sheet", "7"]), (len(ELECTION), ["result", "7"]),
+    (16, ["advance", "7", "--id", "a3"]), (0, ["status", "7"]),
+]
+
+
+def request(target, body=None):
+    head = f"POST {target} HTTP/1.1\r\nContent-Length: {len(body)}\r\n\r\n" if body else f"GET {target} HTTP/1.1\r\n\r\n"
+    return (head + (body or "")).encode()
+
+
+BODY = '{"id":"k1","round":1,"papers":[%s]}' % ",".join(f'"{"D" if "D" in marks else marks}"' for marks in ERROR)
+# The same of requests to `serve`; the keying is that of the order 8.
+REQUESTS = [
+    (8, "GET /clerks/9/work", request("/clerks/9/work")),
+    (8, "POST /clerks/9/batches/12/keying", request("/clerks/9/batches/12/keying", BODY)),
+    (len(ELECTION), "GET /wards/7/sheet", request("/wards/7/sheet")),
+    (len(ELECTION), "GET /wards/7/result", request("/wards/7/result")),
+]
+
+
+class Wrong(Exception):
+    """A condition that isn't met."""
+
+
+def library(folder):
+    """Builds the library that refuses."""
+    made = os.path.join(folder, "refusing.so")
+    subprocess.run(["cc", "-shared", "-fPIC", "-O2", "-o", made, os.path.join(ROOT, "tools", "refusing.c")], check=True)
+    return made
+
+
+def copied(source, folder):
+    """The office of one folder, in another."""
+    shutil.rmtree(folder, ignore_errors=True)
+    os.makedirs(folder)
+    for name in (TOWN, LOG):
+        path = os.path.join(source, name)
+        if os.path.exists(path):
+            shutil.copyfile(path, os.path.join(folder, name))
+    return folder
+
+
+def rows(source):
+    """Every row of every table, by the stock sqlite, of a copy; nothing where no office is there.
+
+    An `init` that was stopped may leave a file without the first byte of a database's.
+    """
+    folder = copied(source, source + ".rows")
+    if not os.path.exists(os.path.join(folder, TOWN)):
+        return None
+    base = sqlite3.connect(os.path.join(folder, TOWN))
+    try:
+        whole = base.execute("PRAGMA integrity_check").fetchall()
+        if whole != [("ok",)]:
+            raise Wrong(f"the file isn't whole: {whole}")
+        tables = [name for (name,) in base.execute("SELECT name FROM sqlite_schema WHERE type = 'table' ORDER BY name")]
+        return {name: sorted(base.execute(f"SELECT * FROM {name}").fetchall()) for name in tables} or None
+    except sqlite3.DatabaseError as error:
+        if "file is not a database" in str(error):
+            return None
+        raise Wrong(f"the stock sqlite: {error}") from error
+    finally:
+        base.close()
+
+
+def free_ports(first):
+    """Ports of this machine, one after the other."""
+    for port in itertools.cycle(range(first, first + 2000)):
+        with socket.socket() as listener:
+            listener.setsockopt(socket.SOL_SOCKET, socket.SO_REUSEADDR, 1)
+            try:
+                listener.bind(("127.0.0.1", port))
+            except OSError:
+                continue
+        yield port
+
+
+def let_in(process, port):
+    """A line to a program that serves; nothing where it ended before."""
+    while process.poll() is None:
+        try:
+            return socket.create_connection(("127.0.0.1", port), timeout=SECONDS)
+        except ConnectionRefusedError:
+            time.sleep(0.001)
+    return None
+
+
+def answer(line, sends):
+    """What is sent back until the line ends."""
+    text = b""
+    with line:
+        try:
+            line.sendall(sends)
+            while piece := line.recv(65536):
+                text += piece
+        except (BrokenPipeError, ConnectionResetError):
+            pass
+    return text
+
+
+class Order:
+    """An order of the program, or a request to `serve`."""
+
+    def __init__(self, words, lines=None, sends=None, port=None):
+        self.words, self.lines, self.sends, self.port = words, lines, sends, port
+
+    def name(self):
+        return self.words if self.sends else " ".join(self.words)
+
+    def put_file(self, folder):
+        """Puts the file that the order names where it is looked for."""
+        for name in [word for word in self.words if self.lines and word.endswith(".csv")]:
+            with open(os.path.join(folder, name), "w", encoding="ascii") as file:
+                file.write("".join(f"{line}\n" for line in self.lines))
+
+    def done(self, folder, refusal=None):
+        """((status, output, error output), whether something was refused); the output of `serve` is its answer."""
+        note = folder + ".refused"
+        if os.path.exists(note):
+            os.remove(note)
+        around = {**os.environ, **refusal, "REFUSING_TOLD": note} if refusal else None
+        self.put_file(folder)
+        words = ["serve", str(next(self.port)), "1"] if self.sends else self.words
+        process = subprocess.Popen([PROGRAM, TOWN, *words], cwd=folder, env=around, stdout=subprocess.PIPE, stderr=subprocess.PIPE)
+        try:
+            line = let_in(process, int(words[1])) if self.sends else None
+            text = answer(line, self.sends) if line else b""
+            out, err = process.communicate(timeout=SECONDS)
+        except (TimeoutError, subprocess.TimeoutExpired) as error:
+            process.kill()
+            process.communicate()
+            raise Wrong(f"no end within {SECONDS} seconds") from error
+        return (process.returncode, (out + text).decode(), err.decode()), os.path.exists(note)
+
+    def answered(self, out):
+        """How many of its replies an output tells."""
+        return out.startswith("HTTP/1.1 200 ") if self.sends else out.count("\n")
+
+
+class Trial:
+    """An order, the office before it, and what it prints and leaves where nothing is refused."""
+
+    def __init__(self, number, folder, office, order):
+        self.number, self.folder, self.office, self.order = number, os.path.join(folder, str(number)), office, order
+        os.makedirs(self.folder)
+        self.after = copied(office, os.path.join(self.folder, "after"))
+        self.told, _ = self.ready().done(self.after)
+        self.states = [rows(office)]
+        if order.words[0] == "import-candidates":
+            for count in range(2, len(order.lines)):
+                part = copied(office, os.path.join(self.folder, "part"))
+                Order(order.words, order.lines[:count]).done(part)
+                self.states.append(rows(part))
+        if rows(self.after) != self.states[0]:
+            self.states.append(rows(self.after))
+
+    def ready(self):
+        """The order, with ports of its own."""
+        return Order(self.order.words, self.order.lines, self.order.sends, free_ports(20000 + 2000 * (self.number % 6)))
+
+    def is_fault(self, told, faults):
+        """Whether what was told is one of some faults."""
+        status, out, err = told
+        if self.order.sends and not status:
+            answered = re.fullmatch(r'HTTP/1\.1 503 Service Unavailable\r\n.*\r\n\r\n\{"fault":(\d+)\}', out, re.DOTALL)
+            return not err and bool(answered) and any(fault.startswith(f"fault {answered.group(1)}: ") for fault in faults)
+        whole_lines = out == "" or (len(self.states) > 2 and out.endswith("\n") and self.told[1].startswith(out))
+        return status == 3 and whole_lines and any(re.fullmatch(fault + "\n", err) for fault in faults)
+
+    def judged(self, told, found, faults):
+        """('told' or 'answered', the number of the state that was found)."""
+        if found not in self.states:
+            raise Wrong(f"other rows: {told}")
+        place, last = self.states.index(found), len(self.states) - 1
+        if told == self.told:
+            if place != last:
+                raise Wrong(f"answered, and lost: {told}")
+            return "answered", place
+        if not self.is_fault(told, faults):
+            raise Wrong(f"told {told}")
+        if not self.order.answered(told[1]) <= place <= self.order.answered(told[1]) + 1:
+            raise Wrong(f"{place} of {last} records found: {told}")
+        return "told", place
+
+    def tried(self, order, refusal, faults):
+        """Refuses, judges, and gives the order again. Nothing where it met no refusal."""
+        here = copied(self.office, os.path.join(self.folder, "run"))
+        told, is_refused = order.done(here, refusal)
+        if not is_refused and told != self.told:
+            raise Wrong(f"nothing was refused: {told}")
+        if beside := set(os.listdir(here)) - {TOWN, LOG, FILE}:
+            raise Wrong(f"left behind: {beside}")
+        what = self.judged(told, rows(here), faults)
+        wanted = MADE if what[1] and self.order.words == ["init"] else self.told
+        again, _ = order.done(here)
+        if again != wanted or rows(here) != self.states[-1]:
+            raise Wrong(f"{told}, and given again {again}")
+        return what if is_refused else None
+
+    def runs(self, refusals, faults):
+        """([what was found by each refusal until a run meets none], [what was wrong])."""
+        order, found, wrong = self.ready(), [], []
+        for which, refusal in refusals:
+            try:
+                what = self.tried(order, refusal, faults)
+            except Wrong as error:
+                wrong.append(f"{self.order.name()}: {which}: {error}")
+                continue
+            if what is None:
+                break
+            found.append(what)
+        return found, wrong
+
+    def counts(self, found):
+        """How many were told a fault, were answered, left the rows before, after and in between."""
+        last = len(self.states) - 1
+        kinds = [what for what, _ in found]
+        places = [place for _, place in found]
+        old, new = sum(place == 0 for place in places), sum(place == last for place in places if place)
+        return [kinds.count("told"), kinds.count("answered"), old, new, len(found) - old - new]
+
+
+def trials(folder, only=lambda trial: True):
+    """The trials of the election, each over the office before its order."""
+    found, offices = [], []
+    office = copied(os.path.join(folder, "nothing"), os.path.join(folder, "before"))
+    for words, lines in ELECTION:
+        trial = Trial(len(found), folder, office, Order(words, lines))
+        if trial.told[0]:
+            raise Wrong(f"{words}: {trial.told}")
+        found.append(trial)
+        offices.append(office)
+        office = trial.after
+    offices.append(office)
+    for before, words in READS:
+        found.append(Trial(len(found), folder, offices[before], Order(words)))
+    for before, name, sends in REQUESTS:
+        found.append(Trial(len(found), folder, offices[before], Order(name, None, sends)))
+    return [trial for trial in found if only(trial)]
