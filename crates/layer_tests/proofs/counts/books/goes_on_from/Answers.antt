@@ -10,8 +10,8 @@ use Rattle.count.specs.Law.Places.{place}
 use Rattle.count.specs.Law.Right.{IsRight}
 use Rattle.layer_tests.proofs.counts.books.goes_on_from.Goals as goal
 
-pub resume-requires-clause-right : goal.resume-requires-clause-right
-resume-requires-clause-right g c =
+pub resume_again-requires-clause-right : goal.resume_again-requires-clause-right
+resume_again-requires-clause-right g c =
     let lots : List (ℕ × ℕ) = c.args.worked.now.lots.now in
     let on : c.in_ok-stood.stood.contest ≡ contest_for c.first_columns-candidates.result c.args.worked.now.seats (papers_of c.args.bundles.now) = ap (λ (b : BundledBook). b.contest) c.in_ok-stood.ensures in
     let made : reverse c.stages-made.result.now ≡ stages_to c.in_ok-stood.stood.contest lots c.args.stages = c.stages-made.ensures.is ∙ c.in_ok-count_to.ensures.is in
@@ -20,8 +20,8 @@ resume-requires-clause-right g c =
       right = subst (λ (k : Contest). IsRight k lots (reverse c.stages-made.result.now)) on (subst (λ (h : History). IsRight c.in_ok-stood.stood.contest lots h) (sym made) (c.count_to.ensures.right c.args.stages));
     }
 
-pub resume-requires-clause-places : goal.resume-requires-clause-places
-resume-requires-clause-places g c =
+pub resume_again-requires-clause-places : goal.resume_again-requires-clause-places
+resume_again-requires-clause-places g c =
     let K : Contest = contest_for c.first_columns-candidates.result c.args.worked.now.seats (papers_of c.args.bundles.now) in
     let book : BundledBook = c.count_to.new.book in
     let on : book.contest ≡ K = c.in_ok-count_to.ensures.same ∙ ap (λ (b : BundledBook). b.contest) c.in_ok-stood.ensures in
