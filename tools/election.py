@@ -12,7 +12,8 @@ import sqlite3
 import subprocess
 import time
 
-ROOT = os.path.dirname(os.path.dirname(os.path.realpath(__file__)))
+from refusing import ROOT
+
 TOWN, LOG, FILE = "town.db", "town.db-wal", "rows.csv"
 SECONDS = 60
 MADE = (3, "", "fault 105: wrong database\n")
@@ -86,13 +87,6 @@ PROGRAM = program()
 
 class Wrong(Exception):
     """A condition that isn't met."""
-
-
-def library(folder):
-    """Builds the library that refuses."""
-    made = os.path.join(folder, "refusing.so")
-    subprocess.run(["cc", "-shared", "-fPIC", "-O2", "-o", made, os.path.join(ROOT, "tools", "refusing.c")], check=True)
-    return made
 
 
 def copied(source, folder):
