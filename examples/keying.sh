@@ -1,6 +1,6 @@
 #!/usr/bin/env bash
-# Plays a ward from its nominations to its agreed papers: candidates from a file, two batches keyed by two clerks each, one of
-# them keyed again, and a verdict on a doubtful paper.
+# Plays a ward from its nominations to its agreed papers: candidates from a file, three batches keyed by two clerks each, one of
+# them keyed again and one by a third clerk too, and a verdict on a doubtful paper.
 source "$(dirname "$(readlink -f "${BASH_SOURCE[0]}")")/play.bash"
 
 # Makes a file in the folder that the orders are played in, a line for each word.
@@ -70,6 +70,19 @@ file many.csv paper,1,2,3 $(printf '%s,1,, ' {1..500}) ,,,
     play town.db import-keying 4 13 2 thirteen.csv --id k4
     play town.db import-keying 9 13 2 thirteen.csv --id k4
     play town.db status 7
+
+    # batch 14: keyed unlike, and then by a third clerk too
+    play town.db batch 14 7 2 4 9 --id b4
+    play town.db import-keying 4 14 1 twelve.csv --id k5
+    play town.db third 14 5 --id t1
+    play town.db import-keying 9 14 1 other.csv --id k5
+    play town.db third 14 9 --id t1
+    play town.db third 14 5 --id t1
+    play town.db third 14 5 --id t1
+    play town.db third 14 6 --id t2
+    play town.db import-keying 5 14 1 other.csv --id k1
+    play town.db status 7
+    play town.db again 14 --id a2
 } >"$folder/played"
 
 compare keying

@@ -10,20 +10,22 @@ use Rattle.register.specs.Offices.{OfficeState, empty_office}
 use Rattle.register.specs.Machine.{after, after_one, step_of}
 use Rattle.register.specs.declared.command.Request.{Request}
 use Rattle.tables.specs.Contents.{Contents, IsOffice, RestsAt, Stores}
-use Rattle.tables.specs.Presence.{has_some_table}
+use Rattle.tables.specs.Presence.{has_some_table, has_every_table, form_of, IsOlder}
+use Rattle.tables.specs.declared.presence.Form.TheVariants.{Whole, WithoutThird, WithoutCounts}
 use Rattle.tables.specs.Reading.{OnlyReads}
 use Rattle.tables.specs.Schema.{IsOfficeSchema, no_schema}
 use Rattle.tables.specs.declared.fault.Fault.{Fault}
-use Rattle.tables.specs.declared.fault.Fault.TheVariants.{Memory, Store, WrongDatabase}
+use Rattle.tables.specs.declared.fault.Fault.TheVariants.{Memory, Store, Damaged, Closed, WrongDatabase, NewerSchema, OlderSchema}
 use Rattle.store.specs.Offices.{LeavesState, tables_of}
 use Rattle.store.specs.Openings.{IsBlank, IsLeftAt}
-use Rattle.store.proofs.ReopenLemmas.{left_holds}
+use Rattle.store.specs.Migrations.{IsToldInMigration}
+use Rattle.store.proofs.ReopenLemmas.{left_holds, left_told}
 use Rattle.office.specs.Answers.{Told, again, done, no, told_of}
 use Rattle.office.proofs.RunLemmas.{beginning}
 use Rattle.desk.specs.Errands.{File, IsAnswered, IsAnswerAbove, IsEndOf, IsKept, IsPerformed, IsPerformedAndKept, IsPlain, IsReplyAbove, IsRun, IsSent, IsStopped, Performs, Sends, SendsSome, TellsAnswers, TellsFault, TellsOther}
 use Rattle.desk.specs.Pages.{Cut, uncut, cut_behind, cut_error, IsShown, Outputs, Page, cut_below, failed, page_told}
 use Rattle.desk.specs.declared.lines.Failure.TheVariants.{Office}
-use Rattle.desk.specs.Requests.{Errand, Work, making, running, serving}
+use Rattle.desk.specs.Requests.{Errand, Work, making, migrating, running, serving}
 use Rattle.desk.proofs.PageLemmas.{broken_ends}
 
 -- ---- a connection at rest
@@ -46,6 +48,34 @@ office_begins c db office = office.begins
 some_there : (s : Schema) → IsOfficeSchema s → has_some_table s ≡ true
 unfolding same_name
 some_there s h = subst (λ (x : Schema). has_some_table x ≡ true) (sym h.is) refl
+
+-- at an office all tables are there, so that it is no older one
+all_there : (s : Schema) → IsOfficeSchema s → has_every_table s ≡ true
+unfolding same_name
+all_there s h = subst (λ (x : Schema). has_every_table x ≡ true) (sym h.is) refl
+
+whole_form : (s : Schema) → has_every_table s ≡ true → form_of s ≡ Whole
+whole_form s every = rw every refl
+
+whole_only : (s : Schema) → form_of s ≡ Whole → IsOlder s
+whole_only s whole = record {
+  without_third = λ is. let bad : Whole ≡ WithoutThird = sym whole ∙ is in absurd (cc bad);
+  without_counts = λ is. let bad : Whole ≡ WithoutCounts = sym whole ∙ is in absurd (cc bad);
+}
+
+pub left_older : (s : OfficeState) (db : Database) → IsLeftAt s db → IsOlder db.schema
+left_older s db left =
+    whole_only db.schema (whole_form db.schema (all_there db.schema (office_begins (tables_of s) db (left_holds s db left).office)))
+
+-- the faults of a migration there are want of memory and a failing store
+pub migration_told : (s : OfficeState) (db : Database) (fault : Fault) → IsLeftAt s db → IsToldInMigration db fault → IsPlain fault
+migration_told s db Memory left told = inl refl
+migration_told s db Store left told = inr refl
+migration_told s db Damaged left told = absurd (told.no_state s (left_holds s db left))
+migration_told s db Closed left told = absurd told
+migration_told s db WrongDatabase left told = left_told s db WrongDatabase left told
+migration_told s db NewerSchema left told = left_told s db NewerSchema left told
+migration_told s db OlderSchema left told = absurd told
 
 -- a table that is there as a connection rests is there now
 pub table_rests : (db : Database) (st : State) → RestsAt db st → has_some_table db.schema ≡ true → has_some_table st.now.schema ≡ true
@@ -159,6 +189,7 @@ fault_other : (s : OfficeState) (work : Work) (file : File) (page : Page) (fault
 fault_other s making file page fault is ends = (fault, is)
 fault_other s (serving port connections) file page fault is ends = absurd ends
 fault_other s (running errand) file page fault is ends = inr (fault, is)
+fault_other s migrating file page fault is ends = inr (fault, is)
 
 -- where there was nothing to send, nothing is told
 sent_other : (cut : Cut) (s : OfficeState) (errand : Errand) (file : File) (requests : List Request) (page : Page) (closed : Bool) (st : State) → Sends s errand file requests → IsSent cut s requests page closed st
@@ -211,6 +242,7 @@ pub kept : (earlier : List Request) (work : Work) (file : File) (cut : Cut) (old
 kept earlier work file cut old new page status st shown (inr unopened) =
     nothing_kept earlier work file cut page status st (fault_other (after empty_office earlier) work file page unopened.0 unopened.1 unopened.2) unopened.3
 kept earlier making file cut old new page status st shown (inl it) = absurd it
+kept earlier migrating file cut old new page status st shown (inl it) = nothing_kept earlier migrating file cut page status st (inl it.0) it.1
 kept earlier (serving port connections) file cut old new page status st shown (inl it) = nothing_kept earlier (serving port connections) file cut page status st it.0 it.1
 kept earlier (running errand) file cut old new page status st shown (inl it) = run_kept earlier errand file cut old new page status it.0 st shown it.1
 

@@ -43,6 +43,7 @@ file_ends false status is zero = absurd (omega arith)
 
 silent : (o : Outcome) → (page_of o).status ≡ 0 → (page_of o).err ≡ []
 silent outcome.Ready zero = refl
+silent (outcome.Migrated migrated) zero = refl
 silent (outcome.Replied reply) zero = refl
 silent (outcome.Printed text) zero = refl
 silent (outcome.Refused why) zero = absurd (omega arith)

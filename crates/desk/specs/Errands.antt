@@ -11,9 +11,12 @@ use Rattle.tables.specs.declared.fault.Fault.{Fault}
 use Rattle.tables.specs.declared.fault.Fault.TheVariants.{Memory, Store, WrongDatabase}
 use Rattle.sqlite.specs.Effect.{Database}
 use Rattle.tables.specs.Contents.{RestsAt, Stores}
-use Rattle.tables.specs.Presence.{IsOurs, has_some_table}
+use Rattle.tables.specs.Presence.{IsOurs, IsOlder, has_some_table}
 use Rattle.tables.specs.Reading.{OnlyReads}
 use Rattle.store.specs.Openings.{HoldsNoState, IsBlank, IsLeftAt, IsToldBy}
+use Rattle.store.specs.declared.older.OlderForm.{OlderForm}
+use Rattle.store.specs.declared.migration.Migrated.TheVariants.{Done, Already}
+use Rattle.store.specs.Migrations.{HoldsNoOlder, RestsOlder, IsToldInMigration}
 use Rattle.store.specs.Offices.{IsAt, LeavesState, tables_of}
 use Rattle.office.specs.Answers.{IsClosedIn, IsKeptOpen, IsOpenAt, Told, again, done, no, told_of}
 use Rattle.office.specs.Reads.{IsClosedReading, columns_told, status_told}
@@ -26,8 +29,8 @@ use Rattle.keyfile.specs.Reading.{Known}
 use Rattle.keyfile.specs.Records.{file_records}
 use Rattle.keyfile.specs.declared.fault.FileFault.{FileFault}
 use Rattle.keyfile.specs.declared.fault.Flaw.TheVariants.{ReadFailed}
-use Rattle.desk.specs.Pages.{Cut, Page, uncut, below, cut_below, empty_page, failed, page_found, page_told, printed, refused, replied, unread}
-use Rattle.desk.specs.Requests.{Errand, Sent, Work, importing_candidates, importing_keying, keyings_for, making, printing, requests_for, running, sending, sent_as, serving, telling_status}
+use Rattle.desk.specs.Pages.{Cut, Page, uncut, below, cut_below, empty_page, failed, migrated_text, page_found, page_told, printed, refused, replied, unread}
+use Rattle.desk.specs.Requests.{Errand, Sent, Work, importing_candidates, importing_keying, keyings_for, making, migrating, printing, requests_for, running, sending, sent_as, serving, telling_status}
 use Rattle.desk.specs.Standings.{status_text}
 use Rattle.desk.specs.declared.orders.KeyingFile.{KeyingFile}
 use Rattle.desk.specs.declared.lines.Failure.TheVariants.{Office, Output}
@@ -137,6 +140,7 @@ abbrev pub IsEndOf : Work → Fault → Type 0
 IsEndOf making fault = IsPlain fault ⊎ (fault ≡ WrongDatabase)
 IsEndOf (serving port connections) fault = ⊥
 IsEndOf (running errand) fault = IsPlain fault
+IsEndOf migrating fault = IsPlain fault
 
 -- a fault before an office was open: a stop leaves the state as it was
 abbrev pub IsUnopened : OfficeState → Work → Page → State → Type 0
@@ -145,6 +149,7 @@ IsUnopened s work page st = (fault : Fault) × (page ≡ failed (Office fault)) 
 -- what comes of what is to be done: an errand is run; what needs a socket is told as a failed one
 abbrev pub IsDone : Cut → OfficeState → Work → File → Page → State → Type 0
 IsDone cut s making file page st = ⊥
+IsDone cut s migrating file page st = (page ≡ replied (migrated_text Already)) × LeavesState st (λ x. x ≡ s)
 IsDone cut s (serving port connections) file page st = (page ≡ failed Output) × LeavesState st (λ x. x ≡ s)
 IsDone cut s (running errand) file page st = (closed : Bool) × IsRun cut s errand file page closed st
 
@@ -158,6 +163,21 @@ abbrev pub IsMade : Page → State → State → Type 0
 IsMade page old new =
     ((page ≡ replied (codes "office ready")) × IsAt empty_office new)
     ⊎ ((fault : Fault) × (page ≡ failed (Office fault)) × IsPlain fault × ((trees : Trees) → new.may_leave trees → old.may_leave trees ⊎ Stores (tables_of empty_office) trees))
+
+-- An office that an earlier program made is brought over, at the very state that it had; or want of memory or a failing store is told, and a
+-- stop leaves what it could leave before, or the tables of that state.
+abbrev pub IsMigrated : OfficeState → Page → State → State → Type 0
+IsMigrated s page old new =
+    ((page ≡ replied (migrated_text Done)) × IsAt s new)
+    ⊎ ((fault : Fault) × (page ≡ failed (Office fault)) × IsPlain fault × ((trees : Trees) → new.may_leave trees → old.may_leave trees ⊎ Stores (tables_of s) trees))
+
+-- At a database that holds no office of this version or an earlier one the fault is told that it gives, and nothing is changed; or want of
+-- memory or a failing store.
+pub record IsUnmigrated (db : Database) (page : Page) (old new : State) : Type 0 where
+  pub fault : Fault
+  pub told : page ≡ failed (Office fault)
+  pub given : IsToldInMigration db fault
+  pub same : IsPlain fault ⊎ OnlyReads old new
 
 -- None is made where a table has one of our names, whatever it holds: that is told, or want of memory, and nothing is changed.
 abbrev pub IsTaken : Page → State → State → Type 0
@@ -175,11 +195,13 @@ pub record IsForeign (db : Database) (page : Page) (old new : State) : Type 0 wh
 abbrev pub IsUnserved : Page → State → State → Type 0
 IsUnserved page old new = (page ≡ failed Output) × OnlyReads old new
 
--- what comes of what is to be done, by what the connection rests at: an office at a state, a database with nothing in it, one with a
--- table of our names, one of no office, or anything
+-- what comes of what is to be done, by what the connection rests at: an office at a state, a database with nothing in it, an office that an
+-- earlier program made, one of neither, one with a table of our names, one of no office, or anything
 pub record IsPerformed (cut : Cut) (work : Work) (file : File) (page : Page) (old new : State) : Type 0 where
   pub in_office : (db : Database) → RestsAt db old → (s : OfficeState) → IsLeftAt s db → Performs cut s work file page new
   pub in_nothing : work ≡ making → IsBlank old → IsMade page old new
+  pub in_older : work ≡ migrating → (form : OlderForm) (s : OfficeState) → RestsOlder form s old → IsMigrated s page old new
+  pub beyond : work ≡ migrating → (db : Database) → IsOurs db.schema → IsOlder db.schema → RestsAt db old → HoldsNoState db → HoldsNoOlder db → IsUnmigrated db page old new
   pub taken : work ≡ making → (db : Database) → RestsAt db old → has_some_table db.schema ≡ true → IsTaken page old new
   pub elsewhere : (errand : Errand) → work ≡ running errand → (db : Database) → IsOurs db.schema → RestsAt db old → HoldsNoState db → IsForeign db page old new
   pub anywhere : (port connections : ℕ) → work ≡ serving port connections → IsUnserved page old new
@@ -190,6 +212,7 @@ pub record IsPerformed (cut : Cut) (work : Work) (file : File) (page : Page) (ol
 abbrev pub SendsSome : OfficeState → Work → File → List Request → Type 0
 SendsSome s work file [] = ⊤
 SendsSome s making file (r ∷ rs) = ⊥
+SendsSome s migrating file (r ∷ rs) = ⊥
 SendsSome s (serving port connections) file (r ∷ rs) = ⊥
 SendsSome s (running errand) file (r ∷ rs) = Sends s errand file (r ∷ rs)
 
@@ -218,6 +241,7 @@ TellsAnswers s (r ∷ rs) (suc others) cut page = IsAnswerAbove (told_of (step_o
 -- where nothing was sent, the page tells that there was nothing to send, what was asked or why nothing was sent, or a fault
 abbrev pub TellsOther : OfficeState → Work → File → Page → Type 0
 TellsOther s making file page = TellsFault page
+TellsOther s migrating file page = (page ≡ replied (migrated_text Already)) ⊎ TellsFault page
 TellsOther s (serving port connections) file page = page ≡ failed Output
 TellsOther s (running errand) file page = ((Sends s errand file [] × (page ≡ empty_page)) ⊎ IsTold s errand file page) ⊎ TellsFault page
 

@@ -3,7 +3,7 @@ use Rattle.std.specs.Prelude.{ℕ, zero, suc, List, [], ◌∷◌, ◌++◌, Opt
 use Rattle.clap.specs.Words.{Text}
 use Rattle.office.specs.declared.sheets.Text.TheVariants as ward_text
 use Rattle.desk.specs.Verdicts.{Judgement}
-use Rattle.desk.specs.Requests.{Asked, asked_by, batch_to_add, batch_to_key_again, candidate_to_add, candidate_to_withdraw, keying_to_keep, lot_to_record, paper_to_judge, stage_to_count, ward_to_add, ward_to_close, ward_to_declare, ward_to_seal}
+use Rattle.desk.specs.Requests.{Asked, asked_by, batch_to_add, batch_to_key_again, batch_for_third_clerk, candidate_to_add, candidate_to_withdraw, keying_to_keep, lot_to_record, paper_to_judge, stage_to_count, ward_to_add, ward_to_close, ward_to_declare, ward_to_seal}
 use Rattle.desk.specs.declared.table.Kind.{Kind}
 use Rattle.desk.specs.declared.table.Kind.TheVariants as kind
 use Rattle.desk.specs.declared.table.Word.{Word}
@@ -69,6 +69,7 @@ orders =
     ∷ takes (codes "batch") (number (codes "BATCH") ∷ number (codes "WARD") ∷ number (codes "SIZE") ∷ number (codes "FIRST_CLERK") ∷ number (codes "SECOND_CLERK") ∷ id ∷ [])
     ∷ takes (codes "import-keying") (number (codes "CLERK") ∷ number (codes "BATCH") ∷ number (codes "ROUND") ∷ text (codes "FILE") ∷ id ∷ [])
     ∷ takes (codes "again") (number (codes "BATCH") ∷ id ∷ [])
+    ∷ takes (codes "third") (number (codes "BATCH") ∷ number (codes "CLERK") ∷ id ∷ [])
     ∷ takes (codes "judge") (number (codes "BATCH") ∷ number (codes "PAPER") ∷ verdict (codes "VERDICT") ∷ id ∷ [])
     ∷ takes (codes "seal") (number (codes "WARD") ∷ id ∷ [])
     ∷ takes (codes "advance") (number (codes "WARD") ∷ id ∷ [])
@@ -78,6 +79,7 @@ orders =
     ∷ takes (codes "sheet") (number (codes "WARD") ∷ [])
     ∷ takes (codes "result") (number (codes "WARD") ∷ [])
     ∷ takes (codes "serve") (port (codes "PORT") ∷ connections (codes "CONNECTIONS") ∷ [])
+    ∷ takes (codes "migrate") []
     ∷ []
 
 -- a value of an order; a verdict is none where its word says none
@@ -95,6 +97,7 @@ words_of (candidate_to_add ward candidate name) = (codes "candidate", numbered w
 words_of (candidate_to_withdraw ward candidate) = (codes "withdraw", numbered ward ∷ numbered candidate ∷ [])
 words_of (batch_to_add batch ward size first_clerk second_clerk) = (codes "batch", numbered batch ∷ numbered ward ∷ numbered size ∷ numbered first_clerk ∷ numbered second_clerk ∷ [])
 words_of (batch_to_key_again batch) = (codes "again", numbered batch ∷ [])
+words_of (batch_for_third_clerk batch clerk) = (codes "third", numbered batch ∷ numbered clerk ∷ [])
 words_of (keying_to_keep batch round papers) = ([], [])
 words_of (paper_to_judge batch paper judgement) = (codes "judge", numbered batch ∷ numbered paper ∷ judged (Some judgement) ∷ [])
 words_of (ward_to_seal ward) = (codes "seal", numbered ward ∷ [])
@@ -114,6 +117,7 @@ words_sent (suc clerk) asked under = ([], [])
 -- an order's name, and its values in the sequence of its words
 abbrev pub told : Order → Text × List Value
 told order.Init = (codes "init", [])
+told order.Migrate = (codes "migrate", [])
 told (order.Run (errand.Send r)) = words_sent r.actor (asked_by r.command) (string_bytes r.id)
 told (order.Run (errand.ImportCandidates file id)) = (codes "import-candidates", worded file.now ∷ worded id.now ∷ [])
 told (order.Run (errand.ImportKeying k)) = (codes "import-keying", numbered k.clerk ∷ numbered k.batch ∷ numbered k.round ∷ worded k.file.now ∷ worded k.id.now ∷ [])

@@ -12,6 +12,8 @@ use Rattle.tables.specs.declared.fault.Fault.TheVariants as fault
 use Rattle.keyfile.specs.Faults.{flaw_number, flaw_text, is_stop}
 use Rattle.keyfile.specs.declared.fault.FileFault.{FileFault}
 use Rattle.office.specs.Answers.{Told, again, done, no}
+use Rattle.store.specs.declared.migration.Migrated.{Migrated}
+use Rattle.store.specs.declared.migration.Migrated.TheVariants.{Done, Already}
 use Rattle.desk.specs.declared.lines.Failure.{Failure}
 use Rattle.desk.specs.declared.lines.Failure.TheVariants.{Office, Output}
 use Rattle.desk.specs.declared.words.WordsFault.{WordsFault}
@@ -94,9 +96,15 @@ abbrev pub page_found : {X : Type 0} → (X → Page) → Result X Reason → Pa
 page_found page (Ok x) = page x
 page_found page (Err why) = refused why
 
+-- what a migration came to
+abbrev pub migrated_text : Migrated → Text
+migrated_text Done = codes "office migrated"
+migrated_text Already = codes "office is at version 2"
+
 -- an outcome
 abbrev pub page_of : Outcome → Page
 page_of outcome.Ready = replied (codes "office ready")
+page_of (outcome.Migrated migrated) = replied (migrated_text migrated)
 page_of (outcome.Replied reply) = replied (string_bytes reply)
 page_of (outcome.Printed text) = printed (string_bytes text)
 page_of (outcome.Refused why) = refused why

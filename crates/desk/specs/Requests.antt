@@ -29,6 +29,7 @@ pub data Asked : Type 0 where
   candidate_to_withdraw : ℕ → ℕ → Asked
   batch_to_add : ℕ → ℕ → ℕ → ℕ → ℕ → Asked
   batch_to_key_again : ℕ → Asked
+  batch_for_third_clerk : ℕ → ℕ → Asked
   keying_to_keep : ℕ → ℕ → List Text → Asked
   paper_to_judge : ℕ → ℕ → Judgement → Asked
   ward_to_seal : ℕ → Asked
@@ -49,6 +50,7 @@ asked_by (command.Candidate (candidate_command.Add ward candidate name)) = candi
 asked_by (command.Candidate (candidate_command.Withdraw ward candidate)) = candidate_to_withdraw ward candidate
 asked_by (command.Batch (batch_command.Add batch ward size first_clerk second_clerk)) = batch_to_add batch ward size first_clerk second_clerk
 asked_by (command.Batch (batch_command.Again batch)) = batch_to_key_again batch
+asked_by (command.Batch (batch_command.Third batch clerk)) = batch_for_third_clerk batch clerk
 asked_by (command.Keying k) = keying_to_keep k.batch k.round (map string_bytes k.papers.items)
 asked_by (command.Verdict v) = paper_to_judge v.batch v.paper (judgement_given v.verdict)
 asked_by (command.Count (count_command.Seal ward)) = ward_to_seal ward
@@ -81,6 +83,7 @@ pub data Errand : Type 0 where
 -- what is to be done for an order
 pub data Work : Type 0 where
   making : Work
+  migrating : Work
   running : Errand → Work
   serving : ℕ → ℕ → Work
 
@@ -95,6 +98,7 @@ errand_of (order_errand.Print ward text) = printing ward text
 -- what is done for an order
 abbrev pub work_for : Order → Work
 work_for order.Init = making
+work_for order.Migrate = migrating
 work_for (order.Run errand) = running (errand_of errand)
 work_for (order.Serve port connections) = serving port connections
 

@@ -2,13 +2,13 @@
 
 ghost use Rattle.std.specs.Prelude.{◌≡◌, ◌⊎◌, ◌-◌, ◌^◌, ◌<◌};
 ghost use Rattle.std.specs.List.{flat_map};
-ghost use Rattle.desk.specs.Pages.{IsErrorTold, IsPut, Shows, failed, failure_number, failure_text, outputs_of, page_of, printed, refused, status_of_file, unread, words_page};
+ghost use Rattle.desk.specs.Pages.{IsErrorTold, IsPut, Shows, failed, failure_number, failure_text, migrated_text, outputs_of, page_of, printed, refused, status_of_file, unread, words_page};
 
 use crate::words::WordsFault;
 use itoa::Buffer;
 use keyfile::{FileFault, Flaw};
 use register::{Refusal, Reply};
-use store::Fault;
+use store::{Fault, Migrated};
 use thiserror::Error;
 use votes::{Broken, Sink, put_all};
 
@@ -17,6 +17,8 @@ use votes::{Broken, Sink, put_all};
 pub(crate) enum Outcome {
     /// An office was made.
     Ready,
+    /// An office was brought over, or was at this program's version already.
+    Migrated(Migrated),
     /// This is replied: to a request that was accepted, now or before, or how a ward stands.
     Replied(Reply),
     /// This text is told as it is, its lines ended.
@@ -29,7 +31,7 @@ pub(crate) enum Outcome {
     Failed(Fault),
 }
 
-/// Why the program gives up: a fault of the office, told by its number 101 to 106, or an output that
+/// Why the program gives up: a fault of the office, told by its number 101 to 106 or 108, or an output that
 /// fails, 107.
 #[derive(Clone, Copy, Debug, PartialEq, Eq, Drop, Error)]
 #[error("{}", self.text())]
@@ -157,6 +159,16 @@ pub fn tell_failure<E: Sink>(failure: Failure, err: &mut E) -> u8
     tell_error(&pieces, 3, err)
 }
 
+/// What a migration came to, in words.
+fn migrated_text(migrated: Migrated) -> &'static str
+    ensures { result.now ≡ migrated_text migrated }
+{
+    match migrated {
+        Migrated::Done => "office migrated",
+        Migrated::Already => "office is at version 2",
+    }
+}
+
 /// Tells an outcome, and gives its status: 0 with a line on the output; 1 with a refusal of a request or a
 /// file, or 3 with a fault or a file that couldn't be read, on the error output; and 3 where one of the two
 /// fails, which has then taken a beginning.
@@ -167,6 +179,7 @@ pub(crate) fn tell<O: Sink, E: Sink>(outcome: &Outcome, out: &mut O, err: &mut E
 {
     match outcome {
         Outcome::Ready => tell_text(&["office ready", "\n"], out, err),
+        Outcome::Migrated(migrated) => tell_text(&[migrated_text(*migrated), "\n"], out, err),
         Outcome::Replied(reply) => tell_text(&[reply.as_str(), "\n"], out, err),
         Outcome::Printed(text) => tell_text(&[text.as_str()], out, err),
         Outcome::Refused(refusal) => tell_refusal(refusal, err),

@@ -146,6 +146,17 @@ fn again<'a>(alloc: Global, matches: &ArgMatches<'a>) -> Result<Order<'a>, NoOrd
     sending(alloc, matches, Command::Batch(command))
 }
 
+fn third<'a>(alloc: Global, matches: &ArgMatches<'a>) -> Result<Order<'a>, NoOrder>
+    ensures ok { IfOk result (λ o. meaning_of (codes "third") (rows_of (found_of matches.now)) ≡ Some (told o)) }
+    ensures err { IfErr result (λ why. why ≡ NoOrder.Memory) }
+{
+    let command = BatchCommand::Third {
+        batch: number_in(matches, BATCH),
+        clerk: number_in(matches, CLERK),
+    };
+    sending(alloc, matches, Command::Batch(command))
+}
+
 fn seal<'a>(alloc: Global, matches: &ArgMatches<'a>) -> Result<Order<'a>, NoOrder>
     ensures ok { IfOk result (λ o. meaning_of (codes "seal") (rows_of (found_of matches.now)) ≡ Some (told o)) }
     ensures err { IfErr result (λ why. why ≡ NoOrder.Memory) }
@@ -272,6 +283,7 @@ fn order_named<'a>(
 {
     match name {
         "init" => Ok(Order::Init),
+        "migrate" => Ok(Order::Migrate),
         "ward" => ward(alloc, matches),
         "candidate" => candidate(alloc, matches),
         "import-candidates" => Ok(import_candidates(matches)),
@@ -280,6 +292,7 @@ fn order_named<'a>(
         "batch" => batch(alloc, matches),
         "import-keying" => Ok(import_keying(matches)),
         "again" => again(alloc, matches),
+        "third" => third(alloc, matches),
         "judge" => judge(alloc, matches),
         "seal" => seal(alloc, matches),
         "advance" => advance(alloc, matches),

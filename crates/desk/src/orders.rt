@@ -39,6 +39,8 @@ pub enum Order<'a> {
     Init,
     /// Open the office, and do this in it.
     Run(Errand<'a>),
+    /// Bring an office that an earlier program made over to this one.
+    Migrate,
     /// Answer so many connections on a port of this machine.
     Serve { port: u32, connections: u32 },
 }

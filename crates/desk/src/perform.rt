@@ -5,7 +5,7 @@ ghost use Rattle.sqlite.specs.State.{HasCleanDisk};
 ghost use Rattle.sqlite.specs.Held.{state};
 ghost use Rattle.desk.specs.Errands.{File, IsPerformed, IsPerformedAndKept, IsRun, WhereOpen};
 ghost use Rattle.desk.specs.Pages.{Tells, outputs_of};
-ghost use Rattle.desk.specs.Requests.{errand_of, making, running, work_for};
+ghost use Rattle.desk.specs.Requests.{errand_of, making, migrating, running, work_for};
 
 use crate::import::{candidate_requests, keying_of};
 use crate::lines::{Failure, Outcome, tell, tell_failure};
@@ -92,20 +92,40 @@ fn make_office<S: Alter, O: Sink, E: Sink>(
     }
 }
 
+/// Brings an office that an earlier program made over to this one, and tells what came of it.
+fn migrate_office<S: Alter, O: Sink, E: Sink>(
+    alloc: Global,
+    mut conn: Connection<S>,
+    out: &mut O,
+    err: &mut E,
+) -> (u8, Connection<S>)
+    requires out { O.failed out.old < 2 ^ 64 - 1 }
+    requires err { E.failed err.old < 2 ^ 64 - 1 }
+    ensures { let outputs = outputs_of O.taken O.failed E.taken E.failed in Tells (outputs out.old err.old) (outputs out.new err.new) result.0
+        (λ cut page. HasCleanDisk (state S.Store result.1) → (told : File) → IsPerformed cut migrating told page (state S.Store conn) (state S.Store result.1)) }
+{
+    match Office::migrate(alloc, &mut conn) {
+        Ok(migrated) => (tell(&Outcome::Migrated(migrated), out, err), conn),
+        Err(fault) => (tell(&Outcome::Failed(fault), out, err), conn),
+    }
+}
+
 /// Does an order over an opened connection, which it gives back, prints its lines, and gives the status.
 ///
 /// `file` is the one that the order names, None where it can't be opened or none is named. It is read
 /// after the office was opened, and whole before anything is sent.
 ///
-/// The status is 0 where each reply, `office ready`, how a ward stands, or its sheet or declaration went to
+/// The status is 0 where each reply, `office ready`, what a migration came to, how a ward stands, or its sheet or declaration went to
 /// `out`; 1 where a request or the file was refused and 3 at a fault, which `err` is told; and 3 where one of
 /// the two failed, which has then taken a beginning. What was replied before the first refusal or fault
 /// stands. Whatever a stop then leaves is the state after the accepted requests of a beginning of all that
 /// were ever sent, which contains every answered one and at most one more; with status 0 all of the order's
 /// were answered.
 ///
-/// A database that holds no office, or a newer or damaged one, is told as that fault, and not changed. Where a
-/// table has one of our names, `init` makes no office: that is told (105), and nothing is changed.
+/// A database that holds no office, or a newer, an older or a damaged one, is told as that fault, and not
+/// changed. Where a table has one of our names, `init` makes no office: that is told (105), and nothing is
+/// changed. `migrate` alone takes an older one: after it a stop leaves the older office or the whole of the new
+/// one, at the very state of before.
 ///
 /// An order to serve needs a socket, which is none of these: `serve_on` follows it, and here it is told as
 /// a failed one.
@@ -125,6 +145,7 @@ pub fn perform<S: Alter, R: Read + Drop, O: Sink, E: Sink>(
 {
     match order {
         Order::Init => make_office(alloc, conn, out, err),
+        Order::Migrate => migrate_office(alloc, conn, out, err),
         Order::Run(errand) => run_opened(alloc, conn, errand, file, out, err),
         Order::Serve { .. } => (tell_failure(Failure::Output, err), conn),
     }

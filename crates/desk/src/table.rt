@@ -92,7 +92,7 @@ pub(crate) const SECOND_CLERK: Word = Word {
 pub(crate) const CLERK: Word = Word {
     name: "CLERK",
     kind: Kind::Number,
-    help: "The clerk who keyed it, 1 to 999",
+    help: "The clerk who keys it, 1 to 999",
 };
 
 pub(crate) const ROUND: Word = Word {
@@ -150,7 +150,7 @@ pub(crate) const ID: Word = Word {
 };
 
 /// All orders, in the sequence of an election.
-const ORDERS: [Entry; 18] = [
+const ORDERS: [Entry; 20] = [
     Entry {
         name: "init",
         words: &[],
@@ -197,9 +197,14 @@ const ORDERS: [Entry; 18] = [
         help: "Opens the next round of a batch whose keyings differ:\ncount-office town.db again 13 --id r1",
     },
     Entry {
+        name: "third",
+        words: &[BATCH, CLERK, ID],
+        help: "Gives a batch whose keyings differ to a third clerk too:\ncount-office town.db third 13 5 --id t1",
+    },
+    Entry {
         name: "judge",
         words: &[BATCH, PAPER, VERDICT, ID],
-        help: "Keeps the verdict on a paper that both clerks keyed as doubtful:\ncount-office town.db judge 12 6 accept:1,,, --id v1",
+        help: "Keeps the verdict on a doubtful paper of a batch that is taken:\ncount-office town.db judge 12 6 accept:1,,, --id v1",
     },
     Entry {
         name: "seal",
@@ -240,6 +245,11 @@ const ORDERS: [Entry; 18] = [
         name: "serve",
         words: &[PORT, CONNECTIONS],
         help: "Answers clerks over HTTP on this machine, so many connections:\ncount-office town.db serve 8080 1000",
+    },
+    Entry {
+        name: "migrate",
+        words: &[],
+        help: "Brings an office of an earlier program over to this one:\ncount-office town.db migrate",
     },
 ];
 

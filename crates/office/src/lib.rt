@@ -1,6 +1,7 @@
 //! The office: requests in, answers out, every accepted request kept before it is acknowledged.
 //!
-//! `Office` stands over any store of `sqlite`. `create` makes an empty office and `open_from` opens one;
+//! `Office` stands over any store of `sqlite`. `create` makes an empty office, `open_from` opens one, and
+//! `migrate` makes of an earlier program's office one that opens;
 //! `handle` answers one request and `run` a list of them; `status`, `columns`, `work`, `sheet` and `result`
 //! tell of the state, and change nothing. A fault inside a transaction closes the
 //! office: it answers 104 until it is opened again, and what is found then is the state before the
@@ -18,6 +19,7 @@
 
 pub mod answers;
 mod deciding;
+mod migration;
 pub mod offices;
 // what is told of the state
 mod reads;
@@ -27,3 +29,4 @@ pub use answers::{Answer, Run, Stop};
 pub use offices::Office;
 pub use register::{Status, Work};
 pub use sheets::{Text, texts_are_there};
+pub use store::Migrated;

@@ -1,40 +1,41 @@
 -- The commands about batches, where nothing stands against them, lead from a state to a state, and leave a receipt in range.
-use Rattle.std.proofs.Common.{rules, inl, inr, ◌≡◌, ℕ, suc, Bool, true, false, cond, not, ◌&&◌, ◌||◌, ◌==◌, ◌++◌, nat_le, codes, List, [], map, Option, Some, None, is_some, option_map, refl, sym, ap, subst, ◌∙◌, arith}
+use Rattle.std.proofs.Common.{rules, inl, inr, ◌≡◌, ℕ, suc, Bool, true, false, cond, not, ◌&&◌, ◌||◌, ◌==◌, ◌++◌, nat_le, codes, List, [], ◌∷◌, map, Option, Some, None, is_some, option_map, refl, sym, ap, subst, ◌∙◌, arith}
 use Rattle.std.specs.Fmt.{decimal}
 use Rattle.std.specs.List.{list_all}
 use Rattle.std.specs.Ordering.{is_eq}
 use Rattle.std.specs.Cmp.{unsigned_tied}
-use Rattle.std.proofs.lemmas.Bool.{and_parts, and_from, or_cases, or_right, eqb-true, leb-true, leb-false, le-leb, not-true, cases_order}
+use Rattle.std.proofs.lemmas.Bool.{and_parts, and_from, and_right, or_cases, or_right, eqb-true, leb-true, leb-false, le-leb, not-true, cases_order}
 use Rattle.std.proofs.lemmas.List.Folds.{list_all-map}
 use Rattle.std.proofs.Math.Nat.{le_refl}
 use Rattle.register.specs.declared.phase.Phase.{Phase}
 use Rattle.register.specs.declared.phase.Phase.TheVariants.{Keying}
-use Rattle.register.specs.declared.refusal.Reason.TheVariants.{NumberOutOfRange, NoSuchBatch, BatchExists, WrongPhase, SameClerk, NoDifference}
+use Rattle.register.specs.declared.refusal.Reason.TheVariants.{NumberOutOfRange, NoSuchBatch, BatchExists, WrongPhase, SameClerk, NoDifference, ThirdSet}
 use Rattle.register.specs.declared.batches.BatchCommand.{BatchCommand}
-use Rattle.register.specs.declared.batches.BatchCommand.TheVariants.{Add, Again}
+use Rattle.register.specs.declared.batches.BatchCommand.TheVariants.{Add, Again, Third}
 use Rattle.register.specs.Reasons.{first_reason}
-use Rattle.register.specs.Ranges.{last_batch, last_round, is_office, is_clerk, is_ward_number, is_batch_number, is_paper_number, is_round}
+use Rattle.register.specs.Ranges.{last_clerk, last_batch, last_round, is_office, is_clerk, is_ward_number, is_batch_number, is_paper_number, is_round}
 use Rattle.register.specs.Subjects.{is_office_subject}
-use Rattle.register.specs.Offices.{WardEntry, BatchEntry, KeyedEntry, JudgedEntry, OfficeState, put, changed, batch_cmp, ward_compared, batch_compared, ward_at, candidates_of, batch_at, keying_of, verdicts_of, lots_of}
-use Rattle.register.specs.Polls.{pile_of}
+use Rattle.register.specs.Offices.{WardEntry, BatchEntry, ThirdEntry, KeyedEntry, JudgedEntry, OfficeState, put, changed, batch_cmp, third_cmp, ward_compared, batch_compared, third_compared, ward_at, candidates_of, batch_at, third_at, keying_of, verdicts_of, lots_of}
+use Rattle.register.specs.Polls.{Pile, pile_of}
 use Rattle.register.specs.Elections.{election_of, is_counted}
 use Rattle.register.specs.Nominations.{are_enough}
-use Rattle.register.specs.Papers.{is_keyed, same_marks, differ, is_taken, is_its_clerk, first_keying, second_keying}
+use Rattle.register.specs.Papers.{batches_of, agreed, are_taken, differ, is_taken, is_its_clerk, two_clerks, clerks, clerks_of, keyings_in, keyings_now}
 use Rattle.register.specs.Marks.{is_readable}
-use Rattle.register.specs.Keyed.{columns_for, is_polled, is_given_out, is_keyed_for, is_round_of, are_rounds_to, is_judged}
-use Rattle.register.specs.Items.{is_batch, IsState}
-use Rattle.register.specs.Effects.{batch_added, batch_reopened, in_round, with_effect}
+use Rattle.register.specs.Keyed.{columns_for, is_polled, is_given_out, is_third_for, is_keyed_for, is_whole, is_round_of, are_rounds_to, is_verdict_on, is_judged}
+use Rattle.register.specs.Items.{is_batch, is_third, IsState}
+use Rattle.register.specs.Effects.{batch_added, batch_reopened, third_set, in_round, with_effect}
 use Rattle.register.specs.Tabulated.{tabulation_of}
 use Rattle.register.specs.Parts.{passes}
-use Rattle.register.specs.Batches.{ward_for, first_for, second_for, part_of, is_in_last_round, is_in_range, objections, next_round, subject_of, reply_to, effect_of}
+use Rattle.register.specs.Batches.{ward_for, third_for, keyings_for, part_of, is_in_last_round, is_in_range, objections, next_round, subject_of, reply_to, effect_of}
 use Rattle.register.proofs.LineLemmas.{lower, is_plain-decimal, words, line_append, line_number, line_reply, line_text}
 use Rattle.register.proofs.ObjectionLemmas.{none_objects, asked, unasked, absent, present, there}
-use Rattle.register.proofs.MapLemmas.{Keeps, list_all_weaker, filter_none, filter_put, put_all, put_is_map, found_put_too, found_put_still, changed_is_map, changed_at, found_changed, found_key, found_passes, found_number, same_number, all_but_number}
-use Rattle.register.proofs.ElectionLemmas.{lots_placed_of, same_election}
+use Rattle.register.proofs.MapLemmas.{Keeps, list_all_weaker, filter_none, filter_put, put_all, put_is_map, found_put, found_put_other, found_put_too, found_put_still, changed_is_map, changed_at, found_changed, found_key, found_passes, found_number, same_number, all_but_number}
+use Rattle.register.proofs.ElectionLemmas.{is_sound, sound_of, lots_placed_of, same_election}
 use Rattle.register.proofs.ElsewhereLemmas.{sound_elsewhere, batches_elsewhere, changed_elsewhere}
-use Rattle.register.proofs.TabulationLemmas.{tabulation_elsewhere}
+use Rattle.register.proofs.TabulationLemmas.{tabulation_alike, tabulation_elsewhere}
+use Rattle.register.proofs.ClerkLemmas.{keyed_by, none_keyed, put_unkeyed}
 use Rattle.register.proofs.KeyedLemmas.{rounds_from, rounds_more, found_given_out, no_verdicts}
-use Rattle.register.proofs.ItemLemmas.{MapName, batch_map, Holds, maps_of, state_from, rounds_still, batch_total, are_placed, are_all, has_enough, IsFit, office_about}
+use Rattle.register.proofs.ItemLemmas.{MapName, batch_map, third_map, Holds, maps_of, state_from, rounds_still, batch_total, third_total, are_placed, are_all, has_enough, IsFit, office_about}
 
 -- ---- numbers in range
 
@@ -93,7 +94,14 @@ module _ (s : OfficeState) (b : BatchEntry) (is : IsState s) (new : batch_at s b
 
   first_round : b.round ≡ 1 → are_rounds_to (with_effect (batch_added b) s) b b.round ≡ true
   unfolding are_rounds_to
-  first_round first = rw first (rw (unkeyed 1 b.first_clerk) (rw (unkeyed 1 b.second_clerk) refl))
+  first_round first = rw first (rw (none_keyed (keying_of s b.number 1) (clerks_of s b) (unkeyed 1)) refl)
+
+  third_for_too : (t : ThirdEntry) → is_third_for t (batch_at s t.batch) ≡ true → is_third_for t (batch_at (with_effect (batch_added b) s) t.batch) ≡ true
+  third_for_too t = go (batch_at s t.batch) refl
+    where
+      go : (o : Option BatchEntry) → batch_at s t.batch ≡ o → is_third_for t o ≡ true → is_third_for t (batch_at (with_effect (batch_added b) s) t.batch) ≡ true
+      go None found set = absurd (cc)
+      go (Some x) found set = rw (found_put_still (λ (x : BatchEntry). x.number) s.batches b t.batch x new found) set
 
   -- the elections of other wards are as they were,
   added_elsewhere : (x : WardEntry) → (b.ward == x.number) ≡ false → election_of (with_effect (batch_added b) s) x ≡ election_of s x
@@ -113,7 +121,7 @@ module _ (s : OfficeState) (b : BatchEntry) (is : IsState s) (new : batch_at s b
       maps
       (record {
         nominated = is.nominated;
-        given_out = put_all batch_cmp (is_given_out s) b s.batches out is.given_out;
+        given_out = let parts = and_parts _ _ is.given_out in and_from _ _ (put_all batch_cmp (is_given_out s) b s.batches out parts.0) (list_all_weaker _ _ s.thirds third_for_too parts.1);
         keyed = and_from
             _
             _
@@ -154,7 +162,7 @@ module _ (s : OfficeState) (n : ℕ) (b : BatchEntry) (is : IsState s) (found : 
   pub reopened_tabulated : (w : WardEntry) → ward_at s b.ward ≡ Some w → is_counted w.phase ≡ false → tabulation_of (with_effect (batch_reopened n round) s) ≡ tabulation_of s
   reopened_tabulated w its_ward open_ = tabulation_elsewhere s b.ward w s.candidates (changed (batch_compared n) (in_round round) s.batches) s.keyings s.verdicts its_ward open_ reopened_elsewhere is
 
-module _ (s : OfficeState) (n : ℕ) (b : BatchEntry) (is : IsState s) (found : batch_at s n ≡ Some b) (unequal : differ (first_keying s b) (second_keying s b) ≡ true) where
+module _ (s : OfficeState) (n : ℕ) (b : BatchEntry) (is : IsState s) (found : batch_at s n ≡ Some b) (unequal : differ (keyings_now s b) ≡ true) where
   -- no paper is keyed in the next round yet
   unopened : (clerk : ℕ) → keying_of s b.number (suc b.round) clerk ≡ []
   unopened clerk = filter_none _ s.keyings (list_all_weaker _ _ s.keyings (λ k keyed. go k (k.batch == b.number) refl (k.round == suc b.round) refl keyed) (and_parts _ _ is.keyed).0)
@@ -175,23 +183,18 @@ module _ (s : OfficeState) (n : ℕ) (b : BatchEntry) (is : IsState s) (found : 
   module _ (bs : List BatchEntry) where
     earlier_round : (m : ℕ) → is_round_of s b m ≡ true → is_round_of (record s { batches = bs }) (in_round (suc b.round) b) m ≡ true
     earlier_round m holds =
-        let first = and_parts _ _ holds in
-        let second = and_parts _ _ first.1 in
-        and_from _ _ first.0 (and_from _ _ second.0 (go second.1))
+        let parts = and_parts _ _ holds in
+        and_from _ _ parts.0 (go parts.1)
       where
-        both : Bool
-        both = differ (keying_of s b.number m b.first_clerk) (keying_of s b.number m b.second_clerk)
-
-        past : nat_le b.round m ≡ true → (nat_le (suc b.round) m || differ (keying_of s b.number m b.first_clerk) (keying_of s b.number m b.second_clerk)) ≡ true
+        past : nat_le b.round m ≡ true → (nat_le (suc b.round) m || differ (keyings_in s b m)) ≡ true
         past up = elim (cases_order b.round m) [
-          | inl same ↦ or_right (nat_le (suc b.round) m) _ (subst (λ (r : ℕ). differ (keying_of s b.number r b.first_clerk) (keying_of s b.number r b.second_clerk) ≡ true) same unequal)
+          | inl same ↦ or_right (nat_le (suc b.round) m) _ (subst (λ (r : ℕ). differ (keyings_in s b r) ≡ true) same unequal)
           | inr (inl below) ↦ rw (le-leb (suc b.round) m (omega (arith, below))) refl
           | inr (inr above) ↦ absurd (let low = leb-true b.round m up in omega (arith, low, above))
         ]
 
-        go : (nat_le b.round m || differ (keying_of s b.number m b.first_clerk) (keying_of s b.number m b.second_clerk)) ≡ true
-            → (nat_le (suc b.round) m || differ (keying_of s b.number m b.first_clerk) (keying_of s b.number m b.second_clerk)) ≡ true
-        go either = elim (or_cases (nat_le b.round m) (differ (keying_of s b.number m b.first_clerk) (keying_of s b.number m b.second_clerk)) either) [
+        go : (nat_le b.round m || differ (keyings_in s b m)) ≡ true → (nat_le (suc b.round) m || differ (keyings_in s b m)) ≡ true
+        go either = elim (or_cases (nat_le b.round m) (differ (keyings_in s b m)) either) [
           | inl up ↦ past up
           | inr other ↦ or_right (nat_le (suc b.round) m) _ other
         ]
@@ -201,17 +204,22 @@ module _ (s : OfficeState) (n : ℕ) (b : BatchEntry) (is : IsState s) (found : 
         let own : are_rounds_to s b b.round ≡ true = found_passes (batch_compared n) (λ (x : BatchEntry). are_rounds_to s x x.round) b s.batches (and_parts _ _ is.keyed).1 found in
         let reached = le-leb (suc b.round) (suc b.round) (le_refl (suc b.round)) in
         rounds_more (record s { batches = bs }) (in_round (suc b.round) b) b.round
-        ∙ and_from _ _ (rw (unopened b.first_clerk) (rw (unopened b.second_clerk) (rw reached refl))) (rounds_from s (record s { batches = bs }) b (in_round (suc b.round) b) b.round earlier_round own)
+        ∙ and_from _ _ (rw (none_keyed (keying_of s b.number (suc b.round)) (clerks_of s b) unopened) (rw reached refl)) (rounds_from s (record s { batches = bs }) b (in_round (suc b.round) b) b.round earlier_round own)
 
   -- the batch isn't taken, so none of its papers is judged
   untaken : is_taken s b ≡ false
-  untaken = go (is_keyed (first_keying s b)) (is_keyed (second_keying s b)) (same_marks (first_keying s b) (second_keying s b)) unequal
+  untaken = not-true (are_taken (keyings_now s b)) (and_parts _ _ unequal).1
+
+  third_for_next : (t : ThirdEntry) → is_third_for t (batch_at s t.batch) ≡ true → is_third_for t (batch_at (with_effect (batch_reopened n (suc b.round)) s) t.batch) ≡ true
+  third_for_next t = rw (changed_at (batch_compared n) (batch_compared t.batch) (in_round (suc b.round)) (λ x. refl) s.batches) (go (batch_at s t.batch))
     where
-      go : (f g m : Bool) → (f && (g && not m)) ≡ true → (f && (g && m)) ≡ false
-      go true true true is = absurd (cc)
-      go true true false is = refl
-      go true false m is = absurd (cc)
-      go false g m is = absurd (cc)
+      up : (x : BatchEntry) (same : Bool) → is_third_for t (Some x) ≡ true → is_third_for t (Some (cond same (in_round (suc b.round) x) x)) ≡ true
+      up x false set = set
+      up x true set = set
+
+      go : (o : Option BatchEntry) → is_third_for t o ≡ true → is_third_for t (option_map (λ x. cond (is_eq (batch_compared n x)) (in_round (suc b.round) x) x) o) ≡ true
+      go None set = set
+      go (Some x) set = up x (is_eq (batch_compared n x)) set
 
   -- papers that were keyed of it are of a round up to the next one
   keyed_for_next : (k : KeyedEntry) → is_keyed_for s k (batch_at s k.batch) ≡ true → is_keyed_for s k (batch_at (with_effect (batch_reopened n (suc b.round)) s) k.batch) ≡ true
@@ -225,7 +233,7 @@ module _ (s : OfficeState) (n : ℕ) (b : BatchEntry) (is : IsState s) (found : 
           let both : Some x ≡ Some b = sym at ∙ ap (batch_at s) (sym place) ∙ found in
           let own : x ≡ b = cc in
           let round : x.round ≡ b.round = ap (λ (y : BatchEntry). y.round) own in
-          let parts = and_parts (nat_le k.round x.round) (is_its_clerk k.clerk x && is_readable (columns_for s x) k.marks) keyed in
+          let parts = and_parts (nat_le k.round x.round) (is_its_clerk k.clerk x (third_at s x.number) && is_readable (columns_for s x) k.marks) keyed in
           let low = leb-true k.round x.round parts.0 in
           and_from _ _ (le-leb k.round (suc b.round) (omega (arith, low, round))) parts.1
 
@@ -262,7 +270,7 @@ module _ (s : OfficeState) (n : ℕ) (b : BatchEntry) (is : IsState s) (found : 
       maps
       (record {
         nominated = is.nominated;
-        given_out = next_all (is_given_out s) (is_given_out s) (found_given_out is n b found) (λ x out. out) is.given_out;
+        given_out = let parts = and_parts _ _ is.given_out in and_from _ _ (next_all (is_given_out s) (is_given_out s) (found_given_out is n b found) (λ x out. out) parts.0) (list_all_weaker _ _ s.thirds third_for_next parts.1);
         keyed = and_from
             _
             _
@@ -287,6 +295,129 @@ module _ (s : OfficeState) (n : ℕ) (b : BatchEntry) (is : IsState s) (found : 
   pub reopened_stays : (w : WardEntry) → ward_at s b.ward ≡ Some w → is_counted w.phase ≡ false → (round : ℕ) → round ≡ suc b.round → is_round round ≡ true → IsState (with_effect (batch_reopened n round) s)
   reopened_stays w its_ward open_ round next good = subst (λ (r : ℕ). IsState (with_effect (batch_reopened n r) s)) (sym next) (next_stays w its_ward open_ (ap is_round (sym next) ∙ good))
 
+-- ---- a third clerk
+
+module _ (s : OfficeState) (t : ThirdEntry) (b : BatchEntry) (is : IsState s) (found : batch_at s t.batch ≡ Some b) (new : third_at s t.batch ≡ None) (other : is_its_clerk t.clerk b None ≡ false) where
+  -- he has keyed nothing of the batch
+  unkeyed_yet : (round : ℕ) → keying_of s t.batch round t.clerk ≡ []
+  unkeyed_yet round = filter_none _ s.keyings (list_all_weaker _ _ s.keyings (λ k keyed. go k (k.batch == t.batch) refl (k.clerk == t.clerk) refl keyed) (and_parts _ _ is.keyed).0)
+    where
+      go : (k : KeyedEntry) (same : Bool) → (k.batch == t.batch) ≡ same → (his : Bool) → (k.clerk == t.clerk) ≡ his → is_keyed_for s k (batch_at s k.batch) ≡ true
+          → not ((k.batch == t.batch) && ((k.round == round) && (k.clerk == t.clerk))) ≡ true
+      go k false away his by keyed = rw away refl
+      go k true same false by keyed = rw (same, by) (ap not (and_right (k.round == round) false refl))
+      go k true same true by keyed =
+          let place : k.batch ≡ t.batch = eqb-true k.batch t.batch same in
+          let own : batch_at s k.batch ≡ Some b = ap (batch_at s) place ∙ found in
+          let kept : is_keyed_for s k (Some b) ≡ true = ap (is_keyed_for s k) (sym own) ∙ keyed in
+          let none : third_at s b.number ≡ None = ap (third_at s) (sym (found_number (λ (x : BatchEntry). x.number) s.batches t.batch b found)) ∙ new in
+          let clerk : is_its_clerk k.clerk b (third_at s b.number) ≡ true = (and_parts _ _ (and_parts (nat_le k.round b.round) _ kept).1).0 in
+          let his : is_its_clerk t.clerk b None ≡ true = ap (λ (c : ℕ). is_its_clerk c b None) (sym (eqb-true k.clerk t.clerk by)) ∙ (ap (is_its_clerk k.clerk b) (sym none) ∙ clerk) in
+          absurd (let lost = other in cc)
+
+  abbrev with_third : OfficeState
+  with_third = with_effect (third_set t) s
+
+  -- he is that of the batch, and each other batch has the one that it had
+  set_there : third_at with_third t.batch ≡ Some t
+  set_there = found_put third_total t s.thirds new
+
+  set_elsewhere : (n : ℕ) → (n == t.batch) ≡ false → third_at with_third n ≡ third_at s n
+  set_elsewhere n away = found_put_other third_cmp (third_compared n) t s.thirds (unsigned_tied n t.batch ∙ away)
+
+  -- the keyings of each batch are as they were
+  same_keyings : (x : BatchEntry) (round : ℕ) → keyings_in with_third x round ≡ keyings_in s x round
+  same_keyings x round = go (x.number == t.batch) refl
+    where
+      go : (same : Bool) → (x.number == t.batch) ≡ same → keyings_in with_third x round ≡ keyings_in s x round
+      go false away = ap (λ (o : Option ThirdEntry). keyed_by (keying_of s x.number round) (clerks x o)) (set_elsewhere x.number away)
+      go true same =
+          let place : x.number ≡ t.batch = eqb-true x.number t.batch same in
+          let set : third_at with_third x.number ≡ Some t = ap (third_at with_third) place ∙ set_there in
+          let none : third_at s x.number ≡ None = ap (third_at s) place ∙ new in
+          let unkeyed_by : keying_of s x.number round t.clerk ≡ [] = ap (λ (n : ℕ). keying_of s n round t.clerk) place ∙ unkeyed_yet round in
+          ap (λ (o : Option ThirdEntry). keyed_by (keying_of s x.number round) (clerks x o)) set
+          ∙ put_unkeyed (keying_of s x.number round) t.clerk (two_clerks x) unkeyed_by
+          ∙ ap (λ (o : Option ThirdEntry). keyed_by (keying_of s x.number round) (clerks x o)) (sym none)
+
+  -- so the piles of each ward are, and its election,
+  same_piles : (bs : List BatchEntry) → map (pile_of with_third) bs ≡ map (pile_of s) bs
+  same_piles [] = refl
+  same_piles (x ∷ bs) =
+      ap (λ (ks : List (List KeyedEntry)). pile_with ks (verdicts_of s x.number) ∷ map (pile_of with_third) bs) (same_keyings x x.round) ∙ ap (λ (ps : List Pile). pile_of s x ∷ ps) (same_piles bs)
+    where
+      pile_with : List (List KeyedEntry) → List JudgedEntry → Pile
+      pile_with keyings verdicts = record { keyings = keyings; verdicts = verdicts }
+
+  same_elections : (w : WardEntry) → election_of with_third w ≡ election_of s w
+  same_elections w = same_election w _ (candidates_of s w.number) _ _ _ (lots_of s w.number) refl (same_piles (batches_of s w.number)) refl
+
+  -- and the tabulation
+  pub set_tabulated : tabulation_of with_third ≡ tabulation_of s
+  set_tabulated = tabulation_alike s with_third refl same_elections
+
+  -- papers that were keyed are of clerks of their batches still
+  keyed_for_still : (k : KeyedEntry) → is_keyed_for s k (batch_at s k.batch) ≡ true → is_keyed_for with_third k (batch_at s k.batch) ≡ true
+  keyed_for_still k = go (batch_at s k.batch)
+    where
+      clerk_still : (x : BatchEntry) → is_its_clerk k.clerk x (third_at s x.number) ≡ true → is_its_clerk k.clerk x (third_at with_third x.number) ≡ true
+      clerk_still x = by (x.number == t.batch) refl
+        where
+          wider : (p q r : Bool) → (p || (q || false)) ≡ true → (p || (q || r)) ≡ true
+          wider true q r its = refl
+          wider false true r its = refl
+          wider false false r its = absurd (cc)
+
+          by : (same : Bool) → (x.number == t.batch) ≡ same → is_its_clerk k.clerk x (third_at s x.number) ≡ true → is_its_clerk k.clerk x (third_at with_third x.number) ≡ true
+          by false away its = ap (is_its_clerk k.clerk x) (set_elsewhere x.number away) ∙ its
+          by true same its =
+              let place : x.number ≡ t.batch = eqb-true x.number t.batch same in
+              let set : third_at with_third x.number ≡ Some t = ap (third_at with_third) place ∙ set_there in
+              let none : third_at s x.number ≡ None = ap (third_at s) place ∙ new in
+              ap (is_its_clerk k.clerk x) set ∙ wider (k.clerk == x.first_clerk) (k.clerk == x.second_clerk) (k.clerk == t.clerk) (ap (is_its_clerk k.clerk x) (sym none) ∙ its)
+
+      go : (o : Option BatchEntry) → is_keyed_for s k o ≡ true → is_keyed_for with_third k o ≡ true
+      go None keyed = keyed
+      go (Some x) keyed =
+          let first = and_parts (nat_le k.round x.round) (is_its_clerk k.clerk x (third_at s x.number) && is_readable (columns_for s x) k.marks) keyed in
+          let second = and_parts (is_its_clerk k.clerk x (third_at s x.number)) (is_readable (columns_for s x) k.marks) first.1 in
+          and_from _ _ first.0 (and_from _ _ (clerk_still x second.0) second.1)
+
+  round_still : (x : BatchEntry) (m : ℕ) → is_round_of s x m ≡ true → is_round_of with_third x m ≡ true
+  round_still x m holds = ap (λ (ks : List (List KeyedEntry)). list_all (is_whole x.size) ks && (nat_le x.round m || differ ks)) (same_keyings x m) ∙ holds
+
+  judged_still : (x : BatchEntry) → is_judged s x (verdicts_of s x.number) ≡ true → is_judged with_third x (verdicts_of s x.number) ≡ true
+  judged_still x judged = ap (λ (ks : List (List KeyedEntry)). list_all (is_verdict_on (columns_for s x) (agreed ks)) (verdicts_of s x.number)) (same_keyings x x.round) ∙ judged
+
+  pub set_stays : is_third t ≡ true → IsState with_third
+  set_stays good =
+      let out = and_parts _ _ is.given_out in
+      let keyed = and_parts _ _ is.keyed in
+      let judged = and_parts _ _ is.judged in
+      state_from
+      with_third
+      maps
+      (record {
+        nominated = is.nominated;
+        given_out = and_from _ _ out.0 (put_all third_cmp (λ x. is_third_for x (batch_at s x.batch)) t s.thirds own out.1);
+        keyed = and_from _ _ (list_all_weaker _ _ s.keyings keyed_for_still keyed.0) (rounds_still s with_third s.batches round_still keyed.1);
+        judged = and_from _ _ judged.0 (list_all_weaker _ _ s.batches judged_still judged.1);
+        lots_placed = lots_placed_of is;
+        sound = list_all_weaker _ _ s.wards (λ w sound. ap is_sound (same_elections w) ∙ sound) (sound_of is);
+      })
+    where
+      neither : (p q : Bool) → (p || (q || false)) ≡ false → (not p && not q) ≡ true
+      neither true q his = absurd (cc)
+      neither false true his = absurd (cc)
+      neither false false his = refl
+
+      own : is_third_for t (batch_at s t.batch) ≡ true
+      own = rw found (neither (t.clerk == b.first_clerk) (t.clerk == b.second_clerk) other)
+
+      maps : (m : MapName) → Holds m with_third
+      maps third_map = put_is_map third_total t s.thirds good new (maps_of is third_map)
+      maps m = maps_of is m
+
 -- ---- each command
 
 -- what the receipt of a batch's command may be about
@@ -297,6 +428,10 @@ batch_about n h = rw (is_plain-decimal last_batch n (omega arith) h) refl
 again_about : (n : ℕ) → is_batch_number n ≡ true → is_office_subject (codes "again " ++ decimal n) ≡ true
 unfolding is_office_subject
 again_about n h = rw (is_plain-decimal last_batch n (omega arith) h) refl
+
+third_about : (n : ℕ) → is_batch_number n ≡ true → is_office_subject (codes "third " ++ decimal n) ≡ true
+unfolding is_office_subject
+third_about n h = rw (is_plain-decimal last_batch n (omega arith) h) refl
 
 -- a ward in keying is contested, so a batch of it with two clerks is given out
 keying_given_out : (s : OfficeState) (ward : ℕ) (w : WardEntry) (first second : ℕ) → IsState s → ward_at s ward ≡ Some w → w.phase ≡ Keying → (first == second) ≡ false
@@ -330,7 +465,7 @@ batch_from batch ward size first_clerk second_clerk good =
 
 pub batch_fits : (s : OfficeState) (actor : ℕ) (command : BatchCommand) → IsState s → first_reason (objections actor command (part_of s actor command)) ≡ None
     → IsFit s actor (effect_of command (part_of s actor command)) (subject_of command) (reply_to command (part_of s actor command))
-unfolding subject_of reply_to is_batch
+unfolding subject_of reply_to is_batch is_third
 batch_fits s actor (Add batch ward size first_clerk second_clerk) is none =
     let command = Add batch ward size first_clerk second_clerk in
     let each = none_objects (objections actor command (part_of s actor command)) none in
@@ -358,7 +493,7 @@ batch_fits s actor (Again batch) is none =
     let b = found.it in
     let its = there Keying (ward_for s (batch_at s batch)) WrongPhase ((each.1).1).0 in
     let its_ward : ward_at s b.ward ≡ Some its.ward = ap (ward_for s) (sym found.is) ∙ its.is in
-    let unequal : differ (first_keying s b) (second_keying s b) ≡ true = ap (λ (o : Option BatchEntry). differ (first_for s o) (second_for s o)) (sym found.is) ∙ asked (differ part.first part.second) NoDifference (((each.1).1).1).0 in
+    let unequal : differ (keyings_now s b) ≡ true = ap (λ (o : Option BatchEntry). differ (keyings_for s o)) (sym found.is) ∙ asked (differ part.keyings) NoDifference (((each.1).1).1).0 in
     let more : not (is_in_last_round b) ≡ true = ap (λ (o : Option BatchEntry). not (passes is_in_last_round o)) (sym found.is) ∙ numbers.1 in
     let next : next_round (batch_at s batch) ≡ suc b.round = ap next_round found.is ∙ next_after b more in
     let good = next_in_range b (next_round (batch_at s batch)) next (found_in_range is batch b found.is) more in
@@ -369,5 +504,29 @@ batch_fits s actor (Again batch) is none =
       tabulated = reopened_tabulated s batch b is found.is (next_round (batch_at s batch)) its.ward its_ward (rw its.phased refl);
       about = office_about actor _ range.0 (again_about batch numbers.0);
       text = line_text (line_append (words (codes "again ") (search rules) refl) digits);
+      line = line_reply (line_append (words (codes "batch ") (search rules) refl) (line_append digits told)) (omega arith);
+    }
+batch_fits s actor (Third batch clerk) is none =
+    let command = Third batch clerk in
+    let part = part_of s actor command in
+    let each = none_objects (objections actor command part) none in
+    let range = and_parts (is_office actor) (is_batch_number batch && is_clerk clerk) (asked (is_in_range actor command part) NumberOutOfRange each.0) in
+    let numbers = and_parts (is_batch_number batch) (is_clerk clerk) range.1 in
+    let found = present (batch_at s batch) NoSuchBatch (each.1).0 in
+    let b = found.it in
+    let others = ((each.1).1).1 in
+    let own : third_for s (batch_at s batch) ≡ third_at s batch = ap (third_for s) found.is ∙ ap (third_at s) (sym (found_number (λ (x : BatchEntry). x.number) s.batches batch b found.is)) in
+    let unset : third_for s (batch_at s batch) ≡ None = absent (third_for s (batch_at s batch)) ThirdSet ((others.1).1).0 in
+    let new : third_at s batch ≡ None = sym own ∙ unset in
+    let apart : is_its_clerk clerk b None ≡ false =
+    ap (is_its_clerk clerk b) (sym unset) ∙ (ap (passes (λ (x : BatchEntry). is_its_clerk clerk x (third_for s (batch_at s batch)))) (sym found.is) ∙ unasked (passes (λ (x : BatchEntry). is_its_clerk clerk x part.third) part.batch) SameClerk others.0)
+    in
+    let digits = line_number last_batch batch (omega arith) numbers.0 in
+    let told = line_append (words (codes " third clerk ") (search rules) refl) (line_number last_clerk clerk (omega arith) numbers.1) in
+    record {
+      state = set_stays s (record { batch = batch; clerk = clerk }) b is found.is new apart (and_from _ _ numbers.0 numbers.1);
+      tabulated = set_tabulated s (record { batch = batch; clerk = clerk }) b is found.is new apart;
+      about = office_about actor _ range.0 (third_about batch numbers.0);
+      text = line_text (line_append (words (codes "third ") (search rules) refl) digits);
       line = line_reply (line_append (words (codes "batch ") (search rules) refl) (line_append digits told)) (omega arith);
     }

@@ -38,6 +38,7 @@ with_batch phase round papers judged receipts =
       wards = record { number = 7; seats = 2; phase = phase; done = 0; name = codes "Harbour" } ∷ [];
       candidates = record { ward = 7; number = 1; name = codes "Dee" } ∷ record { ward = 7; number = 2; name = codes "Eve" } ∷ record { ward = 7; number = 3; name = codes "Fay" } ∷ [];
       batches = batch_in round ∷ other_batch ∷ [];
+      thirds = [];
       keyings = papers;
       verdicts = judged;
       lots = [];

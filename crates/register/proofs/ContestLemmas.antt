@@ -29,10 +29,10 @@ use Rattle.register.specs.Ranges.{is_ward_number, is_seat_number, is_candidate_n
 use Rattle.register.specs.Offices.{WardEntry, CandidateEntry, BatchEntry, KeyedEntry, JudgedEntry, OfficeState, MapsRise, batch_cmp, ward_compared, ward_at, candidates_of}
 use Rattle.register.specs.Nominations.{is_contested}
 use Rattle.register.specs.Marks.{and_column, columns_of}
-use Rattle.register.specs.Papers.{first_keying, batches_of}
+use Rattle.register.specs.Papers.{same_marks, agreed, keyings_now, batches_of}
 use Rattle.register.specs.Keyed.{is_whole, is_round_of, are_rounds_to}
 use Rattle.register.specs.Items.{is_ward, is_candidate, is_batch, item1, item3, item4}
-use Rattle.register.specs.Polls.{Pile, pile_of, piles_of, is_taken, by_rejection, by_reading, by_verdict, judgement_on, judgements_in, judgements, preferences_by, ballots_in}
+use Rattle.register.specs.Polls.{Pile, pile_of, piles_of, by_rejection, by_reading, by_verdict, judgement_on, judgements_in, judgements, preferences_by, ballots_in}
 use Rattle.register.specs.Elections.{election_of, contest_of}
 use Rattle.register.proofs.MapLemmas.{kept_all, found_passes}
 use Rattle.register.proofs.KeyedLemmas.{rounds_more}
@@ -126,16 +126,9 @@ module _ (columns : List ℕ) (P : List ℕ → Type 0) (each : (marks : List �
   given_each verdicts [] = tt
   given_each verdicts (k ∷ ks) = (given_reading k.marks _ (given_verdict (find (λ (v : JudgedEntry). v.paper == k.paper) verdicts)), given_each verdicts ks)
 
-  given_pile : (pile : Pile) → AllByRecursion Gives (judgements_in columns pile)
-  given_pile pile = go (is_taken pile)
-    where
-      go : (b : Bool) → AllByRecursion Gives (cond b (map (judgement_on columns pile.verdicts) pile.first) [])
-      go true = given_each pile.verdicts pile.first
-      go false = tt
-
   given_piles : (piles : List Pile) → AllByRecursion Gives (judgements columns piles)
   given_piles [] = tt
-  given_piles (pile ∷ piles) = each_append Gives (judgements_in columns pile) (judgements columns piles) (given_pile pile) (given_piles piles)
+  given_piles (pile ∷ piles) = each_append Gives (judgements_in columns pile) (judgements columns piles) (given_each pile.verdicts (agreed pile.keyings)) (given_piles piles)
 
   given_papers : (js : List Judgement) → AllByRecursion Gives js → AllByRecursion P (flat_map preferences_by js)
   given_papers [] fair = tt
@@ -187,10 +180,13 @@ few_by (j ∷ js) = omega (arith, length-append (preferences_by j) (flat_map pre
     one (Rejected code) = omega arith
     one Open = omega arith
 
--- a keying of a batch has at most as many papers as the batch
-whole_few : (size : ℕ) (ks : List KeyedEntry) → is_whole size ks ≡ true → length ks ≤ size
+-- a batch is taken with at most as many papers as it has
+whole_few : (size : ℕ) (ks : List (List KeyedEntry)) → list_all (is_whole size) ks ≡ true → length (agreed ks) ≤ size
 whole_few size [] whole = omega arith
-whole_few size (k ∷ ks) whole = omega (arith, eqb-true (length (k ∷ ks)) size (and_parts _ _ whole).0)
+whole_few size (k ∷ ks) whole = elim (list_any (same_marks k) ks) as (λ b. length (cond b k (agreed ks)) ≤ size) [
+  | true ↦ (let own = eqb-true (length k) size (and_parts _ _ (and_parts (is_whole size k) (list_all (is_whole size) ks) whole).0).0 in omega (arith, own))
+  | false ↦ whole_few size ks (and_parts (is_whole size k) (list_all (is_whole size) ks) whole).1
+]
 
 -- what a batch in range has
 record InRange (b : BatchEntry) : Type 0 where
@@ -230,13 +226,6 @@ pub length_map : {X Y : Type 0} (f : X → Y) (xs : List X) → length (map f xs
 length_map f [] = refl
 length_map f (x ∷ xs) = ap suc (length_map f xs)
 
-few_in : (columns : List ℕ) (pile : Pile) → length (judgements_in columns pile) ≤ length pile.first
-few_in columns pile = go (is_taken pile)
-  where
-    go : (b : Bool) → length (cond b (map (judgement_on columns pile.verdicts) pile.first) []) ≤ length pile.first
-    go true = omega (arith, length_map (judgement_on columns pile.verdicts) pile.first)
-    go false = omega arith
-
 pub few_among : (s : OfficeState) (columns : List ℕ) (bs : List BatchEntry) → list_all is_batch bs ≡ true → list_all (λ b. are_rounds_to s b b.round) bs ≡ true → length (judgements columns (map (pile_of s) bs)) ≤ 500 * length bs
 few_among s columns [] fine rounds = omega arith
 few_among s columns (b ∷ bs) fine rounds =
@@ -244,7 +233,7 @@ few_among s columns (b ∷ bs) fine rounds =
     let all = and_parts _ _ rounds in
     let round = round_now s b good.0 all.0 in
     omega
-    (arith, length-append (judgements_in columns (pile_of s b)) (judgements columns (map (pile_of s) bs)), few_in columns (pile_of s b), whole_few b.size (first_keying s b) (and_parts _ _ round).0, size_few b good.0, few_among s columns bs good.1 all.1)
+    (arith, length-append (judgements_in columns (pile_of s b)) (judgements columns (map (pile_of s) bs)), length_map (judgement_on columns (pile_of s b).verdicts) (agreed (keyings_now s b)), whole_few b.size (keyings_now s b) (and_parts _ _ round).0, size_few b good.0, few_among s columns bs good.1 all.1)
 
 -- numbers that rise are not more than the highest
 few_rising : (low : ℕ) (bs : List BatchEntry) → low ≤ 9999 → AllByRecursion (λ b. low < b.number) bs → list_all is_batch bs ≡ true → IsStrictlySortedBy batch_cmp bs → low + length bs ≤ 9999

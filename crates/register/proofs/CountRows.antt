@@ -40,6 +40,7 @@ polled phase judged =
       wards = ward phase 2 0 ∷ [];
       candidates = record { ward = 7; number = 1; name = codes "Dee" } ∷ record { ward = 7; number = 2; name = codes "Eve" } ∷ record { ward = 7; number = 3; name = codes "Fay" } ∷ [];
       batches = record { number = 12; ward = 7; size = 2; first_clerk = 4; second_clerk = 9; round = 1 } ∷ [];
+      thirds = [];
       keyings = keyed 4 ++ keyed 9;
       verdicts = judged;
       lots = [];
@@ -99,6 +100,7 @@ quiet phase done lots receipts =
       wards = ward phase 1 done ∷ [];
       candidates = record { ward = 7; number = 1; name = codes "Dee" } ∷ record { ward = 7; number = 2; name = codes "Eve" } ∷ [];
       batches = [];
+      thirds = [];
       keyings = [];
       verdicts = [];
       lots = lots;

@@ -9,7 +9,7 @@ use Rattle.register.specs.declared.command.Command.{Command}
 use Rattle.register.specs.declared.command.Command.TheVariants.{Ward, Candidate, Batch, Keying, Verdict, Count}
 use Rattle.register.specs.declared.wards.WardCommand.TheVariants.{Add as ward_add, Close}
 use Rattle.register.specs.declared.candidates.CandidateCommand.TheVariants.{Add as candidate_add, Withdraw}
-use Rattle.register.specs.declared.batches.BatchCommand.TheVariants.{Add as batch_add, Again}
+use Rattle.register.specs.declared.batches.BatchCommand.TheVariants.{Add as batch_add, Again, Third}
 use Rattle.register.specs.declared.counts.CountCommand.TheVariants.{Seal, Advance, Lot, Declare}
 use Rattle.register.specs.declared.elections.Count.{Count as CountValue}
 use Rattle.register.specs.declared.tabulated.Addition.{Addition}
@@ -110,6 +110,7 @@ module _ (s : OfficeState) (actor : ℕ) (is : IsState s) (receipt : ReceiptEntr
   told (Candidate (Withdraw ward candidate)) free count adds = stays (Candidate (Withdraw ward candidate)) adds (fits s actor (Candidate (Withdraw ward candidate)) is free).tabulated
   told (Batch (batch_add batch ward size first second)) free count adds = stays (Batch (batch_add batch ward size first second)) adds (fits s actor (Batch (batch_add batch ward size first second)) is free).tabulated
   told (Batch (Again batch)) free count adds = stays (Batch (Again batch)) adds (fits s actor (Batch (Again batch)) is free).tabulated
+  told (Batch (Third batch clerk)) free count adds = stays (Batch (Third batch clerk)) adds (fits s actor (Batch (Third batch clerk)) is free).tabulated
   told (Keying command) free count adds = stays (Keying command) adds (fits s actor (Keying command) is free).tabulated
   told (Verdict command) free count adds = stays (Verdict command) adds (fits s actor (Verdict command) is free).tabulated
   told (Count (Seal ward)) free count adds = stays (Count (Seal ward)) adds (fits s actor (Count (Seal ward)) is free).tabulated

@@ -36,7 +36,7 @@ is_elsewhere n m x = not (n == x.number) || not (x.ward == m)
 -- a batch of one ward is none of another one's
 pub batches_elsewhere : (s : OfficeState) (n : ℕ) (b : BatchEntry) (m : ℕ) → IsState s → batch_at s n ≡ Some b → (b.ward == m) ≡ false → list_all (is_elsewhere n m) s.batches ≡ true
 batches_elsewhere s n b m is found apart =
-    all_but_number (λ (x : BatchEntry). x.number) s.batches n b (is_given_out s) (is_elsewhere n m) is.rise.batches found (λ same. or_right (not (n == b.number)) _ (ap not apart)) (λ x other out. rw other refl) is.given_out
+    all_but_number (λ (x : BatchEntry). x.number) s.batches n b (is_given_out s) (is_elsewhere n m) is.rise.batches found (λ same. or_right (not (n == b.number)) _ (ap not apart)) (λ x other out. rw other refl) (and_parts _ _ is.given_out).0
 
 -- the piles of a ward's batches are as they were, where those of each batch but one of another ward are
 pub piles_elsewhere : (s t : OfficeState) (n m : ℕ) (bs : List BatchEntry) → ((x : BatchEntry) → (n == x.number) ≡ false → pile_of t x ≡ pile_of s x) → list_all (is_elsewhere n m) bs ≡ true

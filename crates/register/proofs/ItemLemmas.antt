@@ -9,11 +9,11 @@ use Rattle.register.specs.Ranges.{is_office, is_clerk, is_reply}
 use Rattle.register.specs.Subjects.{is_office_subject, is_clerk_subject}
 use Rattle.register.specs.declared.phase.Phase.TheVariants.{Nominations}
 use Rattle.register.specs.Nominations.{are_enough}
-use Rattle.register.specs.Offices.{put, WardEntry, CandidateEntry, BatchEntry, KeyedEntry, JudgedEntry, LotEntry, ReceiptEntry, OfficeState, ward_cmp, candidate_cmp, batch_cmp, keyed_cmp, judged_cmp, lot_cmp, receipt_cmp, ward_compared, ward_at, candidates_of, receipt_at}
+use Rattle.register.specs.Offices.{put, WardEntry, CandidateEntry, BatchEntry, ThirdEntry, KeyedEntry, JudgedEntry, LotEntry, ReceiptEntry, OfficeState, ward_cmp, candidate_cmp, batch_cmp, third_cmp, keyed_cmp, judged_cmp, lot_cmp, receipt_cmp, ward_compared, ward_at, candidates_of, receipt_at}
 use Rattle.register.specs.Keyed.{is_polled, is_given_out, is_round_of, are_rounds_to}
-use Rattle.register.specs.Items.{is_ward, is_candidate, is_batch, is_keyed_paper, is_judged_paper, is_lot, is_about, is_receipt, item2, item3, item4, item5, IsState}
+use Rattle.register.specs.Items.{is_ward, is_candidate, is_batch, is_third, is_keyed_paper, is_judged_paper, is_lot, is_about, is_receipt, item2, item3, item4, item5, IsState}
 use Rattle.register.specs.Elections.{election_of, is_uncounted}
-use Rattle.register.specs.Effects.{EffectEntry, ward_added, ward_moved, candidate_added, candidate_withdrawn, batch_added, batch_reopened, papers_keyed, paper_judged, stage_counted, lot_drawn, with_effect, with_receipt}
+use Rattle.register.specs.Effects.{EffectEntry, ward_added, ward_moved, candidate_added, candidate_withdrawn, batch_added, batch_reopened, third_set, papers_keyed, paper_judged, stage_counted, lot_drawn, with_effect, with_receipt}
 use Rattle.register.proofs.MapLemmas.{IsMap, list_all_weaker, put_all, put_is_map, found_put_too, found_put_still}
 use Rattle.register.proofs.ElectionLemmas.{is_sound, are_sound, are_lots_placed, sound_of, lots_placed_of, agreed_from, counted_from, no_lots_of, sound_before, unsealed}
 use Rattle.register.proofs.KeyedLemmas.{rounds_from, with_nominations, IsStill, given_out_still, keyed_still, judged_still}
@@ -27,6 +27,9 @@ candidate_total = then_total (on_total (λ (c : CandidateEntry). c.ward) nat_cmp
 
 pub batch_total : IsTotalOrder batch_cmp
 batch_total = on_total (λ (b : BatchEntry). b.number) nat_cmp_total
+
+pub third_total : IsTotalOrder third_cmp
+third_total = on_total (λ (t : ThirdEntry). t.batch) nat_cmp_total
 
 pub keyed_total : IsTotalOrder keyed_cmp
 keyed_total =
@@ -48,6 +51,7 @@ pub data MapName : Type 0 where
   ward_map : MapName
   candidate_map : MapName
   batch_map : MapName
+  third_map : MapName
   keyed_map : MapName
   judged_map : MapName
   lot_map : MapName
@@ -58,6 +62,7 @@ abbrev pub Holds : MapName → OfficeState → Type 0
 Holds ward_map s = IsMap is_ward ward_cmp s.wards
 Holds candidate_map s = IsMap is_candidate candidate_cmp s.candidates
 Holds batch_map s = IsMap is_batch batch_cmp s.batches
+Holds third_map s = IsMap is_third third_cmp s.thirds
 Holds keyed_map s = IsMap is_keyed_paper keyed_cmp s.keyings
 Holds judged_map s = IsMap is_judged_paper judged_cmp s.verdicts
 Holds lot_map s = IsMap is_lot lot_cmp s.lots
@@ -71,16 +76,18 @@ maps_of {s} is m =
     let fourth = and_parts _ _ third.1 in
     let fifth = and_parts _ _ fourth.1 in
     let sixth = and_parts _ _ fifth.1 in
-    go first.0 second.0 third.0 fourth.0 fifth.0 sixth.0 sixth.1 m
+    let seventh = and_parts _ _ sixth.1 in
+    go first.0 second.0 third.0 fourth.0 fifth.0 sixth.0 seventh.0 seventh.1 m
   where
-    go : list_all is_ward s.wards ≡ true → list_all is_candidate s.candidates ≡ true → list_all is_batch s.batches ≡ true → list_all is_keyed_paper s.keyings ≡ true → list_all is_judged_paper s.verdicts ≡ true → list_all is_lot s.lots ≡ true → list_all is_receipt s.receipts ≡ true → (m : MapName) → Holds m s
-    go wards candidates batches keyings verdicts lots receipts ward_map = record { in_range = wards; rises = is.rise.wards }
-    go wards candidates batches keyings verdicts lots receipts candidate_map = record { in_range = candidates; rises = is.rise.candidates }
-    go wards candidates batches keyings verdicts lots receipts batch_map = record { in_range = batches; rises = is.rise.batches }
-    go wards candidates batches keyings verdicts lots receipts keyed_map = record { in_range = keyings; rises = is.rise.keyings }
-    go wards candidates batches keyings verdicts lots receipts judged_map = record { in_range = verdicts; rises = is.rise.verdicts }
-    go wards candidates batches keyings verdicts lots receipts lot_map = record { in_range = lots; rises = is.rise.lots }
-    go wards candidates batches keyings verdicts lots receipts receipt_map = record { in_range = receipts; rises = is.rise.receipts }
+    go : list_all is_ward s.wards ≡ true → list_all is_candidate s.candidates ≡ true → list_all is_batch s.batches ≡ true → list_all is_third s.thirds ≡ true → list_all is_keyed_paper s.keyings ≡ true → list_all is_judged_paper s.verdicts ≡ true → list_all is_lot s.lots ≡ true → list_all is_receipt s.receipts ≡ true → (m : MapName) → Holds m s
+    go wards candidates batches thirds keyings verdicts lots receipts ward_map = record { in_range = wards; rises = is.rise.wards }
+    go wards candidates batches thirds keyings verdicts lots receipts candidate_map = record { in_range = candidates; rises = is.rise.candidates }
+    go wards candidates batches thirds keyings verdicts lots receipts batch_map = record { in_range = batches; rises = is.rise.batches }
+    go wards candidates batches thirds keyings verdicts lots receipts third_map = record { in_range = thirds; rises = is.rise.thirds }
+    go wards candidates batches thirds keyings verdicts lots receipts keyed_map = record { in_range = keyings; rises = is.rise.keyings }
+    go wards candidates batches thirds keyings verdicts lots receipts judged_map = record { in_range = verdicts; rises = is.rise.verdicts }
+    go wards candidates batches thirds keyings verdicts lots receipts lot_map = record { in_range = lots; rises = is.rise.lots }
+    go wards candidates batches thirds keyings verdicts lots receipts receipt_map = record { in_range = receipts; rises = is.rise.receipts }
 
 -- the conditions of a state beside those of each map alone
 pub record AreJoined (s : OfficeState) : Type 0 where
@@ -93,14 +100,14 @@ pub record AreJoined (s : OfficeState) : Type 0 where
 
 pub state_from : (s : OfficeState) → ((m : MapName) → Holds m s) → AreJoined s → IsState s
 state_from s maps joined = record {
-  in_range = and_from _ _ (maps ward_map).in_range (and_from _ _ (maps candidate_map).in_range (and_from _ _ (maps batch_map).in_range (and_from _ _ (maps keyed_map).in_range (and_from _ _ (maps judged_map).in_range (and_from _ _ (maps lot_map).in_range (maps receipt_map).in_range)))));
+  in_range = and_from _ _ (maps ward_map).in_range (and_from _ _ (maps candidate_map).in_range (and_from _ _ (maps batch_map).in_range (and_from _ _ (maps third_map).in_range (and_from _ _ (maps keyed_map).in_range (and_from _ _ (maps judged_map).in_range (and_from _ _ (maps lot_map).in_range (maps receipt_map).in_range))))));
   nominated = joined.nominated;
   given_out = joined.given_out;
   keyed = joined.keyed;
   judged = joined.judged;
   agreed = agreed_from s joined.sound;
   counted = counted_from s joined.lots_placed joined.sound;
-  rise = record { wards = (maps ward_map).rises; candidates = (maps candidate_map).rises; batches = (maps batch_map).rises; keyings = (maps keyed_map).rises; verdicts = (maps judged_map).rises; lots = (maps lot_map).rises; receipts = (maps receipt_map).rises };
+  rise = record { wards = (maps ward_map).rises; candidates = (maps candidate_map).rises; batches = (maps batch_map).rises; thirds = (maps third_map).rises; keyings = (maps keyed_map).rises; verdicts = (maps judged_map).rises; lots = (maps lot_map).rises; receipts = (maps receipt_map).rises };
 }
 
 -- the rounds of the batches are those of a state with the same batches, keyings and candidates
@@ -195,6 +202,7 @@ same_receipts (candidate_added c) s = refl
 same_receipts (candidate_withdrawn ward candidate) s = refl
 same_receipts (batch_added b) s = refl
 same_receipts (batch_reopened batch round) s = refl
+same_receipts (third_set t) s = refl
 same_receipts (papers_keyed papers) s = refl
 same_receipts (paper_judged v) s = refl
 same_receipts (stage_counted ward done) s = refl

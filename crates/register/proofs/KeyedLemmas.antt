@@ -1,13 +1,14 @@
 -- What batches, keyings and verdicts rest on, and that they are those of a state still where this is as it was.
-use Rattle.std.proofs.Common.{◌≡◌, ℕ, ◌+◌, zero, suc, Bool, true, false, ◌&&◌, nat_le, List, [], ◌∷◌, ◌++◌, arith, Option, Some, None, refl, ap, ◌∙◌}
+use Rattle.std.proofs.Common.{◌≡◌, ℕ, ◌+◌, ◌≤◌, zero, suc, Bool, true, false, ◌&&◌, nat_le, List, [], ◌∷◌, ◌++◌, arith, Option, Some, None, refl, sym, ap, ◌∙◌}
 use Rattle.std.specs.List.{list_all, range_with_len}
 use Rattle.std.proofs.lemmas.List.Folds.{list_all-append}
-use Rattle.std.proofs.lemmas.Bool.{and_parts, and_from, both_ways}
-use Rattle.register.specs.Offices.{WardEntry, CandidateEntry, BatchEntry, KeyedEntry, JudgedEntry, OfficeState, batch_compared, candidates_of, batch_at, verdicts_of}
+use Rattle.std.proofs.lemmas.Bool.{and_parts, and_from}
+use Rattle.register.specs.Offices.{WardEntry, CandidateEntry, BatchEntry, KeyedEntry, JudgedEntry, OfficeState, batch_compared, candidates_of, batch_at, third_at, verdicts_of}
 use Rattle.register.specs.Marks.{columns_of, is_readable}
-use Rattle.register.specs.Papers.{is_its_clerk, is_taken, first_keying}
+use Rattle.register.specs.Papers.{has_doubtful, is_its_clerk, is_taken, taken_papers}
 use Rattle.register.specs.Keyed.{is_given_out, is_keyed_for, is_round_of, are_rounds_to, is_verdict_on, is_judged}
 use Rattle.register.specs.Items.{item3, item4, item5, IsState}
+use Rattle.register.proofs.ClerkLemmas.{not_keyed}
 use Rattle.register.proofs.MapLemmas.{list_all_weaker, list_all_both, found_passes}
 
 -- rounds that are those of a batch one by one are so together
@@ -35,18 +36,27 @@ rounds_more s b n =
     ∙ last_first (list_all (is_round_of s b) (range_with_len 1 n)) (is_round_of s b (1 + n))
     ∙ ap (λ (k : ℕ). is_round_of s b k && list_all (is_round_of s b) (range_with_len 1 n)) e
 
+-- the last of some rounds alone
+pub round_at : (s : OfficeState) (b : BatchEntry) (n : ℕ) → 1 ≤ n → are_rounds_to s b n ≡ true → is_round_of s b n ≡ true
+round_at s b zero low all = absurd (omega (arith, low))
+round_at s b (suc n) low all = (and_parts _ _ (sym (rounds_more s b n) ∙ all)).0
+
 pub no_rounds : (s : OfficeState) (b : BatchEntry) → are_rounds_to s b 0 ≡ true
 unfolding are_rounds_to
 no_rounds s b = refl
 
 -- a batch that is found is given out
 pub found_given_out : {s : OfficeState} → IsState s → (n : ℕ) (b : BatchEntry) → batch_at s n ≡ Some b → is_given_out s b ≡ true
-found_given_out {s} is n b found = found_passes (batch_compared n) (is_given_out s) b s.batches is.given_out found
+found_given_out {s} is n b found = found_passes (batch_compared n) (is_given_out s) b s.batches (and_parts _ _ is.given_out).0 found
 
 -- a batch that isn't taken has no verdicts
 pub no_verdicts : (s : OfficeState) (b : BatchEntry) → is_taken s b ≡ false → (vs : List JudgedEntry) → is_judged s b vs ≡ true → vs ≡ []
 no_verdicts s b untaken [] judged = refl
-no_verdicts s b untaken (v ∷ vs) judged = absurd (both_ways (is_taken s b) untaken (and_parts _ _ (and_parts _ _ judged).0).0)
+no_verdicts s b untaken (v ∷ vs) judged = absurd (lost (taken_papers s b) (not_keyed (taken_papers s b) untaken) (and_parts _ _ (and_parts _ _ judged).0).0)
+  where
+    lost : (ks : List KeyedEntry) → ks ≡ [] → has_doubtful ks v.paper ≡ true → ⊥
+    lost [] none found = cc
+    lost (k ∷ ks) none found = cc
 
 -- ---- other wards and candidates
 
@@ -62,7 +72,7 @@ pub record IsStill (s t : OfficeState) (b : BatchEntry) : Type 0 where
 module _ (s : OfficeState) (wards : List WardEntry) (candidates : List CandidateEntry) (is : IsState s)
     (past : (b : BatchEntry) → is_given_out s b ≡ true → IsStill s (with_nominations wards candidates s) b) where
   pub given_out_still : item3 (with_nominations wards candidates s) ≡ true
-  given_out_still = list_all_weaker _ _ s.batches (λ b out. (past b out).given_out) is.given_out
+  given_out_still = let parts = and_parts _ _ is.given_out in and_from _ _ (list_all_weaker _ _ s.batches (λ b out. (past b out).given_out) parts.0) parts.1
 
   keyed_for_still : (k : KeyedEntry) → is_keyed_for s k (batch_at s k.batch) ≡ true → is_keyed_for (with_nominations wards candidates s) k (batch_at s k.batch) ≡ true
   keyed_for_still k = go (batch_at s k.batch) refl
@@ -71,7 +81,7 @@ module _ (s : OfficeState) (wards : List WardEntry) (candidates : List Candidate
       go None found keyed = keyed
       go (Some b) found keyed =
           let same = (past b (found_given_out is k.batch b found)).candidates in
-          ap (λ (cs : List CandidateEntry). nat_le k.round b.round && (is_its_clerk k.clerk b && is_readable (columns_of cs) k.marks)) same ∙ keyed
+          ap (λ (cs : List CandidateEntry). nat_le k.round b.round && (is_its_clerk k.clerk b (third_at s b.number) && is_readable (columns_of cs) k.marks)) same ∙ keyed
 
   pub keyed_still : item4 (with_nominations wards candidates s) ≡ true
   keyed_still =
@@ -83,9 +93,9 @@ module _ (s : OfficeState) (wards : List WardEntry) (candidates : List Candidate
       (list_all_weaker _ _ s.batches (λ b rounds. rounds_from s (with_nominations wards candidates s) b b b.round (λ m round. round) rounds) parts.1)
 
   verdicts_still : (b : BatchEntry) → is_given_out s b ≡ true → (vs : List JudgedEntry) → is_judged s b vs ≡ true → is_judged (with_nominations wards candidates s) b vs ≡ true
-  verdicts_still b out vs judged = ap (λ (cs : List CandidateEntry). list_all (λ v. is_taken s b && is_verdict_on (columns_of cs) (first_keying s b) v) vs) (past b out).candidates ∙ judged
+  verdicts_still b out vs judged = ap (λ (cs : List CandidateEntry). list_all (is_verdict_on (columns_of cs) (taken_papers s b)) vs) (past b out).candidates ∙ judged
 
   pub judged_still : item5 (with_nominations wards candidates s) ≡ true
   judged_still =
       let parts = and_parts _ _ is.judged in
-      and_from _ _ parts.0 (list_all_both _ _ _ s.batches (λ b out judged. verdicts_still b out (verdicts_of s b.number) judged) is.given_out parts.1)
+      and_from _ _ parts.0 (list_all_both _ _ _ s.batches (λ b out judged. verdicts_still b out (verdicts_of s b.number) judged) (and_parts _ _ is.given_out).0 parts.1)

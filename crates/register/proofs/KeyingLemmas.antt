@@ -1,5 +1,5 @@
 -- The command of a clerk, where nothing stands against it, leads from a state to a state, and leaves a receipt in range.
-use Rattle.std.proofs.Common.{rules, inl, inr, ◌≡◌, ℕ, suc, ◌+◌, ◌<◌, ◌≤◌, Bool, true, false, not, ◌&&◌, ◌||◌, ◌==◌, ◌++◌, nat_le, codes, List, [], ◌∷◌, length, map, filter, Option, Some, None, Result, Ok, Err, string_bytes, refl, sym, ap, ◌∙◌, arith}
+use Rattle.std.proofs.Common.{rules, inl, inr, ◌≡◌, ◌⊎◌, ℕ, suc, ◌+◌, ◌<◌, ◌≤◌, Bool, true, false, not, ◌&&◌, ◌||◌, ◌==◌, ◌++◌, nat_le, codes, List, [], ◌∷◌, length, map, filter, Option, Some, None, Result, Ok, Err, string_bytes, refl, sym, ap, ◌∙◌, arith}
 use Rattle.std.specs.Fmt.{decimal}
 use Rattle.std.specs.List.{AllByRecursion, list_all}
 use Rattle.std.specs.Str.{is_utf8}
@@ -9,7 +9,7 @@ use Rattle.std.specs.declared.cmp.Ordering.TheVariants.{Equal, Greater}
 use Rattle.std.specs.Ordering.{nat_cmp, is_lt, is_eq, ordering_then}
 use Rattle.std.specs.Cmp.{nat_cmp_is}
 use Rattle.std.proofs.Math.Nat.{le_refl}
-use Rattle.std.proofs.lemmas.Bool.{and_parts, and_from, and_left, and_right, or_cases, or_right, eqb-true, eq-eqb, le-leb}
+use Rattle.std.proofs.lemmas.Bool.{and_parts, and_from, and_left, and_right, or_left, eqb-true, eq-eqb, le-leb}
 use Rattle.std.proofs.lemmas.List.{append_assoc, append-nil}
 use Rattle.std.proofs.lemmas.Str.{IsUtf8-string_bytes, is_utf8-from_IsUtf8}
 use Rattle.paper.specs.declared.marks.MarkFault.{MarkFault}
@@ -21,26 +21,28 @@ use Rattle.register.specs.declared.refusal.Reason.TheVariants.{NumberOutOfRange,
 use Rattle.register.specs.declared.keyings.KeyingCommand.{KeyingCommand}
 use Rattle.register.specs.Reasons.{first_reason}
 use Rattle.register.specs.Subjects.{is_clerk_subject}
-use Rattle.register.specs.Batches.{ward_for, candidates_for}
+use Rattle.register.specs.Batches.{ward_for, candidates_for, third_for}
 use Rattle.register.specs.Parts.{passes}
-use Rattle.register.specs.Marks.{columns_of, is_read, is_readable, fault_told, marks_objection, first_bad_marks, or_reason}
+use Rattle.register.specs.Verdicts.{is_rejection_code}
+use Rattle.register.specs.Marks.{columns_of, is_read, is_readable, is_valid, fault_told, marks_objection, first_bad_marks, or_reason}
 use Rattle.register.specs.Ranges.{last_batch, last_round, most_papers, is_clerk, is_batch_number, is_paper_number, is_round}
-use Rattle.register.specs.Offices.{WardEntry, BatchEntry, KeyedEntry, JudgedEntry, OfficeState, put, put_each, entry_at, keyed_cmp, batch_compared, ward_at, candidates_of, batch_at, keying_of, verdicts_of, lots_of}
+use Rattle.register.specs.Offices.{WardEntry, BatchEntry, KeyedEntry, JudgedEntry, OfficeState, put, put_each, entry_at, keyed_cmp, batch_compared, ward_at, candidates_of, batch_at, third_at, keying_of, verdicts_of, lots_of}
 use Rattle.register.specs.Polls.{Pile, pile_of}
 use Rattle.register.specs.Elections.{election_of, is_counted}
-use Rattle.register.specs.Papers.{is_keyed, differ, are_taken, is_taken, is_its_clerk, first_keying, second_keying}
-use Rattle.register.specs.Keyed.{columns_for, is_keyed_for, are_numbered, is_whole, is_round_of, are_rounds_to, is_verdict_on, is_judged}
+use Rattle.register.specs.Papers.{is_keyed, of_three, agreed, differ, has_doubtful, is_its_clerk, clerks_of, keyings_in, keyings_now, taken_papers}
+use Rattle.register.specs.Keyed.{columns_for, is_keyed_for, are_numbered, is_whole, is_round_of, are_rounds_to, is_verdict_on, is_verdict_for, is_judged}
 use Rattle.register.specs.Items.{is_keyed_paper, IsState}
 use Rattle.register.specs.Effects.{papers_keyed, with_effect}
 use Rattle.register.specs.Tabulated.{tabulation_of}
 use Rattle.register.specs.Keyings.{texts_of, part_of, is_in_range, objections, subject_of, reply_to, papers_from, effect_of}
-use Rattle.register.proofs.LineLemmas.{upper, are_plain-decimals, words, line_append, line_number, line_reply, line_text}
+use Rattle.register.proofs.LineLemmas.{lower, upper, are_plain-decimals, words, line_append, line_number, line_reply, line_text}
 use Rattle.register.proofs.ObjectionLemmas.{none_objects, asked, unasked, present, there}
-use Rattle.register.proofs.MapLemmas.{IsMap, put_each_all, put_is_map, filter_put_in, filter_put_each, put_last, found_filter, found_none, each_weaker, found_passes, found_number, same_number, both_equal, all_but_number}
+use Rattle.register.proofs.MapLemmas.{list_all_weaker, IsMap, put_each_all, put_is_map, filter_put_in, filter_put_each, put_last, found_filter, found_none, each_weaker, found_passes, found_number, same_number, both_equal, all_but_number}
 use Rattle.register.proofs.ElectionLemmas.{lots_placed_of, same_election}
 use Rattle.register.proofs.ElsewhereLemmas.{sound_elsewhere, batches_elsewhere, piles_elsewhere}
 use Rattle.register.proofs.TabulationLemmas.{tabulation_elsewhere}
-use Rattle.register.proofs.KeyedLemmas.{rounds_from, no_verdicts}
+use Rattle.register.proofs.ClerkLemmas.{not_keyed, keyed_alike, all_grown, of_one, are_three, Grows, doubtful_still}
+use Rattle.register.proofs.KeyedLemmas.{rounds_from, round_at}
 use Rattle.register.proofs.ItemLemmas.{MapName, keyed_map, Holds, maps_of, state_from, keyed_total, IsFit, clerk_about}
 use Rattle.register.proofs.BatchLemmas.{found_in_range}
 
@@ -176,46 +178,28 @@ papers_for b actor texts = papers_from b.number b.round actor 1 texts
 abbrev with_papers : OfficeState → BatchEntry → ℕ → List (List ℕ) → OfficeState
 with_papers s b actor texts = with_effect (papers_keyed (papers_for b actor texts)) s
 
--- a round by its two keyings
-abbrev is_round_by : BatchEntry → ℕ → List KeyedEntry → List KeyedEntry → Bool
-is_round_by b round first second = is_whole b.size first && (is_whole b.size second && (nat_le b.round round || differ first second))
-
--- verdicts by the two keyings of the current round
-abbrev is_judged_by : OfficeState → BatchEntry → List KeyedEntry → List KeyedEntry → List JudgedEntry → Bool
-is_judged_by s b first second vs = list_all (λ v. are_taken first second && is_verdict_on (columns_for s b) first v) vs
-
-judged_by : (s t : OfficeState) (b : BatchEntry) (vs : List JudgedEntry) → first_keying t b ≡ first_keying s b → second_keying t b ≡ second_keying s b → is_judged s b vs ≡ true
-    → is_judged_by s b (first_keying t b) (second_keying t b) vs ≡ true
-judged_by s t b vs first second judged =
-    ap (λ (ks : List KeyedEntry). is_judged_by s b ks (second_keying t b) vs) first ∙ ap (λ (ks : List KeyedEntry). is_judged_by s b (first_keying s b) ks vs) second ∙ judged
-
-module _ (s : OfficeState) (b : BatchEntry) (actor : ℕ) (texts : List (List ℕ)) (is : IsState s) (found : batch_at s b.number ≡ Some b) (its : is_its_clerk actor b ≡ true)
+module _ (s : OfficeState) (b : BatchEntry) (actor : ℕ) (texts : List (List ℕ)) (is : IsState s) (found : batch_at s b.number ≡ Some b) (its : is_its_clerk actor b (third_at s b.number) ≡ true)
     (unkeyed : keying_of s b.number b.round actor ≡ []) (size : b.size ≡ length texts) where
   -- each other keying is as it was
   other_keying : (n m clerk : ℕ) → ((b.number == n) && ((b.round == m) && (actor == clerk))) ≡ false → keying_of (with_papers s b actor texts) n m clerk ≡ keying_of s n m clerk
   other_keying n m clerk other =
       filter_put_each keyed_cmp (is_of n m clerk) (papers_for b actor texts) s.keyings (of_no_other b.number b.round actor (λ x y z. (x == n) && ((y == m) && (z == clerk))) other 1 texts)
 
-  -- so the rounds of each other batch are, and its verdicts
+  -- so those of each other batch are, with its rounds, its verdicts and its pile
+  other_keyings : (x : BatchEntry) → (b.number == x.number) ≡ false → (m : ℕ) → keyings_in (with_papers s b actor texts) x m ≡ keyings_in s x m
+  other_keyings x other m = keyed_alike (keying_of (with_papers s b actor texts) x.number m) (keying_of s x.number m) (clerks_of s x) (λ clerk. other_keying x.number m clerk (and_left _ _ other))
+
   other_round : (x : BatchEntry) → (b.number == x.number) ≡ false → (m : ℕ) → is_round_of s x m ≡ true → is_round_of (with_papers s b actor texts) x m ≡ true
-  other_round x other m holds =
-      let same = λ (clerk : ℕ). other_keying x.number m clerk (and_left _ _ other) in
-      ap (λ (ks : List KeyedEntry). is_round_by x m ks (keying_of (with_papers s b actor texts) x.number m x.second_clerk)) (same x.first_clerk)
-      ∙ ap (λ (ks : List KeyedEntry). is_round_by x m (keying_of s x.number m x.first_clerk) ks) (same x.second_clerk)
-      ∙ holds
+  other_round x other m holds = ap (λ (ks : List (List KeyedEntry)). list_all (is_whole x.size) ks && (nat_le x.round m || differ ks)) (other_keyings x other m) ∙ holds
 
   other_judged : (x : BatchEntry) → (b.number == x.number) ≡ false → (vs : List JudgedEntry) → is_judged s x vs ≡ true → is_judged (with_papers s b actor texts) x vs ≡ true
-  other_judged x other vs judged =
-      let same = λ (clerk : ℕ). other_keying x.number x.round clerk (and_left _ _ other) in
-      judged_by s (with_papers s b actor texts) x vs (same x.first_clerk) (same x.second_clerk) judged
+  other_judged x other vs judged = ap (λ (ks : List (List KeyedEntry)). list_all (is_verdict_on (columns_for s x) (agreed ks)) vs) (other_keyings x other x.round) ∙ judged
 
   other_pile : (x : BatchEntry) → (b.number == x.number) ≡ false → pile_of (with_papers s b actor texts) x ≡ pile_of s x
-  other_pile x other =
-      let same = λ (clerk : ℕ). other_keying x.number x.round clerk (and_left _ _ other) in
-      ap (λ (ks : List KeyedEntry). pile_with ks (second_keying (with_papers s b actor texts) x)) (same x.first_clerk) ∙ ap (pile_with (first_keying s x)) (same x.second_clerk)
+  other_pile x other = ap pile_with (other_keyings x other x.round)
     where
-      pile_with : List KeyedEntry → List KeyedEntry → Pile
-      pile_with first second = record { first = first; second = second; verdicts = verdicts_of s x.number }
+      pile_with : List (List KeyedEntry) → Pile
+      pile_with keyings = record { keyings = keyings; verdicts = verdicts_of s x.number }
 
   -- the elections of other wards are as they were,
   keyed_elsewhere : (x : WardEntry) → (b.ward == x.number) ≡ false → election_of (with_papers s b actor texts) x ≡ election_of s x
@@ -225,13 +209,6 @@ module _ (s : OfficeState) (b : BatchEntry) (actor : ℕ) (texts : List (List �
   -- and so is the tabulation
   pub keyed_tabulated : (w : WardEntry) → ward_at s b.ward ≡ Some w → is_counted w.phase ≡ false → tabulation_of (with_papers s b actor texts) ≡ tabulation_of s
   keyed_tabulated w its_ward open_ = tabulation_elsewhere s b.ward w s.candidates s.batches (put_each keyed_cmp (papers_for b actor texts) s.keyings) s.verdicts its_ward open_ keyed_elsewhere is
-
-  -- the batch isn't taken, so none of its papers is judged
-  untaken : is_taken s b ≡ false
-  untaken = elim (or_cases (actor == b.first_clerk) (actor == b.second_clerk) its) [
-    | inl same ↦ let first : first_keying s b ≡ [] = ap (keying_of s b.number b.round) (sym (eqb-true actor b.first_clerk same)) ∙ unkeyed in rw first refl
-    | inr same ↦ let second : second_keying s b ≡ [] = ap (keying_of s b.number b.round) (sym (eqb-true actor b.second_clerk same)) ∙ unkeyed in rw second (and_right (is_keyed (first_keying s b)) false refl)
-  ]
 
   module _ (clerk : is_clerk actor ≡ true) (written : list_all is_utf8 texts ≡ true) where
     papers_good : list_all is_keyed_paper (papers_for b actor texts) ≡ true
@@ -247,38 +224,67 @@ module _ (s : OfficeState) (b : BatchEntry) (actor : ℕ) (texts : List (List �
     pub put_among_own : (test : KeyedEntry → Bool) → list_all test (papers_for b actor texts) ≡ true → filter test (put_each keyed_cmp (papers_for b actor texts) s.keyings) ≡ put_each keyed_cmp (papers_for b actor texts) (filter test s.keyings)
     put_among_own test passes = put_among b.number b.round actor test 1 texts s.keyings [] passes papers_good tt (record { map = maps_of is keyed_map; keying = unkeyed })
 
-    -- each keying of the batch is whole still
-    whole_still : (m clerk : ℕ) → is_whole b.size (keying_of s b.number m clerk) ≡ true → is_whole b.size (keying_of (with_papers s b actor texts) b.number m clerk) ≡ true
-    whole_still m clerk holds = go ((b.round == m) && (actor == clerk)) refl
-      where
-        go : (same : Bool) → ((b.round == m) && (actor == clerk)) ≡ same → is_whole b.size (keying_of (with_papers s b actor texts) b.number m clerk) ≡ true
-        go false other = ap (is_whole b.size) (other_keying b.number m clerk (and_right (b.number == b.number) _ other)) ∙ holds
-        go true same =
-            let parts = and_parts (b.round == m) (actor == clerk) same in
-            let there = put_there in
-            let own : keying_of (with_papers s b actor texts) b.number m clerk ≡ papers_for b actor texts =
-            ap (λ (r : ℕ). keying_of (with_papers s b actor texts) b.number r clerk) (sym (eqb-true b.round m parts.0))
-            ∙ ap (keying_of (with_papers s b actor texts) b.number b.round) (sym (eqb-true actor clerk parts.1))
-            ∙ there.keying
-            in
-            let long : length (papers_for b actor texts) ≡ b.size = length-papers b.number b.round actor 1 texts ∙ sym size in
-            let full = and_from _ _ (eq-eqb (length (papers_for b actor texts)) b.size long) (numbered b.number b.round actor 1 texts) in
-            ap (is_whole b.size) own ∙ or_right (not (is_keyed (papers_for b actor texts))) ((length (papers_for b actor texts) == b.size) && are_numbered 1 (papers_for b actor texts)) full
+    -- in its round a clerk's keying is as it was, or is this one, where there was none; it is whole
+    now_or_own : (c : ℕ) (same : Bool) → (actor == c) ≡ same → Grows (keying_of s b.number b.round c) (keying_of (with_papers s b actor texts) b.number b.round c)
+    now_or_own c false other = inl (other_keying b.number b.round c (and_right (b.number == b.number) _ (and_right (b.round == b.round) (actor == c) other)))
+    now_or_own c true same = inr (ap (keying_of s b.number b.round) (sym (eqb-true actor c same)) ∙ unkeyed)
+
+    grows : (c : ℕ) → Grows (keying_of s b.number b.round c) (keying_of (with_papers s b actor texts) b.number b.round c)
+    grows c = now_or_own c (actor == c) refl
+
+    whole_or_same : (c : ℕ) (same : Bool) → (actor == c) ≡ same
+        → (keying_of (with_papers s b actor texts) b.number b.round c ≡ keying_of s b.number b.round c) ⊎ (is_whole b.size (keying_of (with_papers s b actor texts) b.number b.round c) ≡ true)
+    whole_or_same c false other = inl (other_keying b.number b.round c (and_right (b.number == b.number) _ (and_right (b.round == b.round) (actor == c) other)))
+    whole_or_same c true same =
+        let there = put_there in
+        let own : keying_of (with_papers s b actor texts) b.number b.round c ≡ papers_for b actor texts = ap (keying_of (with_papers s b actor texts) b.number b.round) (sym (eqb-true actor c same)) ∙ there.keying in
+        let long : length (papers_for b actor texts) ≡ b.size = length-papers b.number b.round actor 1 texts ∙ sym size in
+        inr (ap (is_whole b.size) own ∙ and_from _ _ (eq-eqb (length (papers_for b actor texts)) b.size long) (numbered b.number b.round actor 1 texts))
+
+    whole_now : list_all (is_whole b.size) (keyings_now s b) ≡ true → list_all (is_whole b.size) (keyings_now (with_papers s b actor texts) b) ≡ true
+    whole_now all =
+        all_grown (is_whole b.size) (keying_of s b.number b.round) (keying_of (with_papers s b actor texts) b.number b.round) (clerks_of s b) (λ c. whole_or_same c (actor == c) refl) all
 
     own_round : (m : ℕ) → is_round_of s b m ≡ true → is_round_of (with_papers s b actor texts) b m ≡ true
-    own_round m holds =
-        let first = and_parts (is_whole b.size (keying_of s b.number m b.first_clerk)) _ holds in
-        let second = and_parts (is_whole b.size (keying_of s b.number m b.second_clerk)) _ first.1 in
-        and_from _ _ (whole_still m b.first_clerk first.0) (and_from _ _ (whole_still m b.second_clerk second.0) (go (b.round == m) refl second.1))
+    own_round m holds = go (b.round == m) refl
       where
-        go : (same : Bool) → (b.round == m) ≡ same → (nat_le b.round m || differ (keying_of s b.number m b.first_clerk) (keying_of s b.number m b.second_clerk)) ≡ true
-            → (nat_le b.round m || differ (keying_of (with_papers s b actor texts) b.number m b.first_clerk) (keying_of (with_papers s b actor texts) b.number m b.second_clerk)) ≡ true
-        go true same either = let round = eqb-true b.round m same in rw (le-leb b.round m (omega (arith, round))) refl
-        go false other either =
-            let same = λ (clerk : ℕ). other_keying b.number m clerk (and_right (b.number == b.number) _ (and_left (b.round == m) (actor == clerk) other)) in
-            ap (λ (ks : List KeyedEntry). nat_le b.round m || differ ks (keying_of (with_papers s b actor texts) b.number m b.second_clerk)) (same b.first_clerk)
-            ∙ ap (λ (ks : List KeyedEntry). nat_le b.round m || differ (keying_of s b.number m b.first_clerk) ks) (same b.second_clerk)
-            ∙ either
+        go : (same : Bool) → (b.round == m) ≡ same → is_round_of (with_papers s b actor texts) b m ≡ true
+        go true same =
+            let round = eqb-true b.round m same in
+            let was = (and_parts (list_all (is_whole b.size) (keyings_in s b m)) _ holds).0 in
+            let now = whole_now (ap (λ (r : ℕ). list_all (is_whole b.size) (keyings_in s b r)) round ∙ was) in
+            let there = ap (λ (r : ℕ). list_all (is_whole b.size) (keyings_in (with_papers s b actor texts) b r)) (sym round) ∙ now in
+            and_from _ _ there (or_left (nat_le b.round m) _ (le-leb b.round m (omega (arith, round))))
+        go false other =
+            let same = keyed_alike (keying_of (with_papers s b actor texts) b.number m) (keying_of s b.number m) (clerks_of s b) (λ clerk. other_keying b.number m clerk (and_right (b.number == b.number) _ (and_left (b.round == m) (actor == clerk) other))) in
+            ap (λ (ks : List (List KeyedEntry)). list_all (is_whole b.size) ks && (nat_le b.round m || differ ks)) same ∙ holds
+
+    -- a doubtful paper that the batch is taken with stays one
+    doubtful_kept : list_all (is_whole b.size) (keyings_now s b) ≡ true → (paper : ℕ) → has_doubtful (taken_papers s b) paper ≡ true → has_doubtful (taken_papers (with_papers s b actor texts) b) paper ≡ true
+    doubtful_kept whole paper was =
+        let three = are_three b (third_at s b.number) in
+        let now : keyings_now (with_papers s b actor texts) b ≡ of_three (keying_of (with_papers s b actor texts) b.number b.round three.first) (keying_of (with_papers s b actor texts) b.number b.round three.second) (of_one (keying_of (with_papers s b actor texts) b.number b.round) three.third) =
+        three.are (keying_of (with_papers s b actor texts) b.number b.round)
+        in
+        ap (λ (ks : List (List KeyedEntry)). has_doubtful (agreed ks) paper) now
+        ∙ doubtful_still
+        paper
+        b.size
+        _
+        _
+        _
+        _
+        _
+        _
+        (grows three.first)
+        (grows three.second)
+        (grows_one three.third)
+        (ap (list_all (is_whole b.size)) (sym now) ∙ whole_now whole)
+        (ap (λ (ks : List (List KeyedEntry)). has_doubtful (agreed ks) paper) (sym (three.are (keying_of s b.number b.round))) ∙ was)
+      where
+        grows_one : (o : Option ℕ) → Grows (of_one (keying_of s b.number b.round) o) (of_one (keying_of (with_papers s b actor texts) b.number b.round) o)
+        grows_one None = inl refl
+        grows_one (Some c) = grows c
 
     -- what holds of each other batch still, and of this one, holds of each
     still : (p q : BatchEntry → Bool) → (p b ≡ true → q b ≡ true) → ((x : BatchEntry) → (b.number == x.number) ≡ false → p x ≡ true → q x ≡ true) → list_all p s.batches ≡ true → list_all q s.batches ≡ true
@@ -314,13 +320,32 @@ module _ (s : OfficeState) (b : BatchEntry) (actor : ℕ) (texts : List (List �
               _
               _
               judged.0
-              (still (λ x. is_judged s x (verdicts_of s x.number)) (λ x. is_judged (with_papers s b actor texts) x (verdicts_of s x.number)) unjudged (λ x other verdicts. other_judged x other (verdicts_of s x.number) verdicts) judged.1);
+              (still (λ x. is_judged s x (verdicts_of s x.number)) (λ x. is_judged (with_papers s b actor texts) x (verdicts_of s x.number)) own_judged (λ x other verdicts. other_judged x other (verdicts_of s x.number) verdicts) judged.1);
           lots_placed = lots_placed_of is;
           sound = sound_elsewhere s b.ward w s.candidates s.batches (put_each keyed_cmp (papers_for b actor texts) s.keyings) s.verdicts its_ward open_ keyed_elsewhere is;
         })
       where
-        unjudged : is_judged s b (verdicts_of s b.number) ≡ true → is_judged (with_papers s b actor texts) b (verdicts_of s b.number) ≡ true
-        unjudged verdicts = rw (no_verdicts s b untaken (verdicts_of s b.number) verdicts) refl
+        whole : list_all (is_whole b.size) (keyings_now s b) ≡ true
+        whole =
+            let rounds = found_passes (batch_compared b.number) (λ (x : BatchEntry). are_rounds_to s x x.round) b s.batches (and_parts (list_all (λ k. is_keyed_for s k (batch_at s k.batch)) s.keyings) _ is.keyed).1 found in
+            let parts = found_in_range is b.number b found in
+            (and_parts _ _ (round_at s b b.round (lower 1 last_round b.round parts.round) rounds)).0
+
+        -- a verdict is on one of them still
+        is_decided : JudgedEntry → Bool
+        is_decided v = ((v.code == 0) && is_valid (columns_for s b) v.marks) || (is_rejection_code v.code && (length v.marks == 0))
+
+        on_kept : (v : JudgedEntry) → (has_doubtful (taken_papers s b) v.paper ≡ true) × (is_decided v ≡ true) → is_verdict_for (with_papers s b actor texts) b v ≡ true
+        on_kept v parts = and_from _ _ (doubtful_kept whole v.paper parts.0) parts.1
+
+        own_judged : is_judged s b (verdicts_of s b.number) ≡ true → is_judged (with_papers s b actor texts) b (verdicts_of s b.number) ≡ true
+        own_judged verdicts =
+            list_all_weaker
+            (is_verdict_for s b)
+            (is_verdict_for (with_papers s b actor texts) b)
+            (verdicts_of s b.number)
+            (λ v on. on_kept v (and_parts (has_doubtful (taken_papers s b) v.paper) (is_decided v) on))
+            verdicts
 
         maps : (m : MapName) → Holds m (with_papers s b actor texts)
         maps keyed_map = let there = put_there in there.map
@@ -332,10 +357,6 @@ module _ (s : OfficeState) (b : BatchEntry) (actor : ℕ) (texts : List (List �
 all_written : (texts : List (String Global)) → list_all is_utf8 (map string_bytes texts) ≡ true
 all_written [] = refl
 all_written (text ∷ texts) = and_from _ _ (is_utf8-from_IsUtf8 (string_bytes text) (IsUtf8-string_bytes text)) (all_written texts)
-
-not_keyed : (keying : List KeyedEntry) → is_keyed keying ≡ false → keying ≡ []
-not_keyed [] none = refl
-not_keyed (k ∷ ks) none = absurd (cc)
 
 -- what the receipt of a keying may be about
 key_about : (m n : ℕ) → is_batch_number m ≡ true → is_round n ≡ true → is_clerk_subject (codes "key " ++ (decimal m ++ (codes " " ++ decimal n))) ≡ true
@@ -359,7 +380,7 @@ record IsKeying (s : OfficeState) (actor : ℕ) (command : KeyingCommand) : Type
   number : command.batch ≡ batch.number
   round : command.round ≡ batch.round
   found : batch_at s batch.number ≡ Some batch
-  its : is_its_clerk actor batch ≡ true
+  its : is_its_clerk actor batch (third_at s batch.number) ≡ true
   unkeyed : keying_of s batch.number batch.round actor ≡ []
   size : batch.size ≡ length (texts_of command)
   read : first_bad_marks (columns_for s batch) 1 (texts_of command) ≡ None
@@ -380,6 +401,9 @@ is_keying s actor command none =
     let now = found_is s command.batch b found.is (λ x. x.round == command.round) (asked (passes (λ x. x.round == command.round) part.batch) NotThisRound (others.1).0) in
     let none_own = not_keyed part.own (unasked (is_keyed part.own) AlreadyKeyed ((others.1).1).0) in
     let long = found_is s command.batch b found.is (λ x. x.size == length (texts_of command)) (asked (passes (λ x. x.size == length (texts_of command)) part.batch) WrongPaperCount (((others.1).1).1).0) in
+    let its_clerk : passes (λ (x : BatchEntry). is_its_clerk actor x part.third) part.batch ≡ true → is_its_clerk actor b (third_at s b.number) ≡ true =
+    λ its. ap (λ (o : Option BatchEntry). passes (λ (x : BatchEntry). is_its_clerk actor x (third_for s o)) o) (sym found.is) ∙ its
+    in
     let number : command.batch ≡ b.number = found_number (λ (x : BatchEntry). x.number) s.batches command.batch b found.is in
     let round : command.round ≡ b.round = sym (eqb-true b.round command.round now) in
     record {
@@ -390,7 +414,7 @@ is_keying s actor command none =
       number = number;
       round = round;
       found = ap (batch_at s) (sym number) ∙ found.is;
-      its = found_is s command.batch b found.is (is_its_clerk actor) (asked (passes (is_its_clerk actor) part.batch) NotItsClerk others.0);
+      its = its_clerk (asked (passes (λ x. is_its_clerk actor x part.third) part.batch) NotItsClerk others.0);
       unkeyed = ap (λ (n : ℕ). keying_of s n b.round actor) (sym number) ∙ ap (λ (r : ℕ). keying_of s command.batch r actor) (sym round) ∙ none_own;
       size = eqb-true b.size (length (texts_of command)) long;
       read = ap (λ (o : Option BatchEntry). first_bad_marks (columns_of (candidates_for s o)) 1 (texts_of command)) (sym found.is) ∙ ((((others.1).1).1).1).0;

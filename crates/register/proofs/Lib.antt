@@ -5,6 +5,7 @@ mod ObjectionLemmas
 mod ElectionLemmas
 mod StageLemmas
 mod ProgressLemmas
+mod ClerkLemmas
 pub mod KeyedLemmas
 mod ElsewhereLemmas
 mod TabulationLemmas
@@ -20,6 +21,7 @@ mod KeyingLemmas
 mod VerdictLemmas
 mod ColumnLemmas
 mod PaperLemmas
+mod AgreedLemmas
 mod PollLemmas
 pub mod ContestLemmas
 pub mod BundledLemmas

@@ -1,14 +1,16 @@
 -- The papers of a ward with a batch more.
-use Rattle.std.proofs.Common.{◌≡◌, ℕ, ◌+◌, ◌==◌, ◌&&◌, Bool, true, false, cond, List, [], ◌∷◌, ◌++◌, length, map, filter, fold, refl, sym, ap, subst, ◌∙◌, arith, append-nil, append_assoc}
+use Rattle.std.proofs.Common.{◌≡◌, ℕ, ◌+◌, ◌&&◌, Bool, true, false, cond, List, [], ◌∷◌, ◌++◌, length, map, filter, fold, refl, sym, ap, subst, ◌∙◌, arith, append-nil, append_assoc}
 use Rattle.std.specs.List.{flat_map, list_all}
 use Rattle.std.proofs.lemmas.Bool.{and_parts}
 use Rattle.std.proofs.lemmas.List.Concat.{flat_map-append}
 use Rattle.std.proofs.lemmas.List.Folds.{list_all-append}
 use Rattle.register.specs.declared.polls.Judgement.{Judgement}
 use Rattle.register.specs.declared.polls.Ballots.{Ballots}
-use Rattle.register.specs.Papers.{is_open}
-use Rattle.register.specs.Polls.{Pile, BallotsEntry, is_taken, is_settled, judgements_on, judgements_in, judgements, first_judgements, preferences_by, is_rejected, rejected_with, ballots_in, ballots_by, StandFor}
+use Rattle.register.specs.Papers.{are_taken}
+use Rattle.register.specs.Offices.{BatchEntry, OfficeState, verdicts_of}
+use Rattle.register.specs.Polls.{Pile, pile_of, BallotsEntry, is_settled, judgements_on, judgements_in, judgements, settled_papers, settled_judgements, preferences_by, is_rejected, rejected_with, ballots_in, ballots_by, StandFor}
 use Rattle.register.specs.Walks.{and_rejected}
+use Rattle.register.proofs.AgreedLemmas.{taken_settled}
 
 -- the codes of rejection
 abbrev five : List ℕ
@@ -40,22 +42,19 @@ rejected_more js (k ∷ ks) =
     ap (λ (rejected : List ℕ). fold and_rejected rejected ks) (rejected_one js k)
     ∙ (rejected_more (js ++ k ∷ []) ks ∙ ap (λ (ls : List Judgement). map (rejected_with ls) five) (append_assoc js (k ∷ []) ks))
 
--- what a batch that is taken adds to the papers, to the numbers of the rejected, and to what is settled
-pub added : (columns : List ℕ) (piles : List Pile) (pile : Pile) (old new : BallotsEntry) → old ≡ ballots_in columns piles → is_taken pile ≡ true
-    → new.papers ≡ old.papers ++ flat_map preferences_by (judgements_on columns pile.verdicts pile.first)
-    → new.rejected ≡ fold and_rejected old.rejected (judgements_on columns pile.verdicts pile.first)
-    → new.settled ≡ (old.settled && (length (filter (is_open pile.verdicts) pile.first) == 0)) → new ≡ ballots_in columns (piles ++ pile ∷ [])
-added columns piles pile old new was taken papers rejected settled =
+-- what a batch adds to the papers, to the numbers of the rejected, and to what is settled
+pub added : (columns : List ℕ) (piles : List Pile) (pile : Pile) (old new : BallotsEntry) → old ≡ ballots_in columns piles → new.papers ≡ old.papers ++ flat_map preferences_by (judgements_in columns pile)
+    → new.rejected ≡ fold and_rejected old.rejected (judgements_in columns pile) → new.settled ≡ (old.settled && is_settled pile) → new ≡ ballots_in columns (piles ++ pile ∷ [])
+added columns piles pile old new was papers rejected settled =
     let js = judgements columns piles in
-    let ks = judgements_on columns pile.verdicts pile.first in
-    let own : judgements_in columns pile ≡ ks = rw taken refl in
-    let more : js ++ ks ≡ judgements columns (piles ++ pile ∷ []) = ap (λ (ls : List Judgement). js ++ ls) (sym own) ∙ sym (judgements_more columns piles pile) in
+    let ks = judgements_in columns pile in
+    let more : js ++ ks ≡ judgements columns (piles ++ pile ∷ []) = sym (judgements_more columns piles pile) in
     same
     new
     (ballots_in columns (piles ++ pile ∷ []))
     (papers ∙ ap (λ (b : BallotsEntry). b.papers ++ flat_map preferences_by ks) was ∙ sym (flat_map-append preferences_by js ks) ∙ ap (flat_map preferences_by) more)
     (rejected ∙ ap (λ (b : BallotsEntry). fold and_rejected b.rejected ks) was ∙ rejected_more js ks ∙ ap (λ (ls : List Judgement). map (rejected_with ls) five) more)
-    (settled ∙ ap (λ (b : BallotsEntry). b.settled && (length (filter (is_open pile.verdicts) pile.first) == 0)) was ∙ last ∙ sym (list_all-append is_settled piles (pile ∷ [])))
+    (settled ∙ ap (λ (b : BallotsEntry). b.settled && is_settled pile) was ∙ ap (λ b. list_all is_settled piles && b) (end (is_settled pile)) ∙ sym (list_all-append is_settled piles (pile ∷ [])))
   where
     same : (b c : BallotsEntry) → b.papers ≡ c.papers → b.rejected ≡ c.rejected → b.settled ≡ c.settled → b ≡ c
     same b c p r t = rw (p, r, t) refl
@@ -63,9 +62,6 @@ added columns piles pile old new was taken papers rejected settled =
     end : (b : Bool) → b ≡ (b && true)
     end true = refl
     end false = refl
-
-    last : (list_all is_settled piles && (length (filter (is_open pile.verdicts) pile.first) == 0)) ≡ (list_all is_settled piles && list_all is_settled (pile ∷ []))
-    last = rw taken (ap (λ b. list_all is_settled piles && b) (end (length (filter (is_open pile.verdicts) pile.first) == 0)))
 
 -- ---- batches that are settled
 
@@ -79,20 +75,22 @@ judged_more holds old new js j papers rejected settled was = record {
   settled_is = settled ∙ was.settled_is;
 }
 
--- of settled batches each paper of the first keyings has its judgement
-judged_alone : (columns : List ℕ) (piles : List Pile) → list_all is_settled piles ≡ true → judgements columns piles ≡ first_judgements columns piles
-judged_alone columns [] settled = refl
-judged_alone columns (pile ∷ piles) settled =
-    let parts = and_parts (is_settled pile) (list_all is_settled piles) settled in
-    let own : judgements_in columns pile ≡ judgements_on columns pile.verdicts pile.first = rw (and_parts (is_taken pile) _ parts.0).0 refl in
-    ap (λ (js : List Judgement). js ++ judgements columns piles) own ∙ ap (λ (js : List Judgement). judgements_on columns pile.verdicts pile.first ++ js) (judged_alone columns piles parts.1)
+-- of settled batches each of their papers has its judgement
+judged_alone : (s : OfficeState) (columns : List ℕ) (bs : List BatchEntry) → list_all is_settled (map (pile_of s) bs) ≡ true → judgements columns (map (pile_of s) bs) ≡ settled_judgements s columns bs
+judged_alone s columns [] settled = refl
+judged_alone s columns (b ∷ bs) settled =
+    let pile = pile_of s b in
+    let parts = and_parts (is_settled pile) (list_all is_settled (map (pile_of s) bs)) settled in
+    let own : judgements_in columns pile ≡ judgements_on columns (verdicts_of s b.number) (settled_papers s b) = ap (judgements_on columns (verdicts_of s b.number)) (taken_settled s b (and_parts (are_taken pile.keyings) _ parts.0).0) in
+    ap (λ (js : List Judgement). js ++ judgements columns (map (pile_of s) bs)) own
+    ∙ ap (λ (js : List Judgement). judgements_on columns (verdicts_of s b.number) (settled_papers s b) ++ js) (judged_alone s columns bs parts.1)
 
 -- so these are all that the papers come to
-pub settled_alone : (columns : List ℕ) (piles : List Pile) → list_all is_settled piles ≡ true → ballots_in columns piles ≡ ballots_by (first_judgements columns piles)
-settled_alone columns piles settled = go (judgements columns piles) (list_all is_settled piles) (judged_alone columns piles settled) settled
+pub settled_alone : (s : OfficeState) (columns : List ℕ) (bs : List BatchEntry) → list_all is_settled (map (pile_of s) bs) ≡ true → ballots_in columns (map (pile_of s) bs) ≡ ballots_by (settled_judgements s columns bs)
+settled_alone s columns bs settled = go (judgements columns (map (pile_of s) bs)) (list_all is_settled (map (pile_of s) bs)) (judged_alone s columns bs settled) settled
   where
     entry : List Judgement → Bool → BallotsEntry
     entry js b = record { papers = flat_map preferences_by js; rejected = map (rejected_with js) five; settled = b }
 
-    go : (js : List Judgement) (b : Bool) → js ≡ first_judgements columns piles → b ≡ true → entry js b ≡ ballots_by (first_judgements columns piles)
+    go : (js : List Judgement) (b : Bool) → js ≡ settled_judgements s columns bs → b ≡ true → entry js b ≡ ballots_by (settled_judgements s columns bs)
     go js b alone is = rw (alone, is) refl

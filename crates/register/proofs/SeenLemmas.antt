@@ -12,12 +12,12 @@ use Rattle.register.specs.declared.command.Command.{Command}
 use Rattle.register.specs.declared.command.Command.TheVariants.{Ward, Candidate, Batch, Keying as Key, Verdict, Count}
 use Rattle.register.specs.declared.wards.WardCommand.TheVariants.{Add as AddWard, Close}
 use Rattle.register.specs.declared.candidates.CandidateCommand.TheVariants.{Add as AddCandidate, Withdraw}
-use Rattle.register.specs.declared.batches.BatchCommand.TheVariants.{Add as AddBatch, Again}
+use Rattle.register.specs.declared.batches.BatchCommand.TheVariants.{Add as AddBatch, Again, Third}
 use Rattle.register.specs.declared.counts.CountCommand.TheVariants.{Seal, Advance, Lot, Declare}
 use Rattle.register.specs.declared.keyings.KeyingCommand.{KeyingCommand}
 use Rattle.register.specs.Reasons.{first_reason}
 use Rattle.register.specs.Ranges.{is_id, is_office}
-use Rattle.register.specs.Offices.{WardEntry, BatchEntry, KeyedEntry, ReceiptEntry, OfficeState, put, put_each, entry_at, keyed_cmp, receipt_cmp, ward_compared, ward_at, batch_at, keying_of, receipt_at}
+use Rattle.register.specs.Offices.{WardEntry, BatchEntry, KeyedEntry, ReceiptEntry, OfficeState, put, put_each, entry_at, keyed_cmp, receipt_cmp, ward_compared, ward_at, batch_at, third_at, keying_of, receipt_at}
 use Rattle.register.specs.Seen.{seen_by}
 use Rattle.register.specs.Items.{IsState}
 use Rattle.register.specs.Effects.{at_stage, with_change}
@@ -47,6 +47,7 @@ kind_of (Candidate (AddCandidate ward candidate name)) = not_his _ (λ part acto
 kind_of (Candidate (Withdraw ward candidate)) = not_his _ (λ part actor other. rw other refl)
 kind_of (Batch (AddBatch batch ward size first second)) = not_his _ (λ part actor other. rw other refl)
 kind_of (Batch (Again batch)) = not_his _ (λ part actor other. rw other refl)
+kind_of (Batch (Third batch clerk)) = not_his _ (λ part actor other. rw other refl)
 kind_of (Verdict command) = not_his _ (λ part actor other. rw other refl)
 kind_of (Count (Seal ward)) = not_his _ (λ part actor other. rw other refl)
 kind_of (Count (Advance ward)) = not_his _ (λ part actor other. rw other refl)
@@ -209,7 +210,7 @@ pub work_seen : (s : OfficeState) (clerk : ℕ) → work_of (seen_by clerk s) cl
 work_seen s clerk = go s.batches
   where
     is_seen : (b : BatchEntry) → is_work (seen_by clerk s) clerk b ≡ is_work s clerk b
-    is_seen b = ap (λ (phased : Bool). is_its_clerk clerk b && phased) (ap (is_in_phase Keying) (ward_seen s clerk b.ward) ∙ in_keying_seen (ward_at s b.ward))
+    is_seen b = ap (λ (phased : Bool). is_its_clerk clerk b (third_at s b.number) && phased) (ap (is_in_phase Keying) (ward_seen s clerk b.ward) ∙ in_keying_seen (ward_at s b.ward))
 
     on_seen : (b : BatchEntry) → work_on (seen_by clerk s) clerk b ≡ work_on s clerk b
     on_seen b = ap (λ (own : List KeyedEntry). record (work_on s clerk b) { keyed = is_keyed own }) (own_seen s clerk b.number b.round)

@@ -59,6 +59,19 @@ same_tabulation s t bundles figures = ap (λ (bs : List PlacedEntry). made bs (t
     made : List PlacedEntry → List FigureEntry → TabulationEntries
     made bs fs = record { bundles = bs; figures = fs }
 
+-- of elections that are alike the same is told
+told_alike : {X : Type 0} (told : ElectionEntry → List X) (s t : OfficeState) → ((w : WardEntry) → election_of t w ≡ election_of s w) → (ws : List WardEntry)
+    → flat_map (λ (w : WardEntry). told (election_of t w)) ws ≡ flat_map (λ (w : WardEntry). told (election_of s w)) ws
+told_alike told s t alike [] = refl
+told_alike told s t alike (w ∷ ws) =
+    ap (λ (e : ElectionEntry). told e ++ flat_map (λ (w : WardEntry). told (election_of t w)) ws) (alike w) ∙ ap (λ (xs : _). told (election_of s w) ++ xs) (told_alike told s t alike ws)
+
+pub tabulation_alike : (s t : OfficeState) → t.wards ≡ s.wards → ((w : WardEntry) → election_of t w ≡ election_of s w) → tabulation_of t ≡ tabulation_of s
+tabulation_alike s t wards alike = same_tabulation s t (whole bundles_in) (whole figures_in)
+  where
+    whole : {X : Type 0} (told : ElectionEntry → List X) → told_by told t ≡ told_by told s
+    whole told = ap (flat_map (λ (w : WardEntry). told (election_of t w))) wards ∙ told_alike told s t alike s.wards
+
 module _ {X : Type 0} (told : ElectionEntry → List X) (of : IsOfCount told) (s : OfficeState) where
   -- a ward more, in which no stage is done
   told_added : (w : WardEntry) → w.done ≡ 0 → told_by told (with_effect (ward_added w) s) ≡ told_by told s

@@ -7,7 +7,7 @@ use Rattle.std.specs.List.Sorted.{IsStrictlySortedBy}
 use Rattle.std.specs.declared.cmp.Ordering.TheVariants.{Less}
 use Rattle.std.specs.Ordering.{nat_cmp, is_eq}
 use Rattle.std.specs.Cmp.{unsigned_tied}
-use Rattle.std.proofs.lemmas.Bool.{and_parts, and_from, eqb-true, eq-eqb, ne_eqb, leb-true, le-leb}
+use Rattle.std.proofs.lemmas.Bool.{and_parts, and_from, both_ways, eqb-true, eq-eqb, ne_eqb, leb-true, le-leb}
 use Rattle.std.proofs.lemmas.Cmp.{ranked}
 use Rattle.std.proofs.lemmas.List.Folds.{list_all-append}
 use Rattle.std.proofs.lemmas.List.Sums.{sum_by-cons}
@@ -21,17 +21,17 @@ use Rattle.paper.specs.declared.marks.MarkFault.TheVariants.{FieldCount}
 use Rattle.register.specs.declared.polls.Judgement.{Judgement}
 use Rattle.register.specs.declared.polls.Judgement.TheVariants.{Valid, Rejected, Open}
 use Rattle.register.specs.Ranges.{is_between}
-use Rattle.register.specs.Offices.{WardEntry, BatchEntry, KeyedEntry, JudgedEntry, OfficeState, batch_cmp, batch_compared, batch_at, candidates_of, verdicts_of}
+use Rattle.register.specs.Offices.{WardEntry, BatchEntry, KeyedEntry, JudgedEntry, OfficeState, batch_cmp, batch_compared, batch_at, candidates_of, third_at, keying_of, verdicts_of}
 use Rattle.register.specs.Marks.{columns_of, is_read, is_readable, is_judged_valid, is_valid}
 use Rattle.register.specs.Verdicts.{is_rejection_code}
-use Rattle.register.specs.Papers.{is_keyed, is_doubtful, has_verdict, is_open, is_its_clerk, has_doubtful, first_keying, batches_of}
-use Rattle.register.specs.Papers as papers
-use Rattle.register.specs.Keyed.{columns_for, is_keyed_for, is_whole, are_rounds_to, is_verdict_on, is_verdict_for, is_judged}
+use Rattle.register.specs.Papers.{is_keyed, is_doubtful, has_verdict, is_open, is_its_clerk, has_doubtful, are_taken, clerks_of, keyings_now, taken_papers, batches_of}
+use Rattle.register.specs.Keyed.{columns_for, is_keyed_for, is_whole, are_rounds_to, is_verdict_on, is_judged}
 use Rattle.register.specs.Items.{is_batch, IsState}
-use Rattle.register.specs.Polls.{Pile, pile_of, piles_of, is_taken, is_settled, by_rejection, by_reading, by_verdict, judgement_on, judgements_on, judgements_in, judgements, preferences_by, is_rejected, rejected_with, all_rejected}
+use Rattle.register.specs.Polls.{Pile, pile_of, piles_of, is_settled, by_rejection, by_reading, by_verdict, judgement_on, judgements_on, judgements_in, judgements, preferences_by, is_rejected, rejected_with, all_rejected}
 use Rattle.register.specs.Elections.{election_of}
 use Rattle.register.proofs.ItemLemmas.{batch_map, maps_of}
-use Rattle.register.proofs.MapLemmas.{list_all_weaker}
+use Rattle.register.proofs.MapLemmas.{kept_all}
+use Rattle.register.proofs.AgreedLemmas.{agreed_passes}
 use Rattle.register.proofs.ContestLemmas.{round_now, length_map}
 
 -- ---- judgements
@@ -149,9 +149,9 @@ by_found columns keying paper (v ∷ vs) all has = go (v.paper == paper) has (by
 
 -- what a batch's papers and verdicts have to be
 record Counts (s : OfficeState) (columns : List ℕ) (b : BatchEntry) : Type 0 where
-  whole : is_whole b.size (first_keying s b) ≡ true
-  readable : list_all (λ k. is_readable columns k.marks) (first_keying s b) ≡ true
-  judged : list_all (is_verdict_on columns (first_keying s b)) (verdicts_of s b.number) ≡ true
+  whole : list_all (is_whole b.size) (keyings_now s b) ≡ true
+  readable : list_all (λ k. is_readable columns k.marks) (taken_papers s b) ≡ true
+  judged : list_all (is_verdict_on columns (taken_papers s b)) (verdicts_of s b.number) ≡ true
 
 each_decided : (columns : List ℕ) (keying : List KeyedEntry) (vs : List JudgedEntry) (ks : List KeyedEntry) → list_all (is_verdict_on columns keying) vs ≡ true → list_all (λ k. is_readable columns k.marks) ks ≡ true
     → filter (is_open vs) ks ≡ [] → list_all is_decided (judgements_on columns vs ks) ≡ true
@@ -187,23 +187,14 @@ record AllJudged (columns : List ℕ) (size : ℕ) (pile : Pile) : Type 0 where
 
 batch_judged : (s : OfficeState) (columns : List ℕ) (b : BatchEntry) → Counts s columns b → is_settled (pile_of s b) ≡ true → AllJudged columns b.size (pile_of s b)
 batch_judged s columns b is settled =
+    let papers = taken_papers s b in
+    let verdicts = verdicts_of s b.number in
+    let parts = and_parts (are_taken (keyings_now s b)) (length (filter (is_open verdicts) papers) == 0) settled in
+    let whole = agreed_passes (is_whole b.size) (keyings_now s b) is.whole (λ untaken. absurd (both_ways (are_taken (keyings_now s b)) untaken parts.0)) in
     record {
-      decided = ap (list_all is_decided) own ∙ each_decided columns pile.first pile.verdicts pile.first is.judged is.readable (no_length (filter (is_open pile.verdicts) pile.first) parts.1);
-      each = ap length own ∙ (length_map (judgement_on columns pile.verdicts) pile.first ∙ counted_whole pile.first (and_parts (is_keyed pile.first) _ parts.0).0 is.whole);
+      decided = each_decided columns papers verdicts papers is.judged is.readable (no_length (filter (is_open verdicts) papers) parts.1);
+      each = length_map (judgement_on columns verdicts) papers ∙ eqb-true (length papers) b.size (and_parts (length papers == b.size) _ whole).0;
     }
-  where
-    pile : Pile
-    pile = pile_of s b
-
-    parts : (is_taken pile ≡ true) × ((length (filter (is_open pile.verdicts) pile.first) == 0) ≡ true)
-    parts = and_parts (is_taken pile) (length (filter (is_open pile.verdicts) pile.first) == 0) settled
-
-    own : judgements_in columns pile ≡ judgements_on columns pile.verdicts pile.first
-    own = rw parts.0 refl
-
-    counted_whole : (ks : List KeyedEntry) → is_keyed ks ≡ true → is_whole b.size ks ≡ true → length ks ≡ b.size
-    counted_whole [] keyed whole = absurd (cc)
-    counted_whole (k ∷ ks) keyed whole = eqb-true (length (k ∷ ks)) b.size (and_parts (length (k ∷ ks) == b.size) _ whole).0
 
 -- and so have all batches that are
 all_judged : (s : OfficeState) (columns : List ℕ) (bs : List BatchEntry) → AllByRecursion (Counts s columns) bs → list_all is_settled (map (pile_of s) bs) ≡ true
@@ -233,11 +224,11 @@ found_each (b ∷ bs) up = (rw (unsigned_tied b.number b.number ∙ eq-eqb b.num
         let other : is_eq (nat_cmp c.number b.number) ≡ false = unsigned_tied c.number b.number ∙ ne_eqb c.number b.number (λ same. omega (arith, rank, same)) in
         (rw other found.0, behind cs less.1 found.1)
 
--- the marks of a batch's first keying are read
-all_readable : (s : OfficeState) (b : BatchEntry) (ks : List KeyedEntry) → batch_at s b.number ≡ Some b → list_all (λ k. is_keyed_for s k (batch_at s k.batch)) ks ≡ true
-    → list_all (λ k. is_readable (columns_for s b) k.marks) (filter (λ (k : KeyedEntry). (k.batch == b.number) && ((k.round == b.round) && (k.clerk == b.first_clerk))) ks) ≡ true
-all_readable s b [] there keyed = refl
-all_readable s b (k ∷ ks) there keyed = go ((k.batch == b.number) && ((k.round == b.round) && (k.clerk == b.first_clerk))) refl (all_readable s b ks there parts.1)
+-- the marks of a clerk's keying of a batch are read
+all_readable : (s : OfficeState) (b : BatchEntry) (clerk : ℕ) (ks : List KeyedEntry) → batch_at s b.number ≡ Some b → list_all (λ k. is_keyed_for s k (batch_at s k.batch)) ks ≡ true
+    → list_all (λ k. is_readable (columns_for s b) k.marks) (filter (λ (k : KeyedEntry). (k.batch == b.number) && ((k.round == b.round) && (k.clerk == clerk))) ks) ≡ true
+all_readable s b clerk [] there keyed = refl
+all_readable s b clerk (k ∷ ks) there keyed = go ((k.batch == b.number) && ((k.round == b.round) && (k.clerk == clerk))) refl (all_readable s b clerk ks there parts.1)
   where
     parts : (is_keyed_for s k (batch_at s k.batch) ≡ true) × (list_all (λ k. is_keyed_for s k (batch_at s k.batch)) ks ≡ true)
     parts = and_parts (is_keyed_for s k (batch_at s k.batch)) (list_all (λ k. is_keyed_for s k (batch_at s k.batch)) ks) keyed
@@ -246,25 +237,32 @@ all_readable s b (k ∷ ks) there keyed = go ((k.batch == b.number) && ((k.round
     here same =
         let found : batch_at s k.batch ≡ Some b = ap (batch_at s) (eqb-true k.batch b.number same) ∙ there in
         let own : is_keyed_for s k (Some b) ≡ true = ap (is_keyed_for s k) (sym found) ∙ parts.0 in
-        (and_parts (is_its_clerk k.clerk b) _ (and_parts (nat_le k.round b.round) _ own).1).1
+        (and_parts (is_its_clerk k.clerk b (third_at s b.number)) _ (and_parts (nat_le k.round b.round) _ own).1).1
 
     rest : List KeyedEntry
-    rest = filter (λ (k : KeyedEntry). (k.batch == b.number) && ((k.round == b.round) && (k.clerk == b.first_clerk))) ks
+    rest = filter (λ (k : KeyedEntry). (k.batch == b.number) && ((k.round == b.round) && (k.clerk == clerk))) ks
 
-    go : (c : Bool) → ((k.batch == b.number) && ((k.round == b.round) && (k.clerk == b.first_clerk))) ≡ c → list_all (λ k. is_readable (columns_for s b) k.marks) rest ≡ true
+    go : (c : Bool) → ((k.batch == b.number) && ((k.round == b.round) && (k.clerk == clerk))) ≡ c → list_all (λ k. is_readable (columns_for s b) k.marks) rest ≡ true
         → list_all (λ k. is_readable (columns_for s b) k.marks) (cond c (k ∷ rest) rest) ≡ true
     go true is later = and_from _ _ (here (and_parts (k.batch == b.number) _ is).0) later
     go false is later = later
 
-all_verdicts : (s : OfficeState) (b : BatchEntry) (vs : List JudgedEntry) → is_judged s b vs ≡ true → list_all (is_verdict_on (columns_for s b) (first_keying s b)) vs ≡ true
-all_verdicts s b vs judged =
-    list_all_weaker (is_verdict_for s b) (is_verdict_on (columns_for s b) (first_keying s b)) vs (λ v each. (and_parts (papers.is_taken s b) (is_verdict_on (columns_for s b) (first_keying s b) v) each).1) judged
+-- so are those of the papers that it is taken with
+taken_readable : (s : OfficeState) (b : BatchEntry) → batch_at s b.number ≡ Some b → list_all (λ k. is_keyed_for s k (batch_at s k.batch)) s.keyings ≡ true → list_all (λ k. is_readable (columns_for s b) k.marks) (taken_papers s b) ≡ true
+taken_readable s b there keyed = agreed_passes reads (keyings_now s b) (kept_all reads is_keyed (map (keying_of s b.number b.round) (clerks_of s b)) (each (clerks_of s b))) (λ untaken. refl)
+  where
+    reads : List KeyedEntry → Bool
+    reads ks = list_all (λ k. is_readable (columns_for s b) k.marks) ks
+
+    each : (clerks : List ℕ) → list_all reads (map (keying_of s b.number b.round) clerks) ≡ true
+    each [] = refl
+    each (clerk ∷ clerks) = and_from _ _ (all_readable s b clerk s.keyings there keyed) (each clerks)
 
 batch_counts : (s : OfficeState) → IsState s → (b : BatchEntry) → batch_at s b.number ≡ Some b → is_batch b ≡ true → are_rounds_to s b b.round ≡ true → is_judged s b (verdicts_of s b.number) ≡ true → Counts s (columns_for s b) b
 batch_counts s is b there fine rounds judged = record {
-  whole = (and_parts (is_whole b.size (first_keying s b)) _ (round_now s b fine rounds)).0;
-  readable = all_readable s b s.keyings there (and_parts (list_all (λ k. is_keyed_for s k (batch_at s k.batch)) s.keyings) _ is.keyed).0;
-  judged = all_verdicts s b (verdicts_of s b.number) judged;
+  whole = (and_parts (list_all (is_whole b.size) (keyings_now s b)) _ (round_now s b fine rounds)).0;
+  readable = taken_readable s b there (and_parts (list_all (λ k. is_keyed_for s k (batch_at s k.batch)) s.keyings) _ is.keyed).0;
+  judged = judged;
 }
 
 ward_counts : (s : OfficeState) → IsState s → (ward : ℕ) (bs : List BatchEntry) → AllByRecursion (λ b. batch_at s b.number ≡ Some b) bs → list_all is_batch bs ≡ true → list_all (λ b. are_rounds_to s b b.round) bs ≡ true

@@ -8,7 +8,7 @@ use Rattle.std.specs.Ordering.{is_lt}
 use Rattle.std.proofs.lemmas.Bool.{and_parts, and_from, or_right, le-leb}
 use Rattle.std.proofs.lemmas.Str.{IsUtf8-nil, IsUtf8-string_bytes, is_utf8-from_IsUtf8}
 use Rattle.register.specs.declared.phase.Phase.TheVariants.{Keying}
-use Rattle.register.specs.declared.refusal.Reason.TheVariants.{NumberOutOfRange, NoSuchBatch, WrongPhase, NotTaken, NotDoubtful, AlreadyJudged, BadVerdict}
+use Rattle.register.specs.declared.refusal.Reason.TheVariants.{NumberOutOfRange, NoSuchBatch, WrongPhase, NotDoubtful, AlreadyJudged, BadVerdict}
 use Rattle.register.specs.declared.verdicts.Verdict.{Verdict}
 use Rattle.register.specs.declared.verdicts.Verdict.TheVariants.{Accept, Reject}
 use Rattle.register.specs.declared.verdicts.VerdictCommand.{VerdictCommand}
@@ -19,16 +19,16 @@ use Rattle.register.specs.Offices.{WardEntry, BatchEntry, KeyedEntry, JudgedEntr
 use Rattle.register.specs.Polls.{Pile, pile_of}
 use Rattle.register.specs.Elections.{election_of, is_counted}
 use Rattle.register.specs.Marks.{columns_of, is_valid}
-use Rattle.register.specs.Papers.{are_taken, has_doubtful, is_taken, first_keying, second_keying}
-use Rattle.register.specs.Keyed.{columns_for, is_verdict_on, is_verdict_for, is_judged}
+use Rattle.register.specs.Papers.{agreed, has_doubtful, keyings_now, taken_papers}
+use Rattle.register.specs.Keyed.{columns_for, is_verdict_for, is_judged}
 use Rattle.register.specs.Items.{is_judged_paper, IsState}
 use Rattle.register.specs.Effects.{paper_judged, with_effect}
 use Rattle.register.specs.Tabulated.{tabulation_of}
-use Rattle.register.specs.Batches.{ward_for, candidates_for, first_for, second_for}
+use Rattle.register.specs.Batches.{ward_for, candidates_for, keyings_for}
 use Rattle.register.specs.Verdicts.{part_of, is_in_range, is_verdict, objections, subject_of, verdict_word, reply_to, judged_as, effect_of}
 use Rattle.register.proofs.LineLemmas.{lower, upper, are_plain-decimals, IsLine, words, line_append, line_number, line_reply, line_text}
 use Rattle.register.proofs.ObjectionLemmas.{none_objects, asked, absent, present, there}
-use Rattle.register.proofs.MapLemmas.{list_all_weaker, put_all, put_is_map, filter_put, found_passes, all_but_number}
+use Rattle.register.proofs.MapLemmas.{put_all, put_is_map, filter_put, found_passes, all_but_number}
 use Rattle.register.proofs.ElectionLemmas.{lots_placed_of, same_election}
 use Rattle.register.proofs.ElsewhereLemmas.{sound_elsewhere, batches_elsewhere, piles_elsewhere}
 use Rattle.register.proofs.TabulationLemmas.{tabulation_elsewhere}
@@ -47,19 +47,12 @@ put_kept {X} cmp p q x (y ∷ ys) good all = elim (is_lt (cmp x y)) as (λ b. li
     go true later each = and_from _ _ (and_parts _ _ each).0 (later (and_parts _ _ each).1)
     go false later each = later each
 
--- verdicts on doubtful papers of a taken batch
-judged_from : (s : OfficeState) (b : BatchEntry) (vs : List JudgedEntry) → is_taken s b ≡ true → list_all (is_verdict_on (columns_for s b) (first_keying s b)) vs ≡ true → is_judged s b vs ≡ true
-judged_from s b vs taken all = list_all_weaker (is_verdict_on (columns_for s b) (first_keying s b)) (is_verdict_for s b) vs (λ v each. and_from _ _ taken each) all
-
-all_judged : (s : OfficeState) (b : BatchEntry) (vs : List JudgedEntry) → is_judged s b vs ≡ true → list_all (is_verdict_on (columns_for s b) (first_keying s b)) vs ≡ true
-all_judged s b vs judged = list_all_weaker (is_verdict_for s b) (is_verdict_on (columns_for s b) (first_keying s b)) vs (λ v each. (and_parts _ _ each).1) judged
-
 -- the pile of each other batch is as it was,
 other_pile : (s : OfficeState) (v : JudgedEntry) (x : BatchEntry) → (v.batch == x.number) ≡ false → pile_of (with_effect (paper_judged v) s) x ≡ pile_of s x
-other_pile s v x other = ap (λ (vs : List JudgedEntry). pile_with (first_keying s x) (second_keying s x) vs) (filter_put judged_cmp (λ (y : JudgedEntry). y.batch == x.number) v s.verdicts other)
+other_pile s v x other = ap (λ (vs : List JudgedEntry). pile_with (keyings_now s x) vs) (filter_put judged_cmp (λ (y : JudgedEntry). y.batch == x.number) v s.verdicts other)
   where
-    pile_with : List KeyedEntry → List KeyedEntry → List JudgedEntry → Pile
-    pile_with first second verdicts = record { first = first; second = second; verdicts = verdicts }
+    pile_with : List (List KeyedEntry) → List JudgedEntry → Pile
+    pile_with keyings verdicts = record { keyings = keyings; verdicts = verdicts }
 
 -- so the elections of other wards are,
 judged_elsewhere : (s : OfficeState) (v : JudgedEntry) (b : BatchEntry) → IsState s → batch_at s v.batch ≡ Some b → (x : WardEntry) → (b.ward == x.number) ≡ false → election_of (with_effect (paper_judged v) s) x ≡ election_of s x
@@ -71,10 +64,10 @@ judged_tabulated : (s : OfficeState) (v : JudgedEntry) (b : BatchEntry) (w : War
     → tabulation_of (with_effect (paper_judged v) s) ≡ tabulation_of s
 judged_tabulated s v b w is found its_ward open_ = tabulation_elsewhere s b.ward w s.candidates s.batches s.keyings (put judged_cmp v s.verdicts) its_ward open_ (judged_elsewhere s v b is found) is
 
--- a verdict in range on a doubtful paper of a taken batch, which has none
-judged_stays : (s : OfficeState) (v : JudgedEntry) (b : BatchEntry) → is_judged_paper v ≡ true → batch_at s v.batch ≡ Some b → is_taken s b ≡ true → is_verdict_on (columns_for s b) (first_keying s b) v ≡ true
+-- a verdict in range on a doubtful paper of those that a batch is taken with, which has none
+judged_stays : (s : OfficeState) (v : JudgedEntry) (b : BatchEntry) → is_judged_paper v ≡ true → batch_at s v.batch ≡ Some b → is_verdict_for s b v ≡ true
     → verdict_at s v.batch v.paper ≡ None → (w : WardEntry) → ward_at s b.ward ≡ Some w → is_counted w.phase ≡ false → IsState s → IsState (with_effect (paper_judged v) s)
-judged_stays s v b good found taken on new w its_ward open_ is =
+judged_stays s v b good found on new w its_ward open_ is =
     let keyed = and_parts _ _ is.keyed in
     let judged = and_parts _ _ is.judged in
     let belongs : is_some (batch_at s v.batch) ≡ true = rw found refl in
@@ -96,13 +89,7 @@ judged_stays s v b good found taken on new w its_ward open_ is =
   where
     here : list_all (λ x. is_judged s x (verdicts_of s x.number)) s.batches ≡ true → v.batch ≡ b.number → is_judged s b (verdicts_of (with_effect (paper_judged v) s) b.number) ≡ true
     here all same =
-        let own = all_judged s b (verdicts_of s b.number) (found_passes (batch_compared v.batch) (λ x. is_judged s x (verdicts_of s x.number)) b s.batches all found) in
-        judged_from
-        s
-        b
-        (verdicts_of (with_effect (paper_judged v) s) b.number)
-        taken
-        (put_kept judged_cmp (is_verdict_on (columns_for s b) (first_keying s b)) (λ (x : JudgedEntry). x.batch == b.number) v s.verdicts on own)
+        put_kept judged_cmp (is_verdict_for s b) (λ (x : JudgedEntry). x.batch == b.number) v s.verdicts on (found_passes (batch_compared v.batch) (λ x. is_judged s x (verdicts_of s x.number)) b s.batches all found)
 
     there : (x : BatchEntry) → (v.batch == x.number) ≡ false → is_judged s x (verdicts_of s x.number) ≡ true → is_judged s x (verdicts_of (with_effect (paper_judged v) s) x.number) ≡ true
     there x other judged = ap (is_judged s x) (filter_put judged_cmp (λ (y : JudgedEntry). y.batch == x.number) v s.verdicts other) ∙ judged
@@ -114,13 +101,13 @@ judged_stays s v b good found taken on new w its_ward open_ is =
 -- ---- the command
 
 -- a verdict as it is kept leads to a state
-verdict_stays : (s : OfficeState) (batch paper : ℕ) (verdict : Verdict) (b : BatchEntry) → is_batch_number batch ≡ true → is_paper_number paper ≡ true → batch_at s batch ≡ Some b → is_taken s b ≡ true
-    → has_doubtful (first_keying s b) paper ≡ true → is_verdict (columns_for s b) verdict ≡ true → verdict_at s batch paper ≡ None → (w : WardEntry) → ward_at s b.ward ≡ Some w → is_counted w.phase ≡ false → IsState s → IsState (with_effect (paper_judged (judged_as batch paper verdict)) s)
+verdict_stays : (s : OfficeState) (batch paper : ℕ) (verdict : Verdict) (b : BatchEntry) → is_batch_number batch ≡ true → is_paper_number paper ≡ true → batch_at s batch ≡ Some b
+    → has_doubtful (taken_papers s b) paper ≡ true → is_verdict (columns_for s b) verdict ≡ true → verdict_at s batch paper ≡ None → (w : WardEntry) → ward_at s b.ward ≡ Some w → is_counted w.phase ≡ false → IsState s → IsState (with_effect (paper_judged (judged_as batch paper verdict)) s)
 unfolding is_judged_paper
-verdict_stays s batch paper (Accept marks) b number numbered found taken doubtful valid new w its_ward open_ is =
+verdict_stays s batch paper (Accept marks) b number numbered found doubtful valid new w its_ward open_ is =
     let text = is_utf8-from_IsUtf8 (string_bytes marks) (IsUtf8-string_bytes marks) in
-    judged_stays s _ b (and_from _ _ number (and_from _ _ numbered text)) found taken (and_from _ _ doubtful (rw valid refl)) new w its_ward open_ is
-verdict_stays s batch paper (Reject code) b number numbered found taken doubtful good new w its_ward open_ is =
+    judged_stays s _ b (and_from _ _ number (and_from _ _ numbered text)) found (and_from _ _ doubtful (rw valid refl)) new w its_ward open_ is
+verdict_stays s batch paper (Reject code) b number numbered found doubtful good new w its_ward open_ is =
     let low = upper 3 5 code good in
     judged_stays
     s
@@ -128,7 +115,6 @@ verdict_stays s batch paper (Reject code) b number numbered found taken doubtful
     b
     (and_from _ _ number (and_from _ _ numbered (and_from _ _ (le-leb code 5 low) (is_utf8-from_IsUtf8 [] IsUtf8-nil))))
     found
-    taken
     (and_from _ _ doubtful (or_right ((code == 0) && is_valid (columns_for s b) []) _ (and_from _ _ good refl)))
     new
     w
@@ -167,9 +153,8 @@ verdict_fits s actor command is none =
     let others = (((each.1).1).1).1 in
     let its = there Keying (ward_for s (batch_at s command.batch)) WrongPhase ((each.1).1).0 in
     let its_ward : ward_at s b.ward ≡ Some its.ward = ap (ward_for s) (sym found.is) ∙ its.is in
-    let taken : is_taken s b ≡ true = ap (λ (o : Option BatchEntry). are_taken (first_for s o) (second_for s o)) (sym found.is) ∙ asked (are_taken part.first part.second) NotTaken others.0 in
-    let doubtful : has_doubtful (first_keying s b) command.paper ≡ true =
-    ap (λ (o : Option BatchEntry). has_doubtful (first_for s o) command.paper) (sym found.is) ∙ asked (has_doubtful part.first command.paper) NotDoubtful (others.1).0
+    let doubtful : has_doubtful (taken_papers s b) command.paper ≡ true =
+    ap (λ (o : Option BatchEntry). has_doubtful (agreed (keyings_for s o)) command.paper) (sym found.is) ∙ asked (has_doubtful (agreed part.keyings) command.paper) NotDoubtful (others.1).0
     in
     let new = absent part.verdict AlreadyJudged ((others.1).1).0 in
     let valid : is_verdict (columns_for s b) command.verdict ≡ true =
@@ -178,7 +163,7 @@ verdict_fits s actor command is none =
     let digits = line_number last_batch command.batch (omega arith) numbers.0 in
     let papers = line_number most_papers command.paper (omega arith) numbers.1 in
     record {
-      state = verdict_stays s command.batch command.paper command.verdict b numbers.0 numbers.1 found.is taken doubtful valid new its.ward its_ward (rw its.phased refl) is;
+      state = verdict_stays s command.batch command.paper command.verdict b numbers.0 numbers.1 found.is doubtful valid new its.ward its_ward (rw its.phased refl) is;
       tabulated = verdict_tabulated s command.batch command.paper command.verdict b its.ward is found.is its_ward (rw its.phased refl);
       about = office_about actor _ range.0 (judge_about command.batch command.paper numbers.0 numbers.1);
       text = line_text (line_append (words (codes "judge ") (search rules) refl) (line_append digits (line_append (words (codes " ") (search rules) refl) papers)));

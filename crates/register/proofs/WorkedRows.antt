@@ -14,7 +14,7 @@ use Rattle.register.specs.Keyings as keyings
 use Rattle.register.specs.Verdicts as verdicts
 use Rattle.register.specs.Counts as counts
 use Rattle.register.specs.Machine.{step, decided}
-use Rattle.register.specs.WorkedOffice.{WardRows, NominationRows, KeyedRows, UncontestedRows}
+use Rattle.register.specs.WorkedOffice.{WardRows, NominationRows, KeyedRows, ThirdRows, UncontestedRows}
 
 -- ---- names
 
@@ -88,6 +88,24 @@ keyed_rows =
       differs = refl;
       not_ready = refl;
       open_again = refl;
+    }
+
+pub third_rows : ThirdRows
+unfolding step decided is_id keyings.subject_of keyings.reply_to keyings.papers_from first_bad_marks batches.subject_of batches.reply_to same_marks digits
+third_rows =
+    record {
+      not_his_yet = λ papers. refl;
+      one_of_two = refl;
+      not_where_they_agree = refl;
+      not_before_both = refl;
+      set = refl;
+      set_already = refl;
+      keyed_by_him = λ papers are. simp are refl;
+      taken = refl;
+      papers = refl;
+      taken_otherwise = refl;
+      none_agree = refl;
+      no_difference = refl;
     }
 
 pub uncontested_rows : UncontestedRows

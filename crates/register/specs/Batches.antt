@@ -3,14 +3,14 @@ use Rattle.std.specs.Prelude.{ℕ, ◌+◌, Bool, not, ◌&&◌, ◌==◌, nat_l
 use Rattle.std.specs.Fmt.{decimal}
 use Rattle.register.specs.declared.phase.Phase.TheVariants.{Keying}
 use Rattle.register.specs.declared.refusal.Reason.{Reason}
-use Rattle.register.specs.declared.refusal.Reason.TheVariants.{NumberOutOfRange, NoSuchWard, BatchExists, WrongPhase, SameClerk, NoDifference}
+use Rattle.register.specs.declared.refusal.Reason.TheVariants.{NumberOutOfRange, NoSuchWard, BatchExists, WrongPhase, SameClerk, NoDifference, ThirdSet}
 use Rattle.register.specs.declared.batches.BatchCommand.{BatchCommand}
-use Rattle.register.specs.declared.batches.BatchCommand.TheVariants.{Add, Again}
+use Rattle.register.specs.declared.batches.BatchCommand.TheVariants.{Add, Again, Third}
 use Rattle.register.specs.Reasons.{objection}
 use Rattle.register.specs.Ranges.{last_round, is_office, is_clerk, is_ward_number, is_batch_number, is_paper_number}
-use Rattle.register.specs.Offices.{WardEntry, CandidateEntry, BatchEntry, KeyedEntry, OfficeState, ward_at, candidates_of, batch_at}
-use Rattle.register.specs.Papers.{first_keying, second_keying, differ}
-use Rattle.register.specs.Effects.{EffectEntry, batch_added, batch_reopened}
+use Rattle.register.specs.Offices.{WardEntry, CandidateEntry, BatchEntry, ThirdEntry, KeyedEntry, OfficeState, ward_at, candidates_of, batch_at, third_at}
+use Rattle.register.specs.Papers.{is_its_clerk, keyings_now, differ}
+use Rattle.register.specs.Effects.{EffectEntry, batch_added, batch_reopened, third_set}
 use Rattle.register.specs.Parts.{PartEntries, empty_part, is_in_phase, batch_objections, passes}
 
 -- ---- what the state has for a batch that may be there
@@ -23,13 +23,13 @@ abbrev pub candidates_for : OfficeState → Option BatchEntry → List Candidate
 candidates_for s None = []
 candidates_for s (Some b) = candidates_of s b.ward
 
-abbrev pub first_for : OfficeState → Option BatchEntry → List KeyedEntry
-first_for s None = []
-first_for s (Some b) = first_keying s b
+abbrev pub third_for : OfficeState → Option BatchEntry → Option ThirdEntry
+third_for s None = None
+third_for s (Some b) = third_at s b.number
 
-abbrev pub second_for : OfficeState → Option BatchEntry → List KeyedEntry
-second_for s None = []
-second_for s (Some b) = second_keying s b
+abbrev pub keyings_for : OfficeState → Option BatchEntry → List (List KeyedEntry)
+keyings_for s None = []
+keyings_for s (Some b) = keyings_now s b
 
 -- ---- the commands
 
@@ -37,7 +37,9 @@ second_for s (Some b) = second_keying s b
 abbrev pub part_of : OfficeState → ℕ → BatchCommand → PartEntries
 part_of s actor (Add batch ward size first_clerk second_clerk) = record empty_part { ward = ward_at s ward; batch = batch_at s batch }
 part_of s actor (Again batch) =
-    record empty_part { ward = ward_for s (batch_at s batch); batch = batch_at s batch; first = first_for s (batch_at s batch); second = second_for s (batch_at s batch) }
+    record empty_part { ward = ward_for s (batch_at s batch); batch = batch_at s batch; keyings = keyings_for s (batch_at s batch) }
+part_of s actor (Third batch clerk) =
+    record empty_part { ward = ward_for s (batch_at s batch); batch = batch_at s batch; third = third_for s (batch_at s batch); keyings = keyings_for s (batch_at s batch) }
 
 -- the batch is in the last round
 abbrev pub is_in_last_round : BatchEntry → Bool
@@ -48,6 +50,12 @@ abbrev pub is_in_range : ℕ → BatchCommand → PartEntries → Bool
 is_in_range actor (Add batch ward size first_clerk second_clerk) part =
     is_office actor && (is_batch_number batch && (is_ward_number ward && (is_paper_number size && (is_clerk first_clerk && is_clerk second_clerk))))
 is_in_range actor (Again batch) part = is_office actor && (is_batch_number batch && not (passes is_in_last_round part.batch))
+is_in_range actor (Third batch clerk) part = is_office actor && (is_batch_number batch && is_clerk clerk)
+
+-- what stands against a third clerk, whose numbers are in range
+abbrev pub third_objections : ℕ → PartEntries → List (Option Reason)
+third_objections clerk part =
+    batch_objections part ++ (objection (passes (λ b. is_its_clerk clerk b part.third) part.batch) SameClerk ∷ objection (not (differ part.keyings)) NoDifference ∷ objection (is_some part.third) ThirdSet ∷ [])
 
 -- what stands against each, in the order of the reasons' numbers
 abbrev pub objections : ℕ → BatchCommand → PartEntries → List (Option Reason)
@@ -59,7 +67,8 @@ objections actor (Add batch ward size first_clerk second_clerk) part =
     ∷ objection (first_clerk == second_clerk) SameClerk
     ∷ []
 objections actor (Again batch) part =
-    objection (not (is_in_range actor (Again batch) part)) NumberOutOfRange ∷ batch_objections part ++ (objection (not (differ part.first part.second)) NoDifference ∷ [])
+    objection (not (is_in_range actor (Again batch) part)) NumberOutOfRange ∷ batch_objections part ++ (objection (not (differ part.keyings)) NoDifference ∷ [])
+objections actor (Third batch clerk) part = objection (not (is_in_range actor (Third batch clerk) part)) NumberOutOfRange ∷ third_objections clerk part
 
 -- the round after the current one, at most the last
 abbrev pub next_round : Option BatchEntry → ℕ
@@ -70,14 +79,17 @@ next_round (Some b) = if is_in_last_round b then b.round else b.round + 1
 unfoldable pub subject_of : BatchCommand → List ℕ
 subject_of (Add batch ward size first_clerk second_clerk) = codes "batch " ++ decimal batch
 subject_of (Again batch) = codes "again " ++ decimal batch
+subject_of (Third batch clerk) = codes "third " ++ decimal batch
 
 -- what is replied where it is accepted
 unfoldable pub reply_to : BatchCommand → PartEntries → List ℕ
 reply_to (Add batch ward size first_clerk second_clerk) part = codes "batch " ++ (decimal batch ++ codes " added")
 reply_to (Again batch) part = codes "batch " ++ (decimal batch ++ (codes " round " ++ (decimal (next_round part.batch) ++ codes " open")))
+reply_to (Third batch clerk) part = codes "batch " ++ (decimal batch ++ (codes " third clerk " ++ decimal clerk))
 
 -- what it does where it is accepted: a new batch is in its first round
 abbrev pub effect_of : BatchCommand → PartEntries → EffectEntry
 effect_of (Add batch ward size first_clerk second_clerk) part =
     batch_added (record { number = batch; ward = ward; size = size; first_clerk = first_clerk; second_clerk = second_clerk; round = 1 })
 effect_of (Again batch) part = batch_reopened batch (next_round part.batch)
+effect_of (Third batch clerk) part = third_set (record { batch = batch; clerk = clerk })

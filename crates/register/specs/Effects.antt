@@ -2,12 +2,12 @@
 use Rattle.std.specs.Prelude.{ℕ, List, map}
 use Rattle.register.specs.declared.phase.Phase.{Phase}
 use Rattle.register.specs.declared.decision.Effect.{Effect}
-use Rattle.register.specs.declared.decision.Effect.TheVariants.{WardAdded, WardMoved, CandidateAdded, CandidateWithdrawn, BatchAdded, BatchReopened, PapersKeyed, PaperJudged, StageCounted, LotDrawn}
+use Rattle.register.specs.declared.decision.Effect.TheVariants.{WardAdded, WardMoved, CandidateAdded, CandidateWithdrawn, BatchAdded, BatchReopened, ThirdSet, PapersKeyed, PaperJudged, StageCounted, LotDrawn}
 use Rattle.register.specs.declared.decision.Change.{Change}
-use Rattle.register.specs.Offices.{WardEntry, CandidateEntry, BatchEntry, KeyedEntry, JudgedEntry, LotEntry, ReceiptEntry, OfficeState, put, put_each, without, changed, ward_cmp, candidate_cmp, batch_cmp, keyed_cmp, judged_cmp, lot_cmp, receipt_cmp, ward_compared, candidate_compared, batch_compared, ward_entry, candidate_entry, batch_entry, keyed_entry, judged_entry, lot_entry, receipt_entry}
+use Rattle.register.specs.Offices.{WardEntry, CandidateEntry, BatchEntry, ThirdEntry, KeyedEntry, JudgedEntry, LotEntry, ReceiptEntry, OfficeState, put, put_each, without, changed, ward_cmp, candidate_cmp, batch_cmp, third_cmp, keyed_cmp, judged_cmp, lot_cmp, receipt_cmp, ward_compared, candidate_compared, batch_compared, ward_entry, candidate_entry, batch_entry, third_entry, keyed_entry, judged_entry, lot_entry, receipt_entry}
 
 -- what a command does to the state, beside its receipt: a ward is new, or comes to a phase; a candidate of a ward stands,
--- or stands no longer; a batch is new, or is keyed in another round; papers are keyed; a paper is judged; so many stages of a
+-- or stands no longer; a batch is new, or is keyed in another round; a third clerk of a batch is set; papers are keyed; a paper is judged; so many stages of a
 -- ward's count are done; a lot is drawn
 pub data EffectEntry : Type 0 where
   ward_added : WardEntry → EffectEntry
@@ -16,6 +16,7 @@ pub data EffectEntry : Type 0 where
   candidate_withdrawn : ℕ → ℕ → EffectEntry
   batch_added : BatchEntry → EffectEntry
   batch_reopened : ℕ → ℕ → EffectEntry
+  third_set : ThirdEntry → EffectEntry
   papers_keyed : List KeyedEntry → EffectEntry
   paper_judged : JudgedEntry → EffectEntry
   stage_counted : ℕ → ℕ → EffectEntry
@@ -46,6 +47,7 @@ with_effect (candidate_added c) s = record s { candidates = put candidate_cmp c 
 with_effect (candidate_withdrawn ward candidate) s = record s { candidates = without (candidate_compared ward candidate) s.candidates }
 with_effect (batch_added b) s = record s { batches = put batch_cmp b s.batches }
 with_effect (batch_reopened batch round) s = record s { batches = changed (batch_compared batch) (in_round round) s.batches }
+with_effect (third_set t) s = record s { thirds = put third_cmp t s.thirds }
 with_effect (papers_keyed papers) s = record s { keyings = put_each keyed_cmp papers s.keyings }
 with_effect (paper_judged v) s = record s { verdicts = put judged_cmp v s.verdicts }
 with_effect (stage_counted ward done) s = record s { wards = changed (ward_compared ward) (at_stage done) s.wards }
@@ -67,6 +69,7 @@ effect_entry (CandidateAdded c) = candidate_added (candidate_entry c)
 effect_entry (CandidateWithdrawn ward candidate) = candidate_withdrawn ward candidate
 effect_entry (BatchAdded b) = batch_added (batch_entry b)
 effect_entry (BatchReopened batch round) = batch_reopened batch round
+effect_entry (ThirdSet t) = third_set (third_entry t)
 effect_entry (PapersKeyed papers) = papers_keyed (map keyed_entry papers.items)
 effect_entry (PaperJudged v) = paper_judged (judged_entry v)
 effect_entry (StageCounted ward done) = stage_counted ward done

@@ -4,10 +4,10 @@ use Rattle.std.specs.List.{list_all}
 use Rattle.std.specs.Str.{is_utf8}
 use Rattle.register.specs.Ranges.{is_office, is_clerk, is_ward_number, is_seat_number, is_candidate_number, is_batch_number, is_paper_number, is_lot_stage, is_round, is_name, is_id, is_reply}
 use Rattle.register.specs.Subjects.{is_office_subject, is_clerk_subject}
-use Rattle.register.specs.Offices.{WardEntry, CandidateEntry, BatchEntry, KeyedEntry, JudgedEntry, LotEntry, ReceiptEntry, OfficeState, ward_at, candidates_of, batch_at, verdicts_of, MapsRise}
+use Rattle.register.specs.Offices.{WardEntry, CandidateEntry, BatchEntry, ThirdEntry, KeyedEntry, JudgedEntry, LotEntry, ReceiptEntry, OfficeState, ward_at, candidates_of, batch_at, verdicts_of, MapsRise}
 use Rattle.register.specs.Nominations.{are_enough}
 use Rattle.register.specs.Elections.{election_of, is_agreed, is_counted_right}
-use Rattle.register.specs.Keyed.{is_given_out, is_keyed_for, are_rounds_to, is_judged}
+use Rattle.register.specs.Keyed.{is_given_out, is_third_for, is_keyed_for, are_rounds_to, is_judged}
 
 -- a ward whose number, seats and name are in range
 unfoldable pub is_ward : WardEntry → Bool
@@ -20,6 +20,10 @@ is_candidate c = is_ward_number c.ward && (is_candidate_number c.number && is_na
 -- a batch whose numbers are in range
 unfoldable pub is_batch : BatchEntry → Bool
 is_batch b = is_batch_number b.number && (is_ward_number b.ward && (is_paper_number b.size && (is_clerk b.first_clerk && (is_clerk b.second_clerk && is_round b.round))))
+
+-- a third clerk whose numbers are in range
+unfoldable pub is_third : ThirdEntry → Bool
+is_third t = is_batch_number t.batch && is_clerk t.clerk
 
 -- a keyed paper whose numbers are in range
 unfoldable pub is_keyed_paper : KeyedEntry → Bool
@@ -45,15 +49,16 @@ is_receipt r = is_about r.actor r.subject && (is_utf8 r.subject && (is_id r.id &
 abbrev pub item1 : OfficeState → Bool
 item1 s =
     list_all is_ward s.wards
-    && (list_all is_candidate s.candidates && (list_all is_batch s.batches && (list_all is_keyed_paper s.keyings && (list_all is_judged_paper s.verdicts && (list_all is_lot s.lots && list_all is_receipt s.receipts)))))
+    && (list_all is_candidate s.candidates && (list_all is_batch s.batches && (list_all is_third s.thirds && (list_all is_keyed_paper s.keyings && (list_all is_judged_paper s.verdicts && (list_all is_lot s.lots && list_all is_receipt s.receipts))))))
 
 -- the second condition: candidates belong to wards that are there, and each ward has those that its phase asks for
 abbrev pub item2 : OfficeState → Bool
 item2 s = list_all (λ c. is_some (ward_at s c.ward)) s.candidates && list_all (λ w. are_enough w.phase w (candidates_of s w.number)) s.wards
 
--- the third condition: batches belong to contested wards past their nominations, and their two clerks differ
+-- the third condition: batches belong to contested wards past their nominations, and their two clerks differ; third clerks belong
+-- to batches that are there, and differ from both
 abbrev pub item3 : OfficeState → Bool
-item3 s = list_all (is_given_out s) s.batches
+item3 s = list_all (is_given_out s) s.batches && list_all (λ t. is_third_for t (batch_at s t.batch)) s.thirds
 
 -- the fourth condition: papers are keyed of batches that are there, in rounds and by clerks of theirs, and are read; a keying
 -- is whole, and those of an earlier round differ

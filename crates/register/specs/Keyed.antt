@@ -3,10 +3,10 @@ use Rattle.std.specs.Prelude.{ℕ, ◌+◌, Bool, true, false, not, ◌&&◌, �
 use Rattle.std.specs.List.{list_all, range_with_len}
 use Rattle.register.specs.Phases.{phase_number}
 use Rattle.register.specs.declared.phase.Phase.TheVariants.{Nominations}
-use Rattle.register.specs.Offices.{WardEntry, CandidateEntry, BatchEntry, KeyedEntry, JudgedEntry, OfficeState, ward_at, candidates_of, keying_of}
+use Rattle.register.specs.Offices.{WardEntry, CandidateEntry, BatchEntry, ThirdEntry, KeyedEntry, JudgedEntry, OfficeState, ward_at, candidates_of, third_at}
 use Rattle.register.specs.Nominations.{is_contested}
 use Rattle.register.specs.Marks.{columns_of, is_readable, is_valid}
-use Rattle.register.specs.Papers.{is_keyed, differ, has_doubtful, is_its_clerk, is_taken, first_keying}
+use Rattle.register.specs.Papers.{differ, has_doubtful, is_its_clerk, keyings_in, taken_papers}
 use Rattle.register.specs.Verdicts.{is_rejection_code}
 
 -- ---- batches
@@ -20,6 +20,11 @@ is_polled (Some w) candidates = not (phase_number w.phase == phase_number Nomina
 abbrev pub is_given_out : OfficeState → BatchEntry → Bool
 is_given_out s b = not (b.first_clerk == b.second_clerk) && is_polled (ward_at s b.ward) (candidates_of s b.ward)
 
+-- a third clerk of a batch that is there, who is neither of its two
+abbrev pub is_third_for : ThirdEntry → Option BatchEntry → Bool
+is_third_for t None = false
+is_third_for t (Some b) = not (t.clerk == b.first_clerk) && not (t.clerk == b.second_clerk)
+
 -- ---- keyings
 
 -- the columns of a batch's papers
@@ -29,23 +34,20 @@ columns_for s b = columns_of (candidates_of s b.ward)
 -- a paper keyed in a round up to the batch's current one by one of its clerks, with marks that its columns read
 abbrev pub is_keyed_for : OfficeState → KeyedEntry → Option BatchEntry → Bool
 is_keyed_for s k None = false
-is_keyed_for s k (Some b) = nat_le k.round b.round && (is_its_clerk k.clerk b && is_readable (columns_for s b) k.marks)
+is_keyed_for s k (Some b) = nat_le k.round b.round && (is_its_clerk k.clerk b (third_at s b.number) && is_readable (columns_for s b) k.marks)
 
 -- papers numbered from a number on
 unfoldable pub are_numbered : ℕ → List KeyedEntry → Bool
 are_numbered paper [] = true
 are_numbered paper (k ∷ ks) = (k.paper == paper) && are_numbered (paper + 1) ks
 
--- a keying that isn't there, or has each of so many papers once
+-- a keying that has each of so many papers once
 abbrev pub is_whole : ℕ → List KeyedEntry → Bool
-is_whole size keying = not (is_keyed keying) || ((length keying == size) && are_numbered 1 keying)
+is_whole size keying = (length keying == size) && are_numbered 1 keying
 
--- a round of a batch: each keying is whole, and in an earlier round than the current one both are there and unequal
+-- a round of a batch: each keying is whole, and in an earlier round than the current one at least two are there, and no two equal
 abbrev pub is_round_of : OfficeState → BatchEntry → ℕ → Bool
-is_round_of s b round =
-    is_whole b.size (keying_of s b.number round b.first_clerk)
-    && (is_whole b.size (keying_of s b.number round b.second_clerk)
-    && (nat_le b.round round || differ (keying_of s b.number round b.first_clerk) (keying_of s b.number round b.second_clerk)))
+is_round_of s b round = list_all (is_whole b.size) (keyings_in s b round) && (nat_le b.round round || differ (keyings_in s b round))
 
 -- each of so many rounds of a batch, from the first on
 unfoldable pub are_rounds_to : OfficeState → BatchEntry → ℕ → Bool
@@ -57,9 +59,9 @@ are_rounds_to s b rounds = list_all (is_round_of s b) (range_with_len 1 rounds)
 abbrev pub is_verdict_on : List ℕ → List KeyedEntry → JudgedEntry → Bool
 is_verdict_on columns keying v = has_doubtful keying v.paper && (((v.code == 0) && is_valid columns v.marks) || (is_rejection_code v.code && (length v.marks == 0)))
 
--- a verdict on a doubtful paper of a batch that is taken
+-- a verdict on a doubtful paper of those that a batch is taken with: of one that isn't taken there are none
 abbrev pub is_verdict_for : OfficeState → BatchEntry → JudgedEntry → Bool
-is_verdict_for s b v = is_taken s b && is_verdict_on (columns_for s b) (first_keying s b) v
+is_verdict_for s b v = is_verdict_on (columns_for s b) (taken_papers s b) v
 
 -- each verdict on a paper of a batch is such a one
 abbrev pub is_judged : OfficeState → BatchEntry → List JudgedEntry → Bool

@@ -9,7 +9,7 @@ use Rattle.register.specs.Ranges.{is_clerk, is_batch_number, is_round}
 use Rattle.register.specs.Offices.{KeyedEntry, OfficeState, batch_at, keying_of}
 use Rattle.register.specs.Marks.{columns_of, first_bad_marks}
 use Rattle.register.specs.Papers.{is_keyed, is_its_clerk}
-use Rattle.register.specs.Batches.{ward_for, candidates_for}
+use Rattle.register.specs.Batches.{ward_for, candidates_for, third_for}
 use Rattle.register.specs.Effects.{EffectEntry, papers_keyed}
 use Rattle.register.specs.Parts.{PartEntries, empty_part, batch_objections, passes}
 
@@ -28,6 +28,7 @@ part_of s actor command =
       ward = ward_for s (batch_at s command.batch);
       candidates = candidates_for s (batch_at s command.batch);
       batch = batch_at s command.batch;
+      third = third_for s (batch_at s command.batch);
       own = keying_of s command.batch command.round actor;
     }
 
@@ -41,7 +42,7 @@ objections actor command part =
     objection (not (is_in_range actor command)) NumberOutOfRange
     ∷ batch_objections part
     ++ (
-    objection (not (passes (is_its_clerk actor) part.batch)) NotItsClerk
+    objection (not (passes (λ b. is_its_clerk actor b part.third) part.batch)) NotItsClerk
     ∷ objection (not (passes (λ b. b.round == command.round) part.batch)) NotThisRound
     ∷ objection (is_keyed part.own) AlreadyKeyed
     ∷ objection (not (passes (λ b. b.size == length (texts_of command)) part.batch)) WrongPaperCount

@@ -9,6 +9,7 @@ use Rattle.register.specs.declared.phase.Phase.{Phase}
 use Rattle.register.specs.declared.wards.Ward.{Ward}
 use Rattle.register.specs.declared.candidates.Candidate.{Candidate}
 use Rattle.register.specs.declared.batches.Batch.{Batch}
+use Rattle.register.specs.declared.batches.ThirdClerk.{ThirdClerk}
 use Rattle.register.specs.declared.keyings.KeyedPaper.{KeyedPaper}
 use Rattle.register.specs.declared.verdicts.JudgedPaper.{JudgedPaper}
 use Rattle.register.specs.declared.counts.DrawnLot.{DrawnLot}
@@ -30,7 +31,7 @@ pub record CandidateEntry : Type 0 where
   pub number : ℕ
   pub name : List ℕ
 
--- a batch of ballot papers: its number, its ward, how many papers it has, the two clerks who key it, and its current round
+-- a batch of ballot papers: its number, its ward, how many papers it has, the two clerks who first key it, and its current round
 pub record BatchEntry : Type 0 where
   pub number : ℕ
   pub ward : ℕ
@@ -38,6 +39,11 @@ pub record BatchEntry : Type 0 where
   pub first_clerk : ℕ
   pub second_clerk : ℕ
   pub round : ℕ
+
+-- a third clerk who keys a batch, whose two keyed it unequally: of which batch, his number
+pub record ThirdEntry : Type 0 where
+  pub batch : ℕ
+  pub clerk : ℕ
 
 -- a ballot paper as a clerk keyed it: of which batch, in which round, by whom, its number there, its marks text
 pub record KeyedEntry : Type 0 where
@@ -80,6 +86,10 @@ candidate_entry c = record { ward = c.ward; number = c.number; name = string_byt
 abbrev pub batch_entry : Batch → BatchEntry
 batch_entry b = record { number = b.number; ward = b.ward; size = b.size; first_clerk = b.first_clerk; second_clerk = b.second_clerk; round = b.round }
 
+-- the entry that a third clerk stands for
+abbrev pub third_entry : ThirdClerk → ThirdEntry
+third_entry t = record { batch = t.batch; clerk = t.clerk }
+
 -- the entry that a keyed paper stands for
 abbrev pub keyed_entry : KeyedPaper → KeyedEntry
 keyed_entry k = record { batch = k.batch; round = k.round; clerk = k.clerk; paper = k.paper; marks = string_bytes k.marks }
@@ -121,12 +131,13 @@ changed compared change xs = map (λ x. if is_eq (compared x) then change x else
 
 -- ---- the state
 
--- the wards by number, the candidates by ward and number, the batches by number, the keyed papers by batch, round, clerk and
--- number, the judged papers by batch and number, the lots by ward and stage, the receipts by actor and id
+-- the wards by number, the candidates by ward and number, the batches by number, the third clerks by batch, the keyed papers by
+-- batch, round, clerk and number, the judged papers by batch and number, the lots by ward and stage, the receipts by actor and id
 pub record OfficeState : Type 0 where
   pub wards : List WardEntry
   pub candidates : List CandidateEntry
   pub batches : List BatchEntry
+  pub thirds : List ThirdEntry
   pub keyings : List KeyedEntry
   pub verdicts : List JudgedEntry
   pub lots : List LotEntry
@@ -134,7 +145,7 @@ pub record OfficeState : Type 0 where
 
 -- an office where nothing has happened yet
 abbrev pub empty_office : OfficeState
-empty_office = record { wards = []; candidates = []; batches = []; keyings = []; verdicts = []; lots = []; receipts = [] }
+empty_office = record { wards = []; candidates = []; batches = []; thirds = []; keyings = []; verdicts = []; lots = []; receipts = [] }
 
 -- the order of wards: by number
 abbrev pub ward_cmp : WardEntry → WardEntry → Ordering
@@ -147,6 +158,10 @@ candidate_cmp = then_cmp (on (λ (c : CandidateEntry). c.ward) nat_cmp) (on (λ 
 -- the order of batches: by number
 abbrev pub batch_cmp : BatchEntry → BatchEntry → Ordering
 batch_cmp = on (λ (b : BatchEntry). b.number) nat_cmp
+
+-- the order of third clerks: by batch
+abbrev pub third_cmp : ThirdEntry → ThirdEntry → Ordering
+third_cmp = on (λ (t : ThirdEntry). t.batch) nat_cmp
 
 -- the order of keyed papers: by batch, by round, by clerk, and then by number
 abbrev pub keyed_cmp : KeyedEntry → KeyedEntry → Ordering
@@ -192,6 +207,14 @@ batch_compared number b = nat_cmp number b.number
 abbrev pub batch_at : OfficeState → ℕ → Option BatchEntry
 batch_at s number = entry_at (batch_compared number) s.batches
 
+-- a third clerk, compared with a batch
+abbrev pub third_compared : ℕ → ThirdEntry → Ordering
+third_compared batch t = nat_cmp batch t.batch
+
+-- the third clerk of this batch, if one is set
+abbrev pub third_at : OfficeState → ℕ → Option ThirdEntry
+third_at s batch = entry_at (third_compared batch) s.thirds
+
 -- the papers that a clerk keyed of a batch in a round: his keying, in the order of the papers
 abbrev pub keying_of : OfficeState → ℕ → ℕ → ℕ → List KeyedEntry
 keying_of s batch round clerk = filter (λ (k : KeyedEntry). (k.batch == batch) && ((k.round == round) && (k.clerk == clerk))) s.keyings
@@ -221,6 +244,7 @@ pub record MapsRise (s : OfficeState) : Type 0 where
   pub wards : IsStrictlySortedBy ward_cmp s.wards
   pub candidates : IsStrictlySortedBy candidate_cmp s.candidates
   pub batches : IsStrictlySortedBy batch_cmp s.batches
+  pub thirds : IsStrictlySortedBy third_cmp s.thirds
   pub keyings : IsStrictlySortedBy keyed_cmp s.keyings
   pub verdicts : IsStrictlySortedBy judged_cmp s.verdicts
   pub lots : IsStrictlySortedBy lot_cmp s.lots

@@ -1,13 +1,19 @@
--- How the papers of a batch stand: keyed by its clerks, taken where both keyings agree, judged where they are doubtful.
-use Rattle.std.specs.Prelude.{ℕ, ◌+◌, Bool, true, false, not, ◌&&◌, ◌||◌, ◌==◌, List, [], ◌∷◌, length, codes, find, Option, Some, None}
+-- How the papers of a batch stand: keyed by its clerks, taken where two keyings agree, judged where they are doubtful.
+use Rattle.std.specs.Prelude.{ℕ, ◌+◌, Bool, true, false, not, ◌&&◌, ◌||◌, ◌==◌, nat_le, if◌then◌else◌, List, [], ◌∷◌, length, map, codes, find, Option, Some, None}
 use Rattle.std.specs.List.{filter, list_any}
+use Rattle.std.specs.Ordering.{nat_cmp}
 use Rattle.std.specs.Str.{bytes_eq}
-use Rattle.register.specs.Offices.{BatchEntry, KeyedEntry, JudgedEntry, OfficeState, keying_of, verdicts_of}
+use Rattle.register.specs.declared.papers.Clerks.{Clerks}
+use Rattle.register.specs.Offices.{BatchEntry, ThirdEntry, KeyedEntry, JudgedEntry, OfficeState, put, third_at, keying_of, verdicts_of}
 
 -- a keying is there
 abbrev pub is_keyed : List KeyedEntry → Bool
 is_keyed [] = false
 is_keyed (k ∷ ks) = true
+
+-- of three clerks' keyings those that are there; where there is no third clerk, nothing is keyed by one
+abbrev pub of_three : List KeyedEntry → List KeyedEntry → List KeyedEntry → List (List KeyedEntry)
+of_three first second third = filter is_keyed (first ∷ second ∷ third ∷ [])
 
 -- two keyings with the same marks on each paper
 unfoldable pub same_marks : List KeyedEntry → List KeyedEntry → Bool
@@ -15,13 +21,18 @@ same_marks [] [] = true
 same_marks (j ∷ js) (k ∷ ks) = bytes_eq j.marks k.marks && same_marks js ks
 same_marks js ks = false
 
--- both keyings are there and equal
-abbrev pub are_taken : List KeyedEntry → List KeyedEntry → Bool
-are_taken first second = is_keyed first && (is_keyed second && same_marks first second)
+-- of some keyings the first that one behind it equals: the papers that a batch is taken with; none where no two are equal
+abbrev pub agreed : List (List KeyedEntry) → List KeyedEntry
+agreed [] = []
+agreed (k ∷ ks) = if list_any (same_marks k) ks then k else agreed ks
 
--- both keyings are there and unequal
-abbrev pub differ : List KeyedEntry → List KeyedEntry → Bool
-differ first second = is_keyed first && (is_keyed second && not (same_marks first second))
+-- two of the keyings that are there are equal
+abbrev pub are_taken : List (List KeyedEntry) → Bool
+are_taken keyings = is_keyed (agreed keyings)
+
+-- at least two are there, and no two of them are equal
+abbrev pub differ : List (List KeyedEntry) → Bool
+differ keyings = nat_le 2 (length keyings) && not (are_taken keyings)
 
 -- a paper that is keyed as doubtful
 abbrev pub is_doubtful : KeyedEntry → Bool
@@ -36,24 +47,55 @@ is_found_doubtful (Some k) = is_doubtful k
 abbrev pub has_doubtful : List KeyedEntry → ℕ → Bool
 has_doubtful keying paper = is_found_doubtful (find (λ (k : KeyedEntry). k.paper == paper) keying)
 
--- the clerk is one of the two who key the batch
-abbrev pub is_its_clerk : ℕ → BatchEntry → Bool
-is_its_clerk clerk b = (clerk == b.first_clerk) || (clerk == b.second_clerk)
+-- ---- the clerks of a batch, and their keyings
 
--- the keying of the current round by the first clerk, and by the second
-abbrev pub first_keying : OfficeState → BatchEntry → List KeyedEntry
-first_keying s b = keying_of s b.number b.round b.first_clerk
+-- the clerk is the third one, where one is set
+abbrev pub is_third_clerk : ℕ → Option ThirdEntry → Bool
+is_third_clerk clerk None = false
+is_third_clerk clerk (Some t) = clerk == t.clerk
 
-abbrev pub second_keying : OfficeState → BatchEntry → List KeyedEntry
-second_keying s b = keying_of s b.number b.round b.second_clerk
+-- the clerk is one of those who key the batch
+abbrev pub is_its_clerk : ℕ → BatchEntry → Option ThirdEntry → Bool
+is_its_clerk clerk b third = (clerk == b.first_clerk) || ((clerk == b.second_clerk) || is_third_clerk clerk third)
 
--- the batch is taken: both keyings of its current round are there and equal
+-- the clerks who key the batch, two or three, in the order of their numbers
+abbrev pub two_clerks : BatchEntry → List ℕ
+two_clerks b = put nat_cmp b.first_clerk (b.second_clerk ∷ [])
+
+abbrev pub clerks : BatchEntry → Option ThirdEntry → List ℕ
+clerks b None = two_clerks b
+clerks b (Some t) = put nat_cmp t.clerk (two_clerks b)
+
+abbrev pub clerks_of : OfficeState → BatchEntry → List ℕ
+clerks_of s b = clerks b (third_at s b.number)
+
+-- what clerks stand for
+abbrev pub third_listed : Option ℕ → List ℕ
+third_listed None = []
+third_listed (Some clerk) = clerk ∷ []
+
+abbrev pub clerk_list : Clerks → List ℕ
+clerk_list c = c.first ∷ c.second ∷ third_listed c.third
+
+-- the keyings of a batch in a round, as far as they are there, in the order of their clerks
+abbrev pub keyings_in : OfficeState → BatchEntry → ℕ → List (List KeyedEntry)
+keyings_in s b round = filter is_keyed (map (keying_of s b.number round) (clerks_of s b))
+
+-- those of its current round
+abbrev pub keyings_now : OfficeState → BatchEntry → List (List KeyedEntry)
+keyings_now s b = keyings_in s b b.round
+
+-- the papers that the batch is taken with, if it is taken
+abbrev pub taken_papers : OfficeState → BatchEntry → List KeyedEntry
+taken_papers s b = agreed (keyings_now s b)
+
+-- the batch is taken: two keyings of its current round are equal
 abbrev pub is_taken : OfficeState → BatchEntry → Bool
-is_taken s b = are_taken (first_keying s b) (second_keying s b)
+is_taken s b = are_taken (keyings_now s b)
 
--- the batch differs: both keyings of its current round are there and unequal
+-- the batch differs: at least two keyings of its current round are there, and no two of them are equal
 abbrev pub is_differing : OfficeState → BatchEntry → Bool
-is_differing s b = differ (first_keying s b) (second_keying s b)
+is_differing s b = differ (keyings_now s b)
 
 -- ---- the batches of a ward
 
@@ -77,7 +119,7 @@ is_open verdicts k = is_doubtful k && not (has_verdict verdicts k.paper)
 
 -- how many doubtful papers of a taken batch have no verdict
 abbrev pub open_in : OfficeState → BatchEntry → ℕ
-open_in s b = length (filter (is_open (verdicts_of s b.number)) (first_keying s b))
+open_in s b = length (filter (is_open (verdicts_of s b.number)) (taken_papers s b))
 
 -- how many of them some batches have together
 abbrev pub open_among : OfficeState → List BatchEntry → ℕ

@@ -8,21 +8,22 @@ use Rattle.register.specs.declared.refusal.Reason.{Reason}
 use Rattle.register.specs.declared.refusal.Reason.TheVariants.{NoSuchWard, NoSuchBatch, WrongPhase}
 use Rattle.register.specs.Phases.{phase_number}
 use Rattle.register.specs.Reasons.{objection}
+use Rattle.register.specs.Papers.{of_three}
 use Rattle.register.specs.Polls.{PollEntry, poll_entry}
-use Rattle.register.specs.Offices.{WardEntry, CandidateEntry, BatchEntry, KeyedEntry, JudgedEntry, ward_entry, candidate_entry, batch_entry, keyed_entry, judged_entry}
+use Rattle.register.specs.Offices.{WardEntry, CandidateEntry, BatchEntry, ThirdEntry, KeyedEntry, JudgedEntry, ward_entry, candidate_entry, batch_entry, third_entry, keyed_entry, judged_entry}
 
 -- what any command may need, each there only where the command needs it: the ward that it names, or that the batch which it
--- names belongs to; the candidate that it names; the candidates of the ward; the batch that it names; the actor's own keying
--- of it; both clerks' keyings of its current round; the verdict on the paper that it names; the poll of the ward; what is due
--- in its count, and who is elected
+-- names belongs to; the candidate that it names; the candidates of the ward; the batch that it names, and its third clerk; the
+-- actor's own keying of it; the keyings of its current round that are there; the verdict on the paper that it names; the poll
+-- of the ward; what is due in its count, and who is elected
 pub record PartEntries : Type 0 where
   pub ward : Option WardEntry
   pub candidate : Option CandidateEntry
   pub candidates : List CandidateEntry
   pub batch : Option BatchEntry
+  pub third : Option ThirdEntry
   pub own : List KeyedEntry
-  pub first : List KeyedEntry
-  pub second : List KeyedEntry
+  pub keyings : List (List KeyedEntry)
   pub verdict : Option JudgedEntry
   pub poll : Option PollEntry
   pub due : Option Due
@@ -30,7 +31,7 @@ pub record PartEntries : Type 0 where
 
 -- no part, to which a command adds what it needs
 abbrev pub empty_part : PartEntries
-empty_part = record { ward = None; candidate = None; candidates = []; batch = None; own = []; first = []; second = []; verdict = None; poll = None; due = None; elected = [] }
+empty_part = record { ward = None; candidate = None; candidates = []; batch = None; third = None; own = []; keyings = []; verdict = None; poll = None; due = None; elected = [] }
 
 -- the ward is there, in this phase
 abbrev pub is_in_phase : Phase → Option WardEntry → Bool
@@ -52,4 +53,4 @@ passes test (Some b) = test b
 
 -- the entries that a part stands for
 abbrev pub part_entries : Part → PartEntries
-part_entries part = record { ward = option_map ward_entry part.ward; candidate = option_map candidate_entry part.candidate; candidates = map candidate_entry part.candidates.items; batch = option_map batch_entry part.batch; own = map keyed_entry part.own.items; first = map keyed_entry part.first.items; second = map keyed_entry part.second.items; verdict = option_map judged_entry part.verdict; poll = option_map poll_entry part.poll; due = part.due; elected = part.elected }
+part_entries part = record { ward = option_map ward_entry part.ward; candidate = option_map candidate_entry part.candidate; candidates = map candidate_entry part.candidates.items; batch = option_map batch_entry part.batch; third = option_map third_entry part.third_clerk; own = map keyed_entry part.own.items; keyings = of_three (map keyed_entry part.first.items) (map keyed_entry part.second.items) (map keyed_entry part.third.items); verdict = option_map judged_entry part.verdict; poll = option_map poll_entry part.poll; due = part.due; elected = part.elected }

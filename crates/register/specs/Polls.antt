@@ -1,6 +1,7 @@
 -- The ballot papers of a ward: which are valid, and why the others are rejected.
 use Rattle.std.specs.Prelude.{◌≡◌, ℕ, ◌+◌, Bool, true, false, ◌&&◌, ◌==◌, if◌then◌else◌, List, [], ◌∷◌, map, length, slice_index, find, Option, Some, None, Result, Ok, Err}
 use Rattle.std.specs.List.{filter, flat_map, list_all}
+use Rattle.std.specs.Ordering.{nat_cmp, is_lt}
 use Rattle.votes.specs.Units.{quota_of}
 use Rattle.std.specs.Global.{Vec}
 use Rattle.count.specs.Bundles.{Bundle, bundled}
@@ -16,31 +17,26 @@ use Rattle.register.specs.declared.polls.Judgement.{Judgement}
 use Rattle.register.specs.declared.polls.Judgement.TheVariants.{Valid, Rejected, Open}
 use Rattle.register.specs.declared.polls.Ballots.{Ballots}
 use Rattle.register.specs.declared.polls.Poll.{Poll}
-use Rattle.register.specs.Offices.{BatchEntry, KeyedEntry, JudgedEntry, OfficeState, verdicts_of}
-use Rattle.register.specs.Papers.{are_taken, is_open, first_keying, second_keying, batches_of}
+use Rattle.register.specs.Offices.{BatchEntry, ThirdEntry, KeyedEntry, JudgedEntry, OfficeState, third_at, keying_of, verdicts_of}
+use Rattle.register.specs.Papers.{agreed, are_taken, is_open, keyings_now, taken_papers, batches_of}
 
 -- ---- the papers of a batch
 
--- a batch's two keyings of its current round, and the verdicts on its papers
+-- the keyings of a batch's current round, in the order of their clerks, and the verdicts on its papers
 pub record Pile : Type 0 where
-  pub first : List KeyedEntry
-  pub second : List KeyedEntry
+  pub keyings : List (List KeyedEntry)
   pub verdicts : List JudgedEntry
 
 abbrev pub pile_of : OfficeState → BatchEntry → Pile
-pile_of s b = record { first = first_keying s b; second = second_keying s b; verdicts = verdicts_of s b.number }
+pile_of s b = record { keyings = keyings_now s b; verdicts = verdicts_of s b.number }
 
 -- the batches of a ward, by number
 abbrev pub piles_of : OfficeState → ℕ → List Pile
 piles_of s ward = map (pile_of s) (batches_of s ward)
 
--- both keyings agree
-abbrev pub is_taken : Pile → Bool
-is_taken pile = are_taken pile.first pile.second
-
--- both keyings agree, and each doubtful paper has a verdict
+-- two keyings agree, and each doubtful paper has a verdict
 abbrev pub is_settled : Pile → Bool
-is_settled pile = is_taken pile && (length (filter (is_open pile.verdicts) pile.first) == 0)
+is_settled pile = are_taken pile.keyings && (length (filter (is_open pile.verdicts) (agreed pile.keyings)) == 0)
 
 -- ---- the judgement on a paper
 
@@ -68,17 +64,32 @@ judgement_on columns verdicts k = by_reading (by_verdict columns (find (λ (v : 
 abbrev pub judgements_on : List ℕ → List JudgedEntry → List KeyedEntry → List Judgement
 judgements_on columns verdicts keying = map (judgement_on columns verdicts) keying
 
--- and on those of a batch that is taken
+-- and on those that a batch is taken with, if it is taken
 abbrev pub judgements_in : List ℕ → Pile → List Judgement
-judgements_in columns pile = (if is_taken pile then judgements_on columns pile.verdicts pile.first else [])
+judgements_in columns pile = judgements_on columns pile.verdicts (agreed pile.keyings)
 
 -- and of all batches
 abbrev pub judgements : List ℕ → List Pile → List Judgement
 judgements columns piles = flat_map (judgements_in columns) piles
 
--- and of all batches' first keyings, taken or not
-abbrev pub first_judgements : List ℕ → List Pile → List Judgement
-first_judgements columns piles = flat_map (λ (pile : Pile). judgements_on columns pile.verdicts pile.first) piles
+-- ---- batches that are settled, whose papers are read one by one
+
+-- of a batch's two clerks the one with the lower number
+abbrev pub lower_clerk : BatchEntry → ℕ
+lower_clerk b = if is_lt (nat_cmp b.first_clerk b.second_clerk) then b.first_clerk else b.second_clerk
+
+-- the papers of a settled batch: two clerks keyed it alike, so that those of the lower number are its papers; where a third is
+-- set, those that it is taken with
+abbrev pub settled_with : OfficeState → BatchEntry → Option ThirdEntry → List KeyedEntry
+settled_with s b None = keying_of s b.number b.round (lower_clerk b)
+settled_with s b (Some t) = taken_papers s b
+
+abbrev pub settled_papers : OfficeState → BatchEntry → List KeyedEntry
+settled_papers s b = settled_with s b (third_at s b.number)
+
+-- the judgements on them, batch after batch
+abbrev pub settled_judgements : OfficeState → List ℕ → List BatchEntry → List Judgement
+settled_judgements s columns batches = flat_map (λ (b : BatchEntry). judgements_on columns (verdicts_of s b.number) (settled_papers s b)) batches
 
 -- ---- what they come to
 

@@ -3,7 +3,7 @@ use Rattle.std.specs.Prelude.{ℕ, Bool, if◌then◌else◌, List, [], ◌∷�
 use Rattle.std.specs.Fmt.{decimal}
 use Rattle.register.specs.Texts.{listed}
 use Rattle.register.specs.declared.refusal.Reason.{Reason}
-use Rattle.register.specs.declared.refusal.Reason.TheVariants.{BadId, IdUsed, NumberOutOfRange, BadName, NoSuchWard, WardExists, NoSuchBatch, BatchExists, WrongPhase, CandidateExists, NoSuchCandidate, NoCandidates, SameClerk, NotItsClerk, NotThisRound, AlreadyKeyed, WrongPaperCount, BadMarks, NoDifference, NotTaken, NotDoubtful, AlreadyJudged, BadVerdict, NotReady, CountFinished, LotNeeded, NoSuchLot, NotAmong, CountNotFinished}
+use Rattle.register.specs.declared.refusal.Reason.TheVariants.{BadId, IdUsed, NumberOutOfRange, BadName, NoSuchWard, WardExists, NoSuchBatch, BatchExists, WrongPhase, CandidateExists, NoSuchCandidate, NoCandidates, SameClerk, NotItsClerk, NotThisRound, AlreadyKeyed, WrongPaperCount, BadMarks, NoDifference, NotTaken, NotDoubtful, AlreadyJudged, BadVerdict, NotReady, CountFinished, LotNeeded, NoSuchLot, NotAmong, CountNotFinished, ThirdSet}
 
 -- the number that stands for a reason
 abbrev pub reason_number : Reason → ℕ
@@ -36,6 +36,7 @@ reason_number (LotNeeded stage among) = 26
 reason_number NoSuchLot = 27
 reason_number NotAmong = 28
 reason_number CountNotFinished = 29
+reason_number ThirdSet = 30
 
 -- the reason in words, before any number that it carries
 abbrev pub reason_words : Reason → List ℕ
@@ -68,6 +69,7 @@ reason_words (LotNeeded stage among) = codes "lot needed at stage "
 reason_words NoSuchLot = codes "no such lot due"
 reason_words NotAmong = codes "not among the tied"
 reason_words CountNotFinished = codes "count not finished"
+reason_words ThirdSet = codes "third clerk is set"
 
 -- the numbers that a reason carries
 abbrev pub reason_numbers : Reason → List ℕ

@@ -13,6 +13,7 @@ seen_by clerk s =
       wards = map (at_stage 0) s.wards;
       candidates = s.candidates;
       batches = s.batches;
+      thirds = s.thirds;
       keyings = filter (λ (k : KeyedEntry). k.clerk == clerk) s.keyings;
       verdicts = [];
       lots = [];

@@ -5,7 +5,7 @@ use Rattle.register.specs.declared.phase.Phase.{Phase}
 use Rattle.register.specs.declared.phase.Phase.TheVariants.{Keying}
 use Rattle.register.specs.declared.status.Status.{Status}
 use Rattle.register.specs.declared.status.Work.{Work}
-use Rattle.register.specs.Offices.{WardEntry, BatchEntry, OfficeState, ward_at, candidates_of, batch_at, keying_of}
+use Rattle.register.specs.Offices.{WardEntry, BatchEntry, OfficeState, ward_at, candidates_of, batch_at, third_at, keying_of}
 use Rattle.register.specs.Marks.{columns_of}
 use Rattle.register.specs.Papers.{is_keyed, is_its_clerk, batches_of, taken_of, differing_of, open_among}
 use Rattle.register.specs.Parts.{is_in_phase}
@@ -70,9 +70,9 @@ pub record WorkEntry : Type 0 where
   pub round : ℕ
   pub keyed : Bool
 
--- a batch is a clerk's to key: he is one of its two, and its ward is in keying
+-- a batch is a clerk's to key: he is one of its clerks, and its ward is in keying
 abbrev pub is_work : OfficeState → ℕ → BatchEntry → Bool
-is_work s clerk b = is_its_clerk clerk b && is_in_phase Keying (ward_at s b.ward)
+is_work s clerk b = is_its_clerk clerk b (third_at s b.number) && is_in_phase Keying (ward_at s b.ward)
 
 -- a batch as its clerk's work
 abbrev pub work_on : OfficeState → ℕ → BatchEntry → WorkEntry

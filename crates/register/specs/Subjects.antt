@@ -34,9 +34,9 @@ is_about_candidate = is_about (codes "candidate" ∷ codes "withdraw" ∷ []) (a
 abbrev pub is_about_lot : List ℕ → List ℕ → Bool
 is_about_lot = is_about (codes "lot" ∷ []) (are_plain_numbers 1 last_ward first_lot_stage last_lot_stage)
 
--- a batch, added or keyed again
+-- a batch, added, keyed again, or given to a third clerk too
 abbrev pub is_about_batch : List ℕ → List ℕ → Bool
-is_about_batch = is_about (codes "batch" ∷ codes "again" ∷ []) (is_plain_number 1 last_batch)
+is_about_batch = is_about (codes "batch" ∷ codes "again" ∷ codes "third" ∷ []) (is_plain_number 1 last_batch)
 
 -- a paper of a batch, judged
 abbrev pub is_about_paper : List ℕ → List ℕ → Bool

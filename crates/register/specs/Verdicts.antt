@@ -10,8 +10,8 @@ use Rattle.register.specs.Reasons.{objection}
 use Rattle.register.specs.Ranges.{is_between, is_office, is_batch_number, is_paper_number}
 use Rattle.register.specs.Offices.{JudgedEntry, OfficeState, batch_at, verdict_at}
 use Rattle.register.specs.Marks.{columns_of, marks_objection, is_valid}
-use Rattle.register.specs.Papers.{are_taken, has_doubtful}
-use Rattle.register.specs.Batches.{ward_for, candidates_for, first_for, second_for}
+use Rattle.register.specs.Papers.{agreed, are_taken, has_doubtful}
+use Rattle.register.specs.Batches.{ward_for, candidates_for, keyings_for}
 use Rattle.register.specs.Effects.{EffectEntry, paper_judged}
 use Rattle.register.specs.Parts.{PartEntries, empty_part, batch_objections}
 
@@ -22,8 +22,7 @@ part_of s actor command =
       ward = ward_for s (batch_at s command.batch);
       candidates = candidates_for s (batch_at s command.batch);
       batch = batch_at s command.batch;
-      first = first_for s (batch_at s command.batch);
-      second = second_for s (batch_at s command.batch);
+      keyings = keyings_for s (batch_at s command.batch);
       verdict = verdict_at s command.batch command.paper;
     }
 
@@ -52,8 +51,8 @@ objections actor command part =
     ∷ batch_objections part
     ++ (
     verdict_objection (columns_of part.candidates) command.paper command.verdict
-    ∷ objection (not (are_taken part.first part.second)) NotTaken
-    ∷ objection (not (has_doubtful part.first command.paper)) NotDoubtful
+    ∷ objection (not (are_taken part.keyings)) NotTaken
+    ∷ objection (not (has_doubtful (agreed part.keyings) command.paper)) NotDoubtful
     ∷ objection (is_some part.verdict) AlreadyJudged
     ∷ objection (not (is_verdict (columns_of part.candidates) command.verdict)) BadVerdict
     ∷ []

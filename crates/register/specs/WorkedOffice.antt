@@ -14,9 +14,9 @@ use Rattle.register.specs.declared.batches.BatchCommand.TheVariants as batches
 use Rattle.register.specs.declared.counts.CountCommand.TheVariants as counts
 use Rattle.register.specs.declared.verdicts.Verdict.{Verdict}
 use Rattle.register.specs.declared.verdicts.Verdict.TheVariants.{Accept, Reject}
-use Rattle.register.specs.declared.refusal.Reason.TheVariants.{BadId, IdUsed, NumberOutOfRange, WardExists, AlreadyKeyed, NotDoubtful, NotReady, CountFinished}
+use Rattle.register.specs.declared.refusal.Reason.TheVariants.{BadId, IdUsed, NumberOutOfRange, WardExists, AlreadyKeyed, NotDoubtful, NotReady, CountFinished, NotItsClerk, SameClerk, NoDifference, ThirdSet}
 use Rattle.register.specs.Offices.{WardEntry, CandidateEntry, BatchEntry, KeyedEntry, JudgedEntry, ReceiptEntry, OfficeState, empty_office}
-use Rattle.register.specs.Papers.{is_taken, is_differing}
+use Rattle.register.specs.Papers.{is_taken, is_differing, taken_papers}
 use Rattle.register.specs.Machine.{accepted, kept, refused, step}
 
 -- ---- requests
@@ -48,6 +48,10 @@ adds_batch batch ward size first_clerk second_clerk = commands.Batch (batches.Ad
 -- a batch is keyed again
 abbrev pub opens_again : ℕ → Command
 opens_again batch = commands.Batch (batches.Again batch)
+
+-- a batch is given to a third clerk
+abbrev pub sets_third : ℕ → ℕ → Command
+sets_third batch clerk = commands.Batch (batches.Third batch clerk)
 
 -- a batch is keyed in a round
 abbrev pub keys : ℕ → ℕ → Vec (String Global) Global → Command
@@ -122,6 +126,7 @@ in_keying given papers verdicts behind =
       wards = harbour Keying ∷ [];
       candidates = dee 7 ∷ eve 7 ∷ fay 7 ∷ [];
       batches = given;
+      thirds = [];
       keyings = papers;
       verdicts = verdicts;
       lots = [];
@@ -155,6 +160,19 @@ abbrev pub reopened : OfficeState
 reopened =
     in_keying (batch_in 2 ∷ other_batch ∷ []) (keyed 4 (codes "1,2,") ++ keyed 9 (codes "2,1,")) []
     (told_of_batch ∷ told_of_other ∷ told (codes "z3") (codes "again 12") (codes "batch 12 round 2 open") ∷ told_keyed 4 ∷ told_keyed 9 ∷ [])
+
+-- the batch, keyed unequally, is given to clerk 5 too; and he has keyed it, with these marks on its first paper
+abbrev pub given_to_third : List KeyedEntry → List ReceiptEntry → OfficeState
+given_to_third papers behind =
+    record (in_keying (batch_in 1 ∷ other_batch ∷ []) papers [] (told_of_batch ∷ told_of_other ∷ told (codes "z3") (codes "third 12") (codes "batch 12 third clerk 5") ∷ behind)) {
+      thirds = record { batch = 12; clerk = 5 } ∷ [];
+    }
+
+abbrev pub third_set : OfficeState
+third_set = given_to_third (keyed 4 (codes "1,2,") ++ keyed 9 (codes "2,1,")) (told_keyed 4 ∷ told_keyed 9 ∷ [])
+
+abbrev pub third_keyed : List ℕ → OfficeState
+third_keyed marks = given_to_third (keyed 4 (codes "1,2,") ++ (keyed 5 marks ++ keyed 9 (codes "2,1,"))) (told_keyed 4 ∷ told_keyed 5 ∷ told_keyed 9 ∷ [])
 
 -- Quay alone in a phase, with these candidates and receipts
 abbrev pub with_quay : Phase → List CandidateEntry → List ReceiptEntry → OfficeState
@@ -211,6 +229,22 @@ pub record KeyedRows : Type 0 where
   pub differs : is_differing (keyed_twice (codes "2,1,")) (batch_in 1) ≡ true
   pub not_ready : step (keyed_twice (codes "2,1,")) 0 (codes "z3") (commands.Count (counts.Seal 7)) ≡ refused NotReady
   pub open_again : step (keyed_twice (codes "2,1,")) 0 (codes "z3") (opens_again 12) ≡ accepted reopened (codes "batch 12 round 2 open")
+
+-- A third clerk is set once, where two differ, and is none of them. The batch is taken as soon as two of the three agree, each of the
+-- others keys what he keys, and as long as no two agree it differs.
+pub record ThirdRows : Type 0 where
+  pub not_his_yet : (papers : Vec (String Global) Global) → step (keyed_twice (codes "2,1,")) 5 (codes "k1") (keys 12 1 papers) ≡ refused NotItsClerk
+  pub one_of_two : step (keyed_twice (codes "2,1,")) 0 (codes "z3") (sets_third 12 9) ≡ refused SameClerk
+  pub not_where_they_agree : step (keyed_twice (codes "1,2,")) 0 (codes "z3") (sets_third 12 5) ≡ refused NoDifference
+  pub not_before_both : step keyed_once 0 (codes "z3") (sets_third 12 5) ≡ refused NoDifference
+  pub set : step (keyed_twice (codes "2,1,")) 0 (codes "z3") (sets_third 12 5) ≡ accepted third_set (codes "batch 12 third clerk 5")
+  pub set_already : step third_set 0 (codes "z4") (sets_third 12 6) ≡ refused ThirdSet
+  pub keyed_by_him : Marked (codes "1,2," ∷ codes "D" ∷ []) (λ papers. step third_set 5 (codes "k1") (keys 12 1 papers) ≡ accepted (third_keyed (codes "1,2,")) (codes "batch 12 round 1 keyed"))
+  pub taken : is_taken (third_keyed (codes "1,2,")) (batch_in 1) ≡ true
+  pub papers : taken_papers (third_keyed (codes "1,2,")) (batch_in 1) ≡ keyed 4 (codes "1,2,")
+  pub taken_otherwise : taken_papers (third_keyed (codes "2,1,")) (batch_in 1) ≡ keyed 5 (codes "2,1,")
+  pub none_agree : is_differing (third_keyed (codes ",1,")) (batch_in 1) ≡ true
+  pub no_difference : step (third_keyed (codes "1,2,")) 0 (codes "z4") (opens_again 12) ≡ refused NoDifference
 
 -- As many stand as there are seats: there is no poll and nothing to count, and all are elected.
 pub record UncontestedRows : Type 0 where

@@ -5,9 +5,10 @@ ghost use Rattle.register.specs.Reasons.{first_reason};
 ghost use Rattle.register.specs.Offices.{batch_entry};
 ghost use Rattle.register.specs.Parts.{part_entries, passes};
 ghost use Rattle.register.specs.Effects.{effect_entry};
-ghost use Rattle.register.specs.Batches.{is_in_last_round, is_in_range, next_round, objections, subject_of, reply_to, effect_of};
+ghost use Rattle.register.specs.Batches.{is_in_last_round, is_in_range, next_round, third_objections, objections, subject_of, reply_to, effect_of};
 
 use crate::decision::Effect;
+use crate::keyings::is_its_clerk;
 use crate::papers::differ;
 use crate::phase::Phase;
 use crate::ranges::{LAST_ROUND, is_batch_number, is_clerk, is_paper_number, is_ward_number};
@@ -17,7 +18,7 @@ use crate::wards::is_in_phase;
 use std::alloc::{AllocError, Global};
 
 /// A batch of ballot papers: its number (1 to 9999, over all wards), its ward (1 to 99), how many papers
-/// it has (1 to 500), the two clerks who key it (1 to 999), and its current round (1 to 99).
+/// it has (1 to 500), the two clerks who first key it (1 to 999), and its current round (1 to 99).
 #[derive(Debug, Drop)]
 pub struct Batch {
     pub number: u32,
@@ -26,6 +27,13 @@ pub struct Batch {
     pub first_clerk: u32,
     pub second_clerk: u32,
     pub round: u32,
+}
+
+/// A third clerk (1 to 999) who keys a batch (1 to 9999) in its current and its later rounds.
+#[derive(Debug, Drop)]
+pub struct ThirdClerk {
+    pub batch: u32,
+    pub clerk: u32,
 }
 
 /// What the office asks about a batch.
@@ -42,6 +50,11 @@ pub enum BatchCommand {
     /// The batch, whose keyings differ, is keyed again in a round more.
     Again {
         batch: u32,
+    },
+    /// The batch, whose keyings differ, is given to a third clerk too: it is taken as soon as any two agree.
+    Third {
+        batch: u32,
+        clerk: u32,
     },
 }
 
@@ -85,7 +98,33 @@ fn is_in_range(actor: u32, command: &BatchCommand, part: &Part) -> bool
             let number = is_batch_number(*batch);
             office & (number & !is_last(&part.batch))
         }
+        BatchCommand::Third { batch, clerk } => {
+            let number = is_batch_number(*batch);
+            office & (number & is_clerk(*clerk))
+        }
     }
+}
+
+/// What stands against a third clerk of a batch, whose numbers are in range.
+fn third_objection(clerk: u32, part: &Part) -> Option<Reason>
+    ensures { result ≡ first_reason (third_objections clerk (part_entries part.now)) }
+{
+    let Some(batch) = &part.batch else {
+        return Some(Reason::NoSuchBatch);
+    };
+    if !is_in_phase(Phase::Keying, &part.ward) {
+        return Some(Reason::WrongPhase);
+    }
+    if is_its_clerk(clerk, batch, &part.third_clerk) {
+        return Some(Reason::SameClerk);
+    }
+    if !differ(&part.first, &part.second, &part.third) {
+        return Some(Reason::NoDifference);
+    }
+    if part.third_clerk.is_some() {
+        return Some(Reason::ThirdSet);
+    }
+    None
 }
 
 /// What stands against a command: of several reasons the one with the lowest number.
@@ -122,11 +161,12 @@ pub(crate) fn objection_to(actor: u32, command: &BatchCommand, part: &Part) -> O
             if !is_in_phase(Phase::Keying, &part.ward) {
                 return Some(Reason::WrongPhase);
             }
-            if !differ(&part.first, &part.second) {
+            if !differ(&part.first, &part.second, &part.third) {
                 return Some(Reason::NoDifference);
             }
             None
         }
+        BatchCommand::Third { clerk, .. } => third_objection(*clerk, part),
     }
 }
 
@@ -149,6 +189,7 @@ pub(crate) fn subject_of(alloc: Global, command: &BatchCommand) -> Result<String
     match command {
         BatchCommand::Add { batch, .. } => format!(in alloc; "batch {batch}"),
         BatchCommand::Again { batch } => format!(in alloc; "again {batch}"),
+        BatchCommand::Third { batch, .. } => format!(in alloc; "third {batch}"),
     }
 }
 
@@ -166,6 +207,9 @@ pub(crate) fn reply_to(
         BatchCommand::Again { batch } => {
             let round = next_round(&part.batch);
             format!(in alloc; "batch {batch} round {round} open")
+        }
+        BatchCommand::Third { batch, clerk } => {
+            format!(in alloc; "batch {batch} third clerk {clerk}")
         }
     }
 }
@@ -193,5 +237,9 @@ pub(crate) fn effect_of(command: &BatchCommand, part: &Part) -> Effect
             batch: *batch,
             round: next_round(&part.batch),
         },
+        BatchCommand::Third { batch, clerk } => Effect::ThirdSet(ThirdClerk {
+            batch: *batch,
+            clerk: *clerk,
+        }),
     }
 }

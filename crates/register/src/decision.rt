@@ -1,6 +1,6 @@
 //! What the machine decides.
 
-use crate::batches::Batch;
+use crate::batches::{Batch, ThirdClerk};
 use crate::candidates::Candidate;
 use crate::counts::DrawnLot;
 use crate::keyings::KeyedPaper;
@@ -29,6 +29,8 @@ pub enum Effect {
     BatchAdded(Batch),
     /// The batch of this number is keyed in this round.
     BatchReopened { batch: u32, round: u32 },
+    /// This third clerk is set.
+    ThirdSet(ThirdClerk),
     /// These papers are keyed, all of one keying.
     PapersKeyed(Vec<KeyedPaper>),
     /// This paper is judged.

@@ -6,7 +6,7 @@ ghost use Rattle.votes.specs.Units.{max_seats, max_papers};
 ghost use Rattle.count.specs.Bundles.{papers_of};
 ghost use Rattle.count.specs.Law.Contest.{contest_for, IsContest};
 ghost use Rattle.register.specs.Papers.{batches_of};
-ghost use Rattle.register.specs.Polls.{all_rejected, poll_of, poll_entry, piles_of, ballots_in, ballots_by, first_judgements};
+ghost use Rattle.register.specs.Polls.{all_rejected, poll_of, poll_entry, piles_of, ballots_in, ballots_by, settled_judgements};
 ghost use Rattle.register.specs.Offices.{WardEntry, OfficeState, MapsRise, ward_entry, candidate_entry, lot_entry, ward_at, candidates_of};
 ghost use Rattle.register.specs.Nominations.{is_contested};
 ghost use Rattle.register.specs.Elections.{ElectionEntry, IsElection, lot_pair, election_of, has_count, is_counted, is_in_count, contest_of, due_of, elected_of};
@@ -81,10 +81,11 @@ pub fn elections_are_fair()
 {}
 
 /// The law of the papers of a ward that is in count: at a state each of its batches is settled, so that
-/// its papers come to what those that the first clerks keyed come to alone.
-pub fn first_keyings_suffice()
+/// its papers come to what one keying of each batch comes to: where two clerks key it, that of the lower
+/// number.
+pub fn settled_papers_suffice()
     ensures { (s : OfficeState) (w : WardEntry) (columns : List ℕ) → IsState s → ward_at s w.number ≡ Some w → is_in_count (election_of s w) ≡ true
-        → ballots_in columns (piles_of s w.number) ≡ ballots_by (first_judgements columns (piles_of s w.number)) }
+        → ballots_in columns (piles_of s w.number) ≡ ballots_by (settled_judgements s columns (batches_of s w.number)) }
 {}
 
 /// Whether a ward with these candidates is in count: it has been sealed, and its election is contested.

@@ -1,14 +1,14 @@
 //! Keyed papers, and the command of the clerks.
 
-ghost use Rattle.std.specs.Prelude.{◌≡◌, IfOk, IfNone, map, string_bytes};
+ghost use Rattle.std.specs.Prelude.{◌≡◌, IfOk, IfNone, map, option_map, string_bytes};
 ghost use Rattle.register.specs.Reasons.{first_reason};
-ghost use Rattle.register.specs.Offices.{batch_entry, keyed_entry};
-ghost use Rattle.register.specs.Papers.{is_its_clerk};
+ghost use Rattle.register.specs.Offices.{batch_entry, third_entry, keyed_entry};
+ghost use Rattle.register.specs.Papers.{is_third_clerk, is_its_clerk};
 ghost use Rattle.register.specs.Parts.{part_entries};
 ghost use Rattle.register.specs.Effects.{effect_entry};
 ghost use Rattle.register.specs.Keyings.{is_in_range, IsNumbered, objections, subject_of, reply_to, effect_of, papers_from};
 
-use crate::batches::Batch;
+use crate::batches::{Batch, ThirdClerk};
 use crate::decision::Effect;
 use crate::marks::{columns_of, first_bad_marks};
 use crate::papers::is_keyed;
@@ -48,11 +48,21 @@ fn is_in_range(actor: u32, command: &KeyingCommand) -> bool
     clerk & (number & is_round(command.round))
 }
 
-/// Whether a clerk is one of the two who key a batch.
-pub fn is_its_clerk(clerk: u32, batch: &Batch) -> bool
-    ensures { result ≡ is_its_clerk clerk (batch_entry batch.now) }
+/// Whether a clerk is the third one, where one is set.
+fn is_third_clerk(clerk: u32, third: &Option<ThirdClerk>) -> bool
+    ensures { result ≡ is_third_clerk clerk (option_map third_entry third.now) }
 {
-    clerk == batch.first_clerk || clerk == batch.second_clerk
+    match third {
+        Some(third) => clerk == third.clerk,
+        None => false,
+    }
+}
+
+/// Whether a clerk is one of those who key a batch: its two, and a third once one is set.
+pub fn is_its_clerk(clerk: u32, batch: &Batch, third: &Option<ThirdClerk>) -> bool
+    ensures { result ≡ is_its_clerk clerk (batch_entry batch.now) (option_map third_entry third.now) }
+{
+    clerk == batch.first_clerk || clerk == batch.second_clerk || is_third_clerk(clerk, third)
 }
 
 /// What stands against the command: of several reasons the one with the lowest number.
@@ -69,7 +79,7 @@ pub(crate) fn objection_to(actor: u32, command: &KeyingCommand, part: &Part) -> 
     if !is_in_phase(Phase::Keying, &part.ward) {
         return Some(Reason::WrongPhase);
     }
-    if !is_its_clerk(actor, batch) {
+    if !is_its_clerk(actor, batch, &part.third_clerk) {
         return Some(Reason::NotItsClerk);
     }
     if batch.round != command.round {

@@ -46,7 +46,7 @@ pub mod wards;
 // The machine, which chooses among the subjects.
 mod machine;
 
-pub use batches::{Batch, BatchCommand};
+pub use batches::{Batch, BatchCommand, ThirdClerk};
 pub use candidates::{Candidate, CandidateCommand};
 pub use command::{Command, Request};
 pub use counts::{CountCommand, DrawnLot};

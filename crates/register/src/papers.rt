@@ -1,10 +1,12 @@
-//! How the papers of a batch stand: keyed by its clerks, taken where both keyings agree.
+//! How the papers of a batch stand: keyed by its clerks, taken where two keyings agree.
 
-ghost use Rattle.std.specs.Prelude.{◌≡◌, length, map};
+ghost use Rattle.std.specs.Prelude.{◌≡◌, length, map, option_map};
 ghost use Rattle.std.specs.List.{filter};
-ghost use Rattle.register.specs.Offices.{keyed_entry, judged_entry};
-ghost use Rattle.register.specs.Papers.{is_keyed, same_marks, are_taken, differ, is_doubtful, has_doubtful, has_verdict, is_open};
+ghost use Rattle.register.specs.Offices.{batch_entry, third_entry, keyed_entry, judged_entry};
+ghost use Rattle.register.specs.Papers.{is_keyed, of_three, same_marks, agreed, are_taken, differ, clerks, clerk_list, is_doubtful, has_doubtful, has_verdict, is_open};
+ghost use Rattle.register.specs.Polls.{lower_clerk};
 
+use crate::batches::{Batch, ThirdClerk};
 use crate::keyings::KeyedPaper;
 use crate::verdicts::JudgedPaper;
 
@@ -31,18 +33,97 @@ fn same_marks(first: &[KeyedPaper], second: &[KeyedPaper]) -> bool
     true
 }
 
-/// Whether a batch is taken by two clerks' keyings of its current round: both are there and equal.
-pub fn are_taken(first: &[KeyedPaper], second: &[KeyedPaper]) -> bool
-    ensures { result ≡ are_taken (map keyed_entry first.now) (map keyed_entry second.now) }
+#[tactic(auto, using(crate::proofs::AgreedLemmas::agreed_three))]
+/// Of three clerks' keyings of a round, in the order of the clerks' numbers, the first that one behind it
+/// equals: the papers that a batch is taken with. A keying that isn't there is empty, and so is the answer
+/// where no two are equal.
+pub fn agreed<'a>(
+    first: &'a [KeyedPaper],
+    second: &'a [KeyedPaper],
+    third: &'a [KeyedPaper],
+) -> &'a [KeyedPaper]
+    ensures { map keyed_entry result.now ≡ agreed (of_three (map keyed_entry first.now) (map keyed_entry second.now) (map keyed_entry third.now)) }
 {
-    is_keyed(first) && is_keyed(second) && same_marks(first, second)
+    if is_keyed(first) & (same_marks(first, second) | same_marks(first, third)) {
+        return first;
+    }
+    if is_keyed(second) & same_marks(second, third) {
+        return second;
+    }
+    &[]
 }
 
-/// Whether two clerks' keyings of a round differ: both are there and unequal.
-pub fn differ(first: &[KeyedPaper], second: &[KeyedPaper]) -> bool
-    ensures { result ≡ differ (map keyed_entry first.now) (map keyed_entry second.now) }
+/// Whether a batch is taken by the keyings of its current round: two of those that are there are equal.
+pub fn are_taken(first: &[KeyedPaper], second: &[KeyedPaper], third: &[KeyedPaper]) -> bool
+    ensures { result ≡ are_taken (of_three (map keyed_entry first.now) (map keyed_entry second.now) (map keyed_entry third.now)) }
 {
-    is_keyed(first) && is_keyed(second) && !same_marks(first, second)
+    is_keyed(agreed(first, second, third))
+}
+
+/// How many of three keyings are there.
+fn count_keyed(first: &[KeyedPaper], second: &[KeyedPaper], third: &[KeyedPaper]) -> u32
+    ensures { result ≡ length (of_three (map keyed_entry first.now) (map keyed_entry second.now) (map keyed_entry third.now)) }
+{
+    u32::from(is_keyed(first)) + u32::from(is_keyed(second)) + u32::from(is_keyed(third))
+}
+
+/// Whether the keyings of a round differ: at least two are there, and no two of those are equal.
+pub fn differ(first: &[KeyedPaper], second: &[KeyedPaper], third: &[KeyedPaper]) -> bool
+    ensures { result ≡ differ (of_three (map keyed_entry first.now) (map keyed_entry second.now) (map keyed_entry third.now)) }
+{
+    2 <= count_keyed(first, second, third) && !are_taken(first, second, third)
+}
+
+/// The clerks who key a batch, in the order of their numbers.
+#[derive(Clone, Copy, Debug)]
+pub struct Clerks {
+    pub first: u32,
+    pub second: u32,
+    pub third: Option<u32>,
+}
+
+/// The clerks who key a batch: its two, and a third one where one is set.
+pub fn clerks_of(batch: &Batch, third: &Option<ThirdClerk>) -> Clerks
+    ensures { clerk_list result ≡ clerks (batch_entry batch.now) (option_map third_entry third.now) }
+{
+    let (low, high) = if batch.first_clerk < batch.second_clerk {
+        (batch.first_clerk, batch.second_clerk)
+    } else {
+        (batch.second_clerk, batch.first_clerk)
+    };
+    match third {
+        Some(third) if third.clerk < low => Clerks {
+            first: third.clerk,
+            second: low,
+            third: Some(high),
+        },
+        Some(third) if third.clerk < high => Clerks {
+            first: low,
+            second: third.clerk,
+            third: Some(high),
+        },
+        Some(third) => Clerks {
+            first: low,
+            second: high,
+            third: Some(third.clerk),
+        },
+        None => Clerks {
+            first: low,
+            second: high,
+            third: None,
+        },
+    }
+}
+
+/// Of the two clerks who first key a batch the one with the lower number.
+pub fn lower_clerk(batch: &Batch) -> u32
+    ensures { result ≡ lower_clerk (batch_entry batch.now) }
+{
+    if batch.first_clerk < batch.second_clerk {
+        batch.first_clerk
+    } else {
+        batch.second_clerk
+    }
 }
 
 /// Whether a paper is keyed as doubtful.

@@ -5,11 +5,12 @@ ghost use Rattle.std.specs.List.{flat_map};
 ghost use Rattle.paper.specs.MarksText.{reading};
 ghost use Rattle.paper.specs.Preferences.{rejection_of};
 ghost use Rattle.register.specs.Offices.{keyed_entry, judged_entry};
+ghost use Rattle.register.specs.Papers.{of_three};
 ghost use Rattle.register.specs.Walks.{and_rejected};
 ghost use Rattle.register.specs.Polls.{Pile, StandFor, are_listed, are_bundled, by_rejection, by_reading, by_verdict, judgement_on, judgements_on, preferences_by, ballots_in, ballots_by};
 
 use crate::keyings::KeyedPaper;
-use crate::papers::{are_taken, count_open};
+use crate::papers::{agreed, are_taken, count_open};
 use crate::verdicts::JudgedPaper;
 use count::Bundles;
 use paper::{Columns, Keyed, Marked, Marks, Prefs, judge};
@@ -187,25 +188,25 @@ impl<P: KeepsPapers> Ballots<P> {
         }
     }
 
-    /// Adds the papers of a batch more, from its two keyings of the current round and the verdicts on its
-    /// papers. Nothing comes of one that isn't taken, but that the ward isn't ready. An error is want of
-    /// memory, and the papers before are spoilt then.
+    /// Adds the papers of a batch more, from its three clerks' keyings of the current round, in the order of
+    /// the clerks' numbers and empty where they aren't there, and the verdicts on its papers. Nothing comes of
+    /// one that isn't taken, but that the ward isn't ready. An error is want of memory, and the papers before
+    /// are spoilt then.
     pub fn add(
         &mut self,
         columns: Columns,
         first: &[KeyedPaper],
         second: &[KeyedPaper],
+        third: &[KeyedPaper],
         verdicts: &[JudgedPaper],
     ) -> Result<(), AllocError>
         ensures { IfOk result (λ _. (piles : _) → StandFor P.holds self.old (ballots_in columns piles)
-            → StandFor P.holds self.new (ballots_in columns (piles ++ (record { first = map keyed_entry first.now; second = map keyed_entry second.now; verdicts = map judged_entry verdicts.now } ∷ [])))) }
+            → StandFor P.holds self.new (ballots_in columns (piles ++ (record { keyings = of_three (map keyed_entry first.now) (map keyed_entry second.now) (map keyed_entry third.now); verdicts = map judged_entry verdicts.now } ∷ [])))) }
     {
-        if !are_taken(first, second) {
-            self.settled = false;
-            return Ok(());
-        }
-        self.settled &= count_open(first, verdicts) == 0;
-        self.count_each(columns, verdicts, first)
+        let papers = agreed(first, second, third);
+        let judged = count_open(papers, verdicts) == 0;
+        self.settled &= are_taken(first, second, third) & judged;
+        self.count_each(columns, verdicts, papers)
     }
 
     /// Adds a paper more, of a batch that is settled, as it is keyed, with the verdicts on the batch's papers.

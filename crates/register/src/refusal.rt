@@ -35,7 +35,7 @@ pub enum Reason {
     NoSuchCandidate,
     /// The ward has no candidates.
     NoCandidates,
-    /// Both clerks of the batch are one.
+    /// Both clerks of the batch are one, or the third one keys it already.
     SameClerk,
     /// The actor is none of the batch's clerks.
     NotItsClerk,
@@ -47,9 +47,9 @@ pub enum Reason {
     WrongPaperCount,
     /// The marks text of this paper, the first such one, has the mark fault of this number.
     BadMarks { paper: u32, fault: u32 },
-    /// Not both keyings of the batch's current round are there, or they are equal.
+    /// Fewer than two keyings of the batch's current round are there, or two of them are equal.
     NoDifference,
-    /// Not both keyings of the batch's current round are there, or they are unequal.
+    /// No two keyings of the batch's current round are equal.
     NotTaken,
     /// The batch has no paper of this number that is keyed as doubtful.
     NotDoubtful,
@@ -70,6 +70,8 @@ pub enum Reason {
     NotAmong,
     /// A vacancy is left.
     CountNotFinished,
+    /// The batch has a third clerk.
+    ThirdSet,
 }
 
 impl Reason {
@@ -108,6 +110,7 @@ impl Reason {
             Reason::NoSuchLot => (27, "no such lot due"),
             Reason::NotAmong => (28, "not among the tied"),
             Reason::CountNotFinished => (29, "count not finished"),
+            Reason::ThirdSet => (30, "third clerk is set"),
         }
     }
 

@@ -4,8 +4,8 @@ use crate::phase::Phase;
 use paper::Columns;
 
 /// How the election of a ward (1 to 99) stands: its phase; how many candidates and batches it has; how many
-/// of the batches are taken, both keyings of their current round being there and equal, and how many
-/// differ, both being there and unequal; how many doubtful papers of the taken ones have no verdict yet;
+/// of the batches are taken, two keyings of their current round being equal, and how many differ, at least two
+/// being there and no two equal; how many doubtful papers of the taken ones have no verdict yet;
 /// and how many stages of its count are done.
 #[derive(Clone, Copy, Debug, PartialEq, Eq)]
 pub struct Status {

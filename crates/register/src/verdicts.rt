@@ -8,7 +8,7 @@ ghost use Rattle.register.specs.Verdicts.{is_in_range, is_rejection_code, is_ver
 
 use crate::decision::Effect;
 use crate::marks::{columns_of, is_valid, marks_objection};
-use crate::papers::{are_taken, has_doubtful};
+use crate::papers::{agreed, are_taken, has_doubtful};
 use crate::phase::Phase;
 use crate::ranges::{is_batch_number, is_between, is_paper_number};
 use crate::refusal::Reason;
@@ -104,10 +104,11 @@ pub(crate) fn objection_to(actor: u32, command: &VerdictCommand, part: &Part) ->
     if let Some(reason) = verdict_objection(columns, command.paper, &command.verdict) {
         return Some(reason);
     }
-    if !are_taken(&part.first, &part.second) {
+    let papers = agreed(&part.first, &part.second, &part.third);
+    if !are_taken(&part.first, &part.second, &part.third) {
         return Some(Reason::NotTaken);
     }
-    if !has_doubtful(&part.first, command.paper) {
+    if !has_doubtful(papers, command.paper) {
         return Some(Reason::NotDoubtful);
     }
     if part.verdict.is_some() {

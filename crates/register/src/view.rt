@@ -3,7 +3,7 @@
 ghost use Rattle.std.specs.Prelude.{◌≡◌};
 ghost use Rattle.register.specs.Parts.{part_entries, empty_part};
 
-use crate::batches::Batch;
+use crate::batches::{Batch, ThirdClerk};
 use crate::candidates::Candidate;
 use crate::elections::Count;
 use crate::keyings::KeyedPaper;
@@ -16,20 +16,24 @@ use paper::Columns;
 use std::alloc::Global;
 
 /// What any command may need of the state, each there only where the command needs it and the state has
-/// it: the ward that it names, or that the batch which it names belongs to; the candidate that it names;
-/// the ward's candidates in the order of their numbers; the batch that it names; the actor's own keying
-/// of it; the first and the second clerk's keyings of its current round; the verdict on the paper that it
-/// names; the poll of the ward; what is due in the ward's count by the recorded lots, and who is elected
-/// after the stages done; and the count that a stage is to be added to. A keying is in the order of its papers.
+/// it: the ward that it names, or that the batch which it names belongs to; the candidate that it
+/// names; the ward's candidates in the order of their numbers; the batch that it names, and its third
+/// clerk; the actor's own keying of it; the keyings of its current round by its two or three clerks, in
+/// the order of the clerks' numbers, each empty where it isn't there; the verdict on the paper that it
+/// names; the poll of the ward; what is due in the ward's count by the recorded lots, and who is
+/// elected after the stages done; and the count that a stage is to be added to. A keying is in the
+/// order of its papers.
 #[derive(Debug, Drop)]
 pub struct Part {
     pub ward: Option<Ward>,
     pub candidate: Option<Candidate>,
     pub candidates: Vec<Candidate>,
     pub batch: Option<Batch>,
+    pub third_clerk: Option<ThirdClerk>,
     pub own: Vec<KeyedPaper>,
     pub first: Vec<KeyedPaper>,
     pub second: Vec<KeyedPaper>,
+    pub third: Vec<KeyedPaper>,
     pub verdict: Option<JudgedPaper>,
     pub poll: Option<Poll>,
     pub due: Option<Due>,
@@ -47,9 +51,11 @@ impl Part {
             candidate: None,
             candidates: Vec::new(alloc),
             batch: None,
+            third_clerk: None,
             own: Vec::new(alloc),
             first: Vec::new(alloc),
             second: Vec::new(alloc),
+            third: Vec::new(alloc),
             verdict: None,
             poll: None,
             due: None,

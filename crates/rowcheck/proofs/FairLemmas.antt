@@ -13,7 +13,7 @@ use Rattle.register.specs.declared.counts.DrawnLot.{DrawnLot}
 use Rattle.register.specs.Offices.{WardEntry, LotEntry, OfficeState, ward_entry, lot_entry, ward_cmp, ward_compared, entry_at, ward_at, candidates_of}
 use Rattle.register.specs.Nominations.{is_contested}
 use Rattle.register.specs.Elections.{election_of, contest_of, is_counted_right}
-use Rattle.register.specs.Items.{is_ward, is_candidate, is_batch, is_keyed_paper, is_judged_paper, is_lot, is_receipt, item1, item7}
+use Rattle.register.specs.Items.{is_ward, is_candidate, is_batch, is_third, is_keyed_paper, is_judged_paper, is_lot, is_receipt, item1, item7}
 use Rattle.register.proofs.MapLemmas.{each_weaker}
 use Rattle.rowcheck.specs.declared.rows.Rows.{Rows}
 use Rattle.rowcheck.specs.States.{state_of}
@@ -25,7 +25,8 @@ pub lots_in_range : (s : OfficeState) → item1 s ≡ true → list_all is_lot s
 lots_in_range s in_range =
     let candidates = (and_parts (list_all is_ward s.wards) _ in_range).1 in
     let batches = (and_parts (list_all is_candidate s.candidates) _ candidates).1 in
-    let keyings = (and_parts (list_all is_batch s.batches) _ batches).1 in
+    let thirds = (and_parts (list_all is_batch s.batches) _ batches).1 in
+    let keyings = (and_parts (list_all is_third s.thirds) _ thirds).1 in
     let verdicts = (and_parts (list_all is_keyed_paper s.keyings) _ keyings).1 in
     let lots = (and_parts (list_all is_judged_paper s.verdicts) _ verdicts).1 in
     (and_parts (list_all is_lot s.lots) (list_all is_receipt s.receipts) lots).0

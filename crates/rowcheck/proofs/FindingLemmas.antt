@@ -116,15 +116,6 @@ number_and m a o b same = then_eq (nat_cmp m a) o ∙ rw (unsigned_tied m a, sam
 pub three_equal : (m a n b p c : ℕ) → is_eq (ordering_then (nat_cmp m a) (ordering_then (nat_cmp n b) (nat_cmp p c))) ≡ ((m == a) && ((n == b) && (p == c)))
 three_equal m a n b p c = number_and m a _ _ (number_and n b _ _ (unsigned_tied p c))
 
-pub four_equal : (m a n b p c q d : ℕ)
-    → is_eq (ordering_then (nat_cmp m a) (ordering_then (nat_cmp n b) (ordering_then (nat_cmp p c) (nat_cmp q d)))) ≡ (((m == a) && ((n == b) && (p == c))) && (q == d))
-four_equal m a n b p c q d = number_and m a _ _ (number_and n b _ _ (number_and p c _ _ (unsigned_tied q d))) ∙ regroup (m == a) (n == b) (p == c) (q == d)
-  where
-    regroup : (s t u v : Bool) → (s && (t && (u && v))) ≡ ((s && (t && u)) && v)
-    regroup true true u v = refl
-    regroup true false u v = refl
-    regroup false t u v = refl
-
 module _ {X Y : Type 0} (f : X → Y) (p : Y → Bool) (q : X → Bool) (alike : (x : X) → q x ≡ p (f x)) where
   -- the entries of the rows that are found
   pub entries_found : (xs : List X) → map f (filter q xs) ≡ filter p (map f xs)
@@ -143,15 +134,6 @@ module _ {X Y : Type 0} (f : X → Y) (p : Y → Bool) (q : X → Bool) (alike :
       go : (b : Bool) → option_map f (slice_get (filter q xs) 0) ≡ find p (map f xs) → option_map f (slice_get (cond b (x ∷ filter q xs) (filter q xs)) 0) ≡ cond b (Some (f x)) (find p (map f xs))
       go true later = refl
       go false later = later
-
--- looking among those that pass a test is looking for one that passes both
-pub found_among : {Y : Type 0} (p q : Y → Bool) (ys : List Y) → find p (filter q ys) ≡ find (λ y. q y && p y) ys
-found_among p q [] = refl
-found_among {Y} p q (y ∷ ys) = go (q y) (found_among p q ys)
-  where
-    go : (b : Bool) → find p (filter q ys) ≡ find (λ z. q z && p z) ys → find p (cond b (y ∷ filter q ys) (filter q ys)) ≡ cond (b && p y) (Some y) (find (λ z. q z && p z) ys)
-    go true later = ap (λ o. cond (p y) (Some y) o) later
-    go false later = later
 
 -- an entry is found where a row is
 pub some_found : {X Y : Type 0} (f : X → Y) (o : Option (Bor X)) → is_some (option_map f (option_copied o)) ≡ is_some o

@@ -4,7 +4,7 @@ pub mod BisectionLemmas
 pub mod FindingLemmas
 pub mod NominationLemmas
 pub mod KeyingLemmas
-pub mod VerdictLemmas
+pub mod RoundLemmas
 pub mod PollLemmas
 pub mod CountLemmas
 pub mod TabulatedLemmas

@@ -1,6 +1,6 @@
 -- The maps that rows stand for, and what they have tabulated of the counts.
 use Rattle.std.specs.Prelude.{map}
-use Rattle.register.specs.Offices.{OfficeState, ward_entry, candidate_entry, batch_entry, keyed_entry, judged_entry, lot_entry, receipt_entry}
+use Rattle.register.specs.Offices.{OfficeState, ward_entry, candidate_entry, batch_entry, third_entry, keyed_entry, judged_entry, lot_entry, receipt_entry}
 use Rattle.register.specs.Tabulated.{TabulationEntries, placed_entry, figure_entry}
 use Rattle.rowcheck.specs.declared.rows.Rows.{Rows}
 
@@ -11,6 +11,7 @@ state_of rows =
       wards = map ward_entry rows.wards.items;
       candidates = map candidate_entry rows.candidates.items;
       batches = map batch_entry rows.batches.items;
+      thirds = map third_entry rows.thirds.items;
       keyings = map keyed_entry rows.keyings.items;
       verdicts = map judged_entry rows.verdicts.items;
       lots = map lot_entry rows.lots.items;

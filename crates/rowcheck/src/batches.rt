@@ -1,16 +1,16 @@
-//! Batches, and the wards that they belong to.
+//! Batches, the wards that they belong to, and third clerks.
 
 ghost use Rattle.std.specs.Prelude.{◌≡◌, map, option_map, option_copied};
 ghost use Rattle.std.specs.List.{list_all};
-ghost use Rattle.register.specs.Offices.{MapsRise, ward_entry, candidate_entry, batch_entry};
-ghost use Rattle.register.specs.Keyed.{is_polled, is_given_out};
+ghost use Rattle.register.specs.Offices.{MapsRise, ward_entry, candidate_entry, batch_entry, third_entry, batch_at};
+ghost use Rattle.register.specs.Keyed.{is_polled, is_given_out, is_third_for};
 ghost use Rattle.register.specs.Items.{item3};
 ghost use Rattle.rowcheck.specs.States.{state_of};
 
-use crate::finding::{candidates_of, ward_at};
+use crate::finding::{batch_at, candidates_of, ward_at};
 use crate::rows::Rows;
 use register::wards::is_contested;
-use register::{Batch, Candidate, Phase, Ward};
+use register::{Batch, Candidate, Phase, ThirdClerk, Ward};
 
 /// Whether a ward is there, past its nominations and contested.
 fn is_polled(ward: Option<&Ward>, candidates: &[Candidate]) -> bool
@@ -42,11 +42,42 @@ fn are_given_out(rows: &Rows, batches: &[Batch]) -> bool
     batches.iter().all(|batch| is_given_out(rows, batch))
 }
 
-/// Whether batches belong to contested wards past their nominations, and their two clerks differ. The
-/// third condition on the rows of an office, whose tables stand in the order of their keys, no key twice.
+/// Whether a batch is there, and a third clerk is neither of its two.
+fn is_third_for(third: &ThirdClerk, batch: Option<&Batch>) -> bool
+    ensures { result ≡ is_third_for (third_entry third.now) (option_map batch_entry (option_copied batch.entry)) }
+{
+    match batch {
+        Some(batch) => {
+            let is_first = third.clerk == batch.first_clerk;
+            let is_second = third.clerk == batch.second_clerk;
+            !is_first & !is_second
+        }
+        None => false,
+    }
+}
+
+/// Whether a third clerk has a batch that is there, and is neither of its two.
+fn is_set_right(rows: &Rows, third: &ThirdClerk) -> bool
+    requires { MapsRise (state_of rows.now) }
+    ensures { result ≡ is_third_for (third_entry third.now) (batch_at (state_of rows.now) third.now.batch) }
+{
+    is_third_for(third, batch_at(rows, third.batch))
+}
+
+fn are_set_right(rows: &Rows, thirds: &[ThirdClerk]) -> bool
+    requires { MapsRise (state_of rows.now) }
+    ensures { result ≡ list_all (λ t. is_third_for (third_entry t) (batch_at (state_of rows.now) t.batch)) thirds.now }
+{
+    thirds.iter().all(|third| is_set_right(rows, third))
+}
+
+/// Whether batches belong to contested wards past their nominations, and their two clerks differ; and third
+/// clerks belong to batches that are there, and are neither of their two. The third condition on the rows
+/// of an office, whose tables stand in the order of their keys, no key twice.
 pub fn item3(rows: &Rows) -> bool
     requires { MapsRise (state_of rows.now) }
     ensures { result ≡ item3 (state_of rows.now) }
 {
-    are_given_out(rows, &rows.batches)
+    let given_out = are_given_out(rows, &rows.batches);
+    given_out & are_set_right(rows, &rows.thirds)
 }

@@ -1,14 +1,16 @@
 //! Entries of an office among its rows, found by their keys.
 
-ghost use Rattle.std.specs.Prelude.{◌≡◌, ◌==◌, map, find, is_some, option_map, option_copied};
+ghost use Rattle.std.specs.Prelude.{◌≡◌, map, is_some, option_map, option_copied};
 ghost use Rattle.std.specs.Ordering.{nat_cmp, ordering_then};
-ghost use Rattle.register.specs.Offices.{MapsRise, ward_entry, candidate_entry, batch_entry, keyed_entry, judged_entry, lot_entry, ward_at, candidates_of, batch_at, keying_of, verdicts_of, lots_of};
+ghost use Rattle.register.specs.Offices.{MapsRise, ward_entry, candidate_entry, batch_entry, third_entry, keyed_entry, judged_entry, lot_entry, ward_at, candidates_of, batch_at, third_at, keying_of, verdicts_of, lots_of};
+ghost use Rattle.register.specs.Papers.{of_three, keyings_in};
 ghost use Rattle.rowcheck.specs.States.{state_of};
-ghost use Rattle.rowcheck.specs.Walks.Keyings.{papers_of};
+ghost use Rattle.rowcheck.specs.Walks.Keyings.{papers_of, keying_by};
 
 use crate::rows::Rows;
 use crate::runs::{Row, run_of};
-use register::{Batch, Candidate, DrawnLot, JudgedPaper, KeyedPaper, Ward};
+use register::papers::clerks_of;
+use register::{Batch, Candidate, DrawnLot, JudgedPaper, KeyedPaper, ThirdClerk, Ward};
 use std::cmp::Ordering;
 
 /// The key of a keying: what a clerk keyed of a batch in a round.
@@ -19,13 +21,12 @@ struct KeyingKey {
     clerk: u32,
 }
 
-/// The key of a keyed paper.
+/// The keyings of a batch in a round, in the order of the clerks' numbers, each empty where it isn't there.
 #[derive(Clone, Copy)]
-struct PaperKey {
-    batch: u32,
-    round: u32,
-    clerk: u32,
-    paper: u32,
+pub(crate) struct Keyings<'a> {
+    pub(crate) first: &'a [KeyedPaper],
+    pub(crate) second: &'a [KeyedPaper],
+    pub(crate) third: &'a [KeyedPaper],
 }
 
 impl Row<u32> for Ward {
@@ -52,6 +53,14 @@ impl Row<u32> for Batch {
     }
 }
 
+impl Row<u32> for ThirdClerk {
+    ghost compared = { λ t batch. nat_cmp t.batch batch };
+
+    fn compared(&self, batch: &u32) -> Ordering {
+        self.batch.cmp(batch)
+    }
+}
+
 impl Row<u32> for KeyedPaper {
     ghost compared = { λ k batch. nat_cmp k.batch batch };
 
@@ -65,17 +74,6 @@ impl Row<KeyingKey> for KeyedPaper {
 
     fn compared(&self, key: &KeyingKey) -> Ordering {
         let clerks = self.clerk.cmp(&key.clerk);
-        let rounds = self.round.cmp(&key.round).then(clerks);
-        self.batch.cmp(&key.batch).then(rounds)
-    }
-}
-
-impl Row<PaperKey> for KeyedPaper {
-    ghost compared = { λ k key. ordering_then (nat_cmp k.batch key.batch) (ordering_then (nat_cmp k.round key.round) (ordering_then (nat_cmp k.clerk key.clerk) (nat_cmp k.paper key.paper))) };
-
-    fn compared(&self, key: &PaperKey) -> Ordering {
-        let papers = self.paper.cmp(&key.paper);
-        let clerks = self.clerk.cmp(&key.clerk).then(papers);
         let rounds = self.round.cmp(&key.round).then(clerks);
         self.batch.cmp(&key.batch).then(rounds)
     }
@@ -121,15 +119,45 @@ pub(crate) fn candidates_of(rows: &Rows, ward: u32) -> &[Candidate]
     run_of(&rows.candidates, &ward)
 }
 
+/// The batch with this number.
+pub(crate) fn batch_at(rows: &Rows, number: u32) -> Option<&Batch>
+    requires { MapsRise (state_of rows.now) }
+    ensures { option_map batch_entry (option_copied result) ≡ batch_at (state_of rows.now) number }
+{
+    run_of(&rows.batches, &number).first()
+}
+
 /// Whether there is a batch with this number.
 pub(crate) fn has_batch(rows: &Rows, number: u32) -> bool
     requires { MapsRise (state_of rows.now) }
     ensures { result ≡ is_some (batch_at (state_of rows.now) number) }
 {
-    run_of(&rows.batches, &number).first().is_some()
+    batch_at(rows, number).is_some()
 }
 
-/// The papers that are keyed of a batch, in all its rounds and by both its clerks.
+/// The row of a batch's third clerk, if one is set.
+fn third_row(rows: &Rows, batch: u32) -> Option<&ThirdClerk>
+    requires { MapsRise (state_of rows.now) }
+    ensures { option_map third_entry (option_copied result) ≡ third_at (state_of rows.now) batch }
+{
+    run_of(&rows.thirds, &batch).first()
+}
+
+/// The third clerk of a batch, if one is set.
+pub(crate) fn third_at(rows: &Rows, batch: u32) -> Option<ThirdClerk>
+    requires { MapsRise (state_of rows.now) }
+    ensures { option_map third_entry result ≡ third_at (state_of rows.now) batch }
+{
+    match third_row(rows, batch) {
+        Some(third) => Some(ThirdClerk {
+            batch: third.batch,
+            clerk: third.clerk,
+        }),
+        None => None,
+    }
+}
+
+/// The papers that are keyed of a batch, in all its rounds and by all its clerks.
 pub(crate) fn papers_of(rows: &Rows, batch: u32) -> &[KeyedPaper]
     requires { MapsRise (state_of rows.now) }
     ensures { map keyed_entry result.now ≡ papers_of (state_of rows.now) batch }
@@ -150,18 +178,28 @@ pub(crate) fn keying_of(rows: &Rows, batch: u32, round: u32, clerk: u32) -> &[Ke
     run_of(&rows.keyings, &key)
 }
 
-/// The paper with this number in a keying of the batch, that of its current round by its first clerk.
-pub(crate) fn first_paper<'a>(rows: &'a Rows, batch: &Batch, paper: u32) -> Option<&'a KeyedPaper>
+/// What a clerk keyed of a batch in a round, or nothing where there is no such clerk.
+fn keying_by(rows: &Rows, batch: u32, round: u32, clerk: Option<u32>) -> &[KeyedPaper]
     requires { MapsRise (state_of rows.now) }
-    ensures { option_map keyed_entry (option_copied result) ≡ find (λ k. k.paper == paper) (keying_of (state_of rows.now) batch.now.number batch.now.round batch.now.first_clerk) }
+    ensures { map keyed_entry result.now ≡ keying_by (state_of rows.now) batch round clerk }
 {
-    let key = PaperKey {
-        batch: batch.number,
-        round: batch.round,
-        clerk: batch.first_clerk,
-        paper,
-    };
-    run_of(&rows.keyings, &key).first()
+    match clerk {
+        Some(clerk) => keying_of(rows, batch, round, clerk),
+        None => &[],
+    }
+}
+
+/// The keyings of a batch in a round by its two or three clerks, in the order of their numbers.
+pub(crate) fn keyings_in<'a>(rows: &'a Rows, batch: &Batch, round: u32) -> Keyings<'a>
+    requires { MapsRise (state_of rows.now) }
+    ensures { of_three (map keyed_entry result.first.now) (map keyed_entry result.second.now) (map keyed_entry result.third.now) ≡ keyings_in (state_of rows.now) (batch_entry batch.now) round }
+{
+    let clerks = clerks_of(batch, &third_at(rows, batch.number));
+    Keyings {
+        first: keying_of(rows, batch.number, round, clerks.first),
+        second: keying_of(rows, batch.number, round, clerks.second),
+        third: keying_by(rows, batch.number, round, clerks.third),
+    }
 }
 
 /// The verdicts on papers of a batch, in the order of the papers.

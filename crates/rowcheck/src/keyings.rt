@@ -3,23 +3,23 @@
 //! Each keyed paper has its batch; then the papers of each batch are read by its columns, and its rounds
 //! are gone through, each keying a run of the rows.
 
-ghost use Rattle.std.specs.Prelude.{◌≡◌, ◌&&◌, true, nat_le, map, is_some, IfSome, string_bytes};
+ghost use Rattle.std.specs.Prelude.{◌≡◌, ◌&&◌, ◌||◌, not, true, nat_le, map, is_some, option_map, IfSome, string_bytes};
 ghost use Rattle.std.specs.List.{list_all};
-ghost use Rattle.register.specs.Offices.{MapsRise, batch_entry, keyed_entry, batch_at};
+ghost use Rattle.register.specs.Offices.{MapsRise, batch_entry, third_entry, keyed_entry, batch_at};
 ghost use Rattle.register.specs.Marks.{is_readable};
-ghost use Rattle.register.specs.Papers.{is_its_clerk};
+ghost use Rattle.register.specs.Papers.{is_keyed, is_its_clerk, of_three};
 ghost use Rattle.register.specs.Keyed.{is_whole, are_numbered, is_round_of, are_rounds_to};
 ghost use Rattle.register.specs.Items.{item4};
 ghost use Rattle.rowcheck.specs.States.{state_of};
 ghost use Rattle.rowcheck.specs.Walks.Keyings.{are_keyed_for, is_rightly_keyed};
 
-use crate::finding::{candidates_of, has_batch, keying_of, papers_of};
+use crate::finding::{Keyings, candidates_of, has_batch, keyings_in, papers_of, third_at};
 use crate::rows::Rows;
 use paper::Columns;
 use register::keyings::is_its_clerk;
 use register::marks::{columns_of, is_readable};
 use register::papers::differ;
-use register::{Batch, KeyedPaper};
+use register::{Batch, KeyedPaper, ThirdClerk};
 
 /// Whether there is a batch with this number, where that of another number may be known to be there.
 fn is_there(rows: &Rows, known: Option<u32>, number: u32) -> bool
@@ -51,20 +51,30 @@ fn are_of_batches(rows: &Rows, keyings: &[KeyedPaper]) -> bool
 
 /// Whether a paper of a batch is keyed in a round up to its current one, by one of its clerks, with marks
 /// that these columns read.
-fn is_keyed_for(batch: &Batch, columns: Columns, keyed: &KeyedPaper) -> bool
-    ensures { result ≡ (nat_le keyed.now.round batch.now.round && (is_its_clerk keyed.now.clerk (batch_entry batch.now) && is_readable columns (string_bytes keyed.now.marks))) }
+fn is_keyed_for(
+    batch: &Batch,
+    third: &Option<ThirdClerk>,
+    columns: Columns,
+    keyed: &KeyedPaper,
+) -> bool
+    ensures { result ≡ (nat_le keyed.now.round batch.now.round && (is_its_clerk keyed.now.clerk (batch_entry batch.now) (option_map third_entry third.now) && is_readable columns (string_bytes keyed.now.marks))) }
 {
     let in_time = keyed.round <= batch.round;
-    let its_clerk = is_its_clerk(keyed.clerk, batch);
+    let its_clerk = is_its_clerk(keyed.clerk, batch, third);
     in_time & (its_clerk & is_readable(columns, keyed.marks.as_str()))
 }
 
-fn are_papers_for(batch: &Batch, columns: Columns, papers: &[KeyedPaper]) -> bool
-    ensures { result ≡ list_all (λ k. nat_le k.round batch.now.round && (is_its_clerk k.clerk (batch_entry batch.now) && is_readable columns (string_bytes k.marks))) papers.now }
+fn are_papers_for(
+    batch: &Batch,
+    third: &Option<ThirdClerk>,
+    columns: Columns,
+    papers: &[KeyedPaper],
+) -> bool
+    ensures { result ≡ list_all (λ k. nat_le k.round batch.now.round && (is_its_clerk k.clerk (batch_entry batch.now) (option_map third_entry third.now) && is_readable columns (string_bytes k.marks))) papers.now }
 {
     papers
         .iter()
-        .all(|keyed| is_keyed_for(batch, columns, keyed))
+        .all(|keyed| is_keyed_for(batch, third, columns, keyed))
 }
 
 /// Whether each paper that is keyed of a batch is keyed as the batch asks.
@@ -73,7 +83,8 @@ fn are_keyed_for(rows: &Rows, batch: &Batch) -> bool
     ensures { result ≡ are_keyed_for (state_of rows.now) (batch_entry batch.now) }
 {
     let columns = columns_of(candidates_of(rows, batch.ward));
-    are_papers_for(batch, columns, papers_of(rows, batch.number))
+    let third = third_at(rows, batch.number);
+    are_papers_for(batch, &third, columns, papers_of(rows, batch.number))
 }
 
 #[tactic(auto, unfolding(register::specs::Keyed::are_numbered))]
@@ -90,8 +101,8 @@ fn are_numbered(keying: &[KeyedPaper]) -> bool
 }
 
 /// Whether a keying isn't there, or has each of so many papers once.
-fn is_whole(size: u32, keying: &[KeyedPaper]) -> bool
-    ensures { result ≡ is_whole size (map keyed_entry keying.now) }
+fn is_whole_if_keyed(size: u32, keying: &[KeyedPaper]) -> bool
+    ensures { result ≡ (not (is_keyed (map keyed_entry keying.now)) || is_whole size (map keyed_entry keying.now)) }
 {
     if keying.is_empty() {
         return true;
@@ -100,18 +111,25 @@ fn is_whole(size: u32, keying: &[KeyedPaper]) -> bool
     full & are_numbered(keying)
 }
 
-/// Whether each keying of a round is whole, and in an earlier round than the current one both are there
-/// and unequal.
+/// Whether each of the keyings that are there has each of so many papers once.
+fn are_whole(size: u32, keyings: &Keyings) -> bool
+    ensures { result ≡ list_all (is_whole size) (of_three (map keyed_entry keyings.now.first.now) (map keyed_entry keyings.now.second.now) (map keyed_entry keyings.now.third.now)) }
+{
+    let first = is_whole_if_keyed(size, keyings.first);
+    let second = is_whole_if_keyed(size, keyings.second);
+    first & (second & is_whole_if_keyed(size, keyings.third))
+}
+
+/// Whether each keying of a round is whole, and in an earlier round than the current one at least two are
+/// there, and no two of them equal.
 fn is_round_of(rows: &Rows, batch: &Batch, round: u32) -> bool
     requires { MapsRise (state_of rows.now) }
     ensures { result ≡ is_round_of (state_of rows.now) (batch_entry batch.now) round }
 {
-    let first = keying_of(rows, batch.number, round, batch.first_clerk);
-    let second = keying_of(rows, batch.number, round, batch.second_clerk);
+    let keyings = keyings_in(rows, batch, round);
     let current = batch.round <= round;
-    let first_whole = is_whole(batch.size, first);
-    let second_whole = is_whole(batch.size, second);
-    first_whole & (second_whole & (current | differ(first, second)))
+    let whole = are_whole(batch.size, &keyings);
+    whole & (current | differ(keyings.first, keyings.second, keyings.third))
 }
 
 /// Whether each round of a batch is one, from the current one down to the first.

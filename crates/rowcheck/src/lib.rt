@@ -10,7 +10,8 @@
 //! definition of `specs/Tabulated.antt`, compares the rows of bundles and figures, one by one. No list is
 //! searched for each row of another: lists in the order of their keys are walked side by side, or the rows
 //! of a key, which stand side by side, are found by bisection (`runs`, `finding`). The batches alone are
-//! gone through for each ward in count, of which there are 99 at most.
+//! gone through for each ward in count, of which there are 99 at most, and the papers of one batch, 500 at
+//! most, for each verdict on one of them.
 #![tactic(auto)]
 
 // The rows,

@@ -9,11 +9,11 @@ ghost use Rattle.register.specs.Items.{item6};
 ghost use Rattle.rowcheck.specs.States.{state_of};
 ghost use Rattle.rowcheck.specs.Walks.Polls.{is_settled_for, piles_in};
 
-use crate::finding::{candidates_of, keying_of, verdicts_of};
+use crate::finding::{candidates_of, keyings_in, verdicts_of};
 use crate::rows::Rows;
 use count::Bundles;
 use paper::Columns;
-use register::papers::{are_taken, count_open};
+use register::papers::{agreed, count_open, is_keyed};
 use register::wards::is_contested;
 use register::{Ballots, Batch, Phase, Ward};
 use std::alloc::{AllocError, Global};
@@ -42,11 +42,10 @@ fn is_settled(rows: &Rows, batch: &Batch) -> bool
     requires { MapsRise (state_of rows.now) }
     ensures { result ≡ is_settled (pile_of (state_of rows.now) (batch_entry batch.now)) }
 {
-    let first = keying_of(rows, batch.number, batch.round, batch.first_clerk);
-    let second = keying_of(rows, batch.number, batch.round, batch.second_clerk);
-    let verdicts = verdicts_of(rows, batch.number);
-    let judged = count_open(first, verdicts) == 0;
-    are_taken(first, second) & judged
+    let keyings = keyings_in(rows, batch, batch.round);
+    let papers = agreed(keyings.first, keyings.second, keyings.third);
+    let judged = count_open(papers, verdicts_of(rows, batch.number)) == 0;
+    is_keyed(papers) & judged
 }
 
 /// Whether a batch, if it is of this ward, is settled.
@@ -107,10 +106,15 @@ fn add_batch(
     requires { MapsRise (state_of rows.now) }
     ensures { IfOk result (λ _. (piles : _) → StandFor are_bundled ballots.old (ballots_in columns piles) → StandFor are_bundled ballots.new (ballots_in columns (piles ++ (pile_of (state_of rows.now) (batch_entry batch.now) ∷ [])))) }
 {
-    let first = keying_of(rows, batch.number, batch.round, batch.first_clerk);
-    let second = keying_of(rows, batch.number, batch.round, batch.second_clerk);
+    let keyings = keyings_in(rows, batch, batch.round);
     let verdicts = verdicts_of(rows, batch.number);
-    ballots.add(columns, first, second, verdicts)
+    ballots.add(
+        columns,
+        keyings.first,
+        keyings.second,
+        keyings.third,
+        verdicts,
+    )
 }
 
 /// The papers of those of some batches that are of this ward. An error is want of memory.

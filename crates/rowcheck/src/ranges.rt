@@ -2,8 +2,8 @@
 
 ghost use Rattle.std.specs.Prelude.{◌≡◌};
 ghost use Rattle.std.specs.List.{list_all};
-ghost use Rattle.register.specs.Offices.{ward_entry, candidate_entry, batch_entry, keyed_entry, judged_entry, lot_entry, receipt_entry};
-ghost use Rattle.register.specs.Items.{is_ward, is_candidate, is_batch, is_keyed_paper, is_judged_paper, is_lot, is_about, is_receipt, item1};
+ghost use Rattle.register.specs.Offices.{ward_entry, candidate_entry, batch_entry, third_entry, keyed_entry, judged_entry, lot_entry, receipt_entry};
+ghost use Rattle.register.specs.Items.{is_ward, is_candidate, is_batch, is_third, is_keyed_paper, is_judged_paper, is_lot, is_about, is_receipt, item1};
 ghost use Rattle.rowcheck.specs.States.{state_of};
 
 use crate::rows::Rows;
@@ -12,7 +12,7 @@ use register::ranges::{
     is_batch_number, is_candidate_number, is_clerk, is_id, is_lot_stage, is_name, is_paper_number,
     is_reply, is_round, is_seat_number, is_ward_number,
 };
-use register::{Batch, Candidate, DrawnLot, JudgedPaper, KeyedPaper, Receipt, Ward};
+use register::{Batch, Candidate, DrawnLot, JudgedPaper, KeyedPaper, Receipt, ThirdClerk, Ward};
 
 /// The highest code of a verdict.
 const LAST_CODE: u32 = 5;
@@ -42,6 +42,13 @@ fn is_batch(batch: &Batch) -> bool
     let first = is_clerk(batch.first_clerk);
     let second = is_clerk(batch.second_clerk);
     number & (ward & (size & (first & (second & is_round(batch.round)))))
+}
+
+fn is_third(third: &ThirdClerk) -> bool
+    ensures { result ≡ is_third (third_entry third.now) }
+{
+    let batch = is_batch_number(third.batch);
+    batch & is_clerk(third.clerk)
 }
 
 fn is_keyed_paper(keyed: &KeyedPaper) -> bool
@@ -108,6 +115,12 @@ fn are_batches(batches: &[Batch]) -> bool
     batches.iter().all(|batch| is_batch(batch))
 }
 
+fn are_thirds(thirds: &[ThirdClerk]) -> bool
+    ensures { result ≡ list_all (λ t. is_third (third_entry t)) thirds.now }
+{
+    thirds.iter().all(|third| is_third(third))
+}
+
 fn are_keyed_papers(keyings: &[KeyedPaper]) -> bool
     ensures { result ≡ list_all (λ k. is_keyed_paper (keyed_entry k)) keyings.now }
 {
@@ -140,9 +153,10 @@ pub fn item1(rows: &Rows) -> bool
     let wards = are_wards(&rows.wards);
     let candidates = are_candidates(&rows.candidates);
     let batches = are_batches(&rows.batches);
+    let thirds = are_thirds(&rows.thirds);
     let keyings = are_keyed_papers(&rows.keyings);
     let verdicts = are_judged_papers(&rows.verdicts);
     let lots = are_lots(&rows.lots);
     let receipts = are_receipts(&rows.receipts);
-    wards & (candidates & (batches & (keyings & (verdicts & (lots & receipts)))))
+    wards & (candidates & (batches & (thirds & (keyings & (verdicts & (lots & receipts))))))
 }

@@ -1,7 +1,8 @@
 //! Rows, as the values that they hold.
 
 use register::{
-    Batch, Candidate, DrawnLot, JudgedPaper, KeyedPaper, PlacedBundle, Receipt, StageFigure, Ward,
+    Batch, Candidate, DrawnLot, JudgedPaper, KeyedPaper, PlacedBundle, Receipt, StageFigure,
+    ThirdClerk, Ward,
 };
 
 /// The rows of an office, each table's in the order of its keys. Their numbers and texts are in range
@@ -11,6 +12,7 @@ pub struct Rows {
     pub wards: Vec<Ward>,
     pub candidates: Vec<Candidate>,
     pub batches: Vec<Batch>,
+    pub thirds: Vec<ThirdClerk>,
     pub keyings: Vec<KeyedPaper>,
     pub verdicts: Vec<JudgedPaper>,
     pub lots: Vec<DrawnLot>,

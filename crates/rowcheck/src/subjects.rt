@@ -35,8 +35,8 @@ fn is_about_lot(word: &[u8], numbers: &[u8]) -> bool
 fn is_about_batch(word: &[u8], number: &[u8]) -> bool
     ensures { result ≡ is_about_batch word.now number.now }
 {
-    (word == b"batch".as_slice() || word == b"again".as_slice())
-        && is_plain_number(1, LAST_BATCH, number)
+    let keying = word == b"again".as_slice() || word == b"third".as_slice();
+    (word == b"batch".as_slice() || keying) && is_plain_number(1, LAST_BATCH, number)
 }
 
 fn is_about_paper(word: &[u8], numbers: &[u8]) -> bool

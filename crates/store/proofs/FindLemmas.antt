@@ -9,20 +9,20 @@ use Rattle.sqlite_schema.specs.Rules.{equal}
 use Rattle.sqlite.specs.Collation.TheVariants.{Binary}
 use Rattle.sqlite.specs.Order.{Row}
 use Rattle.sqlite.specs.declared.types.Value.TheVariants.{Int, Text}
-use Rattle.register.specs.Offices.{OfficeState, KeyedEntry, entry_at, ward_at, candidate_compared, candidate_at, candidates_of, keyed_cmp, batch_compared, batch_at, keying_of, judged_compared, verdict_at, verdicts_of, lots_of, receipt_at}
+use Rattle.register.specs.Offices.{OfficeState, KeyedEntry, entry_at, ward_at, candidate_compared, candidate_at, candidates_of, keyed_cmp, batch_compared, batch_at, third_compared, third_at, keying_of, judged_compared, verdict_at, verdicts_of, lots_of, receipt_at}
 use Rattle.register.specs.Papers.{batches_of}
 use Rattle.register.specs.Items.{IsState}
 use Rattle.register.specs.Tabulated.{tabulation_of}
-use Rattle.tables.specs.declared.table.Table.TheVariants.{Ward, Candidate, Batch, Keying, Verdict, Lot, Receipt, Bundle, Vote}
+use Rattle.tables.specs.declared.table.Table.TheVariants.{Ward, Candidate, Batch, Keying, Verdict, Lot, Receipt, Bundle, Vote, Third}
 use Rattle.tables.specs.declared.table.Reference.TheVariants.{WardOfBatch}
 use Rattle.tables.specs.Rows.{begins_with, refers_to}
 use Rattle.tables.specs.Reading.{Finds}
-use Rattle.store.specs.EntryRows.{row_of_ward, IsWardRow, row_of_candidate, IsCandidateRow, row_of_batch, IsBatchRow, row_of_keyed, IsKeyedRow, row_of_judged, IsJudgedRow, row_of_lot, row_of_receipt, IsReceiptRow, row_of_placed, row_of_figure}
+use Rattle.store.specs.EntryRows.{row_of_ward, IsWardRow, row_of_candidate, IsCandidateRow, row_of_batch, IsBatchRow, row_of_third, IsThirdRow, row_of_keyed, IsKeyedRow, row_of_judged, IsJudgedRow, row_of_lot, row_of_receipt, IsReceiptRow, row_of_placed, row_of_figure}
 use Rattle.store.specs.Elections.{bundles_at, figures_at}
 use Rattle.store.specs.Offices.{tables_of, tables_with}
 use Rattle.tables.proofs.OrderLemmas.{equal-number, key_of_number, key_of_two_numbers, key_of_three_numbers, key_of_number_and_text, same_number, same_three_numbers}
 use Rattle.store.proofs.StateLemmas.{tables_rise}
-use Rattle.store.proofs.FitLemmas.{wards_fit, candidates_fit, batches_fit, keyings_fit, verdicts_fit, receipts_fit}
+use Rattle.store.proofs.FitLemmas.{wards_fit, candidates_fit, batches_fit, thirds_fit, keyings_fit, verdicts_fit, receipts_fit}
 use Rattle.store.proofs.RowLemmas.{listed_as, row_found, found_fits}
 
 -- ---- keys
@@ -81,6 +81,15 @@ batch_found s is number =
 pub batch_fits : (s : OfficeState) → IsState s → (number : ℕ) → IfSome (option_map row_of_batch (batch_at s number)) IsBatchRow
 unfolding tables_of tables_with
 batch_fits s is number = found_fits IsBatchRow row_of_batch _ s.batches (batches_fit s is)
+
+pub third_found : (s : OfficeState) → IsState s → (batch : ℕ) → filter (begins_with (Int (pos batch) ∷ [])) (tables_of s Third) ≡ option_to_list (option_map row_of_third (third_at s batch))
+unfolding tables_of tables_with
+third_found s is batch =
+    row_found row_of_third (Int (pos batch) ∷ []) (third_compared batch) (λ t. key_of_number batch t.batch) (λ a b. numbers_apart batch a.batch b.batch) s.thirds is.rise.thirds
+
+pub third_fits : (s : OfficeState) → IsState s → (batch : ℕ) → IfSome (option_map row_of_third (third_at s batch)) IsThirdRow
+unfolding tables_of tables_with
+third_fits s is batch = found_fits IsThirdRow row_of_third _ s.thirds (thirds_fit s is)
 
 -- all rows are those of all batches, in the order of their numbers
 pub all_batches_listed : (s : OfficeState) → IsState s → (rows : List Row) → Finds Batch (begins_with []) (tables_of s) rows → rows ≡ map row_of_batch s.batches

@@ -9,10 +9,10 @@ use Rattle.sqlite.specs.Order.{Row}
 use Rattle.votes.specs.Units.{max_seats}
 use Rattle.paper.specs.Columns.{max_candidates}
 use Rattle.register.specs.Ranges.{is_between, last_ward, last_clerk, last_batch, most_papers, last_round, first_lot_stage, last_lot_stage, is_name, is_id, is_reply, is_id_byte}
-use Rattle.register.specs.Offices.{WardEntry, CandidateEntry, BatchEntry, KeyedEntry, JudgedEntry, LotEntry, ReceiptEntry, OfficeState}
-use Rattle.register.specs.Items.{is_ward, is_candidate, is_batch, is_keyed_paper, is_judged_paper, is_lot, is_receipt, is_about, IsState}
-use Rattle.tables.specs.declared.table.Table.TheVariants.{Ward, Candidate, Batch, Keying, Verdict, Lot, Receipt}
-use Rattle.store.specs.EntryRows.{row_of_ward, IsWardRow, row_of_candidate, IsCandidateRow, row_of_batch, IsBatchRow, row_of_keyed, IsKeyedRow, row_of_judged, IsJudgedRow, row_of_lot, IsLotRow, row_of_receipt, IsReceiptRow}
+use Rattle.register.specs.Offices.{WardEntry, CandidateEntry, BatchEntry, ThirdEntry, KeyedEntry, JudgedEntry, LotEntry, ReceiptEntry, OfficeState}
+use Rattle.register.specs.Items.{is_ward, is_candidate, is_batch, is_third, is_keyed_paper, is_judged_paper, is_lot, is_receipt, is_about, IsState}
+use Rattle.tables.specs.declared.table.Table.TheVariants.{Ward, Candidate, Batch, Keying, Verdict, Lot, Receipt, Third}
+use Rattle.store.specs.EntryRows.{row_of_ward, IsWardRow, row_of_candidate, IsCandidateRow, row_of_batch, IsBatchRow, row_of_third, IsThirdRow, row_of_keyed, IsKeyedRow, row_of_judged, IsJudgedRow, row_of_lot, IsLotRow, row_of_receipt, IsReceiptRow}
 use Rattle.store.specs.Offices.{tables_of, tables_with}
 use Rattle.store.proofs.DoneLemmas.{wards_few}
 
@@ -71,6 +71,10 @@ batch_fits b good =
       (b.second_clerk, small 1 last_clerk b.second_clerk (omega arith) round.0, refl),
       (b.round, small 1 last_round b.round (omega arith) round.1, refl),
     )
+
+third_fits : (t : ThirdEntry) → is_third t ≡ true → IsThirdRow (row_of_third t)
+unfolding is_third
+third_fits t good = let both = and_parts _ _ good in ((t.batch, small 1 last_batch t.batch (omega arith) both.0, refl), (t.clerk, small 1 last_clerk t.clerk (omega arith) both.1, refl))
 
 keyed_fits : (k : KeyedEntry) → is_keyed_paper k ≡ true → IsKeyedRow (row_of_keyed k)
 unfolding is_keyed_paper
@@ -150,21 +154,29 @@ unfolding tables_of tables_with
 candidates_fit s is = all_passed is_candidate IsCandidateRow row_of_candidate candidate_fits s.candidates (and_parts _ _ (and_parts _ _ is.in_range).1).0
 
 -- what the papers and the receipts are in range by
-beyond_candidates : (s : OfficeState) → IsState s → (list_all is_batch s.batches && (list_all is_keyed_paper s.keyings && (list_all is_judged_paper s.verdicts && (list_all is_lot s.lots && list_all is_receipt s.receipts)))) ≡ true
+beyond_candidates : (s : OfficeState) → IsState s
+    → (list_all is_batch s.batches && (list_all is_third s.thirds && (list_all is_keyed_paper s.keyings && (list_all is_judged_paper s.verdicts && (list_all is_lot s.lots && list_all is_receipt s.receipts))))) ≡ true
 beyond_candidates s is = (and_parts _ _ (and_parts _ _ is.in_range).1).1
 
 pub batches_fit : (s : OfficeState) → IsState s → AllByRecursion IsBatchRow (tables_of s Batch)
 unfolding tables_of tables_with
 batches_fit s is = all_passed is_batch IsBatchRow row_of_batch batch_fits s.batches (and_parts _ _ (beyond_candidates s is)).0
 
-beyond_batches : (s : OfficeState) → IsState s → (list_all is_keyed_paper s.keyings && (list_all is_judged_paper s.verdicts && (list_all is_lot s.lots && list_all is_receipt s.receipts))) ≡ true
+beyond_batches : (s : OfficeState) → IsState s → (list_all is_third s.thirds && (list_all is_keyed_paper s.keyings && (list_all is_judged_paper s.verdicts && (list_all is_lot s.lots && list_all is_receipt s.receipts)))) ≡ true
 beyond_batches s is = (and_parts _ _ (beyond_candidates s is)).1
 
+pub thirds_fit : (s : OfficeState) → IsState s → AllByRecursion IsThirdRow (tables_of s Third)
+unfolding tables_of tables_with
+thirds_fit s is = all_passed is_third IsThirdRow row_of_third third_fits s.thirds (and_parts _ _ (beyond_batches s is)).0
+
+beyond_thirds : (s : OfficeState) → IsState s → (list_all is_keyed_paper s.keyings && (list_all is_judged_paper s.verdicts && (list_all is_lot s.lots && list_all is_receipt s.receipts))) ≡ true
+beyond_thirds s is = (and_parts _ _ (beyond_batches s is)).1
+
 beyond_keyings : (s : OfficeState) → IsState s → (list_all is_judged_paper s.verdicts && (list_all is_lot s.lots && list_all is_receipt s.receipts)) ≡ true
-beyond_keyings s is = (and_parts _ _ (beyond_batches s is)).1
+beyond_keyings s is = (and_parts _ _ (beyond_thirds s is)).1
 
 pub keyings_in_range : (s : OfficeState) → IsState s → list_all is_keyed_paper s.keyings ≡ true
-keyings_in_range s is = (and_parts _ _ (beyond_batches s is)).0
+keyings_in_range s is = (and_parts _ _ (beyond_thirds s is)).0
 
 pub keyings_fit : (s : OfficeState) → IsState s → AllByRecursion IsKeyedRow (tables_of s Keying)
 unfolding tables_of tables_with

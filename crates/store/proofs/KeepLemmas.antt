@@ -9,7 +9,7 @@ use Rattle.register.specs.Items.{IsState}
 use Rattle.register.specs.declared.decision.Change.{Change}
 use Rattle.register.specs.Effects.{change_entry, with_change}
 use Rattle.register.specs.Tabulated.{TabulationEntries, tabulation_of, SameTabulation, addition_entries, with_addition, IsTabulated}
-use Rattle.tables.specs.declared.table.Table.TheVariants.{Office, Ward, Candidate, Batch, Keying, Verdict, Lot, Receipt, Bundle, Vote}
+use Rattle.tables.specs.declared.table.Table.TheVariants.{Office, Ward, Candidate, Batch, Keying, Verdict, Lot, Receipt, Bundle, Vote, Third}
 use Rattle.tables.specs.Contents.{Contents, SameContents, Stores, Rests, RestsAt}
 use Rattle.tables.specs.Reading.{OnlyReads}
 use Rattle.store.specs.EntryRows.{row_of_placed, row_of_figure}
@@ -49,6 +49,7 @@ same_tables s t u same Lot = IsPermutation-refl _
 same_tables s t u same Receipt = IsPermutation-refl _
 same_tables s t u same Bundle = IsPermutation-map row_of_placed t.bundles u.bundles same.bundles
 same_tables s t u same Vote = IsPermutation-map row_of_figure t.figures u.figures same.figures
+same_tables s t u same Third = IsPermutation-refl _
 
 -- what a change, and what it adds to the tabulation, make of the tables of a state
 abbrev pub changed_tables : Change → OfficeState → Contents

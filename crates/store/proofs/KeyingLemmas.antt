@@ -1,11 +1,11 @@
 -- A keying that is there has its first paper, which tells of it.
-use Rattle.std.proofs.Common.{◌≡◌, ℕ, zero, suc, ◌≤◌, Bool, true, false, ◌&&◌, ◌==◌, List, [], ◌∷◌, filter, Option, Some, None, is_some, inl, inr, refl, sym, ap, ◌∙◌, subst, arith}
-use Rattle.std.specs.Ordering.{is_eq}
+use Rattle.std.proofs.Common.{◌≡◌, ℕ, zero, suc, ◌≤◌, Bool, true, false, cond, not, ◌&&◌, ◌||◌, ◌==◌, List, [], ◌∷◌, map, filter, Option, Some, None, is_some, inl, inr, refl, sym, ap, ◌∙◌, subst, true≢false, arith, Ordering, nat_cmp}
+use Rattle.std.specs.Ordering.{is_eq, is_lt}
 use Rattle.std.specs.List.{list_all}
-use Rattle.std.proofs.lemmas.Bool.{and_parts, or_cases, leb-true, eqb-true, cases_eq}
+use Rattle.std.proofs.lemmas.Bool.{and_parts, and_from, or_cases, leb-true, eqb-true, cases_eq}
 use Rattle.std.proofs.lemmas.Bool.Decides.{nat_tests}
-use Rattle.register.specs.Offices.{BatchEntry, KeyedEntry, OfficeState, batch_compared, batch_at, keying_of, entry_at}
-use Rattle.register.specs.Papers.{is_keyed, is_its_clerk}
+use Rattle.register.specs.Offices.{BatchEntry, ThirdEntry, KeyedEntry, OfficeState, put, batch_compared, batch_at, third_at, keying_of, entry_at}
+use Rattle.register.specs.Papers.{is_keyed, is_its_clerk, two_clerks, clerks, clerks_of}
 use Rattle.register.specs.Keyed.{is_keyed_for, are_numbered, is_whole, is_round_of, are_rounds_to}
 use Rattle.register.specs.Items.{is_keyed_paper, IsState}
 use Rattle.register.proofs.KeyedLemmas.{rounds_more}
@@ -37,12 +37,58 @@ round_among s b (suc n) m rounds low high = elim (cases_eq m (suc n)) [
   | inr other ↦ round_among s b n m (and_parts _ _ (sym (rounds_more s b n) ∙ rounds)).1 low (omega (arith, high, other))
 ]
 
--- the keying of a round by one of the batch's clerks is whole
-keying_whole : (s : OfficeState) (b : BatchEntry) (round clerk : ℕ) → is_its_clerk clerk b ≡ true → is_round_of s b round ≡ true → is_whole b.size (keying_of s b.number round clerk) ≡ true
-keying_whole s b round clerk its of_round = elim (or_cases _ _ its) [
-  | inl first ↦ subst (λ c. is_whole b.size (keying_of s b.number round c) ≡ true) (sym (eqb-true clerk b.first_clerk first)) (and_parts _ _ of_round).0
-  | inr second ↦ subst (λ c. is_whole b.size (keying_of s b.number round c) ≡ true) (sym (eqb-true clerk b.second_clerk second)) (and_parts _ _ (and_parts _ _ of_round).1).0
-]
+-- ---- clerks
+
+-- what holds of all of some and of one that is put among them holds of both
+put_all : {X : Type 0} (cmp : X → X → Ordering) (p : X → Bool) (x : X) (ys : List X) → list_all p (put cmp x ys) ≡ true → (p x ≡ true) × (list_all p ys ≡ true)
+put_all cmp p x [] all = and_parts _ _ all
+put_all {X} cmp p x (y ∷ ys) all = go (is_lt (cmp x y)) all (put_all cmp p x ys)
+  where
+    go : (b : Bool) → list_all p (cond b (x ∷ y ∷ ys) (y ∷ put cmp x ys)) ≡ true → (list_all p (put cmp x ys) ≡ true → (p x ≡ true) × (list_all p ys ≡ true)) → (p x ≡ true) × (list_all p (y ∷ ys) ≡ true)
+    go true all later = and_parts _ _ all
+    go false all later = let both = and_parts _ _ all in let others = later both.1 in (others.0, and_from _ _ both.0 others.1)
+
+-- what holds of each clerk of a batch holds of one who is its clerk
+each_clerk : (p : ℕ → Bool) (b : BatchEntry) (third : Option ThirdEntry) (clerk : ℕ) → list_all p (clerks b third) ≡ true → is_its_clerk clerk b third ≡ true → p clerk ≡ true
+each_clerk p b third clerk all its = go third all its
+  where
+    is_first : list_all p (two_clerks b) ≡ true → (clerk == b.first_clerk) ≡ true → p clerk ≡ true
+    is_first two same = ap p (eqb-true clerk b.first_clerk same) ∙ (put_all nat_cmp p b.first_clerk (b.second_clerk ∷ []) two).0
+
+    is_second : list_all p (two_clerks b) ≡ true → (clerk == b.second_clerk) ≡ true → p clerk ≡ true
+    is_second two same = ap p (eqb-true clerk b.second_clerk same) ∙ (and_parts _ _ (put_all nat_cmp p b.first_clerk (b.second_clerk ∷ []) two).1).0
+
+    go : (o : Option ThirdEntry) → list_all p (clerks b o) ≡ true → is_its_clerk clerk b o ≡ true → p clerk ≡ true
+    go None two its = elim (or_cases _ _ its) [
+      | inl first ↦ is_first two first
+      | inr other ↦ elim (or_cases _ _ other) [ inl second ↦ is_second two second | inr none ↦ absurd (true≢false (sym none)) ]
+    ]
+    go (Some t) all its =
+        let both = put_all nat_cmp p t.clerk (two_clerks b) all in
+        elim (or_cases _ _ its) [
+          | inl first ↦ is_first both.1 first
+          | inr other ↦ elim (or_cases _ _ other) [ inl second ↦ is_second both.1 second | inr third ↦ ap p (eqb-true clerk t.clerk third) ∙ both.0 ]
+        ]
+
+-- each of some keyings is whole where it is there
+abbrev whole_if_there : ℕ → List KeyedEntry → Bool
+whole_if_there size keying = not (is_keyed keying) || is_whole size keying
+
+there_whole : (size : ℕ) (f : ℕ → List KeyedEntry) (cs : List ℕ) → list_all (is_whole size) (filter is_keyed (map f cs)) ≡ true → list_all (λ c. whole_if_there size (f c)) cs ≡ true
+there_whole size f [] all = refl
+there_whole size f (c ∷ cs) all = go (f c) all (there_whole size f cs)
+  where
+    go : (keying : List KeyedEntry) → list_all (is_whole size) (cond (is_keyed keying) (keying ∷ filter is_keyed (map f cs)) (filter is_keyed (map f cs))) ≡ true
+        → (list_all (is_whole size) (filter is_keyed (map f cs)) ≡ true → list_all (λ d. whole_if_there size (f d)) cs ≡ true) → (whole_if_there size keying && list_all (λ d. whole_if_there size (f d)) cs) ≡ true
+    go [] all later = later all
+    go (k ∷ ks) all later = let both = and_parts _ _ all in and_from _ _ both.0 (later both.1)
+
+-- the keying of a round by one of the batch's clerks is whole, where it is there
+keying_whole : (s : OfficeState) (b : BatchEntry) (round clerk : ℕ) (k : KeyedEntry) (ks : List KeyedEntry) → keying_of s b.number round clerk ≡ k ∷ ks → is_its_clerk clerk b (third_at s b.number) ≡ true → is_round_of s b round ≡ true
+    → is_whole b.size (k ∷ ks) ≡ true
+keying_whole s b round clerk k ks there its of_round =
+    let all = there_whole b.size (keying_of s b.number round) (clerks_of s b) (and_parts _ _ of_round).0 in
+    subst (λ keying. whole_if_there b.size keying ≡ true) there (each_clerk (λ c. whole_if_there b.size (keying_of s b.number round c)) b (third_at s b.number) clerk all its)
 
 first_of_whole : (size : ℕ) (k : KeyedEntry) (ks : List KeyedEntry) → is_whole size (k ∷ ks) ≡ true → k.paper ≡ 1
 unfolding are_numbered
@@ -84,10 +130,9 @@ module _ (s : OfficeState) (is : IsState s) (batch round clerk : ℕ) where
           let number : k.batch ≡ b.number = found_number (λ (x : BatchEntry). x.number) s.batches k.batch b found in
           let rounds = found_passes (batch_compared k.batch) (λ (x : BatchEntry). are_rounds_to s x x.round) b s.batches (and_parts _ _ is.keyed).1 found in
           let of_round = round_among s b b.round k.round rounds (round_low k fine) (leb-true k.round b.round parts.0) in
-          let whole = keying_whole s b k.round k.clerk (and_parts _ _ parts.1).0 of_round in
           let same : keying_of s b.number k.round k.clerk ≡ k ∷ ks =
           ap (λ n. keying_of s n k.round k.clerk) (sym number ∙ own.batch_is) ∙ ap (λ n. keying_of s batch n k.clerk) own.round_is ∙ ap (keying_of s batch round) own.clerk_is ∙ there in
-          first_of_whole b.size k ks (subst (λ l. is_whole b.size l ≡ true) same whole)
+          first_of_whole b.size k ks (keying_whole s b k.round k.clerk k ks same (and_parts _ _ parts.1).0 of_round)
 
   -- a paper with these numbers is found by them
   found_by_numbers : (k : KeyedEntry) → is_of batch round clerk k ≡ true → k.paper ≡ 1 → is_eq (keyed_compared batch round clerk 1 k) ≡ true

@@ -5,6 +5,7 @@ pub mod FitLemmas
 pub mod CountFits
 pub mod FindLemmas
 pub mod KeyingLemmas
+pub mod ClerkLemmas
 pub mod WriteLemmas
 pub mod KeepLemmas
 pub mod TellLemmas
@@ -16,3 +17,4 @@ pub mod PartLemmas
 pub mod ElectionLemmas
 pub mod ReadsLemmas
 pub mod SettledLemmas
+pub mod MigrationLemmas

@@ -3,15 +3,15 @@ use Rattle.std.proofs.Common.{◌≡◌, ap, ◌∙◌}
 use Rattle.register.specs.Parts.{PartEntries}
 
 -- parts with the same fields are the same
-pub same_part : (x y : PartEntries) → x.ward ≡ y.ward → x.candidate ≡ y.candidate → x.candidates ≡ y.candidates → x.batch ≡ y.batch → x.own ≡ y.own → x.first ≡ y.first → x.second ≡ y.second → x.verdict ≡ y.verdict → x.poll ≡ y.poll → x.due ≡ y.due → x.elected ≡ y.elected → x ≡ y
-same_part x y ward candidate candidates batch own first second verdict poll due elected =
+pub same_part : (x y : PartEntries) → x.ward ≡ y.ward → x.candidate ≡ y.candidate → x.candidates ≡ y.candidates → x.batch ≡ y.batch → x.third ≡ y.third → x.own ≡ y.own → x.keyings ≡ y.keyings → x.verdict ≡ y.verdict → x.poll ≡ y.poll → x.due ≡ y.due → x.elected ≡ y.elected → x ≡ y
+same_part x y ward candidate candidates batch third own keyings verdict poll due elected =
     ap (λ v. record x { ward = v }) ward
     ∙ ap (λ v. record x { ward = y.ward; candidate = v }) candidate
     ∙ ap (λ v. record x { ward = y.ward; candidate = y.candidate; candidates = v }) candidates
     ∙ ap (λ v. record x { ward = y.ward; candidate = y.candidate; candidates = y.candidates; batch = v }) batch
-    ∙ ap (λ v. record x { ward = y.ward; candidate = y.candidate; candidates = y.candidates; batch = y.batch; own = v }) own
-    ∙ ap (λ v. record y { first = v; second = x.second; verdict = x.verdict; poll = x.poll; due = x.due; elected = x.elected }) first
-    ∙ ap (λ v. record y { second = v; verdict = x.verdict; poll = x.poll; due = x.due; elected = x.elected }) second
+    ∙ ap (λ v. record x { ward = y.ward; candidate = y.candidate; candidates = y.candidates; batch = y.batch; third = v }) third
+    ∙ ap (λ v. record y { own = v; keyings = x.keyings; verdict = x.verdict; poll = x.poll; due = x.due; elected = x.elected }) own
+    ∙ ap (λ v. record y { keyings = v; verdict = x.verdict; poll = x.poll; due = x.due; elected = x.elected }) keyings
     ∙ ap (λ v. record y { verdict = v; poll = x.poll; due = x.due; elected = x.elected }) verdict
     ∙ ap (λ v. record y { poll = v; due = x.due; elected = x.elected }) poll
     ∙ ap (λ v. record y { due = v; elected = x.elected }) due

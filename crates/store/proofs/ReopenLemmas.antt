@@ -1,28 +1,35 @@
 -- A database that a stop left opens again, at the state whose tables it holds.
-use Rattle.std.proofs.Common.{◌≡◌, ◌⊎◌, inl, inr, true, refl, sym, ap₂, subst, true≢false}
+use Rattle.std.proofs.Common.{◌≡◌, ◌⊎◌, inl, inr, true, [], ◌∷◌, refl, sym, ap₂, subst}
+use Rattle.std.specs.List.Sorted.{IsStrictlySortedBy}
+use Rattle.std.specs.declared.cmp.Ordering.{Ordering}
 use Rattle.sqlite_trees.specs.Objects.{catalog_tree}
 use Rattle.sqlite_catalog.specs.Listing.{Lists}
 use Rattle.sqlite_catalog.proofs.ReadLemmas.{lists_once}
 use Rattle.sqlite_schema.specs.Names.{same_name}
+use Rattle.sqlite.specs.Order.{Row}
 use Rattle.sqlite.specs.Tree.{Trees}
 use Rattle.sqlite.specs.Schema.{Schema}
 use Rattle.sqlite.specs.Effect.{Database, IsDatabase}
 use Rattle.sqlite.specs.State.{State}
+use Rattle.sqlite.proofs.Callers.{one_permutation}
 use Rattle.register.specs.Offices.{OfficeState}
+use Rattle.register.specs.Items.{IsState}
 use Rattle.tables.specs.declared.fault.Fault.{Fault}
-use Rattle.tables.specs.declared.fault.Fault.TheVariants.{Memory, Store, Damaged, Closed, WrongDatabase, NewerSchema}
+use Rattle.tables.specs.declared.fault.Fault.TheVariants.{Memory, Store, Damaged, Closed, WrongDatabase, NewerSchema, OlderSchema}
 use Rattle.tables.specs.declared.table.Table.{Table}
-use Rattle.tables.specs.declared.table.Table.TheVariants.{Office, Ward, Candidate, Batch, Keying, Verdict, Lot, Receipt, Bundle, Vote}
-use Rattle.tables.specs.Schema.{IsOfficeSchema, changes_rows}
+use Rattle.tables.specs.declared.table.Table.TheVariants.{Office}
+use Rattle.tables.specs.Schema.{IsOfficeSchema}
+use Rattle.tables.specs.Rows.{row_cmp, tuples}
 use Rattle.tables.specs.Contents.{Contents, IsOffice}
 use Rattle.tables.specs.Presence.{has_table, IsOurs}
 use Rattle.tables.specs.Reading.{SharesRowids, FailsToList, FailsBy}
+use Rattle.store.specs.EntryRows.{this_version, office_row}
 use Rattle.store.specs.Offices.{tables_of, HoldsState, IsAt}
-use Rattle.store.specs.Openings.{HasNoOffice, IsNewer, IsLeftAt, IsToldBy, has_entries}
+use Rattle.store.specs.Openings.{HasNoOffice, IsNewer, IsOlder, IsLeftAt, IsToldBy}
 use Rattle.tables.proofs.ListingLemmas.{begins_to}
 use Rattle.tables.proofs.HoldLemmas.{own_rowids}
 use Rattle.store.proofs.StateLemmas.{one_state, tables_rise}
-use Rattle.store.proofs.TellLemmas.{this_office, state_version}
+use Rattle.store.proofs.TellLemmas.{which_kind, office_rows, this_office, state_version}
 
 sound : (c : Contents) (db : Database) → IsOffice c db → IsDatabase db
 unfolding IsOffice
@@ -51,7 +58,7 @@ unfolding same_name
 office_there s h = subst (λ (x : Schema). has_table Office x ≡ true) (sym h.is) refl
 
 -- where a state is held, there is an office of this version
-holds_office : (s : OfficeState) (db : Database) → HoldsState db s → (¬ HasNoOffice db) × (¬ IsNewer db)
+holds_office : (s : OfficeState) (db : Database) → HoldsState db s → (¬ HasNoOffice db) × (¬ IsNewer db) × (¬ IsOlder db)
 unfolding IsOffice
 holds_office s db held = this_office db (office_there db.schema held.office.begins) (state_version db s held)
 
@@ -66,26 +73,26 @@ left_told s db f left told = go f told
     go Closed told = absurd told
     go WrongDatabase told = absurd ((holds_office s db (left_holds s db left)).0 told)
     go NewerSchema told = absurd ((holds_office s db (left_holds s db left)).1 told)
+    go OlderSchema told = absurd ((holds_office s db (left_holds s db left)).2 (one_permutation (office_row 1) (tuples Office db.trees) told.1.same))
 
--- where rows change, they are entries
-changing_has : (t : Table) → changes_rows t ≡ true → has_entries t ≡ true
-changing_has Office changes = absurd (true≢false (sym changes))
-changing_has Ward changes = refl
-changing_has Candidate changes = refl
-changing_has Batch changes = refl
-changing_has Keying changes = refl
-changing_has Verdict changes = refl
-changing_has Lot changes = refl
-changing_has Receipt changes = refl
-changing_has Bundle changes = refl
-changing_has Vote changes = refl
+-- one row rises
+one_rises : (by : Row → Row → Ordering) (row : Row) → IsStrictlySortedBy by (row ∷ [])
+unfolding IsStrictlySortedBy
+one_rises by row = (tt, tt)
+
+-- the rows of each table rise
+all_rise : (s : OfficeState) → IsState s → (t : Table) → IsStrictlySortedBy (row_cmp t) (tables_of s t)
+all_rise s is t = elim (which_kind t) [
+  | inl office ↦ subst (λ (u : Table). IsStrictlySortedBy (row_cmp u) (tables_of s u)) (sym office) (subst (IsStrictlySortedBy (row_cmp Office)) (sym (office_rows s)) (one_rises (row_cmp Office) (office_row this_version)))
+  | inr has ↦ tables_rise s is t has
+]
 
 -- rowids are the rows' own, so the store failed where that is told
 own_there : (s : OfficeState) (db : Database) → HoldsState db s → ¬ SharesRowids db
 unfolding IsOffice
 own_there s db held shared =
     let t = shared.0 in
-    own_rowids t (tables_of s t) db.trees (held.office.holds t) (tables_rise s held.is t (changing_has t shared.1)) shared.1 shared.2
+    own_rowids t (tables_of s t) db.trees (held.office.holds t) (all_rise s held.is t) shared.1 shared.2
 
 pub left_failed : (s : OfficeState) (db : Database) (old new : State) (f : Fault) → IsLeftAt s db → IsToldBy db f → FailsToList db old new f → FailsBy old new f
 left_failed s db old new f left told fails = elim (left_told s db f left told) [

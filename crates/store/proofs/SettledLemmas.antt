@@ -5,8 +5,9 @@ use Rattle.std.proofs.lemmas.List.Concat.{flat_map-append}
 use Rattle.register.specs.declared.keyings.KeyedPaper.{KeyedPaper}
 use Rattle.register.specs.declared.polls.Judgement.{Judgement}
 use Rattle.register.specs.declared.polls.Ballots.{Ballots}
-use Rattle.register.specs.Offices.{WardEntry, CandidateEntry, JudgedEntry, OfficeState, keyed_entry, ward_at, candidates_of}
-use Rattle.register.specs.Polls.{Pile, piles_of, StandFor, judgement_on, judgements_on, first_judgements, ballots_in, ballots_by}
+use Rattle.register.specs.Offices.{WardEntry, CandidateEntry, BatchEntry, JudgedEntry, OfficeState, keyed_entry, ward_at, candidates_of, verdicts_of}
+use Rattle.register.specs.Papers.{batches_of}
+use Rattle.register.specs.Polls.{piles_of, StandFor, judgement_on, judgements_on, settled_papers, settled_judgements, ballots_in, ballots_by}
 use Rattle.register.specs.Nominations.{is_contested}
 use Rattle.register.specs.Elections.{election_of, is_counted, is_in_count}
 use Rattle.register.specs.Items.{IsState}
@@ -30,10 +31,11 @@ module _ {P : Type 0} (holds : P → List (List ℕ) → Type 0) (were : List Ju
       subst (λ (ls : List Judgement). StandFor holds new (ballots_by ls)) (append_assoc js told (judgement_on columns verdicts (keyed_entry k) ∷ []) ∙ ap (λ (ls : List Judgement). js ++ ls) all) (added (js ++ told) (counted js were_counted))
 
 -- one batch more
-pub judgements_after : (columns : List ℕ) (piles : List Pile) (pile : Pile) → first_judgements columns piles ++ judgements_on columns pile.verdicts pile.first ≡ first_judgements columns (piles ++ pile ∷ [])
-judgements_after columns piles pile =
-    let own = λ (p : Pile). judgements_on columns p.verdicts p.first in
-    sym (flat_map-append own piles (pile ∷ []) ∙ ap (λ (js : List Judgement). first_judgements columns piles ++ js) (append-nil (own pile)))
+pub judgements_after : (s : OfficeState) (columns : List ℕ) (bs : List BatchEntry) (b : BatchEntry)
+    → settled_judgements s columns bs ++ judgements_on columns (verdicts_of s b.number) (settled_papers s b) ≡ settled_judgements s columns (bs ++ b ∷ [])
+judgements_after s columns bs b =
+    let own = λ (x : BatchEntry). judgements_on columns (verdicts_of s x.number) (settled_papers s x) in
+    sym (flat_map-append own bs (b ∷ []) ∙ ap (λ (js : List Judgement). settled_judgements s columns bs ++ js) (append-nil (own b)))
 
 -- ---- wards in count
 
@@ -49,9 +51,9 @@ found_in_count s ward (Some w) candidates in_count there all tells counted =
     let number = found_number (λ (x : WardEntry). x.number) s.wards ward w (sym there) in
     (w, sym there, subst (λ (cs : List CandidateEntry). (is_counted w.phase && is_contested w cs) ≡ true) (all ∙ ap (candidates_of s) number) (sym tells ∙ counted))
 
--- its papers come to what the first keyings come to alone
-pub counted_alone : ((s : OfficeState) (w : WardEntry) (columns : List ℕ) → IsState s → ward_at s w.number ≡ Some w → is_in_count (election_of s w) ≡ true → ballots_in columns (piles_of s w.number) ≡ ballots_by (first_judgements columns (piles_of s w.number)))
-    → (s : OfficeState) → IsState s → (ward : ℕ) (columns : List ℕ) → IsInCount s ward → ballots_by (first_judgements columns (piles_of s ward)) ≡ ballots_in columns (piles_of s ward)
+-- its papers come to what those come to that each batch is settled with
+pub counted_alone : ((s : OfficeState) (w : WardEntry) (columns : List ℕ) → IsState s → ward_at s w.number ≡ Some w → is_in_count (election_of s w) ≡ true → ballots_in columns (piles_of s w.number) ≡ ballots_by (settled_judgements s columns (batches_of s w.number)))
+    → (s : OfficeState) → IsState s → (ward : ℕ) (columns : List ℕ) → IsInCount s ward → ballots_by (settled_judgements s columns (batches_of s ward)) ≡ ballots_in columns (piles_of s ward)
 counted_alone suffice s is ward columns (w, there, counted) =
     let number : ward ≡ w.number = found_number (λ (x : WardEntry). x.number) s.wards ward w there in
-    sym (subst (λ n. ballots_in columns (piles_of s n) ≡ ballots_by (first_judgements columns (piles_of s n))) (sym number) (suffice s w columns is (found_own s ward w there) counted))
+    sym (subst (λ n. ballots_in columns (piles_of s n) ≡ ballots_by (settled_judgements s columns (batches_of s n))) (sym number) (suffice s w columns is (found_own s ward w there) counted))

@@ -8,15 +8,15 @@ use Rattle.sqlite.specs.Effect.{Database}
 use Rattle.register.specs.declared.phase.Phase.{Phase}
 use Rattle.register.specs.declared.phase.Phase.TheVariants.{Nominations, Keying as Keyed, Sealed, Declared}
 use Rattle.register.specs.Phases.{phase_number}
-use Rattle.register.specs.Offices.{WardEntry, CandidateEntry, BatchEntry, KeyedEntry, JudgedEntry, LotEntry, ReceiptEntry, OfficeState, MapsRise, ward_cmp, candidate_cmp, batch_cmp, keyed_cmp, judged_cmp, lot_cmp, receipt_cmp}
+use Rattle.register.specs.Offices.{WardEntry, CandidateEntry, BatchEntry, ThirdEntry, KeyedEntry, JudgedEntry, LotEntry, ReceiptEntry, OfficeState, MapsRise, ward_cmp, candidate_cmp, batch_cmp, third_cmp, keyed_cmp, judged_cmp, lot_cmp, receipt_cmp}
 use Rattle.register.specs.Items.{IsState}
 use Rattle.register.specs.Tabulated.{PlacedEntry, FigureEntry, TabulationEntries, tabulation_of, placed_cmp, figure_cmp}
 use Rattle.register.proofs.TabulatedLemmas.{tabulation_rises}
 use Rattle.tables.specs.declared.table.Table.{Table}
-use Rattle.tables.specs.declared.table.Table.TheVariants.{Office, Ward, Candidate, Batch, Keying, Verdict, Lot, Receipt, Bundle, Vote}
+use Rattle.tables.specs.declared.table.Table.TheVariants.{Office, Ward, Candidate, Batch, Keying, Verdict, Lot, Receipt, Bundle, Vote, Third}
 use Rattle.tables.specs.Rows.{row_cmp}
 use Rattle.tables.specs.Contents.{SameContents, IsOffice}
-use Rattle.store.specs.EntryRows.{row_of_ward, row_of_candidate, row_of_batch, row_of_keyed, row_of_judged, row_of_lot, row_of_receipt, row_of_placed, row_of_figure}
+use Rattle.store.specs.EntryRows.{row_of_ward, row_of_candidate, row_of_batch, row_of_third, row_of_keyed, row_of_judged, row_of_lot, row_of_receipt, row_of_placed, row_of_figure}
 use Rattle.store.specs.Offices.{tables_of, tables_with, HoldsState}
 use Rattle.store.specs.Openings.{has_entries}
 use Rattle.tables.proofs.OrderLemmas.{one_number, two_numbers, three_numbers, four_numbers, number_and_text, number_and_bytes, rows_rise}
@@ -67,6 +67,12 @@ batch_in r = record { number = number_in (column r 0); ward = number_in (column 
 pub batch_back : (b : BatchEntry) → batch_in (row_of_batch b) ≡ b
 batch_back b = refl
 
+abbrev pub third_in : Row → ThirdEntry
+third_in r = record { batch = number_in (column r 0); clerk = number_in (column r 1) }
+
+pub third_back : (t : ThirdEntry) → third_in (row_of_third t) ≡ t
+third_back t = refl
+
 abbrev pub keyed_in : Row → KeyedEntry
 keyed_in r = record { batch = number_in (column r 0); round = number_in (column r 1); clerk = number_in (column r 2); paper = number_in (column r 3); marks = text_in (column r 4) }
 
@@ -114,6 +120,9 @@ candidates_alike a b = two_numbers a.ward a.number b.ward b.number
 batches_alike : (a b : BatchEntry) → row_cmp Batch (row_of_batch a) (row_of_batch b) ≡ batch_cmp a b
 batches_alike a b = one_number a.number b.number
 
+pub thirds_alike : (a b : ThirdEntry) → row_cmp Third (row_of_third a) (row_of_third b) ≡ third_cmp a b
+thirds_alike a b = one_number a.batch b.batch
+
 keyings_alike : (a b : KeyedEntry) → row_cmp Keying (row_of_keyed a) (row_of_keyed b) ≡ keyed_cmp a b
 keyings_alike a b = four_numbers a.batch a.round a.clerk a.paper b.batch b.round b.clerk b.paper
 
@@ -145,6 +154,7 @@ unfolding tables_with
 maps_up s t rise Ward has = rows_rise row_of_ward (row_cmp Ward) ward_cmp wards_alike s.wards rise.wards
 maps_up s t rise Candidate has = rows_rise row_of_candidate (row_cmp Candidate) candidate_cmp candidates_alike s.candidates rise.candidates
 maps_up s t rise Batch has = rows_rise row_of_batch (row_cmp Batch) batch_cmp batches_alike s.batches rise.batches
+maps_up s t rise Third has = rows_rise row_of_third (row_cmp Third) third_cmp thirds_alike s.thirds rise.thirds
 maps_up s t rise Keying has = rows_rise row_of_keyed (row_cmp Keying) keyed_cmp keyings_alike s.keyings rise.keyings
 maps_up s t rise Verdict has = rows_rise row_of_judged (row_cmp Verdict) judged_cmp verdicts_alike s.verdicts rise.verdicts
 maps_up s t rise Lot has = rows_rise row_of_lot (row_cmp Lot) lot_cmp lots_alike s.lots rise.lots
@@ -162,6 +172,7 @@ tables_rise s is Office has = absurd (true≢false (sym has))
 tables_rise s is Ward has = maps_up s (tabulation_of s) is.rise Ward refl
 tables_rise s is Candidate has = maps_up s (tabulation_of s) is.rise Candidate refl
 tables_rise s is Batch has = maps_up s (tabulation_of s) is.rise Batch refl
+tables_rise s is Third has = maps_up s (tabulation_of s) is.rise Third refl
 tables_rise s is Keying has = maps_up s (tabulation_of s) is.rise Keying refl
 tables_rise s is Verdict has = maps_up s (tabulation_of s) is.rise Verdict refl
 tables_rise s is Lot has = maps_up s (tabulation_of s) is.rise Lot refl
@@ -174,6 +185,7 @@ maps_rise s t each = record {
   wards = entries_rise row_of_ward (row_cmp Ward) ward_cmp wards_alike s.wards (each Ward refl);
   candidates = entries_rise row_of_candidate (row_cmp Candidate) candidate_cmp candidates_alike s.candidates (each Candidate refl);
   batches = entries_rise row_of_batch (row_cmp Batch) batch_cmp batches_alike s.batches (each Batch refl);
+  thirds = entries_rise row_of_third (row_cmp Third) third_cmp thirds_alike s.thirds (each Third refl);
   keyings = entries_rise row_of_keyed (row_cmp Keying) keyed_cmp keyings_alike s.keyings (each Keying refl);
   verdicts = entries_rise row_of_judged (row_cmp Verdict) judged_cmp verdicts_alike s.verdicts (each Verdict refl);
   lots = entries_rise row_of_lot (row_cmp Lot) lot_cmp lots_alike s.lots (each Lot refl);
@@ -189,6 +201,7 @@ equal_maps s x t u rise also same =
     let wards = entries_same Ward row_of_ward ward_in ward_back s.wards x.wards (maps_up s t rise Ward refl) (maps_up x u also Ward refl) (same Ward) in
     let candidates = entries_same Candidate row_of_candidate candidate_in candidate_back s.candidates x.candidates (maps_up s t rise Candidate refl) (maps_up x u also Candidate refl) (same Candidate) in
     let batches = entries_same Batch row_of_batch batch_in batch_back s.batches x.batches (maps_up s t rise Batch refl) (maps_up x u also Batch refl) (same Batch) in
+    let thirds = entries_same Third row_of_third third_in third_back s.thirds x.thirds (maps_up s t rise Third refl) (maps_up x u also Third refl) (same Third) in
     let keyings = entries_same Keying row_of_keyed keyed_in keyed_back s.keyings x.keyings (maps_up s t rise Keying refl) (maps_up x u also Keying refl) (same Keying) in
     let verdicts = entries_same Verdict row_of_judged judged_in judged_back s.verdicts x.verdicts (maps_up s t rise Verdict refl) (maps_up x u also Verdict refl) (same Verdict) in
     let lots = entries_same Lot row_of_lot lot_in lot_back s.lots x.lots (maps_up s t rise Lot refl) (maps_up x u also Lot refl) (same Lot) in
@@ -196,7 +209,8 @@ equal_maps s x t u rise also same =
     ap (λ l. record s { wards = l }) wards
     ∙ ap (λ l. record s { wards = x.wards; candidates = l }) candidates
     ∙ ap (λ l. record s { wards = x.wards; candidates = x.candidates; batches = l }) batches
-    ∙ ap (λ l. record s { wards = x.wards; candidates = x.candidates; batches = x.batches; keyings = l }) keyings
+    ∙ ap (λ l. record s { wards = x.wards; candidates = x.candidates; batches = x.batches; thirds = l }) thirds
+    ∙ ap (λ l. record x { keyings = l; verdicts = s.verdicts; lots = s.lots; receipts = s.receipts }) keyings
     ∙ ap (λ l. record x { verdicts = l; lots = s.lots; receipts = s.receipts }) verdicts
     ∙ ap (λ l. record x { lots = l; receipts = s.receipts }) lots
     ∙ ap (λ l. record x { receipts = l }) receipts

@@ -5,8 +5,8 @@ use Rattle.std.proofs.lemmas.List.Elements.{filter-append}
 use Rattle.std.proofs.lemmas.List.Kept.{IsStrictlySortedBy-filter}
 use Rattle.std.proofs.lemmas.List.{length-append}
 use Rattle.register.specs.declared.verdicts.JudgedPaper.{JudgedPaper}
-use Rattle.register.specs.Offices.{BatchEntry, OfficeState, keyed_entry, judged_entry, verdicts_of, batch_cmp}
-use Rattle.register.specs.Papers.{are_taken, differ, is_taken, is_differing, is_open, open_in, open_among, first_keying, second_keying, batches_of, taken_of, differing_of}
+use Rattle.register.specs.Offices.{BatchEntry, KeyedEntry, OfficeState, judged_entry, verdicts_of, batch_cmp}
+use Rattle.register.specs.Papers.{is_keyed, agreed, are_taken, differ, keyings_now, taken_papers, is_taken, is_differing, is_open, open_in, open_among, batches_of, taken_of, differing_of}
 use Rattle.register.specs.Keyed.{are_rounds_to}
 use Rattle.register.specs.Items.{IsState, is_batch}
 use Rattle.register.specs.Polls.{pile_of, judgement_on, judgements}
@@ -15,6 +15,7 @@ use Rattle.register.proofs.MapLemmas.{kept_all}
 use Rattle.register.proofs.ContestLemmas.{length_map, few_among, few_batches}
 use Rattle.store.specs.declared.standings.Tally.{Tally}
 use Rattle.store.specs.declared.views.papers.Keyings.{Keyings}
+use Rattle.store.specs.Keyings.{keyings_by}
 use Rattle.store.specs.Tallies.{tally_by, IsTally}
 
 -- ---- one batch
@@ -23,26 +24,24 @@ one_there : (b : BatchEntry) (q : Bool) → cond q 1 0 ≡ length (cond q (b ∷
 one_there b true = refl
 one_there b false = refl
 
-open_there : (s : OfficeState) (b : BatchEntry) (q : Bool) → cond q (open_in s b) 0 ≡ open_among s (cond q (b ∷ []) [])
-open_there s b true = plus (open_in s b)
+-- of a batch that isn't taken no paper is open
+open_there : (s : OfficeState) (b : BatchEntry) → open_in s b ≡ open_among s (cond (is_taken s b) (b ∷ []) [])
+open_there s b = go (taken_papers s b) refl
   where
     plus : (n : ℕ) → n ≡ n + 0
     plus n = omega arith
-open_there s b false = refl
+
+    go : (papers : List KeyedEntry) → taken_papers s b ≡ papers → open_in s b ≡ open_among s (cond (is_keyed papers) (b ∷ []) [])
+    go [] none = ap (λ ks. length (filter (is_open (verdicts_of s b.number)) ks)) none
+    go (k ∷ ks) some = plus (open_in s b)
 
 -- what a batch comes to by its keyings and verdicts, it comes to in the state
-pub one_tally : (s : OfficeState) (b : BatchEntry) (keyings : Keyings) (verdicts : List JudgedPaper) → map keyed_entry keyings.first.items ≡ first_keying s b → map keyed_entry keyings.second.items ≡ second_keying s b
-    → map judged_entry verdicts ≡ verdicts_of s b.number → IsTally s (b ∷ []) (tally_by keyings verdicts)
-one_tally s b keyings verdicts first second judged =
-    let one = map keyed_entry keyings.first.items in
-    let other = map keyed_entry keyings.second.items in
-    let taken : are_taken one other ≡ is_taken s b = ap (λ ks. are_taken ks other) first ∙ ap (are_taken (first_keying s b)) second in
-    let differing : differ one other ≡ is_differing s b = ap (λ ks. differ ks other) first ∙ ap (differ (first_keying s b)) second in
-    let opens : length (filter (is_open (map judged_entry verdicts)) one) ≡ open_in s b = ap (λ vs. length (filter (is_open vs) one)) judged ∙ ap (λ ks. length (filter (is_open (verdicts_of s b.number)) ks)) first in
+pub one_tally : (s : OfficeState) (b : BatchEntry) (keyings : Keyings) (verdicts : List JudgedPaper) → keyings_by keyings ≡ keyings_now s b → map judged_entry verdicts ≡ verdicts_of s b.number → IsTally s (b ∷ []) (tally_by keyings verdicts)
+one_tally s b keyings verdicts keyed judged =
     record {
-      taken = λ few. ap (λ q. cond q 1 0) taken ∙ one_there b (is_taken s b);
-      differing = λ few. ap (λ q. cond q 1 0) differing ∙ one_there b (is_differing s b);
-      doubtful_open = λ few. ap (λ q. cond q (length (filter (is_open (map judged_entry verdicts)) one)) 0) taken ∙ ap (λ n. cond (is_taken s b) n 0) opens ∙ open_there s b (is_taken s b);
+      taken = λ few. ap (λ ks. cond (are_taken ks) 1 0) keyed ∙ one_there b (is_taken s b);
+      differing = λ few. ap (λ ks. cond (differ ks) 1 0) keyed ∙ one_there b (is_differing s b);
+      doubtful_open = λ few. ap (λ vs. length (filter (is_open vs) (agreed (keyings_by keyings)))) judged ∙ ap (λ ks. length (filter (is_open (verdicts_of s b.number)) (agreed ks))) keyed ∙ open_there s b;
     }
 
 -- ---- some batches
@@ -88,18 +87,17 @@ fewer p (x ∷ xs) = go (p x) (fewer p xs)
 
 open_fewer : (s : OfficeState) (bs : List BatchEntry) → open_among s (filter (is_taken s) bs) ≤ length (judgements [] (map (pile_of s) bs))
 open_fewer s [] = omega arith
-open_fewer s (b ∷ bs) = go (is_taken s b) (open_fewer s bs)
+open_fewer s (b ∷ bs) =
+    let own = fewer (is_open (verdicts_of s b.number)) (taken_papers s b) in
+    let each = length_map (judgement_on [] (verdicts_of s b.number)) (taken_papers s b) in
+    let all = length-append (map (judgement_on [] (verdicts_of s b.number)) (taken_papers s b)) (judgements [] (map (pile_of s) bs)) in
+    go (is_taken s b) own each all (open_fewer s bs)
   where
-    go : (q : Bool) → open_among s (filter (is_taken s) bs) ≤ length (judgements [] (map (pile_of s) bs)) → open_among s (cond q (b ∷ filter (is_taken s) bs) (filter (is_taken s) bs)) ≤ length (cond q (map (judgement_on [] (verdicts_of s b.number)) (first_keying s b)) [] ++ judgements [] (map (pile_of s) bs))
-    go true later =
-        omega (
-          arith,
-          later,
-          fewer (is_open (verdicts_of s b.number)) (first_keying s b),
-          length_map (judgement_on [] (verdicts_of s b.number)) (first_keying s b),
-          length-append (map (judgement_on [] (verdicts_of s b.number)) (first_keying s b)) (judgements [] (map (pile_of s) bs)),
-        )
-    go false later = later
+    go : (q : Bool) → open_in s b ≤ length (taken_papers s b) → length (map (judgement_on [] (verdicts_of s b.number)) (taken_papers s b)) ≡ length (taken_papers s b)
+        → length (map (judgement_on [] (verdicts_of s b.number)) (taken_papers s b) ++ judgements [] (map (pile_of s) bs)) ≡ length (map (judgement_on [] (verdicts_of s b.number)) (taken_papers s b)) + length (judgements [] (map (pile_of s) bs))
+        → open_among s (filter (is_taken s) bs) ≤ length (judgements [] (map (pile_of s) bs)) → open_among s (cond q (b ∷ filter (is_taken s) bs) (filter (is_taken s) bs)) ≤ length (judgements [] (map (pile_of s) (b ∷ bs)))
+    go true own each all later = omega (arith, own, each, all, later)
+    go false own each all later = omega (arith, own, each, all, later)
 
 -- a ward of a state has at most 9999 batches, of 500 papers
 pub countable : (s : OfficeState) → IsState s → (ward : ℕ) (tally : Tally) → IsTally s (batches_of s ward) tally

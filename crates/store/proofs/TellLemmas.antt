@@ -1,5 +1,5 @@
 -- Which fault the rows of a table give.
-use Rattle.std.proofs.Common.{◌≡◌, ◌⊎◌, inl, inr, ℕ, ◌<◌, ℤ, pos, negsuc, ◌<ℤ◌, List, [], ◌∷◌, map, length, get_or, Bool, true, false, refl, sym, ap, subst, ◌∙◌, true≢false, arith}
+use Rattle.std.proofs.Common.{◌≡◌, ◌⊎◌, inl, inr, ℕ, ◌<◌, ◌≤◌, ℤ, pos, negsuc, ◌<ℤ◌, List, [], ◌∷◌, map, length, get_or, Bool, true, false, refl, sym, ap, subst, ◌∙◌, true≢false, arith}
 use Rattle.std.specs.List.{AllByRecursion}
 use Rattle.std.specs.List.Sorted.{IsPermutation}
 use Rattle.std.proofs.lemmas.Int.{ints}
@@ -16,17 +16,18 @@ use Rattle.register.specs.Offices.{OfficeState, MapsRise}
 use Rattle.register.specs.Items.{IsState}
 use Rattle.register.specs.Tabulated.{TabulationEntries, tabulation_of}
 use Rattle.tables.specs.declared.fault.Fault.{Fault}
-use Rattle.tables.specs.declared.fault.Fault.TheVariants.{Memory, Store, Damaged, Closed, WrongDatabase, NewerSchema}
+use Rattle.tables.specs.declared.fault.Fault.TheVariants.{Memory, Store, Damaged, Closed, WrongDatabase, NewerSchema, OlderSchema}
 use Rattle.tables.specs.declared.table.Table.{Table}
-use Rattle.tables.specs.declared.table.Table.TheVariants.{Office, Ward, Candidate, Batch, Keying, Verdict, Lot, Receipt, Bundle, Vote}
-use Rattle.tables.specs.Schema.{BeginsTo, IsOfficeSchema}
+use Rattle.tables.specs.declared.table.Table.TheVariants.{Office, Ward, Candidate, Batch, Keying, Verdict, Lot, Receipt, Bundle, Vote, Third}
+use Rattle.tables.specs.Schema.{BeginsTo, IsOfficeSchema, place_of}
 use Rattle.tables.specs.Rows.{tuples, at, column_places, begins_with}
 use Rattle.tables.specs.Contents.{SameContents, HoldsTable, RestsAt, IsOffice}
 use Rattle.tables.specs.Presence.{has_table, has_every_table}
 use Rattle.tables.specs.Reading.{Lists, ListsKeyed, HoldsNone}
-use Rattle.store.specs.EntryRows.{office_row}
+use Rattle.store.specs.EntryRows.{this_version, office_row}
 use Rattle.store.specs.Offices.{HoldsState, tables_of, tables_with}
-use Rattle.store.specs.Openings.{HasNoOffice, IsNewer, HoldsNoState, IsToldBy, TellsNoState, IsVersion, TellsRow, TellsRows, HasVersion, TellsOffice, has_entries, ListsMaps, IsTabulatedAs, HoldsEntries}
+use Rattle.store.specs.Openings.{HasNoOffice, IsNewer, IsOlder, HoldsNoState, IsToldBy, TellsNoState, IsVersion, TellsRow, TellsRows, HasVersion, TellsOffice, has_entries, ListsMaps, IsTabulatedAs, HoldsEntries}
+use Rattle.store.specs.Listings.{TellsStrange}
 use Rattle.tables.proofs.ListLemmas.{mapped_length}
 use Rattle.tables.proofs.HoldLemmas.{lists_all, shown_rows, rows_held, held_listed}
 use Rattle.tables.proofs.ListingLemmas.{begins_to}
@@ -35,7 +36,7 @@ use Rattle.store.proofs.StateLemmas.{tables_rise, maps_rise, equal_maps, tabulat
 -- ---- the tables, by what an opening makes of them
 
 -- a table is the office's, or one of entries
-which_kind : (t : Table) → (t ≡ Office) ⊎ (has_entries t ≡ true)
+pub which_kind : (t : Table) → (t ≡ Office) ⊎ (has_entries t ≡ true)
 which_kind Office = inl refl
 which_kind Ward = inr refl
 which_kind Candidate = inr refl
@@ -46,28 +47,49 @@ which_kind Lot = inr refl
 which_kind Receipt = inr refl
 which_kind Bundle = inr refl
 which_kind Vote = inr refl
+which_kind Third = inr refl
 
-office_rows : (s : OfficeState) → tables_of s Office ≡ office_row 1 ∷ []
+pub office_rows : (s : OfficeState) → tables_of s Office ≡ office_row this_version ∷ []
 unfolding tables_of tables_with
 office_rows s = refl
 
-office_with : (s : OfficeState) (t : TabulationEntries) → tables_with s t Office ≡ office_row 1 ∷ []
+pub office_with : (s : OfficeState) (t : TabulationEntries) → tables_with s t Office ≡ office_row this_version ∷ []
 unfolding tables_with
 office_with s t = refl
 
 -- ---- faults
 
-pub told_store : (db : Database) (f : Fault) → (f ≡ Memory) ⊎ (f ≡ Store) → TellsNoState db f
-told_store db f (inl same) = subst (TellsNoState db) (sym same) tt
-told_store db f (inr same) = subst (TellsNoState db) (sym same) tt
+strange_store : (n : ℕ) (db : Database) (f : Fault) → (f ≡ Memory) ⊎ (f ≡ Store) → TellsStrange n db f
+strange_store n db f (inl same) = subst (TellsStrange n db) (sym same) tt
+strange_store n db f (inr same) = subst (TellsStrange n db) (sym same) tt
 
 -- rows that are no list of entries are those of no state
-pub told_entries : (t : Table) (IsRow : Row → Type 0) → has_entries t ≡ true → ((s : OfficeState) → IsState s → AllByRecursion IsRow (tables_of s t)) → (db : Database) (f : Fault)
-    → (f ≡ Memory) ⊎ ((f ≡ Store) ⊎ ((f ≡ Damaged) × HoldsNone t IsRow db)) → TellsNoState db f
+pub told_strange : (n : ℕ) (t : Table) (IsRow : Row → Type 0) → has_entries t ≡ true → place_of t < n → ((s : OfficeState) → IsState s → AllByRecursion IsRow (tables_of s t)) → (db : Database) (f : Fault)
+    → (f ≡ Memory) ⊎ ((f ≡ Store) ⊎ ((f ≡ Damaged) × HoldsNone t IsRow db)) → TellsStrange n db f
+told_strange n t IsRow has low fits db f (inl memory) = strange_store n db f (inl memory)
+told_strange n t IsRow has low fits db f (inr (inl store)) = strange_store n db f (inr store)
+told_strange n t IsRow has low fits db f (inr (inr none)) = subst (TellsStrange n db) (sym none.0) (t, has, low, λ s is. none.1 (tables_of s t) (fits s is) (tables_rise s is t has))
+
+-- what is strange among fewer tables is so among more
+pub strange_more : (n m : ℕ) → n ≤ m → (db : Database) (f : Fault) → TellsStrange n db f → TellsStrange m db f
+strange_more n m up db Memory told = tt
+strange_more n m up db Store told = tt
+strange_more n m up db Damaged told = let low = told.2 in (told.0, told.1, omega (arith, low, up), told.3)
+strange_more n m up db Closed told = told
+strange_more n m up db WrongDatabase told = told
+strange_more n m up db NewerSchema told = told
+strange_more n m up db OlderSchema told = told
+
+-- and no state has its rows
+pub strange_told : (n : ℕ) (db : Database) (f : Fault) → TellsStrange n db f → TellsNoState db f
 unfolding IsOffice
-told_entries t IsRow has fits db f (inl memory) = told_store db f (inl memory)
-told_entries t IsRow has fits db f (inr (inl store)) = told_store db f (inr store)
-told_entries t IsRow has fits db f (inr (inr none)) = subst (TellsNoState db) (sym none.0) (λ s holds. none.1 (tables_of s t) (fits s holds.is) (tables_rise s holds.is t has) (holds.office.holds t))
+strange_told n db Memory told = tt
+strange_told n db Store told = tt
+strange_told n db Damaged told = λ s holds. told.3 s holds.is (holds.office.holds told.0)
+strange_told n db Closed told = told
+strange_told n db WrongDatabase told = told
+strange_told n db NewerSchema told = told
+strange_told n db OlderSchema told = told
 
 -- ---- the entries of a state
 
@@ -75,7 +97,7 @@ told_entries t IsRow has fits db f (inr (inr none)) = subst (TellsNoState db) (s
 maps_same : (db : Database) (s x : OfficeState) (t : TabulationEntries) → ListsMaps db s t → HoldsState db x → SameContents (tables_of x) (tables_with s t)
 unfolding IsOffice
 maps_same db s x t lists holds u = elim (which_kind u) [
-  | inl office ↦ subst (λ (v : Table). IsPermutation (tables_of x v) (tables_with s t v)) (sym office) (subst (λ l. IsPermutation l (tables_with s t Office)) (sym (office_rows x)) (subst (IsPermutation (office_row 1 ∷ [])) (sym (office_with s t)) (IsPermutation-refl _)))
+  | inl office ↦ subst (λ (v : Table). IsPermutation (tables_of x v) (tables_with s t v)) (sym office) (subst (λ l. IsPermutation l (tables_with s t Office)) (sym (office_rows x)) (subst (IsPermutation (office_row this_version ∷ [])) (sym (office_with s t)) (IsPermutation-refl _)))
   | inr has ↦ held_listed u db (tables_with s t u) (lists u has).all.lists (tables_of x u) (holds.office.holds u)
 ]
 
@@ -111,15 +133,15 @@ some_listed t db rows lists none = none_long rows (listed_length t db rows lists
 
 -- ---- the row of an office
 
-pub above_one : (version : ℤ) → pos 1 <ℤ version → (n : ℕ) × (version ≡ pos n) × (1 < n)
-above_one (pos n) above = (n, refl, omega (arith, ints, above))
-above_one (negsuc n) above = absurd (omega (arith, ints, above))
+pub above_this : (version : ℤ) → pos this_version <ℤ version → (n : ℕ) × (version ≡ pos n) × (this_version < n)
+above_this (pos n) above = (n, refl, omega (arith, ints, above))
+above_this (negsuc n) above = absurd (omega (arith, ints, above))
 
-abbrev integer_in : Value → ℤ
+abbrev pub integer_in : Value → ℤ
 integer_in (Int n) = n
 integer_in _ = pos 0
 
-abbrev version_at : List Row → ℤ
+abbrev pub version_at : List Row → ℤ
 version_at [] = pos 0
 version_at (r ∷ rows) = integer_in (column r 1)
 
@@ -152,6 +174,7 @@ row_told rows r is Damaged told = ((λ none. let e : r ∷ [] ≡ [] = sym is �
 row_told rows r is Closed told = told
 row_told rows r is WrongDatabase told = absurd told
 row_told rows r is NewerSchema told = (r, is, told)
+row_told rows r is OlderSchema told = (r, is, told)
 
 pub version_held : (n : ℕ) (db : Database) → BeginsTo Office db.schema → IsDatabase db → (rows : List Row) → ListsKeyed Office db rows → (row : Row) → rows ≡ row ∷ [] → IsVersion n row → HasVersion n db
 version_held n db begins sound rows keyed row is shown =
@@ -169,11 +192,14 @@ office_told db begins sound rows keyed Damaged told = (
   (λ none. told.0 (some_listed Office db rows keyed.lists none)),
   (
     (λ newer.
-        let n = above_one newer.0 newer.1 in
+        let n = above_this newer.0 newer.1 in
         let tuple : tuples Office db.trees ≡ office_row n.0 ∷ [] = newer.2 ∙ ap (λ v. (Int (pos 1) ∷ Int v ∷ []) ∷ []) n.1 in
         let up = n.2 in
         told.1 (office_row n.0) (version_listed n.0 db rows keyed.lists (subst (λ l. IsPermutation (office_row n.0 ∷ []) (map (at (column_places Office)) l)) (sym tuple) (IsPermutation-refl _))) n.0 (omega (arith, up)) refl),
-    (λ holds. told.1 (office_row 1) (one_permutation (office_row 1) rows (held_listed Office db rows keyed.lists (office_row 1 ∷ []) holds)) 1 (omega arith) refl),
+    (
+      (λ older. told.1 (office_row 1) (version_listed 1 db rows keyed.lists (subst (λ l. IsPermutation (office_row 1 ∷ []) (map (at (column_places Office)) l)) (sym older) (IsPermutation-refl _))) 1 (omega arith) refl),
+      (λ holds. told.1 (office_row this_version) (one_permutation (office_row this_version) rows (held_listed Office db rows keyed.lists (office_row this_version ∷ []) holds)) this_version (omega arith) refl),
+    ),
   ),
 )
 office_told db begins sound rows keyed Closed told = told
@@ -183,21 +209,23 @@ office_told db begins sound rows keyed NewerSchema told =
     let holds = version_held n db begins sound rows keyed told.0 told.1 told.2.2 in
     let up = told.2.1 in
     (pos n, omega (arith, ints, up), one_permutation (office_row n) (tuples Office db.trees) holds.same)
+office_told db begins sound rows keyed OlderSchema told = version_held 1 db begins sound rows keyed told.0 told.1 told.2
 
 -- ---- the whole
 
--- an office of this version has an office, and is not newer
-pub this_office : (db : Database) → has_table Office db.schema ≡ true → HasVersion 1 db → (¬ HasNoOffice db) × (¬ IsNewer db)
+-- an office of this version has an office, and is neither newer nor older
+pub this_office : (db : Database) → has_table Office db.schema ≡ true → HasVersion this_version db → (¬ HasNoOffice db) × (¬ IsNewer db) × (¬ IsOlder db)
 this_office db there holds =
-    let tuple : tuples Office db.trees ≡ office_row 1 ∷ [] = one_permutation (office_row 1) (tuples Office db.trees) holds.same in (
+    let tuple : tuples Office db.trees ≡ office_row this_version ∷ [] = one_permutation (office_row this_version) (tuples Office db.trees) holds.same in (
       (λ none. elim none [
         | inl missing ↦ true≢false (sym there ∙ missing)
-        | inr empty ↦ let e : office_row 1 ∷ [] ≡ [] = sym tuple ∙ empty in absurd cc
+        | inr empty ↦ let e : office_row this_version ∷ [] ≡ [] = sym tuple ∙ empty in absurd cc
       ]),
-      (λ newer. let up = newer.1 in let same : newer.0 ≡ pos 1 = ap version_at (sym newer.2 ∙ tuple) in omega (arith, ints, up, same)),
+      (λ newer. let up = newer.1 in let same : newer.0 ≡ pos this_version = ap version_at (sym newer.2 ∙ tuple) in omega (arith, ints, up, same)),
+      (λ older. let same : pos 1 ≡ pos this_version = ap version_at (sym older ∙ tuple) in omega (arith, ints, same)),
     )
 
-all_there : (s : Schema) → IsOfficeSchema s → has_every_table s ≡ true
+pub all_there : (s : Schema) → IsOfficeSchema s → has_every_table s ≡ true
 unfolding same_name
 all_there s h = subst (λ (x : Schema). has_every_table x ≡ true) (sym h.is) refl
 
@@ -205,11 +233,11 @@ pub missing_damaged : (db : Database) → has_every_table db.schema ≡ false �
 unfolding IsOffice
 missing_damaged db missing s holds = true≢false (sym (all_there db.schema holds.office.begins) ∙ missing)
 
-pub office_damaged : (db : Database) → ¬ HasVersion 1 db → HoldsNoState db
+pub office_damaged : (db : Database) → ¬ HasVersion this_version db → HoldsNoState db
 unfolding IsOffice
 office_damaged db wrong s holds = wrong (subst (λ rows. HoldsTable Office rows db.trees) (office_rows s) (holds.office.holds Office))
 
-pub state_held : (db : Database) → IsOfficeSchema db.schema → IsDatabase db → HasVersion 1 db → (s : OfficeState) → HoldsEntries db s → HoldsState db s
+pub state_held : (db : Database) → IsOfficeSchema db.schema → IsDatabase db → HasVersion this_version db → (s : OfficeState) → HoldsEntries db s → HoldsState db s
 unfolding IsOffice
 state_held db begins sound office s entries = record { is = entries.is; office = record { begins = begins; sound = sound; holds = each } }
   where
@@ -220,7 +248,7 @@ state_held db begins sound office s entries = record { is = entries.is; office =
     ]
 
 -- a database that holds a state holds the office row of this version
-pub state_version : (db : Database) (s : OfficeState) → HoldsState db s → HasVersion 1 db
+pub state_version : (db : Database) (s : OfficeState) → HoldsState db s → HasVersion this_version db
 unfolding IsOffice
 state_version db s holds = subst (λ rows. HoldsTable Office rows db.trees) (office_rows s) (holds.office.holds Office)
 
@@ -231,23 +259,31 @@ told_office db there Store told = tt
 told_office db there Damaged told = record {
   some_office = λ none. elim none [ inl missing ↦ true≢false (sym there ∙ missing) | inr empty ↦ told.0 empty ];
   not_newer = told.1.0;
-  no_state = office_damaged db told.1.1;
+  not_older = told.1.1.0;
+  no_state = office_damaged db told.1.1.1;
 }
 told_office db there Closed told = told
 told_office db there WrongDatabase told = inr told
 told_office db there NewerSchema told = told
+told_office db there OlderSchema told = ((λ none. elim none [ inl missing ↦ true≢false (sym there ∙ missing) | inr empty ↦ let e : office_row 1 ∷ [] ≡ [] = sym (one_permutation (office_row 1) (tuples Office db.trees) told.same) ∙ empty in absurd cc ]), told)
 
-pub told_tables : (db : Database) → has_table Office db.schema ≡ true → HasVersion 1 db → (f : Fault) → TellsNoState db f → IsToldBy db f
+pub told_tables : (db : Database) → has_table Office db.schema ≡ true → HasVersion this_version db → (f : Fault) → TellsNoState db f → IsToldBy db f
 told_tables db there office Memory told = tt
 told_tables db there office Store told = tt
-told_tables db there office Damaged told = let both = this_office db there office in record { some_office = both.0; not_newer = both.1; no_state = told }
+told_tables db there office Damaged told = let all = this_office db there office in record { some_office = all.0; not_newer = all.1; not_older = all.2; no_state = told }
 told_tables db there office Closed told = told
 told_tables db there office WrongDatabase told = absurd told
 told_tables db there office NewerSchema told = absurd told
+told_tables db there office OlderSchema told = absurd told
 
 pub store_office : (db : Database) (f : Fault) → (f ≡ Memory) ⊎ (f ≡ Store) → TellsOffice db f
 store_office db f (inl same) = subst (TellsOffice db) (sym same) tt
 store_office db f (inr same) = subst (TellsOffice db) (sym same) tt
+
+-- want of memory and a failing store are no older office
+pub never_older : {X : Type 0} (f : Fault) → (f ≡ Memory) ⊎ (f ≡ Store) → f ≡ OlderSchema → X
+never_older f (inl memory) same = absurd cc
+never_older f (inr store) same = absurd cc
 
 -- ---- what a connection answers of the database that it rests at
 

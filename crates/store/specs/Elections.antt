@@ -2,7 +2,7 @@
 use Rattle.std.specs.Prelude.{◌≡◌, ◌==◌, map, ℕ, true, false, List, Option, Some, None, ⊤, Bool, ◌&&◌}
 use Rattle.std.specs.List.{filter}
 use Rattle.count.specs.Kept.{CountKept, IsKeptOf}
-use Rattle.register.specs.Offices.{WardEntry, CandidateEntry, OfficeState, ward_at, candidates_of, ward_entry, candidate_entry, keyed_entry, judged_entry}
+use Rattle.register.specs.Offices.{WardEntry, CandidateEntry, OfficeState, ward_at, candidates_of, ward_entry, candidate_entry, judged_entry}
 use Rattle.register.specs.Polls.{Pile, poll_of}
 use Rattle.register.specs.declared.elections.Count.{Count}
 use Rattle.register.specs.declared.elections.CountedWard.{CountedWard}
@@ -13,10 +13,11 @@ use Rattle.register.specs.Nominations.{is_contested}
 use Rattle.register.specs.Parts.{PartEntries, empty_part}
 use Rattle.register.specs.Tabulated.{PlacedEntry, FigureEntry, tabulation_of, has_stages, IsCount, IsCountOf, IsCountedWard, IsSheetOf}
 use Rattle.store.specs.declared.views.elections.BatchPapers.{BatchPapers}
+use Rattle.store.specs.Keyings.{keyings_by}
 
 -- what the papers of a batch stand for
 abbrev pub pile_by : BatchPapers → Pile
-pile_by papers = record { first = map keyed_entry papers.keyings.first.items; second = map keyed_entry papers.keyings.second.items; verdicts = map judged_entry papers.verdicts.items }
+pile_by papers = record { keyings = keyings_by papers.keyings; verdicts = map judged_entry papers.verdicts.items }
 
 -- a ward that was found has been sealed, and its election is contested with these candidates
 abbrev pub is_counted_with : Option WardEntry → List CandidateEntry → Bool

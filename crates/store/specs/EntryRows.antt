@@ -5,13 +5,17 @@ use Rattle.sqlite.specs.declared.types.Value.TheVariants.{Int, Text, Blob}
 use Rattle.sqlite.specs.Order.{Row, column}
 use Rattle.register.specs.declared.phase.Phase.{Phase}
 use Rattle.register.specs.Phases.{phase_number}
-use Rattle.register.specs.Offices.{WardEntry, CandidateEntry, BatchEntry, KeyedEntry, JudgedEntry, LotEntry, ReceiptEntry}
+use Rattle.register.specs.Offices.{WardEntry, CandidateEntry, BatchEntry, ThirdEntry, KeyedEntry, JudgedEntry, LotEntry, ReceiptEntry}
 use Rattle.register.specs.Tabulated.{PlacedEntry, FigureEntry}
 use Rattle.tables.specs.Cells.{IsNumber, IsAmount, IsText, IsBytes}
 
 -- the number of a phase
 abbrev pub IsPhase : Value → Type 0
 IsPhase v = (p : Phase) × (v ≡ Int (pos (phase_number p)))
+
+-- the schema version of this program's offices
+abbrev pub this_version : ℕ
+this_version = 2
 
 -- the row of the office, of a schema version
 abbrev pub office_row : ℕ → Row
@@ -40,6 +44,14 @@ row_of_batch b = Int (pos b.number) ∷ Int (pos b.ward) ∷ Int (pos b.size) �
 -- a row that reads as a batch's
 abbrev pub IsBatchRow : Row → Type 0
 IsBatchRow r = IsNumber (column r 0) × IsNumber (column r 1) × IsNumber (column r 2) × IsNumber (column r 3) × IsNumber (column r 4) × IsNumber (column r 5)
+
+-- the row of a third clerk
+abbrev pub row_of_third : ThirdEntry → Row
+row_of_third t = Int (pos t.batch) ∷ Int (pos t.clerk) ∷ []
+
+-- a row that reads as a third clerk's
+abbrev pub IsThirdRow : Row → Type 0
+IsThirdRow r = IsNumber (column r 0) × IsNumber (column r 1)
 
 -- the row of a keyed paper
 abbrev pub row_of_keyed : KeyedEntry → Row

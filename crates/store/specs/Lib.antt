@@ -2,7 +2,9 @@ pub mod EntryRows
 pub mod Offices
 pub mod Openings
 pub mod Listings
+pub mod Keyings
 pub mod Tallies
 pub mod Elections
 pub mod Reads
 pub mod Settled
+pub mod Migrations

@@ -1,6 +1,7 @@
 -- The parts in which an opening lists the entries of a database.
-use Rattle.std.specs.Prelude.{map}
+use Rattle.std.specs.Prelude.{◌≡◌, ◌<◌, ℕ, true, map, ⊤}
 use Rattle.std.specs.List.Sorted.{IsStrictlySortedBy}
+use Rattle.sqlite.specs.Schema.{Schema}
 use Rattle.sqlite.specs.Effect.{Database}
 use Rattle.register.specs.declared.wards.Ward.{Ward as WardValue}
 use Rattle.register.specs.declared.candidates.Candidate.{Candidate as CandidateValue}
@@ -11,16 +12,46 @@ use Rattle.register.specs.declared.counts.DrawnLot.{DrawnLot}
 use Rattle.register.specs.declared.receipt.Receipt.{Receipt as ReceiptValue}
 use Rattle.register.specs.declared.tabulated.PlacedBundle.{PlacedBundle}
 use Rattle.register.specs.declared.tabulated.StageFigure.{StageFigure}
-use Rattle.register.specs.Offices.{ward_entry, candidate_entry, batch_entry, keyed_entry, judged_entry, lot_entry, receipt_entry}
-use Rattle.register.specs.Tabulated.{placed_entry, figure_entry}
+use Rattle.register.specs.Offices.{OfficeState, ward_entry, candidate_entry, batch_entry, keyed_entry, judged_entry, lot_entry, receipt_entry}
+use Rattle.register.specs.Items.{IsState}
+use Rattle.register.specs.Tabulated.{TabulationEntries, placed_entry, figure_entry}
+use Rattle.tables.specs.declared.fault.Fault.{Fault}
+use Rattle.tables.specs.declared.fault.Fault.TheVariants.{Memory, Store, Damaged, Closed, WrongDatabase, NewerSchema, OlderSchema}
+use Rattle.tables.specs.declared.table.Table.{Table}
 use Rattle.tables.specs.declared.table.Table.TheVariants.{Ward, Candidate, Batch, Keying, Verdict, Lot, Receipt, Bundle, Vote}
+use Rattle.tables.specs.Schema.{BeginsTo, place_of}
 use Rattle.tables.specs.Rows.{row_cmp}
+use Rattle.tables.specs.Contents.{HoldsTable}
 use Rattle.tables.specs.Reading.{ListsEntries}
 use Rattle.store.specs.declared.listing.Contests.{Contests}
 use Rattle.store.specs.declared.listing.Papers.{Papers}
 use Rattle.store.specs.declared.listing.Records.{Records}
 use Rattle.store.specs.declared.listing.Counts.{Counts}
 use Rattle.store.specs.EntryRows.{row_of_ward, row_of_candidate, row_of_batch, row_of_keyed, row_of_judged, row_of_lot, row_of_receipt, row_of_placed, row_of_figure}
+use Rattle.store.specs.Offices.{tables_of, tables_with}
+use Rattle.store.specs.Openings.{has_entries}
+
+-- the schema begins with so many of the tables
+abbrev pub BeginsFirst : ℕ → Schema → Type 0
+BeginsFirst n s = (t : Table) → place_of t < n → BeginsTo t s
+
+-- one of the first tables, so many, holds rows that no state has
+abbrev pub HoldsStrange : ℕ → Database → Type 0
+HoldsStrange n db = (t : Table) × (has_entries t ≡ true) × (place_of t < n) × ((s : OfficeState) → IsState s → ¬ HoldsTable t (tables_of s t) db.trees)
+
+-- the fault that the rows of the first tables give
+abbrev pub TellsStrange : ℕ → Database → Fault → Type 0
+TellsStrange n db Memory = ⊤
+TellsStrange n db Store = ⊤
+TellsStrange n db Damaged = HoldsStrange n db
+TellsStrange n db Closed = ⊥
+TellsStrange n db WrongDatabase = ⊥
+TellsStrange n db NewerSchema = ⊥
+TellsStrange n db OlderSchema = ⊥
+
+-- all rows of each of the first tables of entries, so many
+abbrev pub ListsFirst : ℕ → Database → OfficeState → TabulationEntries → Type 0
+ListsFirst n db s t = (u : Table) → has_entries u ≡ true → place_of u < n → ListsEntries u db (tables_with s t u)
 
 -- all rows of the wards and of the candidates
 pub record ListsContests (db : Database) (contests : Contests) : Type 0 where

@@ -8,15 +8,19 @@ use Rattle.register.specs.Offices.{OfficeState}
 use Rattle.register.specs.Items.{IsState}
 use Rattle.register.specs.Effects.{ChangeEntry, with_change}
 use Rattle.register.specs.Tabulated.{TabulationEntries, tabulation_of, AdditionEntries, with_addition}
-use Rattle.tables.specs.declared.table.Table.TheVariants.{Office, Ward, Candidate, Batch, Keying, Verdict, Lot, Receipt, Bundle, Vote}
+use Rattle.tables.specs.declared.table.Table.TheVariants.{Office, Ward, Candidate, Batch, Keying, Verdict, Lot, Receipt, Bundle, Vote, Third}
 use Rattle.tables.specs.Contents.{Contents, filled, IsOffice, Stores, Rests}
-use Rattle.store.specs.EntryRows.{office_row, row_of_ward, row_of_candidate, row_of_batch, row_of_keyed, row_of_judged, row_of_lot, row_of_receipt, row_of_placed, row_of_figure}
+use Rattle.store.specs.EntryRows.{this_version, office_row, row_of_ward, row_of_candidate, row_of_batch, row_of_third, row_of_keyed, row_of_judged, row_of_lot, row_of_receipt, row_of_placed, row_of_figure}
+
+-- nothing tabulated
+abbrev pub no_tabulation : TabulationEntries
+no_tabulation = record { bundles = []; figures = [] }
 
 -- the rows that stand for a state and for what is tabulated of its counts, table by table; opaque, so that a search does not compute it
 unfoldable pub tables_with : OfficeState → TabulationEntries → Contents
 tables_with s t =
     filled (
-    (Office, office_row 1 ∷ [])
+    (Office, office_row this_version ∷ [])
     ∷ (Ward, map row_of_ward s.wards)
     ∷ (Candidate, map row_of_candidate s.candidates)
     ∷ (Batch, map row_of_batch s.batches)
@@ -26,6 +30,7 @@ tables_with s t =
     ∷ (Receipt, map row_of_receipt s.receipts)
     ∷ (Bundle, map row_of_placed t.bundles)
     ∷ (Vote, map row_of_figure t.figures)
+    ∷ (Third, map row_of_third s.thirds)
     ∷ []
     )
 

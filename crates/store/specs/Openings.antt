@@ -8,15 +8,15 @@ use Rattle.register.specs.Offices.{OfficeState}
 use Rattle.register.specs.Items.{IsState}
 use Rattle.register.specs.Tabulated.{TabulationEntries, item8}
 use Rattle.tables.specs.declared.fault.Fault.{Fault}
-use Rattle.tables.specs.declared.fault.Fault.TheVariants.{Memory, Store, Damaged, Closed, WrongDatabase, NewerSchema}
+use Rattle.tables.specs.declared.fault.Fault.TheVariants.{Memory, Store, Damaged, Closed, WrongDatabase, NewerSchema, OlderSchema}
 use Rattle.tables.specs.declared.table.Table.{Table}
-use Rattle.tables.specs.declared.table.Table.TheVariants.{Office, Ward, Candidate, Batch, Keying, Verdict, Lot, Receipt, Bundle, Vote}
+use Rattle.tables.specs.declared.table.Table.TheVariants.{Office, Ward, Candidate, Batch, Keying, Verdict, Lot, Receipt, Bundle, Vote, Third}
 use Rattle.tables.specs.Schema.{no_schema}
 use Rattle.tables.specs.Rows.{tuples, at, column_places}
 use Rattle.tables.specs.Contents.{HoldsTable, Stores}
 use Rattle.tables.specs.Presence.{has_table}
 use Rattle.tables.specs.Reading.{ListsEntries}
-use Rattle.store.specs.EntryRows.{office_row}
+use Rattle.store.specs.EntryRows.{this_version, office_row}
 use Rattle.store.specs.Offices.{tables_of, tables_with, HoldsState}
 
 -- there is no office table, or no row in it
@@ -25,7 +25,15 @@ HasNoOffice db = (has_table Office db.schema ≡ false) ⊎ (tuples Office db.tr
 
 -- the one office row is of a version above this program's
 abbrev pub IsNewer : Database → Type 0
-IsNewer db = (version : ℤ) × (pos 1 <ℤ version) × (tuples Office db.trees ≡ (Int (pos 1) ∷ Int version ∷ []) ∷ [])
+IsNewer db = (version : ℤ) × (pos this_version <ℤ version) × (tuples Office db.trees ≡ (Int (pos 1) ∷ Int version ∷ []) ∷ [])
+
+-- the one office row is of the first version, before this program's
+abbrev pub IsOlder : Database → Type 0
+IsOlder db = tuples Office db.trees ≡ office_row 1 ∷ []
+
+-- the office table has the one row of an office of a version, and no other
+abbrev pub HasVersion : ℕ → Database → Type 0
+HasVersion version db = HoldsTable Office (office_row version ∷ []) db.trees
 
 -- the rows are the tables of no state
 abbrev pub HoldsNoState : Database → Type 0
@@ -35,6 +43,7 @@ HoldsNoState db = (s : OfficeState) → ¬ HoldsState db s
 pub record IsDamaged (db : Database) : Type 0 where
   pub some_office : ¬ HasNoOffice db
   pub not_newer : ¬ IsNewer db
+  pub not_older : ¬ IsOlder db
   pub no_state : HoldsNoState db
 
 -- the database is one at which an opening tells this fault; want of memory and a failing store come at any
@@ -45,6 +54,7 @@ IsToldBy db Damaged = IsDamaged db
 IsToldBy db Closed = ⊥
 IsToldBy db WrongDatabase = HasNoOffice db
 IsToldBy db NewerSchema = IsNewer db
+IsToldBy db OlderSchema = (¬ HasNoOffice db) × HasVersion 1 db
 
 -- a sound database that holds exactly the tables of this state, as a stop leaves it
 pub record IsLeftAt (s : OfficeState) (db : Database) : Type 0 where
@@ -70,8 +80,9 @@ TellsNoState db Damaged = HoldsNoState db
 TellsNoState db Closed = ⊥
 TellsNoState db WrongDatabase = ⊥
 TellsNoState db NewerSchema = ⊥
+TellsNoState db OlderSchema = ⊥
 
--- the row is that of an office, of this version
+-- the row is that of an office, of a version
 abbrev pub IsVersion : ℕ → Row → Type 0
 IsVersion version row = at (column_places Office) row ≡ office_row version
 
@@ -82,7 +93,8 @@ TellsRow row Store = ⊥
 TellsRow row Damaged = (version : ℕ) → 0 < version → ¬ IsVersion version row
 TellsRow row Closed = ⊥
 TellsRow row WrongDatabase = ⊥
-TellsRow row NewerSchema = (version : ℕ) × (1 < version) × IsVersion version row
+TellsRow row NewerSchema = (version : ℕ) × (this_version < version) × IsVersion version row
+TellsRow row OlderSchema = IsVersion 1 row
 
 -- the fault that the rows of the office table give
 abbrev pub TellsRows : List Row → Fault → Type 0
@@ -91,20 +103,18 @@ TellsRows rows Store = ⊥
 TellsRows rows Damaged = (rows ≢ []) × ((row : Row) → rows ≡ row ∷ [] → (version : ℕ) → 0 < version → ¬ IsVersion version row)
 TellsRows rows Closed = ⊥
 TellsRows rows WrongDatabase = rows ≡ []
-TellsRows rows NewerSchema = (row : Row) × (rows ≡ row ∷ []) × ((version : ℕ) × (1 < version) × IsVersion version row)
-
--- the office table has the one row of an office of this version, and no other
-abbrev pub HasVersion : ℕ → Database → Type 0
-HasVersion version db = HoldsTable Office (office_row version ∷ []) db.trees
+TellsRows rows NewerSchema = (row : Row) × (rows ≡ row ∷ []) × ((version : ℕ) × (this_version < version) × IsVersion version row)
+TellsRows rows OlderSchema = (row : Row) × (rows ≡ row ∷ []) × IsVersion 1 row
 
 -- the fault that the office table gives
 abbrev pub TellsOffice : Database → Fault → Type 0
 TellsOffice db Memory = ⊤
 TellsOffice db Store = ⊤
-TellsOffice db Damaged = (tuples Office db.trees ≢ []) × ((¬ IsNewer db) × ¬ HasVersion 1 db)
+TellsOffice db Damaged = (tuples Office db.trees ≢ []) × ((¬ IsNewer db) × ((¬ IsOlder db) × ¬ HasVersion this_version db))
 TellsOffice db Closed = ⊥
 TellsOffice db WrongDatabase = tuples Office db.trees ≡ []
 TellsOffice db NewerSchema = IsNewer db
+TellsOffice db OlderSchema = HasVersion 1 db
 
 -- the tables whose rows are the entries of a state, and what is tabulated of its counts
 abbrev pub has_entries : Table → Bool
@@ -117,6 +127,7 @@ has_entries Lot = true
 has_entries Receipt = true
 has_entries Bundle = true
 has_entries Vote = true
+has_entries Third = true
 has_entries Office = false
 
 -- all rows of each table of entries, those of these maps and of this tabulation

@@ -2,20 +2,19 @@
 use Rattle.std.specs.Prelude.{◌≡◌, ◌<◌, ◌^◌, if◌then◌else◌, List, map, length}
 use Rattle.std.specs.List.{filter}
 use Rattle.register.specs.declared.verdicts.JudgedPaper.{JudgedPaper}
-use Rattle.register.specs.Offices.{BatchEntry, OfficeState, keyed_entry, judged_entry}
-use Rattle.register.specs.Papers.{are_taken, differ, is_open, is_taken, is_differing, open_among}
+use Rattle.register.specs.Offices.{BatchEntry, OfficeState, judged_entry}
+use Rattle.register.specs.Papers.{agreed, are_taken, differ, is_open, is_taken, is_differing, open_among}
 use Rattle.store.specs.declared.standings.Tally.{Tally}
 use Rattle.store.specs.declared.views.papers.Keyings.{Keyings}
+use Rattle.store.specs.Keyings.{keyings_by}
 
 -- what a batch comes to by its keyings and the verdicts on its papers
 abbrev pub tally_by : Keyings → List JudgedPaper → Tally
 tally_by keyings verdicts =
-    let first = map keyed_entry keyings.first.items in
-    let second = map keyed_entry keyings.second.items in
     record {
-      taken = if are_taken first second then 1 else 0;
-      differing = if differ first second then 1 else 0;
-      doubtful_open = if are_taken first second then length (filter (is_open (map judged_entry verdicts)) first) else 0;
+      taken = if are_taken (keyings_by keyings) then 1 else 0;
+      differing = if differ (keyings_by keyings) then 1 else 0;
+      doubtful_open = length (filter (is_open (map judged_entry verdicts)) (agreed (keyings_by keyings)));
     }
 
 -- how many of some batches are taken, how many differ, and how many doubtful papers of the taken ones have no verdict, each as far as can be counted

@@ -11,6 +11,7 @@ pub(crate) mod figures;
 pub(crate) mod keyings;
 pub(crate) mod lots;
 pub(crate) mod receipts;
+pub(crate) mod thirds;
 pub(crate) mod verdicts;
 pub(crate) mod wards;
 

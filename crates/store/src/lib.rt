@@ -5,7 +5,8 @@
 //! that one request needs, `load_status` and `load_columns` how a ward stands and what a batch's papers have
 //! as columns, `load_work` what a clerk has to key, `load_sheet` and `load_counted` what the texts of a ward
 //! are written from, `load_book` its count as it was kept, and `commit` keeps a change in one transaction,
-//! whole or not at all. `Fault` says why a call gave up.
+//! whole or not at all. `migrate` makes of an office that an earlier program made one that opens. `Fault`
+//! says why a call gave up.
 //!
 //! ```text
 //! let mut store = Store::open_from(alloc, conn)?;
@@ -18,6 +19,8 @@
 
 mod entries;
 mod listing;
+pub mod migration;
+pub mod older;
 mod opening;
 mod standings;
 pub mod storage;
@@ -25,6 +28,7 @@ mod views;
 mod working;
 mod writing;
 
+pub use migration::{Migrated, migrate};
 pub use storage::Store;
 pub use tables::fault;
 pub use tables::fault::Fault;

@@ -1,6 +1,6 @@
 //! All entries of the tables, as an opening reads them.
 
-ghost use Rattle.std.specs.Prelude.{◌≡◌, false, IfOk, IfErr, OnOk, IsTrue};
+ghost use Rattle.std.specs.Prelude.{◌≡◌, false, [], IfOk, IfErr, OnOk, IsTrue};
 ghost use Rattle.sqlite.specs.Effect.{Database};
 ghost use Rattle.sqlite.specs.State.{HasCleanDisk};
 ghost use Rattle.sqlite.specs.Held.{state};
@@ -9,8 +9,9 @@ ghost use Rattle.rowcheck.specs.States.{state_of, tabulated};
 ghost use Rattle.tables.specs.Schema.{IsOfficeSchema};
 ghost use Rattle.tables.specs.Contents.{RestsAt};
 ghost use Rattle.tables.specs.Reading.{OnlyReads, FailsToList};
+ghost use Rattle.store.specs.Offices.{no_tabulation};
 ghost use Rattle.store.specs.Openings.{TellsNoState, ListsMaps};
-ghost use Rattle.store.specs.Listings.{ListsContests, ContestsRise, ListsPapers, PapersRise, ListsRecords, RecordsRise, ListsCounts, CountsRise};
+ghost use Rattle.store.specs.Listings.{BeginsFirst, TellsStrange, ListsFirst, ListsContests, ContestsRise, ListsPapers, PapersRise, ListsRecords, RecordsRise, ListsCounts, CountsRise};
 
 use crate::entries::batches::Batches;
 use crate::entries::bundles::PlacedBundles;
@@ -19,10 +20,12 @@ use crate::entries::figures::StageFigures;
 use crate::entries::keyings::KeyedPapers;
 use crate::entries::lots::Lots;
 use crate::entries::receipts::Receipts;
+use crate::entries::thirds::ThirdClerks;
 use crate::entries::verdicts::JudgedPapers;
 use crate::entries::wards::Wards;
 use register::{
-    Batch, Candidate, DrawnLot, JudgedPaper, KeyedPaper, PlacedBundle, Receipt, StageFigure, Ward,
+    Batch, Candidate, DrawnLot, JudgedPaper, KeyedPaper, PlacedBundle, Receipt, StageFigure,
+    ThirdClerk, Ward,
 };
 use rowcheck::Rows;
 use sqlite::{Alter, Connection};
@@ -62,11 +65,11 @@ struct Counts {
 /// The wards and the candidates of a database. `Damaged` where the rows are those of no state.
 fn all_contests<S: Alter>(alloc: Global, conn: &mut Connection<S>) -> Result<Contests, Fault>
     requires { conn.old.in_transaction ≡ false }
-    ensures lists { HasCleanDisk (state S.Store conn.new) → (db : Database) → IsOfficeSchema db.schema → RestsAt db (state S.Store conn.old)
+    ensures lists { HasCleanDisk (state S.Store conn.new) → (db : Database) → BeginsFirst 8 db.schema → RestsAt db (state S.Store conn.old)
         → IfOk result (ListsContests db) }
-    ensures told { HasCleanDisk (state S.Store conn.new) → (db : Database) → IsOfficeSchema db.schema → RestsAt db (state S.Store conn.old)
-        → IfErr result (TellsNoState db) }
-    ensures fails { HasCleanDisk (state S.Store conn.new) → (db : Database) → IsOfficeSchema db.schema → RestsAt db (state S.Store conn.old)
+    ensures told { HasCleanDisk (state S.Store conn.new) → (db : Database) → BeginsFirst 8 db.schema → RestsAt db (state S.Store conn.old)
+        → IfErr result (TellsStrange 8 db) }
+    ensures fails { HasCleanDisk (state S.Store conn.new) → (db : Database) → BeginsFirst 8 db.schema → RestsAt db (state S.Store conn.old)
         → IfErr result (FailsToList db (state S.Store conn.old) (state S.Store conn.new)) }
     ensures rise { IfOk result ContestsRise }
     ensures opens { HasCleanDisk (state S.Store conn.new) → OnOk result (IsTrue (state S.Store conn.new).is_open) }
@@ -81,11 +84,11 @@ fn all_contests<S: Alter>(alloc: Global, conn: &mut Connection<S>) -> Result<Con
 /// The batches of a database, and their papers. `Damaged` where the rows are those of no state.
 fn all_papers<S: Alter>(alloc: Global, conn: &mut Connection<S>) -> Result<Papers, Fault>
     requires { conn.old.in_transaction ≡ false }
-    ensures lists { HasCleanDisk (state S.Store conn.new) → (db : Database) → IsOfficeSchema db.schema → RestsAt db (state S.Store conn.old)
+    ensures lists { HasCleanDisk (state S.Store conn.new) → (db : Database) → BeginsFirst 8 db.schema → RestsAt db (state S.Store conn.old)
         → IfOk result (ListsPapers db) }
-    ensures told { HasCleanDisk (state S.Store conn.new) → (db : Database) → IsOfficeSchema db.schema → RestsAt db (state S.Store conn.old)
-        → IfErr result (TellsNoState db) }
-    ensures fails { HasCleanDisk (state S.Store conn.new) → (db : Database) → IsOfficeSchema db.schema → RestsAt db (state S.Store conn.old)
+    ensures told { HasCleanDisk (state S.Store conn.new) → (db : Database) → BeginsFirst 8 db.schema → RestsAt db (state S.Store conn.old)
+        → IfErr result (TellsStrange 8 db) }
+    ensures fails { HasCleanDisk (state S.Store conn.new) → (db : Database) → BeginsFirst 8 db.schema → RestsAt db (state S.Store conn.old)
         → IfErr result (FailsToList db (state S.Store conn.old) (state S.Store conn.new)) }
     ensures rise { IfOk result PapersRise }
     ensures opens { HasCleanDisk (state S.Store conn.new) → OnOk result (IsTrue (state S.Store conn.new).is_open) }
@@ -105,11 +108,11 @@ fn all_papers<S: Alter>(alloc: Global, conn: &mut Connection<S>) -> Result<Paper
 /// The lots and the receipts of a database. `Damaged` where the rows are those of no state.
 fn all_records<S: Alter>(alloc: Global, conn: &mut Connection<S>) -> Result<Records, Fault>
     requires { conn.old.in_transaction ≡ false }
-    ensures lists { HasCleanDisk (state S.Store conn.new) → (db : Database) → IsOfficeSchema db.schema → RestsAt db (state S.Store conn.old)
+    ensures lists { HasCleanDisk (state S.Store conn.new) → (db : Database) → BeginsFirst 8 db.schema → RestsAt db (state S.Store conn.old)
         → IfOk result (ListsRecords db) }
-    ensures told { HasCleanDisk (state S.Store conn.new) → (db : Database) → IsOfficeSchema db.schema → RestsAt db (state S.Store conn.old)
-        → IfErr result (TellsNoState db) }
-    ensures fails { HasCleanDisk (state S.Store conn.new) → (db : Database) → IsOfficeSchema db.schema → RestsAt db (state S.Store conn.old)
+    ensures told { HasCleanDisk (state S.Store conn.new) → (db : Database) → BeginsFirst 8 db.schema → RestsAt db (state S.Store conn.old)
+        → IfErr result (TellsStrange 8 db) }
+    ensures fails { HasCleanDisk (state S.Store conn.new) → (db : Database) → BeginsFirst 8 db.schema → RestsAt db (state S.Store conn.old)
         → IfErr result (FailsToList db (state S.Store conn.old) (state S.Store conn.new)) }
     ensures rise { IfOk result RecordsRise }
     ensures opens { HasCleanDisk (state S.Store conn.new) → OnOk result (IsTrue (state S.Store conn.new).is_open) }
@@ -124,11 +127,11 @@ fn all_records<S: Alter>(alloc: Global, conn: &mut Connection<S>) -> Result<Reco
 /// What is tabulated in a database of the counts. `Damaged` where the rows are those of no state.
 fn all_counts<S: Alter>(alloc: Global, conn: &mut Connection<S>) -> Result<Counts, Fault>
     requires { conn.old.in_transaction ≡ false }
-    ensures lists { HasCleanDisk (state S.Store conn.new) → (db : Database) → IsOfficeSchema db.schema → RestsAt db (state S.Store conn.old)
+    ensures lists { HasCleanDisk (state S.Store conn.new) → (db : Database) → BeginsFirst 10 db.schema → RestsAt db (state S.Store conn.old)
         → IfOk result (ListsCounts db) }
-    ensures told { HasCleanDisk (state S.Store conn.new) → (db : Database) → IsOfficeSchema db.schema → RestsAt db (state S.Store conn.old)
-        → IfErr result (TellsNoState db) }
-    ensures fails { HasCleanDisk (state S.Store conn.new) → (db : Database) → IsOfficeSchema db.schema → RestsAt db (state S.Store conn.old)
+    ensures told { HasCleanDisk (state S.Store conn.new) → (db : Database) → BeginsFirst 10 db.schema → RestsAt db (state S.Store conn.old)
+        → IfErr result (TellsStrange 10 db) }
+    ensures fails { HasCleanDisk (state S.Store conn.new) → (db : Database) → BeginsFirst 10 db.schema → RestsAt db (state S.Store conn.old)
         → IfErr result (FailsToList db (state S.Store conn.old) (state S.Store conn.new)) }
     ensures rise { IfOk result CountsRise }
     ensures opens { HasCleanDisk (state S.Store conn.new) → OnOk result (IsTrue (state S.Store conn.new).is_open) }
@@ -140,8 +143,68 @@ fn all_counts<S: Alter>(alloc: Global, conn: &mut Connection<S>) -> Result<Count
     Ok(Counts { bundles, figures })
 }
 
-/// The entries of a database, each table's in the order of its key. `Damaged` where the rows are those of
-/// no state.
+/// The entries of the first eight tables of a database, each table's in the order of its key. `Damaged` where
+/// the rows are those of no state.
+pub(crate) fn first_rows<S: Alter>(alloc: Global, conn: &mut Connection<S>) -> Result<Rows, Fault>
+    requires { conn.old.in_transaction ≡ false }
+    ensures lists { HasCleanDisk (state S.Store conn.new) → (db : Database) → BeginsFirst 8 db.schema → RestsAt db (state S.Store conn.old)
+        → IfOk result (λ rows. ListsFirst 8 db (state_of rows) (tabulated rows)) }
+    ensures told { HasCleanDisk (state S.Store conn.new) → (db : Database) → BeginsFirst 8 db.schema → RestsAt db (state S.Store conn.old)
+        → IfErr result (TellsStrange 8 db) }
+    ensures fails { HasCleanDisk (state S.Store conn.new) → (db : Database) → BeginsFirst 8 db.schema → RestsAt db (state S.Store conn.old)
+        → IfErr result (FailsToList db (state S.Store conn.old) (state S.Store conn.new)) }
+    ensures rise { IfOk result (λ rows. MapsRise (state_of rows)) }
+    ensures no_thirds { IfOk result (λ rows. (state_of rows).thirds ≡ []) }
+    ensures no_counts { IfOk result (λ rows. tabulated rows ≡ no_tabulation) }
+    ensures opens { HasCleanDisk (state S.Store conn.new) → OnOk result (IsTrue (state S.Store conn.new).is_open) }
+    ensures reads { OnlyReads (state S.Store conn.old) (state S.Store conn.new) }
+    ensures outside { conn.new.in_transaction ≡ false }
+{
+    let Contests { wards, candidates } = all_contests(alloc, conn)?;
+    let Papers {
+        batches,
+        keyings,
+        verdicts,
+    } = all_papers(alloc, conn)?;
+    let Records { lots, receipts } = all_records(alloc, conn)?;
+    Ok(Rows {
+        wards,
+        candidates,
+        batches,
+        thirds: Vec::new(alloc),
+        keyings,
+        verdicts,
+        lots,
+        receipts,
+        bundles: Vec::new(alloc),
+        figures: Vec::new(alloc),
+    })
+}
+
+/// The same of the first ten tables, with what is tabulated of the counts.
+pub(crate) fn counted_rows<S: Alter>(alloc: Global, conn: &mut Connection<S>) -> Result<Rows, Fault>
+    requires { conn.old.in_transaction ≡ false }
+    ensures lists { HasCleanDisk (state S.Store conn.new) → (db : Database) → BeginsFirst 10 db.schema → RestsAt db (state S.Store conn.old)
+        → IfOk result (λ rows. ListsFirst 10 db (state_of rows) (tabulated rows)) }
+    ensures told { HasCleanDisk (state S.Store conn.new) → (db : Database) → BeginsFirst 10 db.schema → RestsAt db (state S.Store conn.old)
+        → IfErr result (TellsStrange 10 db) }
+    ensures fails { HasCleanDisk (state S.Store conn.new) → (db : Database) → BeginsFirst 10 db.schema → RestsAt db (state S.Store conn.old)
+        → IfErr result (FailsToList db (state S.Store conn.old) (state S.Store conn.new)) }
+    ensures rise { IfOk result (λ rows. MapsRise (state_of rows)) }
+    ensures no_thirds { IfOk result (λ rows. (state_of rows).thirds ≡ []) }
+    ensures opens { HasCleanDisk (state S.Store conn.new) → OnOk result (IsTrue (state S.Store conn.new).is_open) }
+    ensures reads { OnlyReads (state S.Store conn.old) (state S.Store conn.new) }
+    ensures outside { conn.new.in_transaction ≡ false }
+{
+    let mut rows = first_rows(alloc, conn)?;
+    let Counts { bundles, figures } = all_counts(alloc, conn)?;
+    rows.bundles = bundles;
+    rows.figures = figures;
+    Ok(rows)
+}
+
+/// The entries of all tables of a database, each table's in the order of its key. `Damaged` where the rows
+/// are those of no state.
 pub(crate) fn all_rows<S: Alter>(alloc: Global, conn: &mut Connection<S>) -> Result<Rows, Fault>
     requires { conn.old.in_transaction ≡ false }
     ensures lists { HasCleanDisk (state S.Store conn.new) → (db : Database) → IsOfficeSchema db.schema → RestsAt db (state S.Store conn.old)
@@ -155,23 +218,8 @@ pub(crate) fn all_rows<S: Alter>(alloc: Global, conn: &mut Connection<S>) -> Res
     ensures reads { OnlyReads (state S.Store conn.old) (state S.Store conn.new) }
     ensures outside { conn.new.in_transaction ≡ false }
 {
-    let Contests { wards, candidates } = all_contests(alloc, conn)?;
-    let Papers {
-        batches,
-        keyings,
-        verdicts,
-    } = all_papers(alloc, conn)?;
-    let Records { lots, receipts } = all_records(alloc, conn)?;
-    let Counts { bundles, figures } = all_counts(alloc, conn)?;
-    Ok(Rows {
-        wards,
-        candidates,
-        batches,
-        keyings,
-        verdicts,
-        lots,
-        receipts,
-        bundles,
-        figures,
-    })
+    let mut rows = counted_rows(alloc, conn)?;
+    let thirds = all_entries::<ThirdClerks, S>(alloc, conn)?;
+    rows.thirds = thirds;
+    Ok(rows)
 }

@@ -1,19 +1,24 @@
 //! Whether a database is the office of a state.
 
-ghost use Rattle.std.specs.Prelude.{◌≡◌, [], ◌∷◌, true, false, IfOk, IfErr, OnOk, IsTrue};
+ghost use Rattle.std.specs.Prelude.{◌≡◌, [], ◌∷◌, true, false, IfOk, IfErr, IfSome, IfNone, OnOk, IsTrue};
 ghost use Rattle.sqlite.specs.Effect.{Database, IsDatabase};
 ghost use Rattle.sqlite.specs.State.{HasCleanDisk};
 ghost use Rattle.sqlite.specs.Held.{state};
 ghost use Rattle.register.specs.Offices.{OfficeState, MapsRise};
+ghost use Rattle.register.specs.Items.{IsState};
+ghost use Rattle.register.specs.Tabulated.{tabulation_entries};
 ghost use Rattle.rowcheck.specs.States.{state_of, tabulated};
 ghost use Rattle.tables.specs.Schema.{BeginsTo, IsOfficeSchema};
 ghost use Rattle.tables.specs.Contents.{RestsAt};
 ghost use Rattle.tables.specs.Presence.{IsOurs};
 ghost use Rattle.tables.specs.Reading.{OnlyReads, FailsToList};
+ghost use Rattle.store.specs.EntryRows.{this_version};
 ghost use Rattle.store.specs.Offices.{HoldsState};
 ghost use Rattle.store.specs.Openings.{IsToldBy, TellsNoState, IsVersion, TellsRow, TellsRows, HasVersion, TellsOffice, IsTabulatedAs, HoldsEntries};
 
 use crate::listing::all_rows;
+use crate::writing::VERSION;
+use register::Tabulation;
 use rowcheck::{Rows, item1, item2, item3, item4, item5, item6, item7, item8};
 use sqlite::{Alter, Connection, Row};
 use std::alloc::Global;
@@ -22,9 +27,9 @@ use tables::listing::keyed_rows;
 use tables::presence::{has_every_table, has_table};
 use tables::{Fault, Table};
 
-/// Sees that the row is that of an office of version 1.
+/// Sees that the row is that of an office of this program's version.
 fn check_row(row: &Row) -> Result<(), Fault>
-    ensures version { OnOk result (IsVersion 1 row.now) }
+    ensures version { OnOk result (IsVersion this_version row.now) }
     ensures told { IfErr result (TellsRow row.now) }
 {
     let one = integer_at(row, 0)?;
@@ -35,15 +40,18 @@ fn check_row(row: &Row) -> Result<(), Fault>
     if version < 1 {
         return Err(Fault::Damaged);
     }
-    if version > 1 {
+    if version < i64::from(VERSION) {
+        return Err(Fault::OlderSchema);
+    }
+    if version > i64::from(VERSION) {
         return Err(Fault::NewerSchema);
     }
     Ok(())
 }
 
-/// Sees that the rows are the one of an office of version 1.
+/// Sees that the rows are the one of an office of this program's version.
 fn check_rows(rows: &[Row]) -> Result<(), Fault>
-    ensures version { OnOk result ((row : _) × (rows.now ≡ row ∷ []) × IsVersion 1 row) }
+    ensures version { OnOk result ((row : _) × (rows.now ≡ row ∷ []) × IsVersion this_version row) }
     ensures told { IfErr result (TellsRows rows.now) }
 {
     if rows.is_empty() {
@@ -61,11 +69,13 @@ fn check_rows(rows: &[Row]) -> Result<(), Fault>
 fn check_office<S: Alter>(conn: &mut Connection<S>) -> Result<(), Fault>
     requires { conn.old.in_transaction ≡ false }
     ensures holds { HasCleanDisk (state S.Store conn.new) → (db : Database) → BeginsTo Table.Office db.schema → IsDatabase db → RestsAt db (state S.Store conn.old)
-        → OnOk result (HasVersion 1 db) }
+        → OnOk result (HasVersion this_version db) }
     ensures told { HasCleanDisk (state S.Store conn.new) → (db : Database) → BeginsTo Table.Office db.schema → IsDatabase db → RestsAt db (state S.Store conn.old)
         → IfErr result (TellsOffice db) }
     ensures fails { HasCleanDisk (state S.Store conn.new) → (db : Database) → BeginsTo Table.Office db.schema → RestsAt db (state S.Store conn.old)
         → IfErr result (FailsToList db (state S.Store conn.old) (state S.Store conn.new)) }
+    ensures older { HasCleanDisk (state S.Store conn.new) → (db : Database) → BeginsTo Table.Office db.schema → RestsAt db (state S.Store conn.old)
+        → IfErr result (λ f. f ≡ Fault.OlderSchema → IsTrue (state S.Store conn.new).is_open) }
     ensures opens { HasCleanDisk (state S.Store conn.new) → OnOk result (IsTrue (state S.Store conn.new).is_open) }
     ensures reads { OnlyReads (state S.Store conn.old) (state S.Store conn.new) }
     ensures outside { conn.new.in_transaction ≡ false }
@@ -73,6 +83,39 @@ fn check_office<S: Alter>(conn: &mut Connection<S>) -> Result<(), Fault>
     let rows = keyed_rows(conn, Table::Office)?;
     check_rows(&rows)?;
     Ok(())
+}
+
+/// What is tabulated of the counts of maps in the order of their keys, if they are a state. An error is
+/// `Memory`.
+pub(crate) fn counted_state(alloc: Global, rows: &Rows) -> Result<Option<Tabulation>, Fault>
+    requires { MapsRise (state_of rows.now) }
+    ensures some { IfOk result (λ found. IfSome found (λ t. IsTabulatedAs (state_of rows.now) (tabulation_entries t))) }
+    ensures none { IfOk result (λ found. IfNone found (¬ IsState (state_of rows.now))) }
+    ensures cause { IfErr result (λ f. f ≡ Fault.Memory) }
+{
+    if !item1(rows) {
+        return Ok(None);
+    }
+    if !item2(rows) {
+        return Ok(None);
+    }
+    if !item3(rows) {
+        return Ok(None);
+    }
+    if !item4(rows) {
+        return Ok(None);
+    }
+    if !item5(rows) {
+        return Ok(None);
+    }
+    if !item6(rows) {
+        return Ok(None);
+    }
+    match item7(alloc, rows) {
+        Ok(Some(counted)) => Ok(Some(counted)),
+        Ok(None) => Ok(None),
+        Err(_) => Err(Fault::Memory),
+    }
 }
 
 /// Whether maps in the order of their keys are a state, beside what is tabulated of its counts. An error is
@@ -83,28 +126,10 @@ fn are_of_state(alloc: Global, rows: &Rows) -> Result<bool, Fault>
     ensures none { IfOk result (λ yes. yes ≡ false → ¬ IsTabulatedAs (state_of rows.now) (tabulated rows.now)) }
     ensures cause { IfErr result (λ f. f ≡ Fault.Memory) }
 {
-    if !item1(rows) {
-        return Ok(false);
-    }
-    if !item2(rows) {
-        return Ok(false);
-    }
-    if !item3(rows) {
-        return Ok(false);
-    }
-    if !item4(rows) {
-        return Ok(false);
-    }
-    if !item5(rows) {
-        return Ok(false);
-    }
-    if !item6(rows) {
-        return Ok(false);
-    }
-    match item7(alloc, rows) {
+    match counted_state(alloc, rows) {
         Ok(Some(counted)) => Ok(item8(rows, &counted)),
         Ok(None) => Ok(false),
-        Err(_) => Err(Fault::Memory),
+        Err(fault) => Err(fault),
     }
 }
 
@@ -132,8 +157,9 @@ fn check_tables<S: Alter>(alloc: Global, conn: &mut Connection<S>) -> Result<(),
 
 /// Sees that the database is the office of a state, by its rows alone, and changes nothing. Told are,
 /// in this order: `WrongDatabase` where there is no office table or no row in it; `Damaged` where
-/// that table is no office's, and `NewerSchema` where its version is above 1, before another
-/// table is looked at; then `Damaged` where a table is missing or the rows are those of no state.
+/// that table is no office's, `OlderSchema` where its version is 1 and `NewerSchema` where it is above
+/// 2, before another table is looked at; then `Damaged` where a table is missing or the rows are those
+/// of no state.
 /// `Memory` may be told at any point, and `Store` where the store failed or rowids aren't the rows' own.
 pub fn check<S: Alter>(alloc: Global, conn: &mut Connection<S>) -> Result<(), Fault>
     requires { conn.old.in_transaction ≡ false }
@@ -143,6 +169,8 @@ pub fn check<S: Alter>(alloc: Global, conn: &mut Connection<S>) -> Result<(), Fa
         → IfErr result (IsToldBy db) }
     ensures fails { HasCleanDisk (state S.Store conn.new) → (db : Database) → IsOurs db.schema → RestsAt db (state S.Store conn.old)
         → IfErr result (FailsToList db (state S.Store conn.old) (state S.Store conn.new)) }
+    ensures older { HasCleanDisk (state S.Store conn.new) → (db : Database) → IsOurs db.schema → RestsAt db (state S.Store conn.old)
+        → IfErr result (λ f. f ≡ Fault.OlderSchema → IsTrue (state S.Store conn.new).is_open) }
     ensures opens { HasCleanDisk (state S.Store conn.new) → OnOk result (IsTrue (state S.Store conn.new).is_open) }
     ensures reads { OnlyReads (state S.Store conn.old) (state S.Store conn.new) }
     ensures outside { conn.new.in_transaction ≡ false }

@@ -27,7 +27,7 @@ use crate::views::wards::find_ward;
 use count::{Bundles, bundles_count_alike};
 use paper::{Columns, Prefs};
 use register::marks::columns_of;
-use register::papers::{are_taken, count_open, differ};
+use register::papers::{agreed, count_open, differ, is_keyed};
 use register::{Ballots, Batch, Count, CountedWard, JudgedPaper, Status, Ward, WardSheet};
 use sqlite::{Alter, Connection};
 use std::alloc::Global;
@@ -67,17 +67,17 @@ fn both(some: Tally, others: Tally) -> Tally
 fn standing(keyings: &Keyings, verdicts: &[JudgedPaper]) -> Tally
     ensures { result ≡ tally_by keyings.now verdicts.now }
 {
-    let taken = are_taken(&keyings.first, &keyings.second);
-    let differing = differ(&keyings.first, &keyings.second);
-    let doubtful_open = if taken {
-        count_open(&keyings.first, verdicts)
-    } else {
-        0
-    };
+    let Keyings {
+        first,
+        second,
+        third,
+        ..
+    } = keyings;
+    let papers = agreed(first, second, third);
     Tally {
-        taken: count_of(taken),
-        differing: count_of(differing),
-        doubtful_open,
+        taken: count_of(is_keyed(papers)),
+        differing: count_of(differ(first, second, third)),
+        doubtful_open: count_open(papers, verdicts),
     }
 }
 

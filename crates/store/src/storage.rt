@@ -125,10 +125,10 @@ impl<S: Alter> Store<S> {
 
     /// Opens the office that the connection's database holds, and changes nothing.
     ///
-    /// `WrongDatabase` where there is no office table or no row in it, `NewerSchema` where a later program
-    /// made it, `Damaged` where the rows are the tables of no state. `Store` where the store failed, where
-    /// rowids aren't the rows' own, or where the connection is inside a transaction. The connection is
-    /// handed back with a fault, its database as it was.
+    /// `WrongDatabase` where there is no office table or no row in it, `OlderSchema` where a program before
+    /// this one made it, and `NewerSchema` where a later one did; `Damaged` where the rows are the tables of
+    /// no state. `Store` where the store failed, where rowids aren't the rows' own, or where the connection
+    /// is inside a transaction. The connection is handed back with a fault, its database as it was.
     pub fn open_from(alloc: Global, mut conn: Connection<S>) -> Result<Self, (Fault, Connection<S>)>
         ensures opened { IfOk result (λ store. HasCleanDisk (state S.Store store) → (db : Database) → IsOurs db.schema → RestsAt db (state S.Store conn)
             → (s : OfficeState) × HoldsState db s × IsAt s (state S.Store store)) }

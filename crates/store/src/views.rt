@@ -24,7 +24,7 @@ pub(crate) mod sheets;
 pub(crate) mod wards;
 
 use crate::storage::Store;
-use crate::views::batches::{again_part, new_batch_part};
+use crate::views::batches::{again_part, new_batch_part, third_part};
 use crate::views::candidates::candidate_part;
 use crate::views::counts::{count_part, lot_part, seal_part};
 use crate::views::papers::{keying_part, verdict_part};
@@ -62,6 +62,7 @@ fn find_part<S: Alter>(
             new_batch_part(alloc, conn, *ward, *batch)
         }
         Command::Batch(BatchCommand::Again { batch }) => again_part(alloc, conn, *batch),
+        Command::Batch(BatchCommand::Third { batch, .. }) => third_part(alloc, conn, *batch),
         Command::Keying(keying) => keying_part(alloc, conn, keying.batch, keying.round, actor),
         Command::Verdict(judged) => verdict_part(alloc, conn, judged.batch, judged.paper),
         Command::Count(CountCommand::Seal { ward }) => seal_part(alloc, conn, *ward),

@@ -12,7 +12,7 @@ ghost use Rattle.store.specs.Offices.{IsAt};
 ghost use Rattle.store.specs.Reads.{Reads};
 
 use crate::storage::Store;
-use crate::views::batches::all_batches;
+use crate::views::batches::{all_batches, find_third};
 use crate::views::candidates::list_candidates;
 use crate::views::papers::has_keyed;
 use crate::views::wards::find_ward;
@@ -67,7 +67,8 @@ fn own_work<S: Alter>(
     ensures { Reads (state S.Store conn.old) (state S.Store conn.new) result
         (λ s found. option_map work_entry found ≡ (if is_work s clerk (batch_entry batch.now) then Some (work_on s clerk (batch_entry batch.now)) else None)) }
 {
-    if !is_its_clerk(clerk, batch) {
+    let third = find_third(conn, batch.number)?;
+    if !is_its_clerk(clerk, batch, &third) {
         return Ok(None);
     }
     let ward = find_ward(conn, batch.ward)?;
@@ -117,9 +118,9 @@ fn find_work<S: Alter>(
 impl<S: Alter> Store<S> {
     /// The work of a clerk (1 to 999): his batches in wards in keying, in the order of their numbers, each
     /// with the columns of its papers and whether he has keyed its current round. All batches are read at
-    /// once; then of each of his own its ward, the candidates there, and the first paper of his keying. It
-    /// changes nothing, and adds nothing to what a stop may leave. `Memory` or `Store` where a row can't be
-    /// read.
+    /// once; then of each its third clerk, and of each of his own its ward, the candidates there, and the
+    /// first paper of his keying. It changes nothing, and adds nothing to what a stop may leave. `Memory` or
+    /// `Store` where a row can't be read.
     pub fn load_work(&mut self, clerk: u32) -> Result<Vec<Work>, Fault>
         ensures shows { HasCleanDisk (state S.Store self.new) → (s : OfficeState) → IsAt s (state S.Store self.old) → IfOk result (λ found. map work_entry found.items ≡ work_of s clerk) }
         ensures cause { HasCleanDisk (state S.Store self.new) → (s : OfficeState) → IsAt s (state S.Store self.old) → IfErr result (FailsBy (state S.Store self.old) (state S.Store self.new)) }

@@ -15,11 +15,12 @@ ghost use Rattle.store.specs.Offices.{tables_of, tables_with, ChangesTo};
 mod batches;
 mod candidates;
 mod counts;
+pub(crate) mod older;
 mod papers;
 mod wards;
 
 use crate::entries::receipts::Receipts;
-use crate::writing::batches::{write_batch, write_round};
+use crate::writing::batches::{write_batch, write_round, write_third};
 use crate::writing::candidates::{remove_candidate, write_candidate};
 use crate::writing::counts::{write_addition, write_lot, write_stage};
 use crate::writing::papers::{write_keying, write_verdict};
@@ -34,7 +35,7 @@ use tables::writing::add_entry;
 use tables::{Fault, Table};
 
 /// The schema version of this program's offices.
-const VERSION: u32 = 1;
+pub(crate) const VERSION: u32 = 2;
 
 /// Writes what a command does to the state.
 pub(crate) fn write_effect<S: Alter>(
@@ -58,6 +59,7 @@ pub(crate) fn write_effect<S: Alter>(
         }
         Effect::BatchAdded(batch) => write_batch(alloc, tx, batch),
         Effect::BatchReopened { batch, round } => write_round(tx, *batch, *round),
+        Effect::ThirdSet(third) => write_third(alloc, tx, third),
         Effect::PapersKeyed(papers) => write_keying(alloc, tx, papers),
         Effect::PaperJudged(judged) => write_verdict(alloc, tx, judged),
         Effect::StageCounted { ward, done } => write_stage(tx, *ward, *done),

@@ -31,7 +31,7 @@ use Rattle.tables.specs.declared.fault.Fault.TheVariants.{Memory, Store}
 use Rattle.tables.specs.Faults.{fault_of, TellsQuery}
 use Rattle.tables.specs.Reading.{OnlyReads, HasFailed, FailsBy, FailsToList}
 use Rattle.tables.specs.declared.table.Table.{Table}
-use Rattle.tables.specs.declared.table.Table.TheVariants.{Office, Ward, Candidate, Batch, Keying, Verdict, Lot, Receipt, Bundle, Vote}
+use Rattle.tables.specs.declared.table.Table.TheVariants.{Office, Ward, Candidate, Batch, Keying, Verdict, Lot, Receipt, Bundle, Vote, Third}
 use Rattle.tables.specs.declared.table.Reference.{Reference}
 use Rattle.tables.specs.declared.table.Reference.TheVariants.{WardOfBatch}
 use Rattle.tables.specs.Texts.{select_text, select_by_reference_text, select_rowids_text}
@@ -241,6 +241,9 @@ accepts Vote (a ∷ b ∷ c ∷ []) kinds low rest others views =
     let after_b = behind b _ after_a in
     rw ((number_in a _ kinds).1, (number_in b _ after_a).1, (number_in c _ after_b).1) refl
 accepts Vote (a ∷ b ∷ c ∷ d ∷ more) kinds low rest others views = absurd (omega (arith, low))
+accepts Third [] kinds low rest others views = refl
+accepts Third (a ∷ []) kinds low rest others views = rw (number_in a _ kinds).1 refl
+accepts Third (a ∷ b ∷ more) kinds low rest others views = absurd (omega (arith, low))
 
 -- a query of the rows with a number in the column that refers to another table is accepted
 pub accepts_reference : (r : Reference) (value : Value) → is_of Integer value ≡ true → (rest : List Definition) (others : List Index) (views : List View)
@@ -252,7 +255,7 @@ accepts_reference WardOfBatch _ kind rest others views = absurd (true≢false (s
 -- a query of the rowids is accepted
 accepts_rowids : (t : Table) → changes_rows t ≡ true → (rest : List Definition) (others : List Index) (views : List View)
     → accepts_program (schema_from (1 + place_of t) rest others views) [] (query (tree_of t) [] (col 1 0 ∷ []) ((col 1 0, ascending Binary) ∷ [])) [] ≡ true
-accepts_rowids Office changes rest others views = absurd (true≢false (sym changes))
+accepts_rowids Office changes rest others views = refl
 accepts_rowids Ward changes rest others views = refl
 accepts_rowids Candidate changes rest others views = refl
 accepts_rowids Batch changes rest others views = refl
@@ -262,6 +265,7 @@ accepts_rowids Lot changes rest others views = absurd (true≢false (sym changes
 accepts_rowids Receipt changes rest others views = absurd (true≢false (sym changes))
 accepts_rowids Bundle changes rest others views = refl
 accepts_rowids Vote changes rest others views = absurd (true≢false (sym changes))
+accepts_rowids Third changes rest others views = absurd (true≢false (sym changes))
 
 -- ---- the queries of a table
 

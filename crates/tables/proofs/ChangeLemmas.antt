@@ -40,7 +40,7 @@ row_removed t changing key old new r runs c sees =
     table_changed t (filter stays) (delete_text t) key old new
     (λ rest others views free count has ran rows was.
     let it = edits_row rest others views t changing in
-    let change = removes (schema_from 10 rest others views) t (it.alone free) it.place (delete_text t) it.deletes it.plain_delete it.low key old new count has (was.keyed changing) ran in (
+    let change = removes (schema_from 11 rest others views) t (it.alone free) it.place (delete_text t) it.deletes it.plain_delete it.low key old new count has (was.keyed changing) ran in (
       change.changes,
       record {
         same = subst (IsPermutation _) (sym change.rows) (IsPermutation-filter stays rows (tuples t old.now.trees) was.same);
@@ -63,7 +63,7 @@ row_replaced t changing row kinds old new r runs c sees =
     table_changed t (map put) (update_text t) row old new
     (λ rest others views free count has ran rows was.
     let it = edits_row rest others views t changing in
-    let change = replaces (schema_from 10 rest others views) t (it.alone free) it.place (updated t) (update_text t) it.updates it.plain_update it.low row next (λ x. row) (shows_updated t row) (λ x typed same. updated_row t x row typed kinds same) (λ x typed. kinds) old new count has (was.keyed changing)
+    let change = replaces (schema_from 11 rest others views) t (it.alone free) it.place (updated t) (update_text t) it.updates it.plain_update it.low row next (λ x. row) (shows_updated t row) (λ x typed same. updated_row t x row typed kinds same) (λ x typed. kinds) old new count has (was.keyed changing)
     (permuted_all (is_row_of t) rows (tuples t old.now.trees) was.same was.typed) ran in (
       change.changes,
       record {
@@ -125,7 +125,7 @@ value_set_there g values kind old new r runs c sees =
     (λ rest others views free count has ran rows was.
     let it = edits_row rest others views t (setting_changes g) in
     let text = sets_value rest others views g in
-    let change = replaces (schema_from 10 rest others views) t (it.alone free) it.place (set_terms g) (set_text g) text.sets text.plain it.low values made made
+    let change = replaces (schema_from 11 rest others views) t (it.alone free) it.place (set_terms g) (set_text g) text.sets text.plain it.low values made made
     (λ x. ap (λ l. rowid x ∷ rowid x ∷ l) (shows_set (place_set g) (shape t).key values x (places_from 0 (length (columns_of t))))) (λ x typed same. refl) kinds old new count has (was.keyed (setting_changes g))
     (permuted_all (is_row_of t) rows (tuples t old.now.trees) was.same was.typed) ran in (
       change.changes,

@@ -23,7 +23,7 @@ use Rattle.sqlite.specs.Schema.{Schema}
 use Rattle.sqlite.specs.Tree.{Trees}
 use Rattle.sqlite.specs.Effect.{Database, IsDatabase}
 use Rattle.tables.specs.declared.table.Table.{Table}
-use Rattle.tables.specs.declared.table.Table.TheVariants.{Office, Ward, Candidate, Batch, Keying, Verdict, Lot, Receipt, Bundle, Vote}
+use Rattle.tables.specs.declared.table.Table.TheVariants.{Office, Ward, Candidate, Batch, Keying, Verdict, Lot, Receipt, Bundle, Vote, Third}
 use Rattle.tables.specs.Schema.{definition, columns_of, tree_of, changes_rows, BeginsTo}
 use Rattle.tables.specs.Rows.{tuples, at, column_places, is_row_of, is_of, are_of, begins_with, row_cmp, HasWrongRowid, RepeatsRowid}
 use Rattle.tables.specs.Contents.{HoldsTable}
@@ -52,6 +52,7 @@ begun_has Lot s h = subst (λ (x : Schema). Has x.tables (definition Lot)) (sym 
 begun_has Receipt s h = subst (λ (x : Schema). Has x.tables (definition Receipt)) (sym h.is) (inr (inr (inr (inr (inr (inr (inr (inl refl))))))))
 begun_has Bundle s h = subst (λ (x : Schema). Has x.tables (definition Bundle)) (sym h.is) (inr (inr (inr (inr (inr (inr (inr (inr (inl refl)))))))))
 begun_has Vote s h = subst (λ (x : Schema). Has x.tables (definition Vote)) (sym h.is) (inr (inr (inr (inr (inr (inr (inr (inr (inr (inl refl))))))))))
+begun_has Third s h = subst (λ (x : Schema). Has x.tables (definition Third)) (sym h.is) (inr (inr (inr (inr (inr (inr (inr (inr (inr (inr (inl refl)))))))))))
 
 short : (t : Table) (db : Database) → BeginsTo t db.schema → IsDatabase db → (r : Row) → Has (tuples t db.trees) r → length r ≤ length (columns_of t)
 short t db begins sound r h =

@@ -16,7 +16,7 @@ use Rattle.sqlite_schema.specs.declared.schema.Keys.TheVariants.{Enforced}
 use Rattle.sqlite_rules.specs.Action.{works, work_for}
 use Rattle.sqlite_tied.specs.Compute.{everything}
 use Rattle.tables.specs.declared.table.Table.{Table}
-use Rattle.tables.specs.declared.table.Table.TheVariants.{Office, Ward, Candidate, Batch, Keying, Verdict, Lot, Receipt, Bundle, Vote}
+use Rattle.tables.specs.declared.table.Table.TheVariants.{Office, Ward, Candidate, Batch, Keying, Verdict, Lot, Receipt, Bundle, Vote, Third}
 use Rattle.tables.specs.Texts.{insert_text}
 use Rattle.tables.specs.Schema.{Definition, schema_from, definition, place_of, tree_of, columns_of, AreFree}
 use Rattle.tables.specs.Rows.{at, column_places}
@@ -38,7 +38,7 @@ width_of t = 1 + length (columns_of t)
 
 module _ (rest : List Definition) (others : List Index) (views : List View) where
   abbrev schema : Schema
-  schema = schema_from 10 rest others views
+  schema = schema_from 11 rest others views
 
   -- what the INSERT of a table has to be
   pub record InsertsRow (t : Table) : Type 0 where
@@ -60,3 +60,4 @@ module _ (rest : List Definition) (others : List Index) (views : List View) wher
   inserts_row Receipt = record { place = refl; is = refl; plain = (refl, refl); shows = λ _. refl; alone = λ free olds news. none_from schema 14 olds news rest free }
   inserts_row Bundle = record { place = refl; is = refl; plain = (refl, refl); shows = λ _. refl; alone = λ free olds news. none_from schema 16 olds news rest free }
   inserts_row Vote = record { place = refl; is = refl; plain = (refl, refl); shows = λ _. refl; alone = λ free olds news. none_from schema 18 olds news rest free }
+  inserts_row Third = record { place = refl; is = refl; plain = (refl, refl); shows = λ _. refl; alone = λ free olds news. none_from schema 20 olds news rest free }

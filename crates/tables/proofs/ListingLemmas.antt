@@ -17,7 +17,7 @@ use Rattle.sqlite.specs.Effect.{Database}
 use Rattle.sqlite.specs.Query.{key_cmp}
 use Rattle.sqlite.specs.State.{State, Shown}
 use Rattle.tables.specs.declared.table.Table.{Table}
-use Rattle.tables.specs.declared.table.Table.TheVariants.{Office, Ward, Candidate, Batch, Keying, Verdict, Lot, Receipt, Bundle, Vote}
+use Rattle.tables.specs.declared.table.Table.TheVariants.{Office, Ward, Candidate, Batch, Keying, Verdict, Lot, Receipt, Bundle, Vote, Third}
 use Rattle.tables.specs.Texts.{select_rowids_text}
 use Rattle.tables.specs.Schema.{schema_from, place_of, tree_of, shape, columns_of, changes_rows, places_from, definition, key_index, all_tables, BeginsTo, IsOfficeSchema}
 use Rattle.tables.specs.Rows.{tuples, at, column_places, is_row_of, row_cmp, keys_cmp, ascending_keys}
@@ -41,6 +41,7 @@ begins_to Lot s h = record { rest = map definition (drop 7 all_tables) ++ h.rest
 begins_to Receipt s h = record { rest = map definition (drop 8 all_tables) ++ h.rest; others = map key_index (drop 8 all_tables) ++ h.others; views = h.views; is = h.is }
 begins_to Bundle s h = record { rest = map definition (drop 9 all_tables) ++ h.rest; others = map key_index (drop 9 all_tables) ++ h.others; views = h.views; is = h.is }
 begins_to Vote s h = record { rest = map definition (drop 10 all_tables) ++ h.rest; others = map key_index (drop 10 all_tables) ++ h.others; views = h.views; is = h.is }
+begins_to Third s h = record { rest = map definition (drop 11 all_tables) ++ h.rest; others = map key_index (drop 11 all_tables) ++ h.others; views = h.views; is = h.is }
 
 pub key_within : (t : Table) → (shape t).key ≤ length (columns_of t)
 key_within Office = omega arith
@@ -53,6 +54,7 @@ key_within Lot = omega arith
 key_within Receipt = omega arith
 key_within Bundle = omega arith
 key_within Vote = omega arith
+key_within Third = omega arith
 
 -- keys are compared by the first places alone
 same_keys : (k n : ℕ) (a b x y : Row) → ((j : ℕ) → j < k + n → column a j ≡ column x j) → ((j : ℕ) → j < k + n → column b j ≡ column y j) → key_cmp k (ascending_keys n) a b ≡ key_cmp k (ascending_keys n) x y

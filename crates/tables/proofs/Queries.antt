@@ -11,7 +11,7 @@ use Rattle.sqlite_schema.specs.declared.schema.View.{View}
 use Rattle.sqlite_resolve.specs.Compile.{first}
 use Rattle.sqlite_tied.specs.Compute.{everything}
 use Rattle.tables.specs.declared.table.Table.{Table}
-use Rattle.tables.specs.declared.table.Table.TheVariants.{Office, Ward, Candidate, Batch, Keying, Verdict, Lot, Receipt, Bundle, Vote}
+use Rattle.tables.specs.declared.table.Table.TheVariants.{Office, Ward, Candidate, Batch, Keying, Verdict, Lot, Receipt, Bundle, Vote, Third}
 use Rattle.tables.specs.declared.table.Reference.{Reference}
 use Rattle.tables.specs.declared.table.Reference.TheVariants.{WardOfBatch}
 use Rattle.tables.specs.Texts.{names_of, select_text, select_by_reference_text, select_rowids_text}
@@ -67,6 +67,9 @@ selects Vote (suc zero) low = record { query = refl; select = λ rest others vie
 selects Vote (suc (suc zero)) low = record { query = refl; select = λ rest others views. record { is = refl; unlisted = refl; plain = (refl, refl); low = λ db. refl; whole = refl; given = refl } }
 selects Vote (suc (suc (suc zero))) low = record { query = refl; select = λ rest others views. record { is = refl; unlisted = refl; plain = (refl, refl); low = λ db. refl; whole = refl; given = refl } }
 selects Vote (suc (suc (suc (suc n)))) low = absurd (omega (arith, low))
+selects Third zero low = record { query = refl; select = λ rest others views. record { is = refl; unlisted = refl; plain = (refl, refl); low = λ db. refl; whole = refl; given = refl } }
+selects Third (suc zero) low = record { query = refl; select = λ rest others views. record { is = refl; unlisted = refl; plain = (refl, refl); low = λ db. refl; whole = refl; given = refl } }
+selects Third (suc (suc n)) low = absurd (omega (arith, low))
 
 pub selects_by_reference : (r : Reference) → Reads (table_sought r) (select_by_reference_text r) (op2 (Compare Eq Binary) (col 1 (suc (place_sought r))) (col 0 0) ∷ [])
 unfolding understood everything select_by_reference_text
@@ -79,7 +82,7 @@ pub record ReadsRowids (t : Table) : Type 0 where
 
 pub selects_rowids : (t : Table) → changes_rows t ≡ true → ReadsRowids t
 unfolding understood everything select_rowids_text
-selects_rowids Office changes = absurd (true≢false (sym changes))
+selects_rowids Office changes = record { query = refl; select = λ rest others views. record { is = refl; unlisted = refl; plain = (refl, refl); low = λ db. refl; whole = refl; given = refl } }
 selects_rowids Ward changes = record { query = refl; select = λ rest others views. record { is = refl; unlisted = refl; plain = (refl, refl); low = λ db. refl; whole = refl; given = refl } }
 selects_rowids Candidate changes = record { query = refl; select = λ rest others views. record { is = refl; unlisted = refl; plain = (refl, refl); low = λ db. refl; whole = refl; given = refl } }
 selects_rowids Batch changes = record { query = refl; select = λ rest others views. record { is = refl; unlisted = refl; plain = (refl, refl); low = λ db. refl; whole = refl; given = refl } }
@@ -89,6 +92,7 @@ selects_rowids Lot changes = absurd (true≢false (sym changes))
 selects_rowids Receipt changes = absurd (true≢false (sym changes))
 selects_rowids Bundle changes = record { query = refl; select = λ rest others views. record { is = refl; unlisted = refl; plain = (refl, refl); low = λ db. refl; whole = refl; given = refl } }
 selects_rowids Vote changes = absurd (true≢false (sym changes))
+selects_rowids Third changes = absurd (true≢false (sym changes))
 
 pub selects_query : (t : Table) (n : ℕ) → n ≤ (shape t).key → IsQuery (select_text t n)
 selects_query t n low = query_text (select_text t n) (selects t n low).query

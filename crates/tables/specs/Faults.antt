@@ -6,7 +6,7 @@ use Rattle.sqlite.specs.declared.error.ErrorCode.TheVariants.{OutOfMemory}
 use Rattle.sqlite.specs.Order.{Row}
 use Rattle.sqlite.specs.State.{State, HasCleanDisk, ExecutesInside, FailsToQuery}
 use Rattle.tables.specs.declared.fault.Fault.{Fault}
-use Rattle.tables.specs.declared.fault.Fault.TheVariants.{Memory, Store, Damaged, Closed, WrongDatabase, NewerSchema}
+use Rattle.tables.specs.declared.fault.Fault.TheVariants.{Memory, Store, Damaged, Closed, WrongDatabase, NewerSchema, OlderSchema}
 
 -- the number that a fault is told by
 abbrev pub fault_number : Fault → ℕ
@@ -16,6 +16,7 @@ fault_number Damaged = 103
 fault_number Closed = 104
 fault_number WrongDatabase = 105
 fault_number NewerSchema = 106
+fault_number OlderSchema = 108
 
 -- and its text
 abbrev pub fault_text : Fault → List ℕ
@@ -25,6 +26,7 @@ fault_text Damaged = codes "damaged"
 fault_text Closed = codes "closed"
 fault_text WrongDatabase = codes "wrong database"
 fault_text NewerSchema = codes "newer schema"
+fault_text OlderSchema = codes "older schema"
 
 -- want of memory, or another refusal of the store
 abbrev pub fault_of : Error → Fault

@@ -1,6 +1,7 @@
 -- The tables, made one after the other.
-use Rattle.std.specs.Prelude.{◌≡◌, ◌<◌, ℕ, [], IsTrue}
-use Rattle.sqlite.specs.Effect.{IsDatabase}
+use Rattle.std.specs.Prelude.{◌≡◌, ◌<◌, false, ℕ, [], IsTrue}
+use Rattle.sqlite.specs.Tree.{Trees}
+use Rattle.sqlite.specs.Effect.{Database, IsDatabase}
 use Rattle.sqlite.specs.State.{State}
 use Rattle.tables.specs.declared.table.Table.{Table}
 use Rattle.tables.specs.Schema.{schema_from, place_of}
@@ -10,9 +11,34 @@ use Rattle.tables.specs.Contents.{Contents, HoldsTable}
 unfoldable pub no_contents : Contents
 no_contents t = []
 
--- a transaction that sees so many of the tables, each with no row, and nothing else
-pub record SeesMade (n : ℕ) (s : State) : Type 0 where
+-- each of so many of the tables holds its rows and no other
+abbrev pub HoldsFirst : ℕ → Contents → Trees → Type 0
+HoldsFirst n c trees = (t : Table) → place_of t < n → HoldsTable t (c t) trees
+
+-- a sound database with so many of the tables and nothing else, which hold these rows and no other
+pub record FirstAt (n : ℕ) (c : Contents) (db : Database) : Type 0 where
+  pub schema : db.schema ≡ schema_from n [] [] []
+  pub sound : IsDatabase db
+  pub holds : HoldsFirst n c db.trees
+
+-- the same; opaque, so that a search does not open it
+unfoldable pub HasFirst : ℕ → Contents → Database → Type 0
+HasFirst = FirstAt
+
+-- the trees of such a database
+pub record StoresFirst (n : ℕ) (c : Contents) (trees : Trees) : Type 0 where
+  pub db : Database
+  pub first : HasFirst n c db
+  pub same : trees ≡ db.trees
+
+-- a connection between two transactions, at so many of the tables with these rows
+pub record RestsFirst (n : ℕ) (c : Contents) (s : State) : Type 0 where
+  pub is_open : IsTrue s.is_open
+  pub outside : s.in_transaction ≡ false
+  pub settled : s.now ≡ s.committed
+  pub first : HasFirst n c s.now
+
+-- a connection inside a transaction, which sees so many of the tables with these rows
+pub record SeesMade (n : ℕ) (c : Contents) (s : State) : Type 0 where
   pub inside : IsTrue s.in_transaction
-  pub schema : s.now.schema ≡ schema_from n [] [] []
-  pub sound : IsDatabase s.now
-  pub holds : (t : Table) → place_of t < n → HoldsTable t [] s.now.trees
+  pub first : HasFirst n c s.now

@@ -1,11 +1,13 @@
 -- Which tables of an office a schema has, by name.
-use Rattle.std.specs.Prelude.{◌≡◌, Bool, true}
+use Rattle.std.specs.Prelude.{◌≡◌, ℕ, Bool, true, not, ◌&&◌, if◌then◌else◌, take, drop, []}
 use Rattle.std.specs.List.{list_any, list_all}
 use Rattle.sqlite.specs.Schema.{Schema}
 use Rattle.sqlite_schema.specs.Names.{same_name}
 use Rattle.tables.specs.declared.table.Table.{Table}
 use Rattle.tables.specs.declared.table.Table.TheVariants.{Office}
-use Rattle.tables.specs.Schema.{shape, all_tables, BeginsTo, IsOfficeSchema}
+use Rattle.tables.specs.declared.presence.Form.{Form}
+use Rattle.tables.specs.declared.presence.Form.TheVariants.{Whole, WithoutThird, WithoutCounts, Other}
+use Rattle.tables.specs.Schema.{shape, all_tables, schema_from, BeginsTo, IsOfficeSchema}
 
 -- some table has this one's name, but for the case of ASCII letters
 abbrev pub has_table : Table → Schema → Bool
@@ -19,7 +21,20 @@ has_some_table s = list_any (λ t. has_table t s) all_tables
 abbrev pub has_every_table : Schema → Bool
 has_every_table s = list_all (λ t. has_table t s) all_tables
 
--- The tables with our names are ours: an office table is our first, and where all ten names are there, the ten come first and in order.
+-- these first tables of an office, so many, are there, and none of the others
+abbrev pub has_first : ℕ → Schema → Bool
+has_first n s = list_all (λ t. has_table t s) (take n all_tables) && not (list_any (λ t. has_table t s) (drop n all_tables))
+
+-- which tables of an office are there
+abbrev pub form_of : Schema → Form
+form_of s = if has_every_table s then Whole else if has_first 10 s then WithoutThird else if has_first 8 s then WithoutCounts else Other
+
+-- The tables with our names are ours: an office table is our first, and where all eleven names are there, the eleven come first and in order.
 pub record IsOurs (s : Schema) : Type 0 where
   pub office : has_table Office s ≡ true → BeginsTo Office s
   pub every : has_every_table s ≡ true → IsOfficeSchema s
+
+-- The tables of an older office are ours too, and nothing stands beside them: its names tell how many of the first tables are there.
+pub record IsOlder (s : Schema) : Type 0 where
+  pub without_third : form_of s ≡ WithoutThird → s ≡ schema_from 10 [] [] []
+  pub without_counts : form_of s ≡ WithoutCounts → s ≡ schema_from 8 [] [] []

@@ -19,8 +19,8 @@ use Rattle.tables.specs.declared.table.Table.{Table}
 use Rattle.tables.specs.declared.table.Reference.{Reference}
 use Rattle.tables.specs.declared.table.Reference.TheVariants.{WardOfBatch}
 use Rattle.tables.specs.declared.table.Setting.{Setting}
-use Rattle.tables.specs.declared.table.Setting.TheVariants.{PhaseOfWard, DoneOfWard, RoundOfBatch}
-use Rattle.tables.specs.declared.table.Table.TheVariants.{Office, Ward, Candidate, Batch, Keying, Verdict, Lot, Receipt, Bundle, Vote}
+use Rattle.tables.specs.declared.table.Setting.TheVariants.{VersionOfOffice, PhaseOfWard, DoneOfWard, RoundOfBatch}
+use Rattle.tables.specs.declared.table.Table.TheVariants.{Office, Ward, Candidate, Batch, Keying, Verdict, Lot, Receipt, Bundle, Vote, Third}
 
 -- a table as `sqlite` keeps it in a schema
 abbrev pub Definition : Type 0
@@ -88,9 +88,11 @@ shape Vote = record {
   key = 3;
   fields = number (codes "ward") ∷ number (codes "stage") ∷ number (codes "candidate") ∷ number (codes "units") ∷ number (codes "mark") ∷ [];
 }
+shape Third = record { name = codes "third"; key = 1; fields = within (codes "batch") 1 9999 ∷ within (codes "clerk") 1 999 ∷ [] }
 
 -- the tables whose rows are changed or removed; the others only grow
 abbrev pub changes_rows : Table → Bool
+changes_rows Office = true
 changes_rows Ward = true
 changes_rows Candidate = true
 changes_rows Batch = true
@@ -107,12 +109,14 @@ place_sought WardOfBatch = 1
 
 -- the table in which a column outside the key is set alone
 abbrev pub table_set : Setting → Table
+table_set VersionOfOffice = Office
 table_set PhaseOfWard = Ward
 table_set DoneOfWard = Ward
 table_set RoundOfBatch = Batch
 
 -- the place of that column
 abbrev pub place_set : Setting → ℕ
+place_set VersionOfOffice = 1
 place_set PhaseOfWard = 2
 place_set DoneOfWard = 3
 place_set RoundOfBatch = 5
@@ -147,10 +151,11 @@ place_of Lot = 6
 place_of Receipt = 7
 place_of Bundle = 8
 place_of Vote = 9
+place_of Third = 10
 
 -- the tables in the order of making
 abbrev pub all_tables : List Table
-all_tables = Office ∷ Ward ∷ Candidate ∷ Batch ∷ Keying ∷ Verdict ∷ Lot ∷ Receipt ∷ Bundle ∷ Vote ∷ []
+all_tables = Office ∷ Ward ∷ Candidate ∷ Batch ∷ Keying ∷ Verdict ∷ Lot ∷ Receipt ∷ Bundle ∷ Vote ∷ Third ∷ []
 
 -- ---- the schema
 
@@ -217,4 +222,4 @@ pub record IsOfficeSchema (s : Schema) : Type 0 where
   pub others : List Index
   pub views : List View
   pub free : AreFree rest
-  pub is : s ≡ schema_from 10 rest others views
+  pub is : s ≡ schema_from 11 rest others views

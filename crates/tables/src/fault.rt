@@ -6,7 +6,7 @@ ghost use Rattle.tables.specs.Faults.{fault_number, fault_text, fault_of};
 use sqlite::{Error, ErrorCode};
 use std::fmt;
 
-/// The faults of an office, which are told by their numbers, 101 to 106.
+/// The faults of an office, which are told by their numbers, 101 to 106 and 108.
 #[derive(Clone, Copy, Debug, PartialEq, Eq, Drop)]
 pub enum Fault {
     /// Memory was wanting.
@@ -21,6 +21,8 @@ pub enum Fault {
     WrongDatabase,
     /// A later program made the tables.
     NewerSchema,
+    /// An earlier program made the tables, and they are to be brought over first.
+    OlderSchema,
 }
 
 impl Fault {
@@ -35,6 +37,7 @@ impl Fault {
             Fault::Closed => 104,
             Fault::WrongDatabase => 105,
             Fault::NewerSchema => 106,
+            Fault::OlderSchema => 108,
         }
     }
 
@@ -49,6 +52,7 @@ impl Fault {
             Fault::Closed => "closed",
             Fault::WrongDatabase => "wrong database",
             Fault::NewerSchema => "newer schema",
+            Fault::OlderSchema => "older schema",
         }
     }
 }

@@ -16,11 +16,12 @@ pub enum Table {
     Receipt,
     Bundle,
     Vote,
+    Third,
 }
 
 impl Table {
     /// All tables, in the order of making.
-    pub const ALL: [Table; 10] = [
+    pub const ALL: [Table; 11] = [
         Table::Office,
         Table::Ward,
         Table::Candidate,
@@ -31,6 +32,7 @@ impl Table {
         Table::Receipt,
         Table::Bundle,
         Table::Vote,
+        Table::Third,
     ];
 
     /// The name.
@@ -48,6 +50,7 @@ impl Table {
             Table::Receipt => "receipt",
             Table::Bundle => "bundle",
             Table::Vote => "vote",
+            Table::Third => "third",
         }
     }
 
@@ -56,7 +59,7 @@ impl Table {
         ensures { result ≡ (shape self).key }
     {
         match self {
-            Table::Office | Table::Ward | Table::Batch => 1,
+            Table::Office | Table::Ward | Table::Batch | Table::Third => 1,
             Table::Candidate | Table::Verdict | Table::Lot | Table::Receipt | Table::Bundle => 2,
             Table::Vote => 3,
             Table::Keying => 4,
@@ -68,13 +71,13 @@ impl Table {
         ensures { result ≡ changes_rows self }
     {
         match self {
-            Table::Ward | Table::Candidate | Table::Batch | Table::Bundle => true,
-            Table::Office
-            | Table::Keying
+            Table::Office | Table::Ward | Table::Candidate | Table::Batch | Table::Bundle => true,
+            Table::Keying
             | Table::Verdict
             | Table::Lot
             | Table::Receipt
-            | Table::Vote => false,
+            | Table::Vote
+            | Table::Third => false,
         }
     }
 }
@@ -100,6 +103,8 @@ impl Reference {
 /// The columns outside a key that are set alone, while the others stay.
 #[derive(Clone, Copy, Debug, PartialEq, Eq)]
 pub enum Setting {
+    /// The version of the office.
+    VersionOfOffice,
     /// The phase of a ward.
     PhaseOfWard,
     /// How many stages of a ward's count are done.
@@ -114,6 +119,7 @@ impl Setting {
         ensures { result ≡ table_set self }
     {
         match self {
+            Setting::VersionOfOffice => Table::Office,
             Setting::PhaseOfWard | Setting::DoneOfWard => Table::Ward,
             Setting::RoundOfBatch => Table::Batch,
         }

@@ -32,6 +32,8 @@ pub fn create_text(table: Table) -> &'static str
             "CREATE TABLE bundle (ward INT NOT NULL, prefs BLOB NOT NULL, papers INT NOT NULL, holder INT NOT NULL, value INT NOT NULL, PRIMARY KEY (ward, prefs)) STRICT",
         Table::Vote =>
             "CREATE TABLE vote (ward INT NOT NULL, stage INT NOT NULL, candidate INT NOT NULL, units INT NOT NULL, mark INT NOT NULL, PRIMARY KEY (ward, stage, candidate)) STRICT",
+        Table::Third =>
+            "CREATE TABLE third (batch INT NOT NULL PRIMARY KEY CHECK (batch BETWEEN 1 AND 9999), clerk INT NOT NULL CHECK (clerk BETWEEN 1 AND 999)) STRICT",
     }
 }
 
@@ -56,6 +58,7 @@ pub fn insert_text(table: Table) -> &'static str
             "INSERT INTO bundle (ward, prefs, papers, holder, value) VALUES (?1, ?2, ?3, ?4, ?5)",
         Table::Vote =>
             "INSERT INTO vote (ward, stage, candidate, units, mark) VALUES (?1, ?2, ?3, ?4, ?5)",
+        Table::Third => "INSERT INTO third (batch, clerk) VALUES (?1, ?2)",
     }
 }
 
@@ -122,6 +125,8 @@ pub fn select_text(table: Table, columns: usize) -> &'static str
             "SELECT ward, stage, candidate, units, mark FROM vote WHERE ward = ?1 AND stage = ?2 ORDER BY ward, stage, candidate",
         (Table::Vote, 3) =>
             "SELECT ward, stage, candidate, units, mark FROM vote WHERE ward = ?1 AND stage = ?2 AND candidate = ?3 ORDER BY ward, stage, candidate",
+        (Table::Third, 0) => "SELECT batch, clerk FROM third ORDER BY batch",
+        (Table::Third, 1) => "SELECT batch, clerk FROM third WHERE batch = ?1 ORDER BY batch",
         _ => unreachable!(),
     }
 }
@@ -144,6 +149,7 @@ pub fn select_rowids_text(table: Table) -> &'static str
     ensures { result.now ≡ select_rowids_text table }
 {
     match table {
+        Table::Office => "SELECT rowid FROM office ORDER BY rowid",
         Table::Ward => "SELECT rowid FROM ward ORDER BY rowid",
         Table::Candidate => "SELECT rowid FROM candidate ORDER BY rowid",
         Table::Batch => "SELECT rowid FROM batch ORDER BY rowid",
@@ -159,6 +165,7 @@ pub fn update_text(table: Table) -> &'static str
     ensures { result.now ≡ update_text table }
 {
     match table {
+        Table::Office => "UPDATE office SET version = ?2 WHERE one = ?1",
         Table::Ward =>
             "UPDATE ward SET seats = ?2, phase = ?3, done = ?4, name = ?5 WHERE ward = ?1",
         Table::Candidate => "UPDATE candidate SET name = ?3 WHERE ward = ?1 AND candidate = ?2",
@@ -176,6 +183,7 @@ pub fn set_text(setting: Setting) -> &'static str
     ensures { result.now ≡ set_text setting }
 {
     match setting {
+        Setting::VersionOfOffice => "UPDATE office SET version = ?2 WHERE one = ?1",
         Setting::PhaseOfWard => "UPDATE ward SET phase = ?2 WHERE ward = ?1",
         Setting::DoneOfWard => "UPDATE ward SET done = ?2 WHERE ward = ?1",
         Setting::RoundOfBatch => "UPDATE batch SET round = ?2 WHERE batch = ?1",
@@ -189,6 +197,7 @@ pub fn delete_text(table: Table) -> &'static str
     ensures { result.now ≡ delete_text table }
 {
     match table {
+        Table::Office => "DELETE FROM office WHERE one = ?1",
         Table::Ward => "DELETE FROM ward WHERE ward = ?1",
         Table::Candidate => "DELETE FROM candidate WHERE ward = ?1 AND candidate = ?2",
         Table::Batch => "DELETE FROM batch WHERE batch = ?1",

@@ -35,7 +35,9 @@ Commands:
                      count-office town.db import-keying 4 12 1 k4-12.csv --id k1
   again              Opens the next round of a batch whose keyings differ:
                      count-office town.db again 13 --id r1
-  judge              Keeps the verdict on a paper that both clerks keyed as doubtful:
+  third              Gives a batch whose keyings differ to a third clerk too:
+                     count-office town.db third 13 5 --id t1
+  judge              Keeps the verdict on a doubtful paper of a batch that is taken:
                      count-office town.db judge 12 6 accept:1,,, --id v1
   seal               Seals a ward whose papers are all agreed and judged:
                      count-office town.db seal 7 --id s1
@@ -53,6 +55,8 @@ Commands:
                      count-office town.db result 7
   serve              Answers clerks over HTTP on this machine, so many connections:
                      count-office town.db serve 8080 1000
+  migrate            Brings an office of an earlier program over to this one:
+                     count-office town.db migrate
 
 Options:
   -h, --help  Print help
@@ -110,7 +114,7 @@ $ import-keying --help
 Usage: count-office DB import-keying --id <ID> <CLERK> <BATCH> <ROUND> <FILE>
 
 Arguments:
-  <CLERK>  The clerk who keyed it, 1 to 999
+  <CLERK>  The clerk who keys it, 1 to 999
   <BATCH>  The batch's number, over all wards, 1 to 9999
   <ROUND>  The round that the batch is in, 1 to 99; it begins with 1
   <FILE>   The path of an import file; docs/FORMATS.md tells its form
@@ -119,6 +123,12 @@ Usage: count-office DB again --id <ID> <BATCH>
 
 Arguments:
   <BATCH>  The batch's number, over all wards, 1 to 9999
+$ third --help
+Usage: count-office DB third --id <ID> <BATCH> <CLERK>
+
+Arguments:
+  <BATCH>  The batch's number, over all wards, 1 to 9999
+  <CLERK>  The clerk who keys it, 1 to 999
 $ judge --help
 Usage: count-office DB judge --id <ID> <BATCH> <PAPER> <VERDICT>
 
@@ -170,6 +180,8 @@ Usage: count-office DB serve <PORT> <CONNECTIONS>
 Arguments:
   <PORT>         The port of this machine, 1 to 65535
   <CONNECTIONS>  How many connections are answered, 1 to 1000000
+$ migrate --help
+Usage: count-office DB migrate
 $ declare --help
       --id <ID>  An id that you choose for this order, 1 to 40 of a-z, 0-9 and -;
                  sent again under the same id, it does nothing twice

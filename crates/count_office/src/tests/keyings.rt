@@ -391,7 +391,7 @@ fn batches_are_keyed_and_judged(rt: HostRuntime) -> Result<(), Fail> {
     play_all(&rt, &[ALIKE, JUDGED, UNLIKE, REFUSED, LIMITS, CHANGED])
 }
 
-/// Batch 13 in its last round, which its clerks key unlike.
+/// Batch 13 in its last round, which its clerks key unlike; a third one may agree with either yet.
 const LAST_ROUND: &str = "$ import-keying 9 13 99 FILE --id k1
 < paper,1,2,3
 < 1,,1,
@@ -402,6 +402,14 @@ $ import-keying 5 13 99 FILE --id k1
 batch 13 round 99 keyed
 $ again 13 --id x
 1| refused 3: number out of range
+$ third 13 4 --id t1
+batch 13 third clerk 4
+$ import-keying 4 13 99 FILE --id k1
+< paper,1,2,3
+< 1,1,,
+batch 13 round 99 keyed
+$ status 7
+ward 7 keying: 3 candidates, 2 batches, 1 taken, 0 differing, 0 doubtful open, 0 stages
 ";
 
 #[test]

@@ -1,5 +1,5 @@
 //! The first run of an office, what it refuses, and databases that are no office, or the office of a
-//! later program, or hold what no office holds.
+//! later or an earlier program, or hold what no office holds.
 
 use super::disks::{Act, File, play_acts, play_all};
 use super::keyings::CHANGED as KEYED;
@@ -130,6 +130,10 @@ ward 7 added
 3| fault 106: newer schema
 # UPDATE office SET version = 3; DROP TABLE lot
 3| fault 106: newer schema
+# UPDATE office SET version = 1
+3| fault 108: older schema
+# UPDATE office SET version = 1; DROP TABLE lot
+3| fault 108: older schema
 # UPDATE office SET version = 0
 3| fault 103: damaged
 # UPDATE office SET one = 2
@@ -185,6 +189,8 @@ ward 8 added
 # UPDATE receipt SET subject = 'lot 7 1'
 3| fault 103: damaged
 # UPDATE receipt SET subject = 'third 12'
+ward 8 added
+# UPDATE receipt SET subject = 'third 10000'
 3| fault 103: damaged
 # UPDATE receipt SET actor = 4
 3| fault 103: damaged

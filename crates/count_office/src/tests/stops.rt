@@ -25,10 +25,14 @@ const PAPERS: u32 = 500;
 /// What `init` is told where the office is there already.
 const MADE: Told<'static> = (3, "", "fault 105: wrong database\n");
 
+/// What `migrate` is told where the office is at this version.
+const MIGRATED: Told<'static> = (0, "office is at version 2\n", "");
+
 /// What an order is told that is given again, where all that it makes was found.
 fn told_again<'a>(case: Case<'a>, whole: bool) -> Told<'a> {
     match case {
         (Step::Order(["DB", "init"]), _) if whole => MADE,
+        (Step::Order(["DB", "migrate"]), _) if whole => MIGRATED,
         (_, told) => told,
     }
 }
@@ -231,8 +235,10 @@ $ import-keying 9 12 1 FILE --id k1
 batch 12 round 1 keyed
 ";
 
-/// It is keyed again.
-const NEW_ROUND: &str = "$ again 12 --id g1
+/// It is given to a third clerk too, and keyed again.
+const NEW_ROUND: &str = "$ third 12 5 --id t1
+batch 12 third clerk 5
+$ again 12 --id g1
 batch 12 round 2 open
 ";
 
@@ -252,7 +258,7 @@ const STOPS: [(&[Act], &str); 2] = [
 ];
 
 /// Stops orders, each at each call of one file.
-fn stop_orders(
+pub fn stop_orders(
     rt: &(impl Abort + AllocGlobal),
     before: &[Act],
     orders: &str,

@@ -18,7 +18,7 @@ use crate::views::settled::settled_ballots;
 use crate::views::wards::find_ward;
 use count::Bundles;
 use paper::Columns;
-use register::elections::{first_keyings_suffice, is_in_count, lot_pairs};
+use register::elections::{is_in_count, lot_pairs, settled_papers_suffice};
 use register::marks::columns_of;
 use register::{Ballots, Batch, Candidate, DrawnLot, Election, JudgedPaper, KeepsPapers, Ward};
 use sqlite::{Alter, Connection};
@@ -27,7 +27,7 @@ use tables::Fault;
 use tables::cells::number;
 use tables::finding::entries_beginning;
 
-/// The papers of a batch: both keyings of its current round, and the verdicts on them.
+/// The papers of a batch: the keyings of its current round, and the verdicts on its papers.
 #[derive(Drop)]
 pub(crate) struct BatchPapers {
     pub(crate) keyings: Keyings,
@@ -86,8 +86,13 @@ fn add_papers<P: KeepsPapers>(
     ensures adds { IfOk result (λ _. (piles : _) → StandFor P.holds ballots.old (ballots_in columns piles) → StandFor P.holds ballots.new (ballots_in columns (piles ++ pile_by papers.now ∷ []))) }
     ensures cause { IfErr result (λ f. f ≡ Fault.Memory) }
 {
-    let Keyings { first, second } = &papers.keyings;
-    match ballots.add(columns, first, second, &papers.verdicts) {
+    let Keyings {
+        first,
+        second,
+        third,
+        ..
+    } = &papers.keyings;
+    match ballots.add(columns, first, second, third, &papers.verdicts) {
         Ok(()) => Ok(()),
         Err(_) => Err(Fault::Memory),
     }
@@ -114,8 +119,8 @@ fn ballots_of<S: Alter, P: KeepsPapers + Drop>(
     Ok(ballots)
 }
 
-/// What the papers of a ward come to, whose columns these are. Where it is in count they are taken in row by
-/// row, as the first clerks keyed them; else the keyings of both clerks are read, one batch after the other.
+/// What the papers of a ward come to, whose columns these are. Where it is in count they are taken in as each
+/// batch is settled with them; else the keyings of all clerks are read, one batch after the other.
 pub(crate) fn ward_ballots<S: Alter, P: KeepsPapers + Drop>(
     alloc: Global,
     conn: &mut Connection<S>,
@@ -128,7 +133,7 @@ pub(crate) fn ward_ballots<S: Alter, P: KeepsPapers + Drop>(
     requires outside { conn.old.in_transaction ≡ false }
     ensures { Reads (state S.Store conn.old) (state S.Store conn.new) result (λ s ballots. (in_count ≡ true → IsInCount s ward) → StandFor P.holds ballots (ballots_in columns (piles_of s ward))) }
 {
-    first_keyings_suffice();
+    settled_papers_suffice();
     let batches = list_batches(alloc, conn, ward)?;
     if in_count {
         let settled = settled_ballots(alloc, conn, kept, columns, &batches)?;

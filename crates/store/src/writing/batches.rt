@@ -10,7 +10,8 @@ ghost use Rattle.tables.specs.Contents.{Sees};
 ghost use Rattle.store.specs.Offices.{tables_with};
 
 use crate::entries::batches::Batches;
-use register::{Batch, Effect};
+use crate::entries::thirds::ThirdClerks;
+use register::{Batch, Effect, ThirdClerk};
 use sqlite::{Alter, Transaction};
 use std::alloc::Global;
 use tables::cells::number;
@@ -48,4 +49,20 @@ pub(crate) fn write_round<S: Alter>(
     ensures cause { IfErr result (λ f. (f ≡ Fault.Memory) ⊎ (f ≡ Fault.Store)) }
 {
     set_value(tx, Setting::RoundOfBatch, &[number(batch), number(round)])
+}
+
+/// Adds the row of a third clerk.
+pub(crate) fn write_third<S: Alter>(
+    alloc: Global,
+    tx: &mut Transaction<'_, S>,
+    third: &ThirdClerk,
+) -> Result<(), Fault>
+    ensures same_reference { tx.new.conn.ghost_name ≡ tx.old.conn.ghost_name }
+    ensures writes { HasCleanDisk (state S.Store tx.new.conn.now) → (s : OfficeState) (t : TabulationEntries) → Sees (tables_with s t) (state S.Store tx.old.conn.now)
+        → OnOk result (Sees (tables_with (with_effect (effect_entry (Effect.ThirdSet third.now)) s) t) (state S.Store tx.new.conn.now)) }
+    ensures keeps { HasCleanDisk (state S.Store tx.new.conn.now) → KeepsCommit (state S.Store tx.old.conn.now) (state S.Store tx.new.conn.now) }
+    ensures survives { Survives (state S.Store tx.old.conn.now) (state S.Store tx.new.conn.now) (λ _. ⊥) }
+    ensures cause { IfErr result (λ f. (f ≡ Fault.Memory) ⊎ (f ≡ Fault.Store)) }
+{
+    add_entry::<ThirdClerks, S>(alloc, tx, third)
 }

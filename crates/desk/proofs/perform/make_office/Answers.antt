@@ -25,6 +25,8 @@ returns-in-Ok g c =
             in_office = λ db rests s left. absurd (c.in-Ok.ensures.taken (has_tables s db (state g.S.Store c.args.conn) rests left));
             in_nothing = λ is blank. inl (refl, subst (λ conn. IsAt empty_office (state g.S.Store conn)) (sym c.into_connection.ensures) (c.in-Ok.ensures.made made blank).at);
             taken = λ is db rests there. absurd (c.in-Ok.ensures.taken (table_rests db (state g.S.Store c.args.conn) rests there));
+            in_older = λ is. absurd (cc is);
+            beyond = λ is. absurd (cc is);
             elsewhere = λ errand is. absurd (cc is);
             anywhere = λ port connections is. absurd (cc is);
           };
@@ -39,6 +41,8 @@ returns-in-Err g c =
       shown = told.1;
       is = λ clean file. record {
         in_nothing = λ is blank. inr (c.in-Err.fault, refl, blank_told (state g.S.Store c.args.conn) c.in-Err.fault blank c.in-Err.ensures.told, c.in-Err.ensures.stops clean blank);
+        in_older = λ is. absurd (cc is);
+        beyond = λ is. absurd (cc is);
         elsewhere = λ errand is. absurd (cc is);
         anywhere = λ port connections is. absurd (cc is);
         taken = λ is db rests there.

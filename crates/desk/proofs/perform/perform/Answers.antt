@@ -23,6 +23,20 @@ returns-in-Init g c =
       };
     }
 
+pub returns-in-Migrate : goal.returns-in-Migrate
+returns-in-Migrate g c =
+    let told = c.migrate_office.ensures in
+    let file = option_map g.R.Read.remaining c.args.file in
+    record {
+      headline = record {
+        page = told.page;
+        cut = told.cut;
+        shown = told.shown;
+        is = λ clean. with_kept told.cut (work_for c.args.order.now) file _ _ told.page c.migrate_office.result.0 (state g.S.Store c.args.conn) (state g.S.Store c.migrate_office.result.1) told.shown
+            (rw c.in-Migrate.is (told.is clean file));
+      };
+    }
+
 pub returns-in-Run : goal.returns-in-Run
 returns-in-Run g c =
     let told = c.run_opened.ensures in
@@ -52,6 +66,8 @@ returns-in-Serve g c =
               in_office = λ db rests s left. inl (refl, rests_leaves s db st (λ trees is_open may. g.met.S.Store.settled c.args.conn.store trees is_open may) rests left);
               in_nothing = λ is. absurd (cc is);
               taken = λ is. absurd (cc is);
+              in_older = λ is. absurd (cc is);
+              beyond = λ is. absurd (cc is);
               elsewhere = λ errand is. absurd (cc is);
               anywhere = λ port connections is. (refl, only_reads_itself st);
             }));

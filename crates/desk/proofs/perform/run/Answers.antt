@@ -1,5 +1,8 @@
 -- Why `run` keeps its promise.
 use Rattle.std.proofs.Common.{◌∷◌, [], inl, inr, refl}
+use Rattle.sqlite.specs.Held.{state}
+use Rattle.office.specs.Answers.{IsOpenAt}
+use Rattle.tables.specs.declared.fault.Fault.TheVariants.{Memory}
 use Rattle.desk.specs.Pages.{page_of}
 use Rattle.desk.proofs.perform.run.Goals as goal
 
@@ -11,6 +14,19 @@ returns-in-Send-clause-ran g c =
       cut = told.cut;
       shown = told.shown;
       is = λ clean is_open s at. rw c.in-Send.is (inl (c.in-Send.request ∷ [], refl, rw c.from_ref.ensures.value at (told.is clean is_open s at)));
+    }
+
+pub returns-in-Err-clause-ran : goal.returns-in-Err-clause-ran
+returns-in-Err-clause-ran g c =
+    let told = c.tell.ensures in
+    record {
+      page = page_of c.in-Err.outcome;
+      cut = told.0;
+      shown = told.1;
+      is = λ clean is_open s at.
+          let here : IsOpenAt s c.args.office.now.closed (state g.S.Store c.args.office.now.held) = record { is_open = is_open; at = at } in
+          rw c.in-ImportCandidates.is
+          (inr (elim c.in-Err.ensures.refused [ inl why ↦ inl (why, here) | inr memory ↦ inr (Memory, memory, inl (record { memory = refl; open_at = here })) ]));
     }
 
 pub returns-in-Ok-keying_of-clause-ran : goal.returns-in-Ok-keying_of-clause-ran

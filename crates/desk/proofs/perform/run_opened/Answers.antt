@@ -27,6 +27,8 @@ returns-in-Ok g c =
             in_nothing = λ is. absurd (cc is);
             taken = λ is. absurd (cc is);
             anywhere = λ port connections is. absurd (cc is);
+            in_older = λ is. absurd (cc is);
+            beyond = λ is. absurd (cc is);
             elsewhere = λ errand is db ours rests none. let held = c.in-Ok.ensures.opened opened db ours rests in absurd (none held.0 held.1);
           };
     }
@@ -49,6 +51,8 @@ returns-in-Err g c =
         in_nothing = λ is. absurd (cc is);
         taken = λ is. absurd (cc is);
         anywhere = λ port connections is. absurd (cc is);
+        in_older = λ is. absurd (cc is);
+        beyond = λ is. absurd (cc is);
         elsewhere = λ errand is db ours rests none. record { fault = c.in-Err.fault; told = refl; given = c.in-Err.ensures.told clean db ours rests; same = c.in-Err.ensures.reads_too };
       };
     }

@@ -1,4 +1,4 @@
-use Rattle.register.proofs.WorkedRows.{ward_rows, nomination_rows, keyed_rows, uncontested_rows}
+use Rattle.register.proofs.WorkedRows.{ward_rows, nomination_rows, keyed_rows, third_rows, uncontested_rows}
 use Rattle.register.proofs.machine.rows_are_worked.Goals as goal
 
 pub returns-clause-wards : goal.returns-clause-wards
@@ -9,6 +9,9 @@ returns-clause-nominations c = nomination_rows
 
 pub returns-clause-keyings : goal.returns-clause-keyings
 returns-clause-keyings c = keyed_rows
+
+pub returns-clause-third : goal.returns-clause-third
+returns-clause-third c = third_rows
 
 pub returns-clause-uncontested : goal.returns-clause-uncontested
 returns-clause-uncontested c = uncontested_rows

@@ -1,98 +1,51 @@
 -- Why `all_rows` keeps its promise.
+use Rattle.std.proofs.Common.{arith, refl}
 use Rattle.std.proofs.lemmas.Result.{err_from_is_err_and}
+use Rattle.tables.specs.declared.table.Table.TheVariants.{Third}
+use Rattle.store.specs.EntryRows.{IsThirdRow}
 use Rattle.tables.proofs.ReadLemmas.{only_reads_then}
 use Rattle.tables.proofs.CauseLemmas.{lists_later}
-use Rattle.store.proofs.ListsLemmas.{lists_maps, rows_of_maps_rise}
+use Rattle.tables.proofs.ListingLemmas.{begins_to}
+use Rattle.store.proofs.FitLemmas.{thirds_fit}
+use Rattle.store.proofs.TellLemmas.{told_strange, strange_told}
+use Rattle.store.proofs.ListsLemmas.{lists_maps, thirds_rise}
 use Rattle.store.proofs.listing.all_rows.Goals as goal
 
 pub returns-clause-lists : goal.returns-clause-lists
 returns-clause-lists g c clean db has rests =
-    let third = c.all_counts.ensures.reads.clean clean in
-    let second = c.all_records.ensures.reads.clean third in
-    let first = c.all_papers.ensures.reads.clean second in
-    let mid = c.all_contests.ensures.reads.rests first (c.in_ok-wards.ensures.opens first) db rests in
-    let late = c.all_papers.ensures.reads.rests second (c.in_ok-batches.ensures.opens second) db mid in
-    let last = c.all_records.ensures.reads.rests third (c.in_ok-lots.ensures.opens third) db late in
-    lists_maps _ _ _ _ db (c.in_ok-wards.ensures.lists first db has rests) (c.in_ok-batches.ensures.lists second db has mid) (c.in_ok-lots.ensures.lists third db has late) (c.in_ok-bundles.ensures.lists clean db has last)
+    let first = c.all_entries.ensures.reads.clean clean in
+    let mid = c.counted_rows.ensures.reads.rests first (c.in_ok-rows.ensures.opens first) db rests in
+    lists_maps db _ _ _ (c.in_ok-rows.ensures.lists first db (λ t low. begins_to t db.schema has) rests) (c.in_ok-thirds.ensures.lists clean db (begins_to Third db.schema has) mid)
 
 pub returns-clause-rise : goal.returns-clause-rise
-returns-clause-rise g c = rows_of_maps_rise _ _ _ _ c.in_ok-wards.ensures.rise c.in_ok-batches.ensures.rise c.in_ok-lots.ensures.rise c.in_ok-bundles.ensures.rise
+returns-clause-rise g c = thirds_rise _ _ c.in_ok-rows.ensures.rise c.in_ok-thirds.ensures.rise
 
 pub returns-clause-reads : goal.returns-clause-reads
-returns-clause-reads g c = only_reads_then _ _ _ c.all_contests.ensures.reads (only_reads_then _ _ _ c.all_papers.ensures.reads (only_reads_then _ _ _ c.all_records.ensures.reads c.all_counts.ensures.reads))
+returns-clause-reads g c = only_reads_then _ _ _ c.counted_rows.ensures.reads c.all_entries.ensures.reads
 
-pub returns-in_err-batches-clause-reads : goal.returns-in_err-batches-clause-reads
-returns-in_err-batches-clause-reads g c = only_reads_then _ _ _ c.all_contests.ensures.reads c.all_papers.ensures.reads
+pub returns-in_err-thirds-clause-reads : goal.returns-in_err-thirds-clause-reads
+returns-in_err-thirds-clause-reads g c = only_reads_then _ _ _ c.counted_rows.ensures.reads c.all_entries.ensures.reads
 
-pub returns-in_err-lots-clause-reads : goal.returns-in_err-lots-clause-reads
-returns-in_err-lots-clause-reads g c = only_reads_then _ _ _ c.all_contests.ensures.reads (only_reads_then _ _ _ c.all_papers.ensures.reads c.all_records.ensures.reads)
-
-pub returns-in_err-bundles-clause-reads : goal.returns-in_err-bundles-clause-reads
-returns-in_err-bundles-clause-reads g c =
-    only_reads_then _ _ _ c.all_contests.ensures.reads (only_reads_then _ _ _ c.all_papers.ensures.reads (only_reads_then _ _ _ c.all_records.ensures.reads c.all_counts.ensures.reads))
-
-pub returns-in_err-wards-clause-told : goal.returns-in_err-wards-clause-told
-returns-in_err-wards-clause-told g c clean db has rests =
+pub returns-in_err-rows-clause-told : goal.returns-in_err-rows-clause-told
+returns-in_err-rows-clause-told g c clean db has rests =
     let p = err_from_is_err_and c.from_residual.result c.from_residual.ensures.1 in
-    rw (p.1, p.2) (c.in_err-wards.ensures.told clean db has rests)
+    rw (p.1, p.2) (strange_told 10 db _ (c.in_err-rows.ensures.told clean db (λ t low. begins_to t db.schema has) rests))
 
-pub returns-in_err-batches-clause-told : goal.returns-in_err-batches-clause-told
-returns-in_err-batches-clause-told g c clean db has rests =
-    let first = c.all_papers.ensures.reads.clean clean in
-    let mid = c.all_contests.ensures.reads.rests first (c.in_ok-wards.ensures.opens first) db rests in
-    let p = err_from_is_err_and c.from_residual-in_err-batches.result c.from_residual-in_err-batches.ensures.1 in
-    rw (p.1, p.2) (c.in_err-batches.ensures.told clean db has mid)
+pub returns-in_err-thirds-clause-told : goal.returns-in_err-thirds-clause-told
+returns-in_err-thirds-clause-told g c clean db has rests =
+    let first = c.all_entries.ensures.reads.clean clean in
+    let mid = c.counted_rows.ensures.reads.rests first (c.in_ok-rows.ensures.opens first) db rests in
+    let p = err_from_is_err_and c.from_residual-in_err-thirds.result c.from_residual-in_err-thirds.ensures.1 in
+    rw (p.1, p.2) (strange_told 11 db _ (told_strange 11 Third IsThirdRow refl (omega arith) thirds_fit db _ (c.in_err-thirds.ensures.cause clean db (begins_to Third db.schema has) mid)))
 
-pub returns-in_err-lots-clause-told : goal.returns-in_err-lots-clause-told
-returns-in_err-lots-clause-told g c clean db has rests =
-    let second = c.all_records.ensures.reads.clean clean in
-    let first = c.all_papers.ensures.reads.clean second in
-    let mid = c.all_contests.ensures.reads.rests first (c.in_ok-wards.ensures.opens first) db rests in
-    let late = c.all_papers.ensures.reads.rests second (c.in_ok-batches.ensures.opens second) db mid in
-    let p = err_from_is_err_and c.from_residual-in_err-lots.result c.from_residual-in_err-lots.ensures.1 in
-    rw (p.1, p.2) (c.in_err-lots.ensures.told clean db has late)
-
-pub returns-in_err-bundles-clause-told : goal.returns-in_err-bundles-clause-told
-returns-in_err-bundles-clause-told g c clean db has rests =
-    let third = c.all_counts.ensures.reads.clean clean in
-    let second = c.all_records.ensures.reads.clean third in
-    let first = c.all_papers.ensures.reads.clean second in
-    let mid = c.all_contests.ensures.reads.rests first (c.in_ok-wards.ensures.opens first) db rests in
-    let late = c.all_papers.ensures.reads.rests second (c.in_ok-batches.ensures.opens second) db mid in
-    let last = c.all_records.ensures.reads.rests third (c.in_ok-lots.ensures.opens third) db late in
-    let p = err_from_is_err_and c.from_residual-in_err-bundles.result c.from_residual-in_err-bundles.ensures.1 in
-    rw (p.1, p.2) (c.in_err-bundles.ensures.told clean db has last)
-
-pub returns-in_err-wards-clause-fails : goal.returns-in_err-wards-clause-fails
-returns-in_err-wards-clause-fails g c clean db has rests =
+pub returns-in_err-rows-clause-fails : goal.returns-in_err-rows-clause-fails
+returns-in_err-rows-clause-fails g c clean db has rests =
     let p = err_from_is_err_and c.from_residual.result c.from_residual.ensures.1 in
-    rw (p.1, p.2) (c.in_err-wards.ensures.fails clean db has rests)
+    rw (p.1, p.2) (c.in_err-rows.ensures.fails clean db (λ t low. begins_to t db.schema has) rests)
 
-pub returns-in_err-batches-clause-fails : goal.returns-in_err-batches-clause-fails
-returns-in_err-batches-clause-fails g c clean db has rests =
-    let before = c.all_papers.ensures.reads.clean clean in
-    let mid = c.all_contests.ensures.reads.rests before (c.in_ok-wards.ensures.opens before) db rests in
-    let p = err_from_is_err_and c.from_residual-in_err-batches.result c.from_residual-in_err-batches.ensures.1 in
-    rw (p.1, p.2) (lists_later db _ _ _ _ c.all_contests.ensures.reads c.all_papers.ensures.reads clean (c.in_err-batches.ensures.fails clean db has mid))
-
-pub returns-in_err-lots-clause-fails : goal.returns-in_err-lots-clause-fails
-returns-in_err-lots-clause-fails g c clean db has rests =
-    let second = c.all_records.ensures.reads.clean clean in
-    let before = c.all_papers.ensures.reads.clean second in
-    let mid = c.all_contests.ensures.reads.rests before (c.in_ok-wards.ensures.opens before) db rests in
-    let late = c.all_papers.ensures.reads.rests second (c.in_ok-batches.ensures.opens second) db mid in
-    let p = err_from_is_err_and c.from_residual-in_err-lots.result c.from_residual-in_err-lots.ensures.1 in
-    let both = only_reads_then _ _ _ c.all_contests.ensures.reads c.all_papers.ensures.reads in
-    rw (p.1, p.2) (lists_later db _ _ _ _ both c.all_records.ensures.reads clean (c.in_err-lots.ensures.fails clean db has late))
-
-pub returns-in_err-bundles-clause-fails : goal.returns-in_err-bundles-clause-fails
-returns-in_err-bundles-clause-fails g c clean db has rests =
-    let third = c.all_counts.ensures.reads.clean clean in
-    let second = c.all_records.ensures.reads.clean third in
-    let before = c.all_papers.ensures.reads.clean second in
-    let mid = c.all_contests.ensures.reads.rests before (c.in_ok-wards.ensures.opens before) db rests in
-    let late = c.all_papers.ensures.reads.rests second (c.in_ok-batches.ensures.opens second) db mid in
-    let last = c.all_records.ensures.reads.rests third (c.in_ok-lots.ensures.opens third) db late in
-    let p = err_from_is_err_and c.from_residual-in_err-bundles.result c.from_residual-in_err-bundles.ensures.1 in
-    let all = only_reads_then _ _ _ c.all_contests.ensures.reads (only_reads_then _ _ _ c.all_papers.ensures.reads c.all_records.ensures.reads) in
-    rw (p.1, p.2) (lists_later db _ _ _ _ all c.all_counts.ensures.reads clean (c.in_err-bundles.ensures.fails clean db has last))
+pub returns-in_err-thirds-clause-fails : goal.returns-in_err-thirds-clause-fails
+returns-in_err-thirds-clause-fails g c clean db has rests =
+    let before = c.all_entries.ensures.reads.clean clean in
+    let mid = c.counted_rows.ensures.reads.rests before (c.in_ok-rows.ensures.opens before) db rests in
+    let p = err_from_is_err_and c.from_residual-in_err-thirds.result c.from_residual-in_err-thirds.ensures.1 in
+    rw (p.1, p.2) (lists_later db _ _ _ _ c.counted_rows.ensures.reads c.all_entries.ensures.reads clean (c.in_err-thirds.ensures.fails clean db (begins_to Third db.schema has) mid))

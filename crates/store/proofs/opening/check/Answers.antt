@@ -1,9 +1,10 @@
 -- Why `check` keeps its promise.
-use Rattle.std.proofs.Common.{◌≡◌, true, false, rules}
+use Rattle.std.proofs.Common.{◌≡◌, true, false, subst, rules}
 use Rattle.std.proofs.lemmas.Result.{err_from_is_err_and}
 use Rattle.sqlite.specs.Held.{state}
 use Rattle.tables.specs.declared.table.Table.TheVariants.{Office}
 use Rattle.tables.specs.Presence.{has_table, has_every_table}
+use Rattle.store.specs.Openings.{TellsNoState}
 use Rattle.tables.proofs.ReadLemmas.{only_reads_then}
 use Rattle.tables.proofs.CauseLemmas.{lists_later}
 use Rattle.store.proofs.TellLemmas.{answered, sound_at, told_office, told_tables, this_office, missing_damaged, state_held}
@@ -32,7 +33,7 @@ returns-then-not-has_every_table-clause-told g c clean db ours rests =
     let mid = c.check_office.ensures.reads.rests clean (c.in_ok-check_office.ensures.opens clean) db rests in
     let missing = answered has_every_table db (state g.S.Store c.check_office.new.conn) mid c.has_every_table.result false c.has_every_table.ensures.value no_more in
     let office = this_office db there (c.in_ok-check_office.ensures.holds clean db (ours.office there) sound rests) in
-    record { some_office = office.0; not_newer = office.1; no_state = missing_damaged db missing }
+    record { some_office = office.0; not_newer = office.1; not_older = office.2; no_state = missing_damaged db missing }
 
 pub returns-in_err-check_tables-clause-told : goal.returns-in_err-check_tables-clause-told
 returns-in_err-check_tables-clause-told g c clean db ours rests =
@@ -73,3 +74,19 @@ returns-in_err-check_tables-clause-fails g c clean db ours rests =
     let every = answered has_every_table db (state g.S.Store c.check_office.new.conn) mid c.has_every_table.result true c.has_every_table.ensures.value all in
     let p = err_from_is_err_and c.from_residual-in_err-check_tables.result c.from_residual-in_err-check_tables.ensures.1 in
     rw (p.1, p.2) (lists_later db _ _ _ _ c.check_office.ensures.reads c.check_tables.ensures.reads clean (c.in_err-check_tables.ensures.fails clean db (ours.every every) mid))
+
+pub returns-in_err-check_office-clause-older : goal.returns-in_err-check_office-clause-older
+returns-in_err-check_office-clause-older g c clean db ours rests =
+    let yes : c.has_table.result ≡ true = search rules in
+    let there = answered (has_table Office) db (state g.S.Store c.args.conn.now) rests c.has_table.result true c.has_table.ensures.value yes in
+    let p = err_from_is_err_and c.from_residual.result c.from_residual.ensures.1 in
+    rw (p.1, p.2) (c.in_err-check_office.ensures.older clean db (ours.office there) rests)
+
+pub returns-in_err-check_tables-clause-older : goal.returns-in_err-check_tables-clause-older
+returns-in_err-check_tables-clause-older g c clean db ours rests =
+    let all : c.has_every_table.result ≡ true = search rules in
+    let before = c.check_tables.ensures.reads.clean clean in
+    let mid = c.check_office.ensures.reads.rests before (c.in_ok-check_office.ensures.opens before) db rests in
+    let every = answered has_every_table db (state g.S.Store c.check_office.new.conn) mid c.has_every_table.result true c.has_every_table.ensures.value all in
+    let p = err_from_is_err_and c.from_residual-in_err-check_tables.result c.from_residual-in_err-check_tables.ensures.1 in
+    rw (p.1, p.2) (λ same. absurd (subst (TellsNoState db) same (c.in_err-check_tables.ensures.told clean db (ours.every every) mid)))

@@ -6,8 +6,8 @@ use Rattle.tables.proofs.MakeLemmas.{table_made}
 use Rattle.tables.proofs.making.create_table.Goals as goal
 
 pub returns-in-Ok-clause-makes : goal.returns-in-Ok-clause-makes
-returns-in-Ok-clause-makes g c clean =
-    table_made c.args.table (state g.S.Store c.args.tx.now.conn.now) (state g.S.Store c.execute.new.self.conn.now) (Ok c.in-Ok.field-0)
+returns-in-Ok-clause-makes g c clean rows none =
+    table_made c.args.table rows none (state g.S.Store c.args.tx.now.conn.now) (state g.S.Store c.execute.new.self.conn.now) (Ok c.in-Ok.field-0)
     (rw c.create_text.ensures at (c.in-Ok.ensures.runs clean))
 
 pub returns-in-Err-clause-keeps : goal.returns-in-Err-clause-keeps

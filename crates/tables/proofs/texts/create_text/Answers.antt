@@ -38,3 +38,7 @@ returns-in-Bundle c = rw c.in-Bundle.is refl
 pub returns-in-Vote : goal.returns-in-Vote
 unfolding create_text
 returns-in-Vote c = rw c.in-Vote.is refl
+
+pub returns-in-Third : goal.returns-in-Third
+unfolding create_text
+returns-in-Third c = rw c.in-Third.is refl

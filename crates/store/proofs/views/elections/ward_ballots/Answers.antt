@@ -1,7 +1,7 @@
 -- Why `ward_ballots` keeps its promise.
 use Rattle.std.proofs.Common.{List, map, subst, ap, ◌∙◌}
 use Rattle.register.specs.Offices.{BatchEntry}
-use Rattle.register.specs.Polls.{BallotsEntry, pile_of, StandFor, first_judgements, ballots_by, ballots_in}
+use Rattle.register.specs.Polls.{BallotsEntry, pile_of, StandFor, settled_judgements, ballots_by, ballots_in}
 use Rattle.store.proofs.ReadsLemmas.{reads_as, reads_both, reads_cut}
 use Rattle.store.proofs.SettledLemmas.{counted_alone}
 use Rattle.store.proofs.views.elections.ward_ballots.Goals as goal
@@ -19,7 +19,7 @@ returns-then-in_count g c =
     reads_as (reads_both c.in_ok-batches.ensures (rw c.deref.ensures.value at c.in_ok-settled.ensures))
     (λ s is told counted.
     subst (λ (entry : BallotsEntry). StandFor g.P.KeepsPapers.holds c.in_ok-settled.settled entry)
-    (ap (λ (bs : List BatchEntry). ballots_by (first_judgements c.args.columns (map (pile_of s) bs))) told.0 ∙ counted_alone c.first_keyings_suffice.ensures s is c.args.ward c.args.columns (counted c.if-in_count.true)) told.1)
+    (ap (λ (bs : List BatchEntry). ballots_by (settled_judgements s c.args.columns bs)) told.0 ∙ counted_alone c.settled_papers_suffice.ensures s is c.args.ward c.args.columns (counted c.if-in_count.true)) told.1)
 
 pub returns-in_err-settled : goal.returns-in_err-settled
 returns-in_err-settled g c = reads_cut c.from_residual-in_err-settled.ensures.1 c.in_ok-batches.ensures c.in_err-settled.ensures

@@ -1,9 +1,11 @@
 -- Why `keyings_of` keeps its promise.
+use Rattle.std.proofs.Common.{option_map, ap, ◌∙◌}
+use Rattle.register.specs.Offices.{third_entry}
 use Rattle.store.proofs.ReadsLemmas.{reads_as, reads_both, reads_cut}
 use Rattle.store.proofs.views.papers.keyings_of.Goals as goal
 
 pub returns : goal.returns
-returns g c = reads_as (reads_both c.in_ok-first.ensures c.in_ok-second.ensures) (λ s is told. told)
+returns g c = reads_as (reads_both c.in_ok-third.ensures c.in_ok-keyings.ensures) (λ s is told. (ap (option_map third_entry) told.1.0 ∙ told.0, told.1.1 told.0))
 
-pub returns-in_err-second : goal.returns-in_err-second
-returns-in_err-second g c = reads_cut c.from_residual-in_err-second.ensures.1 c.in_ok-first.ensures c.in_err-second.ensures
+pub returns-in_err-keyings : goal.returns-in_err-keyings
+returns-in_err-keyings g c = reads_cut c.from_residual-in_err-keyings.ensures.1 c.in_ok-third.ensures c.in_err-keyings.ensures

@@ -1,10 +1,8 @@
 -- Why `settled_ballots` keeps its promise.
-use Rattle.std.proofs.Common.{List, map, take, get_or, sym, subst, ap, ◌∙◌, ◌++◌, ◌∷◌, []}
-use Rattle.std.proofs.lemmas.List.{map-append}
+use Rattle.std.proofs.Common.{List, map, take, get_or, sym, subst, ap, ◌∙◌, ◌++◌}
 use Rattle.register.specs.declared.polls.Judgement.{Judgement}
 use Rattle.register.specs.Offices.{BatchEntry, JudgedEntry, batch_entry}
-use Rattle.register.specs.Papers.{first_keying}
-use Rattle.register.specs.Polls.{pile_of, StandFor, judgements_on, first_judgements, ballots_by}
+use Rattle.register.specs.Polls.{StandFor, judgements_on, settled_papers, settled_judgements, ballots_by}
 use Rattle.store.proofs.ReadsLemmas.{reads_none, reads_as, reads_both, reads_cut, entries_more, entries_all, no_batch}
 use Rattle.store.proofs.SettledLemmas.{judgements_after}
 use Rattle.store.proofs.views.settled.settled_ballots.Goals as goal
@@ -20,11 +18,9 @@ loop-batch-preserved g c =
     reads_as (reads_both (reads_both c.loop-batch.invariant c.in_ok-verdicts.ensures) c.in_ok-ballots.ensures)
     (λ s is told.
     let bs = take k (map batch_entry c.args.batches.now) in
-    let piles = map (pile_of s) bs in
-    let js = first_judgements c.args.columns piles in
+    let js = settled_judgements s c.args.columns bs in
     subst (λ (ls : List Judgement). StandFor g.P.KeepsPapers.holds c.in_ok-ballots.ballots (ballots_by ls))
-    (ap (λ (vs : List JudgedEntry). js ++ judgements_on c.args.columns vs (first_keying s b)) told.0.1
-    ∙ (judgements_after c.args.columns piles (pile_of s b) ∙ ap (first_judgements c.args.columns) (sym (ap (map (pile_of s)) next ∙ map-append (pile_of s) bs (b ∷ [])))))
+    (ap (λ (vs : List JudgedEntry). js ++ judgements_on c.args.columns vs (settled_papers s b)) told.0.1 ∙ (judgements_after s c.args.columns bs b ∙ ap (settled_judgements s c.args.columns) (sym next)))
     (told.1 js told.0.0))
 
 pub returns-in_err-verdicts : goal.returns-in_err-verdicts
@@ -36,5 +32,4 @@ returns-in_err-ballots g c = reads_cut c.from_residual-in_err-ballots.ensures.1 
 pub returns : goal.returns
 returns g c =
     reads_as c.loop-batch.invariant
-    (λ s is told. subst (λ (bs : List BatchEntry). StandFor g.P.KeepsPapers.holds c.loop-batch.ballots (ballots_by (first_judgements c.args.columns (map (pile_of s) bs))))
-    (entries_all batch_entry c.args.batches.now _ c.loop-batch-test.false) told)
+    (λ s is told. subst (λ (bs : List BatchEntry). StandFor g.P.KeepsPapers.holds c.loop-batch.ballots (ballots_by (settled_judgements s c.args.columns bs))) (entries_all batch_entry c.args.batches.now _ c.loop-batch-test.false) told)

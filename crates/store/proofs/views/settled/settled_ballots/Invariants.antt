@@ -2,9 +2,9 @@
 use Rattle.std.proofs.Common.{map, take, Ok}
 use Rattle.sqlite.specs.Held.{state}
 use Rattle.register.specs.Offices.{batch_entry}
-use Rattle.register.specs.Polls.{pile_of, first_judgements, ballots_by, StandFor}
+use Rattle.register.specs.Polls.{settled_judgements, ballots_by, StandFor}
 use Rattle.store.specs.Reads.{Reads}
 use Rattle.store.proofs.views.settled.settled_ballots.Given as goal
 
 abbrev pub invariant-loop-batch : goal.invariant-loop-batch
-invariant-loop-batch g l = Reads (state g.S.Store l.initial.conn) (state g.S.Store l.conn) (Ok l.ballots) (λ s ballots. StandFor g.P.KeepsPapers.holds ballots (ballots_by (first_judgements l.columns (map (pile_of s) (take l.batch-index (map batch_entry l.batches))))))
+invariant-loop-batch g l = Reads (state g.S.Store l.initial.conn) (state g.S.Store l.conn) (Ok l.ballots) (λ s ballots. StandFor g.P.KeepsPapers.holds ballots (ballots_by (settled_judgements s l.columns (take l.batch-index (map batch_entry l.batches)))))

@@ -1,7 +1,8 @@
 -- Why `walk_papers` keeps its promise.
 use Rattle.std.proofs.Common.{◌≡◌, List, map, refl, subst}
 use Rattle.register.specs.declared.keyings.KeyedPaper.{KeyedPaper}
-use Rattle.register.specs.Offices.{KeyedEntry, keyed_entry, judged_entry, keying_of}
+use Rattle.register.specs.Offices.{KeyedEntry, batch_entry, keyed_entry, judged_entry, keying_of}
+use Rattle.register.specs.Polls.{lower_clerk}
 use Rattle.store.specs.declared.views.settled.SettledPapers.{SettledPapers}
 use Rattle.store.specs.EntryRows.{row_of_keyed}
 use Rattle.store.specs.Settled.{CountAfter}
@@ -24,8 +25,8 @@ returns g c =
     let e = c.in_ok-counted.ensures in
     let b = c.args.batch.now in
     reads_as {x = c.in_ok-counted.counted}
-    (reads_walked {visitor = record { ballots = c.args.ballots; columns = c.args.columns; verdicts = c.args.verdicts; start = _ }} (HasCounted g) keyed_entry row_of_keyed keyed_in keyed_back (λ s. keying_of s b.number b.round b.first_clerk) (λ s is. keying_listed s is b.number b.round b.first_clerk)
-    (rw (c.number.ensures, c.number-2.ensures, c.number-3.ensures) at e.finds) e.opens e.reads e.outside
+    (reads_walked {visitor = record { ballots = c.args.ballots; columns = c.args.columns; verdicts = c.args.verdicts; start = _ }} (HasCounted g) keyed_entry row_of_keyed keyed_in keyed_back (λ s. keying_of s b.number b.round (lower_clerk (batch_entry b))) (λ s is. keying_listed s is b.number b.round (lower_clerk (batch_entry b)))
+    (rw (c.number.ensures, c.number-2.ensures, c.number-3.ensures, c.lower_clerk.ensures) at e.finds) e.opens e.reads e.outside
     (c.requires.columns, c.requires.verdicts, count_none g.P.KeepsPapers.holds g.B.Start.were_counted g.B.Start.columns g.B.Start.verdicts c.args.ballots c.requires.start))
     (λ s is told.
     let entries = subst (λ (ks : List KeyedEntry). CountAfter g.P.KeepsPapers.holds g.B.Start.were_counted g.B.Start.columns g.B.Start.verdicts c.in_ok-counted.counted.ballots ks) told.1 told.2.2 in

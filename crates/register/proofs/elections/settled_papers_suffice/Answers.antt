@@ -1,0 +1,8 @@
+-- Why `settled_papers_suffice` keeps its promise.
+use Rattle.register.proofs.ElectionLemmas.{settled_in_count}
+use Rattle.register.proofs.PollLemmas.{settled_alone}
+use Rattle.register.specs.Papers.{batches_of}
+use Rattle.register.proofs.elections.settled_papers_suffice.Goals as goal
+
+pub returns : goal.returns
+returns c s w columns is there counted = settled_alone s columns (batches_of s w.number) (settled_in_count s w is there counted)

@@ -1,0 +1,14 @@
+-- The keyings that are read of a batch.
+use Rattle.std.specs.Prelude.{ℕ, List, [], map, Option, Some, None}
+use Rattle.register.specs.Offices.{KeyedEntry, OfficeState, keying_of, keyed_entry}
+use Rattle.register.specs.Papers.{of_three}
+use Rattle.store.specs.declared.views.papers.Keyings.{Keyings}
+
+-- the papers that a clerk keyed of a batch in a round, where there is such a clerk
+abbrev pub keying_for : OfficeState → ℕ → ℕ → Option ℕ → List KeyedEntry
+keying_for s batch round None = []
+keying_for s batch round (Some clerk) = keying_of s batch round clerk
+
+-- the keyings that are there
+abbrev pub keyings_by : Keyings → List (List KeyedEntry)
+keyings_by keyings = of_three (map keyed_entry keyings.first.items) (map keyed_entry keyings.second.items) (map keyed_entry keyings.third.items)

@@ -1,0 +1,183 @@
+//! An office that a program before this one made: which tables it has, and the state that they stand for.
+
+ghost use Rattle.std.specs.Prelude.{◌≡◌, ◌≢◌, false, [], IfOk, IfErr, IfSome, IfNone, OnOk, IsTrue};
+ghost use Rattle.std.specs.List.{list_any};
+ghost use Rattle.sqlite.specs.Effect.{Database, IsDatabase};
+ghost use Rattle.sqlite.specs.State.{HasCleanDisk, IsLive};
+ghost use Rattle.sqlite.specs.Held.{state};
+ghost use Rattle.register.specs.Offices.{MapsRise, receipt_entry};
+ghost use Rattle.register.specs.Tabulated.{addition_entries, tabulation_entries};
+ghost use Rattle.rowcheck.specs.States.{state_of, tabulated};
+ghost use Rattle.tables.specs.Schema.{schema_from};
+ghost use Rattle.tables.specs.Contents.{RestsAt};
+ghost use Rattle.tables.specs.Presence.{form_of, IsOlder};
+ghost use Rattle.tables.specs.Reading.{OnlyReads};
+ghost use Rattle.register.specs.declared.receipt.Receipt.{Receipt as ReceiptValue};
+ghost use Rattle.store.specs.declared.older.OlderForm.{OlderForm};
+ghost use Rattle.store.specs.Openings.{HasVersion, IsTabulatedAs};
+ghost use Rattle.store.specs.Listings.{BeginsFirst, TellsStrange, ListsFirst};
+ghost use Rattle.store.specs.Migrations.{tables_in, name_of, tabulation_in, is_about_third, IsBare, IsOlderOf, Lacks, FoundOlder, TellsOlder};
+
+use crate::listing::{counted_rows, first_rows};
+use crate::opening::counted_state;
+use register::{Addition, Receipt, Tabulation};
+use rowcheck::{Rows, item8};
+use sqlite::{Alter, Connection};
+use std::alloc::Global;
+use tables::Fault;
+use tables::presence::{Form, form_of};
+
+/// Which tables an older office has.
+#[derive(Clone, Copy, Debug, PartialEq, Eq)]
+pub enum OlderForm {
+    /// All but that of the third clerks.
+    WithCounts,
+    /// As `WithCounts`, and neither of those of what is tabulated of the counts.
+    WithoutCounts,
+}
+
+/// An older office, and what it lacks of what is tabulated of the counts.
+#[derive(Drop)]
+pub(crate) struct Older {
+    pub(crate) form: OlderForm,
+    pub(crate) missing: Addition,
+}
+
+/// Which tables the database of an older office has, if it has those of one.
+fn older_form<S: Alter>(conn: &Connection<S>) -> Option<OlderForm>
+    ensures some { IfSome result (λ form. form_of (state S.Store conn.now).now.schema ≡ name_of form) }
+    ensures none { IfNone result ((form : OlderForm) → form_of (state S.Store conn.now).now.schema ≢ name_of form) }
+    ensures live { IsLive (state S.Store conn.now) }
+{
+    match form_of(conn) {
+        Form::WithoutThird => Some(OlderForm::WithCounts),
+        Form::WithoutCounts => Some(OlderForm::WithoutCounts),
+        Form::Whole => None,
+        Form::Other => None,
+    }
+}
+
+/// The entries of the tables of an older office, each table's in the order of its key. `Damaged` where the
+/// rows are those of no state.
+fn older_rows<S: Alter>(
+    alloc: Global,
+    conn: &mut Connection<S>,
+    form: OlderForm,
+) -> Result<Rows, Fault>
+    requires { conn.old.in_transaction ≡ false }
+    ensures lists { HasCleanDisk (state S.Store conn.new) → (db : Database) → BeginsFirst (tables_in form) db.schema → RestsAt db (state S.Store conn.old)
+        → IfOk result (λ rows. ListsFirst (tables_in form) db (state_of rows) (tabulated rows)) }
+    ensures told { HasCleanDisk (state S.Store conn.new) → (db : Database) → BeginsFirst (tables_in form) db.schema → RestsAt db (state S.Store conn.old)
+        → IfErr result (TellsStrange (tables_in form) db) }
+    ensures rise { IfOk result (λ rows. MapsRise (state_of rows)) }
+    ensures bare { IfOk result (λ rows. IsBare form (state_of rows) (tabulated rows)) }
+    ensures opens { HasCleanDisk (state S.Store conn.new) → OnOk result (IsTrue (state S.Store conn.new).is_open) }
+    ensures reads { OnlyReads (state S.Store conn.old) (state S.Store conn.new) }
+    ensures outside { conn.new.in_transaction ≡ false }
+{
+    match form {
+        OlderForm::WithCounts => counted_rows(alloc, conn),
+        OlderForm::WithoutCounts => first_rows(alloc, conn),
+    }
+}
+
+/// Whether a receipt is about a third clerk, whom no program had before this one.
+fn is_about_third(subject: &str) -> bool
+    ensures { result ≡ is_about_third subject.now }
+{
+    subject.as_bytes().starts_with(b"third ")
+}
+
+/// Whether some receipt is about a third clerk.
+fn are_about_thirds(receipts: &[Receipt]) -> bool
+    ensures { result ≡ list_any (λ (r : ReceiptValue). is_about_third (receipt_entry r).subject) receipts.now }
+{
+    receipts
+        .iter()
+        .any(|receipt| is_about_third(&receipt.subject))
+}
+
+/// What an office of this form lacks of what was counted, if what it has of it is right.
+fn lacking(alloc: Global, form: OlderForm, rows: &Rows, counted: Tabulation) -> Option<Addition>
+    requires { IsBare form (state_of rows.now) (tabulated rows.now) }
+    ensures some { IfSome result (λ a. IsTabulatedAs (state_of rows.now) (tabulation_entries counted)
+        → (tabulated rows.now ≡ tabulation_in form (state_of rows.now)) × Lacks form (state_of rows.now) (addition_entries a)) }
+    ensures none { IfNone result (IsTabulatedAs (state_of rows.now) (tabulation_entries counted) → ¬ (tabulated rows.now ≡ tabulation_in form (state_of rows.now))) }
+{
+    match form {
+        OlderForm::WithCounts => {
+            if item8(rows, &counted) {
+                Some(Addition::none(alloc))
+            } else {
+                None
+            }
+        }
+        OlderForm::WithoutCounts => Some(Addition {
+            placed: counted.bundles,
+            moved: Vec::new(alloc),
+            figures: counted.figures,
+        }),
+    }
+}
+
+/// What an older office lacks, if its rows, in the order of their keys, are those of a state: they meet each
+/// condition, and no receipt is about a third clerk. An error is `Memory`.
+fn missing_of(alloc: Global, form: OlderForm, rows: &Rows) -> Result<Option<Addition>, Fault>
+    requires rise { MapsRise (state_of rows.now) }
+    requires bare { IsBare form (state_of rows.now) (tabulated rows.now) }
+    ensures some { IfOk result (λ found. IfSome found (λ a. IsOlderOf form (state_of rows.now) (tabulated rows.now) × Lacks form (state_of rows.now) (addition_entries a))) }
+    ensures none { IfOk result (λ found. IfNone found (¬ IsOlderOf form (state_of rows.now) (tabulated rows.now))) }
+    ensures cause { IfErr result (λ f. f ≡ Fault.Memory) }
+{
+    if are_about_thirds(&rows.receipts) {
+        return Ok(None);
+    }
+    match counted_state(alloc, rows) {
+        Ok(Some(counted)) => Ok(lacking(alloc, form, rows, counted)),
+        Ok(None) => Ok(None),
+        Err(fault) => Err(fault),
+    }
+}
+
+/// Reads an older office of this form, and judges its rows.
+fn read_form<S: Alter>(
+    alloc: Global,
+    conn: &mut Connection<S>,
+    form: OlderForm,
+) -> Result<Addition, Fault>
+    requires { conn.old.in_transaction ≡ false }
+    ensures found { HasCleanDisk (state S.Store conn.new) → (db : Database) → IsDatabase db → db.schema ≡ schema_from (tables_in form) [] [] [] → HasVersion 1 db → RestsAt db (state S.Store conn.old)
+        → IfOk result (λ missing. FoundOlder db form (addition_entries missing)) }
+    ensures told { HasCleanDisk (state S.Store conn.new) → (db : Database) → db.schema ≡ schema_from (tables_in form) [] [] [] → RestsAt db (state S.Store conn.old)
+        → IfErr result (TellsOlder db) }
+    ensures opens { HasCleanDisk (state S.Store conn.new) → OnOk result (IsTrue (state S.Store conn.new).is_open) }
+    ensures reads { OnlyReads (state S.Store conn.old) (state S.Store conn.new) }
+    ensures outside { conn.new.in_transaction ≡ false }
+{
+    let rows = older_rows(alloc, conn, form)?;
+    match missing_of(alloc, form, &rows) {
+        Ok(Some(missing)) => Ok(missing),
+        Ok(None) => Err(Fault::Damaged),
+        Err(fault) => Err(fault),
+    }
+}
+
+/// Reads an older office, and changes nothing. `Damaged` where the database lacks other tables than one
+/// does, or where the rows are those of no state.
+pub(crate) fn read_older<S: Alter>(alloc: Global, conn: &mut Connection<S>) -> Result<Older, Fault>
+    requires { conn.old.in_transaction ≡ false }
+    ensures found { HasCleanDisk (state S.Store conn.new) → (db : Database) → IsOlder db.schema → HasVersion 1 db → RestsAt db (state S.Store conn.old)
+        → IfOk result (λ older. FoundOlder db older.form (addition_entries older.missing)) }
+    ensures told { HasCleanDisk (state S.Store conn.new) → (db : Database) → IsOlder db.schema → RestsAt db (state S.Store conn.old)
+        → IfErr result (TellsOlder db) }
+    ensures opens { HasCleanDisk (state S.Store conn.new) → OnOk result (IsTrue (state S.Store conn.new).is_open) }
+    ensures reads { OnlyReads (state S.Store conn.old) (state S.Store conn.new) }
+    ensures outside { conn.new.in_transaction ≡ false }
+{
+    let form = match older_form(conn) {
+        Some(form) => form,
+        None => return Err(Fault::Damaged),
+    };
+    let missing = read_form(alloc, conn, form)?;
+    Ok(Older { form, missing })
+}

@@ -1,0 +1,24 @@
+"""The office of an earlier program that crates/count_office/src/tests/older/rows.rt holds as text, made into a file."""
+import pathlib
+import re
+import sqlite3
+
+TEXT = pathlib.Path(__file__).resolve().parent.parent / "crates/count_office/src/tests/older/rows.rt"
+
+
+def statements():
+    """Those that make its tables and its rows, in their order."""
+    text = TEXT.read_text(encoding="utf-8")
+    parts = [re.search(rf'pub const {name}: &str =\s+"((?:[^"\\]|\\.)*)";', text).group(1) for name in ("OLDER_TABLES", "OLDER_ROWS")]
+    lines = "".join(parts).replace('\\"', '"').splitlines()
+    return [line.removeprefix("# ") for line in lines]
+
+
+def make(path):
+    """Makes the file, as that program left it: it says that a log stands beside it, which is empty once it is closed."""
+    database = sqlite3.connect(path)
+    try:
+        database.execute("PRAGMA journal_mode = wal")
+        database.executescript("BEGIN;\n" + ";\n".join(statements()) + ";\nCOMMIT;\n")
+    finally:
+        database.close()
