@@ -10,7 +10,7 @@ use Rattle.register.specs.Offices.{OfficeState, empty_office}
 use Rattle.register.specs.Machine.{after, after_one, step_of}
 use Rattle.register.specs.declared.command.Request.{Request}
 use Rattle.tables.specs.Contents.{Contents, IsOffice, RestsAt, Stores}
-use Rattle.tables.specs.Presence.{has_some_table, has_every_table, form_of, IsOlder}
+use Rattle.tables.specs.Presence.{has_some_table, has_every_table, form_of, IsOlderSchema}
 use Rattle.tables.specs.declared.presence.Form.TheVariants.{Whole, WithoutThird, WithoutCounts}
 use Rattle.tables.specs.Reading.{OnlyReads}
 use Rattle.tables.specs.Schema.{IsOfficeSchema, no_schema}
@@ -57,13 +57,13 @@ all_there s h = subst (λ (x : Schema). has_every_table x ≡ true) (sym h.is) r
 whole_form : (s : Schema) → has_every_table s ≡ true → form_of s ≡ Whole
 whole_form s every = rw every refl
 
-whole_only : (s : Schema) → form_of s ≡ Whole → IsOlder s
+whole_only : (s : Schema) → form_of s ≡ Whole → IsOlderSchema s
 whole_only s whole = record {
   without_third = λ is. let bad : Whole ≡ WithoutThird = sym whole ∙ is in absurd (cc bad);
   without_counts = λ is. let bad : Whole ≡ WithoutCounts = sym whole ∙ is in absurd (cc bad);
 }
 
-pub left_older : (s : OfficeState) (db : Database) → IsLeftAt s db → IsOlder db.schema
+pub left_older : (s : OfficeState) (db : Database) → IsLeftAt s db → IsOlderSchema db.schema
 left_older s db left =
     whole_only db.schema (whole_form db.schema (all_there db.schema (office_begins (tables_of s) db (left_holds s db left).office)))
 

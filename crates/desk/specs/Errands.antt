@@ -11,12 +11,12 @@ use Rattle.tables.specs.declared.fault.Fault.{Fault}
 use Rattle.tables.specs.declared.fault.Fault.TheVariants.{Memory, Store, WrongDatabase}
 use Rattle.sqlite.specs.Effect.{Database}
 use Rattle.tables.specs.Contents.{RestsAt, Stores}
-use Rattle.tables.specs.Presence.{IsOurs, IsOlder, has_some_table}
+use Rattle.tables.specs.Presence.{IsOurs, IsOlderSchema, has_some_table}
 use Rattle.tables.specs.Reading.{OnlyReads}
 use Rattle.store.specs.Openings.{HoldsNoState, IsBlank, IsLeftAt, IsToldBy}
 use Rattle.store.specs.declared.older.OlderForm.{OlderForm}
 use Rattle.store.specs.declared.migration.Migrated.TheVariants.{Done, Already}
-use Rattle.store.specs.Migrations.{HoldsNoOlder, RestsOlder, IsToldInMigration}
+use Rattle.store.specs.Migrations.{HoldsNoOlder, RestsOlder, IsToldInMigration, LeavesOldOrNew}
 use Rattle.store.specs.Offices.{IsAt, LeavesState, tables_of}
 use Rattle.office.specs.Answers.{IsClosedIn, IsKeptOpen, IsOpenAt, Told, again, done, no, told_of}
 use Rattle.office.specs.Reads.{IsClosedReading, columns_told, status_told}
@@ -165,19 +165,20 @@ IsMade page old new =
     ⊎ ((fault : Fault) × (page ≡ failed (Office fault)) × IsPlain fault × ((trees : Trees) → new.may_leave trees → old.may_leave trees ⊎ Stores (tables_of empty_office) trees))
 
 -- An office that an earlier program made is brought over, at the very state that it had; or want of memory or a failing store is told, and a
--- stop leaves what it could leave before, or the tables of that state.
-abbrev pub IsMigrated : OfficeState → Page → State → State → Type 0
-IsMigrated s page old new =
+-- stop leaves the older tables of that state, as it could before, or its tables of this version.
+abbrev pub IsMigrated : OlderForm → OfficeState → Page → State → State → Type 0
+IsMigrated form s page old new =
     ((page ≡ replied (migrated_text Done)) × IsAt s new)
-    ⊎ ((fault : Fault) × (page ≡ failed (Office fault)) × IsPlain fault × ((trees : Trees) → new.may_leave trees → old.may_leave trees ⊎ Stores (tables_of s) trees))
+    ⊎ ((fault : Fault) × (page ≡ failed (Office fault)) × IsPlain fault × LeavesOldOrNew form s old new)
 
--- At a database that holds no office of this version or an earlier one the fault is told that it gives, and nothing is changed; or want of
--- memory or a failing store.
+-- At a database that holds no office of this version or an earlier one the fault is told that it gives, or want of memory or a failing store,
+-- and a stop leaves what it could leave before.
 pub record IsUnmigrated (db : Database) (page : Page) (old new : State) : Type 0 where
   pub fault : Fault
   pub told : page ≡ failed (Office fault)
   pub given : IsToldInMigration db fault
   pub same : IsPlain fault ⊎ OnlyReads old new
+  pub leaves : (trees : Trees) → new.may_leave trees → old.may_leave trees
 
 -- None is made where a table has one of our names, whatever it holds: that is told, or want of memory, and nothing is changed.
 abbrev pub IsTaken : Page → State → State → Type 0
@@ -200,8 +201,8 @@ IsUnserved page old new = (page ≡ failed Output) × OnlyReads old new
 pub record IsPerformed (cut : Cut) (work : Work) (file : File) (page : Page) (old new : State) : Type 0 where
   pub in_office : (db : Database) → RestsAt db old → (s : OfficeState) → IsLeftAt s db → Performs cut s work file page new
   pub in_nothing : work ≡ making → IsBlank old → IsMade page old new
-  pub in_older : work ≡ migrating → (form : OlderForm) (s : OfficeState) → RestsOlder form s old → IsMigrated s page old new
-  pub beyond : work ≡ migrating → (db : Database) → IsOurs db.schema → IsOlder db.schema → RestsAt db old → HoldsNoState db → HoldsNoOlder db → IsUnmigrated db page old new
+  pub in_older : work ≡ migrating → (form : OlderForm) (s : OfficeState) → RestsOlder form s old → IsMigrated form s page old new
+  pub beyond : work ≡ migrating → (db : Database) → IsOurs db.schema → IsOlderSchema db.schema → RestsAt db old → HoldsNoState db → HoldsNoOlder db → IsUnmigrated db page old new
   pub taken : work ≡ making → (db : Database) → RestsAt db old → has_some_table db.schema ≡ true → IsTaken page old new
   pub elsewhere : (errand : Errand) → work ≡ running errand → (db : Database) → IsOurs db.schema → RestsAt db old → HoldsNoState db → IsForeign db page old new
   pub anywhere : (port connections : ℕ) → work ≡ serving port connections → IsUnserved page old new

@@ -149,7 +149,7 @@ pub(crate) const ID: Word = Word {
     help: "An id that you choose for this order, 1 to 40 of a-z, 0-9 and -;\nsent again under the same id, it does nothing twice",
 };
 
-/// All orders, in the sequence of an election.
+/// All orders, in the sequence of an election; the last brings an older office over.
 const ORDERS: [Entry; 20] = [
     Entry {
         name: "init",

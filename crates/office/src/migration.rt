@@ -1,17 +1,16 @@
 //! The migration of an office that an earlier program made.
 
 ghost use Rattle.std.specs.Prelude.{◌≡◌, ◌⊎◌, true, false, Err, IfOk, IfErr};
-ghost use Rattle.sqlite.specs.Tree.{Trees};
-ghost use Rattle.sqlite.specs.Effect.{Database};
+ghost use Rattle.sqlite.specs.Effect.{Database, IsDatabase};
 ghost use Rattle.sqlite.specs.State.{HasCleanDisk};
 ghost use Rattle.sqlite.specs.Held.{state};
 ghost use Rattle.register.specs.Offices.{OfficeState};
-ghost use Rattle.tables.specs.Contents.{RestsAt, SameContents, Stores};
-ghost use Rattle.tables.specs.Presence.{IsOurs, IsOlder};
+ghost use Rattle.tables.specs.Contents.{RestsAt, SameContents};
+ghost use Rattle.tables.specs.Presence.{IsOurs, IsOlderSchema};
 ghost use Rattle.tables.specs.Reading.{OnlyReads};
 ghost use Rattle.store.specs.declared.older.OlderForm.{OlderForm};
-ghost use Rattle.store.specs.Offices.{tables_of, HoldsState, IsAt, Wears};
-ghost use Rattle.store.specs.Migrations.{older_tables, IsOlderState, HoldsOlder, RestsOlder, WasAt, IsToldInMigration};
+ghost use Rattle.store.specs.Offices.{HoldsState, IsAt, Wears};
+ghost use Rattle.store.specs.Migrations.{older_tables, IsOlderState, HoldsOlder, RestsOlder, StoresOlder, WasAt, IsToldInMigration, LeavesOldOrNew, LeavesOlderOr};
 
 use crate::offices::Office;
 use sqlite::{Alter, Connection};
@@ -25,22 +24,25 @@ impl<S: Alter> Office<S> {
     ///
     /// `WrongDatabase` and `NewerSchema` as `open_from` tells them. `Damaged` where the rows are the tables of
     /// no state, neither of this program's version nor of the earlier one's. Nothing is changed then. After
-    /// `Memory` and `Store` the earlier office is found as it was, or the whole of the new one. `Store` too
-    /// where the connection is inside a transaction.
+    /// `Memory` and `Store` the earlier office is found as it was, or the whole of the new one; where none was
+    /// there, nothing is changed. `Store` too where the connection is inside a transaction.
     pub fn migrate(alloc: Global, conn: &mut Connection<S>) -> Result<Migrated, Fault>
         ensures moved { HasCleanDisk (state S.Store conn.new) → (form : OlderForm) (s : OfficeState) → RestsOlder form s (state S.Store conn.old)
             → IfOk result (λ m. (m ≡ Migrated.Done) × IsAt s (state S.Store conn.new)) }
         ensures stops { HasCleanDisk (state S.Store conn.new) → (form : OlderForm) (s : OfficeState) → RestsOlder form s (state S.Store conn.old)
-            → (trees : Trees) → (state S.Store conn.new).may_leave trees → (state S.Store conn.old).may_leave trees ⊎ Stores (tables_of s) trees }
+            → LeavesOldOrNew form s (state S.Store conn.old) (state S.Store conn.new) }
+        ensures leaves { HasCleanDisk (state S.Store conn.new) → (db : Database) → IsOurs db.schema → IsOlderSchema db.schema → RestsAt db (state S.Store conn.old)
+            → LeavesOlderOr db (state S.Store conn.old) (state S.Store conn.new) }
         ensures refuses { HasCleanDisk (state S.Store conn.new) → (form : OlderForm) (s : OfficeState) → RestsOlder form s (state S.Store conn.old)
             → IfErr result (λ f. (f ≡ Fault.Memory) ⊎ (f ≡ Fault.Store)) }
         ensures already { HasCleanDisk (state S.Store conn.new) → (db : Database) → RestsAt db (state S.Store conn.old) → (s : OfficeState) → HoldsState db s
             → IfOk result (λ m. (m ≡ Migrated.Already) × IsAt s (state S.Store conn.new)) }
         ensures reads { HasCleanDisk (state S.Store conn.new) → (db : Database) → RestsAt db (state S.Store conn.old) → (s : OfficeState) → HoldsState db s
             → OnlyReads (state S.Store conn.old) (state S.Store conn.new) }
-        ensures opened { HasCleanDisk (state S.Store conn.new) → (db : Database) → IsOurs db.schema → IsOlder db.schema → RestsAt db (state S.Store conn.old)
+        ensures opened { HasCleanDisk (state S.Store conn.new) → (db : Database) → IsOurs db.schema → IsOlderSchema db.schema → RestsAt db (state S.Store conn.old)
             → IfOk result (λ m. (s : OfficeState) × WasAt db m s × IsAt s (state S.Store conn.new)) }
-        ensures told { HasCleanDisk (state S.Store conn.new) → (db : Database) → IsOurs db.schema → IsOlder db.schema → RestsAt db (state S.Store conn.old) → IfErr result (IsToldInMigration db) }
+        ensures told { HasCleanDisk (state S.Store conn.new) → (db : Database) → IsOurs db.schema → IsOlderSchema db.schema → RestsAt db (state S.Store conn.old)
+            → IfErr result (IsToldInMigration db) }
         ensures unchanged { IfErr result (λ f. (f ≡ Fault.Memory) ⊎ ((f ≡ Fault.Store) ⊎ OnlyReads (state S.Store conn.old) (state S.Store conn.new))) }
         ensures wears { Wears (state S.Store conn.old) (state S.Store conn.new) }
         ensures clean { HasCleanDisk (state S.Store conn.new) → HasCleanDisk (state S.Store conn.old) }
@@ -48,6 +50,7 @@ impl<S: Alter> Office<S> {
         ensures outside { conn.old.in_transaction ≡ false → conn.new.in_transaction ≡ false }
         ensures alone { (db : Database) (form other : OlderForm) (s t : OfficeState) → HoldsOlder form db s → HoldsOlder other db t → (form ≡ other) × (s ≡ t) }
         ensures equal { (form : OlderForm) (s t : OfficeState) → IsOlderState s → IsOlderState t → SameContents (older_tables form s) (older_tables form t) → s ≡ t }
+        ensures again { (form : OlderForm) (s : OfficeState) (db : Database) → IsDatabase db → StoresOlder form s db.trees → HoldsOlder form db s }
     {
         store::migrate(alloc, conn)
     }

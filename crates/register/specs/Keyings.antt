@@ -54,7 +54,7 @@ objections actor command part =
 unfoldable pub subject_of : KeyingCommand → List ℕ
 subject_of command = codes "key " ++ (decimal command.batch ++ (codes " " ++ decimal command.round))
 
--- What is replied where it is accepted: a function of the command alone, so that no clerk learns anything of the other's
+-- What is replied where it is accepted: a function of the command alone, so that no clerk learns anything of another's
 -- keying.
 unfoldable pub reply_to : KeyingCommand → List ℕ
 reply_to command = codes "batch " ++ (decimal command.batch ++ (codes " round " ++ (decimal command.round ++ codes " keyed")))

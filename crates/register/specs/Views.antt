@@ -38,7 +38,7 @@ ruling_of (Refused why) = refuses why
 abbrev pub outcome_of : OfficeState → Decision → Outcome
 outcome_of s decision = outcome_at s (ruling_of decision)
 
--- An accepted keying gets a reply that is made of the command alone: whatever the other clerk keyed, both are told alike.
+-- An accepted keying gets a reply that is made of the command alone: whatever another clerk keyed, all are told alike.
 abbrev pub IsToldAlike : Command → Ruling → Type 0
 IsToldAlike (Keying command) (accepts change reply) = reply ≡ reply_to command
 IsToldAlike command ruling = ⊤

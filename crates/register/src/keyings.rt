@@ -104,7 +104,7 @@ pub(crate) fn subject_of(alloc: Global, command: &KeyingCommand) -> Result<Strin
 }
 
 #[tactic(auto, unfolding(crate::specs::Keyings::reply_to))]
-/// What is replied where the command is accepted, whatever the other clerk keyed.
+/// What is replied where the command is accepted, whatever another clerk keyed.
 pub(crate) fn reply_to(alloc: Global, command: &KeyingCommand) -> Result<String, AllocError>
     ensures { IfOk result (λ text. string_bytes text ≡ reply_to command.now) }
 {

@@ -166,7 +166,7 @@ fn decided(alloc: Global, view: &View<'_>, command: &Command) -> Result<Decision
 ///
 /// A bad id is refused first. An id that has a receipt gets the reply of then, or is refused where the
 /// receipt is about something else. Of several objections to a new request the one with the lowest
-/// number is told. The reply to a keying says nothing of the other clerk's. An accepted Advance adds the
+/// number is told. The reply to a keying says nothing of another clerk's. An accepted Advance adds the
 /// stage that is due after the ward's stages found, which stay as they are; an accepted Lot or Declare leaves
 /// them as they are. An error is want of memory, and nothing was decided then.
 ///

@@ -1,5 +1,5 @@
 -- An older office, and what a migration makes of it.
-use Rattle.std.proofs.Common.{◌≡◌, ◌≢◌, ◌⊎◌, inl, inr, ℕ, ◌<◌, ◌≤◌, List, [], ◌∷◌, map, true, false, refl, sym, ap, subst, ◌∙◌, true≢false, arith, pos, ◌||◌, Option, Some, None, IfSome, Result, Ok, Err, IfOk, IfErr, OnOk}
+use Rattle.std.proofs.Common.{IsTrue, ◌≡◌, ◌≢◌, ◌⊎◌, inl, inr, ℕ, ◌<◌, ◌≤◌, List, [], ◌∷◌, map, true, false, refl, sym, ap, subst, ◌∙◌, true≢false, arith, pos, ◌||◌, Option, Some, None, IfSome, Result, Ok, Err, IfOk, IfErr, OnOk}
 use Rattle.std.specs.List.{list_any}
 use Rattle.std.specs.Ordering.{is_eq, nat_cmp}
 use Rattle.std.specs.List.Sorted.{IsPermutation, IsStrictlySortedBy}
@@ -29,7 +29,7 @@ use Rattle.tables.specs.Schema.{schema_from, place_of}
 use Rattle.tables.specs.Rows.{tuples, row_cmp}
 use Rattle.tables.specs.Contents.{Contents, SameContents, HoldsTable, IsOffice, value_put, Stores, RestsAt, Sees}
 use Rattle.tables.specs.Making.{FirstAt, HasFirst, SeesMade}
-use Rattle.tables.specs.Presence.{has_table, has_every_table, form_of, IsOurs, IsOlder}
+use Rattle.tables.specs.Presence.{has_table, has_every_table, form_of, IsOurs, IsOlderSchema}
 use Rattle.tables.specs.Reading.{OnlyReads}
 use Rattle.store.specs.declared.older.OlderForm.{OlderForm}
 use Rattle.store.specs.declared.older.OlderForm.TheVariants.{WithCounts, WithoutCounts}
@@ -39,13 +39,13 @@ use Rattle.store.specs.EntryRows.{this_version, office_row}
 use Rattle.store.specs.Offices.{no_tabulation, tables_of, tables_with, HoldsState, IsAt}
 use Rattle.store.specs.Openings.{HasNoOffice, IsNewer, HoldsNoState, IsToldBy, HasVersion, has_entries, IsTabulatedAs}
 use Rattle.store.specs.Listings.{TellsStrange, ListsFirst}
-use Rattle.store.specs.Migrations.{tables_in, name_of, tabulation_in, older_tables, is_about_third, IsOlderState, HoldsOlder, RestsOlder, HoldsNoOlder, WasAt, IsToldInMigration, IsBare, IsOlderOf, Lacks, TellsOlder, LeavesOlderOr}
+use Rattle.store.specs.Migrations.{tables_in, name_of, tabulation_in, older_tables, is_about_third, IsOlderState, HoldsOlder, RestsOlder, HoldsNoOlder, StoresOlder, LeavesOldOrNew, WasAt, IsToldInMigration, IsBare, IsOlderOf, Lacks, TellsOlder, LeavesOlderOr}
 use Rattle.tables.proofs.HoldLemmas.{rows_held, held_listed}
 use Rattle.tables.proofs.OrderLemmas.{key_of_number}
 use Rattle.tables.proofs.ChangeLemmas.{rows_set}
 use Rattle.tables.proofs.ReadLemmas.{only_reads_then}
 use Rattle.tables.proofs.ListingLemmas.{begins_to}
-use Rattle.tables.proofs.MakeLemmas.{first_at, first_from, first_begins, all_made}
+use Rattle.tables.proofs.MakeLemmas.{first_at, first_from, first_begins, first_leaves, first_found, all_made}
 use Rattle.store.proofs.StateLemmas.{equal_maps, tabulated_same, one_state}
 use Rattle.store.proofs.TellLemmas.{which_kind, office_with, state_version, version_at, all_there}
 use Rattle.store.proofs.ListsLemmas.{none_rises}
@@ -208,11 +208,11 @@ pub older_ours : (form : OlderForm) (s : Schema) → s ≡ schema_from (tables_i
 older_ours form s is = record { office = λ _. first_begins (tables_in form) s is Office (some_tables form); every = λ all. absurd (true≢false (sym all ∙ lacks_table form s is)) }
 
 -- of a schema with such a name, the tables are those of the form
-pub form_schema : (form : OlderForm) (s : Schema) → IsOlder s → form_of s ≡ name_of form → s ≡ schema_from (tables_in form) [] [] []
+pub form_schema : (form : OlderForm) (s : Schema) → IsOlderSchema s → form_of s ≡ name_of form → s ≡ schema_from (tables_in form) [] [] []
 form_schema WithCounts s is same = is.without_third same
 form_schema WithoutCounts s is same = is.without_counts same
 
-pub older_is : (form : OlderForm) (s : Schema) → s ≡ schema_from (tables_in form) [] [] [] → IsOlder s
+pub older_is : (form : OlderForm) (s : Schema) → s ≡ schema_from (tables_in form) [] [] [] → IsOlderSchema s
 older_is WithCounts s is = record { without_third = λ _. is; without_counts = λ same. absurd (let it : WithoutThird ≡ WithoutCountTables = sym (named WithCounts s is) ∙ same in cc) }
 older_is WithoutCounts s is = record { without_third = λ same. absurd (let it : WithoutCountTables ≡ WithoutThird = sym (named WithoutCounts s is) ∙ same in cc); without_counts = λ _. is }
 
@@ -387,6 +387,10 @@ rests_older form db s st rests held = record {
 pub older_rests : (form : OlderForm) (s : OfficeState) (st : State) → RestsOlder form s st → RestsAt st.now st × HoldsOlder form st.now s
 older_rests form s st older = (record { is_open = older.rests.is_open; outside = older.rests.outside; now = refl; committed = sym older.rests.settled }, record { is = older.is; first = older.rests.first })
 
+-- what a stop left of an older office is found again
+pub older_again : (form : OlderForm) (s : OfficeState) (db : Database) → IsDatabase db → StoresOlder form s db.trees → HoldsOlder form db s
+older_again form s db sound left = record { is = left.is; first = first_found (tables_in form) (older_tables form s) db sound left.stores }
+
 -- a stop in the transaction leaves what it left before, or the tables of the state
 pub older_leaves : (form : OlderForm) (db : Database) (s : OfficeState) (old mid new : State) → HoldsOlder form db s → OnlyReads old mid → HasCleanDisk mid → HasCleanDisk new → Survives mid new (Stores (tables_of s)) → LeavesOlderOr db old new
 older_leaves form db s old mid new held reads before clean survives trees may = elim (survives.crash clean trees may) [
@@ -402,7 +406,7 @@ leaves_later db old mid new reads before leaves trees may = elim (leaves trees m
 
 -- ---- a migration, at a database whose state is known
 
-state_older : (db : Database) (s : OfficeState) → HoldsState db s → IsOlder db.schema
+state_older : (db : Database) (s : OfficeState) → HoldsState db s → IsOlderSchema db.schema
 unfolding IsOffice
 state_older db s held =
     let whole : form_of db.schema ≡ Whole = rw (all_there db.schema held.office.begins) refl in
@@ -415,13 +419,13 @@ state_ours db s held = record { office = λ _. begins_to Office db.schema held.o
 module _ (r : Result Migrated Fault) (old new : State) where
   -- what a migration promises at any database, of what it opened, of what a stop leaves, and of a fault
   abbrev Opens : Type 0
-  Opens = (db : Database) → IsOurs db.schema → IsOlder db.schema → RestsAt db old → IfOk r (λ m. (x : OfficeState) × WasAt db m x × IsAt x new)
+  Opens = (db : Database) → IsOurs db.schema → IsOlderSchema db.schema → RestsAt db old → IfOk r (λ m. (x : OfficeState) × WasAt db m x × IsAt x new)
 
   abbrev Tells : Type 0
-  Tells = (db : Database) → IsOurs db.schema → IsOlder db.schema → RestsAt db old → IfErr r (IsToldInMigration db)
+  Tells = (db : Database) → IsOurs db.schema → IsOlderSchema db.schema → RestsAt db old → IfErr r (IsToldInMigration db)
 
   abbrev LeavesSome : Type 0
-  LeavesSome = (db : Database) → IsOurs db.schema → IsOlder db.schema → RestsAt db old → LeavesOlderOr db old new
+  LeavesSome = (db : Database) → IsOurs db.schema → IsOlderSchema db.schema → RestsAt db old → LeavesOlderOr db old new
 
   if_ok : (P Q : Migrated → Type 0) → ((m : Migrated) → P m → Q m) → IfOk r P → IfOk r Q
   if_ok P Q each h = go r h
@@ -448,12 +452,12 @@ module _ (r : Result Migrated Fault) (old new : State) where
         go Done found = (refl, subst (λ (y : OfficeState). IsAt y new) (sym (older_once old.now form found.1.0 s found.0 (older_rests form s old older).1 found.1.1).1) found.2)
         go Already found = absurd (two_versions old.now (older_version form old.now s (older_rests form s old older).1) (state_version old.now found.0 found.1))
 
-    pub stops_from : LeavesSome → (trees : Trees) → new.may_leave trees → old.may_leave trees ⊎ Stores (tables_of s) trees
-    stops_from leaves trees may =
+    pub stops_from : ((trees : Trees) → IsTrue old.is_open → old.may_leave trees → trees ≡ old.committed.trees) → LeavesSome → LeavesOldOrNew form s old new
+    stops_from settled leaves trees may =
         let it = older_rests form s old older in
         let schema = (at_first form old.now s it.1).schema in
         elim (leaves old.now (older_ours form old.now.schema schema) (older_is form old.now.schema schema) it.0 trees may) [
-          | inl was ↦ inl was
+          | inl was ↦ inl (was, record { is = older.is; stores = first_leaves (tables_in form) (older_tables form s) old settled older.rests trees was })
           | inr made ↦ inr (subst (λ (y : OfficeState). Stores (tables_of y) trees) (sym (older_once old.now form made.1 s made.0 it.1 made.2).1) made.3)
         ]
 

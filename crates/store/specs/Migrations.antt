@@ -13,7 +13,7 @@ use Rattle.tables.specs.declared.table.Table.TheVariants.{Office}
 use Rattle.tables.specs.declared.presence.Form.{Form}
 use Rattle.tables.specs.declared.presence.Form.TheVariants.{WithoutThird, WithoutCounts as WithoutCountTables}
 use Rattle.tables.specs.Contents.{Contents, changed, Stores}
-use Rattle.tables.specs.Making.{HasFirst, RestsFirst}
+use Rattle.tables.specs.Making.{HasFirst, RestsFirst, StoresFirst}
 use Rattle.store.specs.declared.older.OlderForm.{OlderForm}
 use Rattle.store.specs.declared.older.OlderForm.TheVariants.{WithCounts, WithoutCounts}
 use Rattle.store.specs.declared.migration.Migrated.{Migrated}
@@ -62,6 +62,15 @@ pub record HoldsOlder (form : OlderForm) (db : Database) (s : OfficeState) : Typ
 pub record RestsOlder (form : OlderForm) (s : OfficeState) (st : State) : Type 0 where
   pub is : IsOlderState s
   pub rests : RestsFirst (tables_in form) (older_tables form s) st
+
+-- these are the older tables of this, which is an older state
+pub record StoresOlder (form : OlderForm) (s : OfficeState) (trees : Trees) : Type 0 where
+  pub is : IsOlderState s
+  pub stores : StoresFirst (tables_in form) (older_tables form s) trees
+
+-- what a stop left before may be left now, and these are the older tables of this state; or they are its tables of this version
+abbrev pub LeavesOldOrNew : OlderForm → OfficeState → State → State → Type 0
+LeavesOldOrNew form s old new = (trees : Trees) → new.may_leave trees → (old.may_leave trees × StoresOlder form s trees) ⊎ Stores (tables_of s) trees
 
 -- the rows are the older tables of no state
 abbrev pub HoldsNoOlder : Database → Type 0

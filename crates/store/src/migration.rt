@@ -2,18 +2,18 @@
 
 ghost use Rattle.std.specs.Prelude.{◌≡◌, ◌⊎◌, true, false, Err, IfOk, IfErr, OnOk};
 ghost use Rattle.sqlite.specs.Tree.{Trees};
-ghost use Rattle.sqlite.specs.Effect.{Database};
+ghost use Rattle.sqlite.specs.Effect.{Database, IsDatabase};
 ghost use Rattle.sqlite.specs.State.{HasCleanDisk, Survives};
 ghost use Rattle.sqlite.specs.Held.{state};
 ghost use Rattle.register.specs.Offices.{OfficeState};
 ghost use Rattle.register.specs.Tabulated.{addition_entries};
 ghost use Rattle.tables.specs.Contents.{Rests, RestsAt, SameContents, Stores};
-ghost use Rattle.tables.specs.Presence.{IsOurs, IsOlder};
+ghost use Rattle.tables.specs.Presence.{IsOurs, IsOlderSchema};
 ghost use Rattle.tables.specs.Reading.{OnlyReads};
 ghost use Rattle.store.specs.declared.older.OlderForm.{OlderForm};
 ghost use Rattle.store.specs.Offices.{tables_of, HoldsState, IsAt, Wears};
 ghost use Rattle.store.specs.Openings.{HasVersion};
-ghost use Rattle.store.specs.Migrations.{older_tables, IsOlderState, HoldsOlder, RestsOlder, WasAt, IsToldInMigration, Lacks, TellsOlder, LeavesOlderOr};
+ghost use Rattle.store.specs.Migrations.{older_tables, IsOlderState, HoldsOlder, RestsOlder, StoresOlder, WasAt, IsToldInMigration, Lacks, TellsOlder, LeavesOldOrNew, LeavesOlderOr};
 
 use crate::older::{Older, read_older};
 use crate::opening::check;
@@ -56,11 +56,11 @@ fn commit_migration<S: Alter>(
 /// Makes of an office of the first version one of this program's.
 fn migrate_older<S: Alter>(alloc: Global, conn: &mut Connection<S>) -> Result<Migrated, Fault>
     requires { conn.old.in_transaction ≡ false }
-    ensures opened { HasCleanDisk (state S.Store conn.new) → (db : Database) → IsOlder db.schema → HasVersion 1 db → RestsAt db (state S.Store conn.old)
+    ensures opened { HasCleanDisk (state S.Store conn.new) → (db : Database) → IsOlderSchema db.schema → HasVersion 1 db → RestsAt db (state S.Store conn.old)
         → IfOk result (λ m. (s : OfficeState) × WasAt db m s × IsAt s (state S.Store conn.new)) }
-    ensures leaves { HasCleanDisk (state S.Store conn.new) → (db : Database) → IsOlder db.schema → HasVersion 1 db → RestsAt db (state S.Store conn.old)
+    ensures leaves { HasCleanDisk (state S.Store conn.new) → (db : Database) → IsOlderSchema db.schema → HasVersion 1 db → RestsAt db (state S.Store conn.old)
         → LeavesOlderOr db (state S.Store conn.old) (state S.Store conn.new) }
-    ensures told { HasCleanDisk (state S.Store conn.new) → (db : Database) → IsOlder db.schema → HasVersion 1 db → RestsAt db (state S.Store conn.old)
+    ensures told { HasCleanDisk (state S.Store conn.new) → (db : Database) → IsOlderSchema db.schema → HasVersion 1 db → RestsAt db (state S.Store conn.old)
         → IfErr result (TellsOlder db) }
     ensures unchanged { IfErr result (λ f. (f ≡ Fault.Memory) ⊎ ((f ≡ Fault.Store) ⊎ OnlyReads (state S.Store conn.old) (state S.Store conn.new))) }
     ensures wears { Wears (state S.Store conn.old) (state S.Store conn.new) }
@@ -75,11 +75,11 @@ fn migrate_older<S: Alter>(alloc: Global, conn: &mut Connection<S>) -> Result<Mi
 /// Opens an office as `open_from` does, and migrates it where that tells that an earlier program made it.
 fn open_or_migrate<S: Alter>(alloc: Global, conn: &mut Connection<S>) -> Result<Migrated, Fault>
     requires { conn.old.in_transaction ≡ false }
-    ensures opened { HasCleanDisk (state S.Store conn.new) → (db : Database) → IsOurs db.schema → IsOlder db.schema → RestsAt db (state S.Store conn.old)
+    ensures opened { HasCleanDisk (state S.Store conn.new) → (db : Database) → IsOurs db.schema → IsOlderSchema db.schema → RestsAt db (state S.Store conn.old)
         → IfOk result (λ m. (s : OfficeState) × WasAt db m s × IsAt s (state S.Store conn.new)) }
-    ensures leaves { HasCleanDisk (state S.Store conn.new) → (db : Database) → IsOurs db.schema → IsOlder db.schema → RestsAt db (state S.Store conn.old)
+    ensures leaves { HasCleanDisk (state S.Store conn.new) → (db : Database) → IsOurs db.schema → IsOlderSchema db.schema → RestsAt db (state S.Store conn.old)
         → LeavesOlderOr db (state S.Store conn.old) (state S.Store conn.new) }
-    ensures told { HasCleanDisk (state S.Store conn.new) → (db : Database) → IsOurs db.schema → IsOlder db.schema → RestsAt db (state S.Store conn.old)
+    ensures told { HasCleanDisk (state S.Store conn.new) → (db : Database) → IsOurs db.schema → IsOlderSchema db.schema → RestsAt db (state S.Store conn.old)
         → IfErr result (IsToldInMigration db) }
     ensures reads { HasCleanDisk (state S.Store conn.new) → (db : Database) → RestsAt db (state S.Store conn.old) → (s : OfficeState) → HoldsState db s
         → OnlyReads (state S.Store conn.old) (state S.Store conn.new) }
@@ -98,10 +98,11 @@ fn open_or_migrate<S: Alter>(alloc: Global, conn: &mut Connection<S>) -> Result<
 }
 
 /// Older rows tell their state: equal older tables of one form are those of equal states, so a database
-/// stands for one of them.
+/// stands for one of them. What a stop left of an older office is found again.
 fn older_tables_tell_states()
     ensures equal { (form : OlderForm) (s t : OfficeState) → IsOlderState s → IsOlderState t → SameContents (older_tables form s) (older_tables form t) → s ≡ t }
     ensures alone { (db : Database) (form other : OlderForm) (s t : OfficeState) → HoldsOlder form db s → HoldsOlder other db t → (form ≡ other) × (s ≡ t) }
+    ensures again { (form : OlderForm) (s : OfficeState) (db : Database) → IsDatabase db → StoresOlder form s db.trees → HoldsOlder form db s }
 {}
 
 /// Makes of an office that a program before this one made one of this program's: in one transaction the tables
@@ -112,21 +113,25 @@ fn older_tables_tell_states()
 /// this program's version that is all, and nothing is changed. `WrongDatabase` and `NewerSchema` as there;
 /// `Damaged` where the rows are the tables of no state, or where a table is missing that should be there, or
 /// one is there that should not; nothing is changed then. After `Memory` and `Store` the older office is
-/// found as it was, or the whole of the new one; `Store` too where the connection is inside a transaction.
+/// found as it was, or the whole of the new one, and where none was there nothing is changed; `Store` too
+/// where the connection is inside a transaction.
 pub fn migrate<S: Alter>(alloc: Global, conn: &mut Connection<S>) -> Result<Migrated, Fault>
     ensures moved { HasCleanDisk (state S.Store conn.new) → (form : OlderForm) (s : OfficeState) → RestsOlder form s (state S.Store conn.old)
         → IfOk result (λ m. (m ≡ Migrated.Done) × IsAt s (state S.Store conn.new)) }
     ensures stops { HasCleanDisk (state S.Store conn.new) → (form : OlderForm) (s : OfficeState) → RestsOlder form s (state S.Store conn.old)
-        → (trees : Trees) → (state S.Store conn.new).may_leave trees → (state S.Store conn.old).may_leave trees ⊎ Stores (tables_of s) trees }
+        → LeavesOldOrNew form s (state S.Store conn.old) (state S.Store conn.new) }
+    ensures leaves { HasCleanDisk (state S.Store conn.new) → (db : Database) → IsOurs db.schema → IsOlderSchema db.schema → RestsAt db (state S.Store conn.old)
+        → LeavesOlderOr db (state S.Store conn.old) (state S.Store conn.new) }
     ensures refuses { HasCleanDisk (state S.Store conn.new) → (form : OlderForm) (s : OfficeState) → RestsOlder form s (state S.Store conn.old)
         → IfErr result (λ f. (f ≡ Fault.Memory) ⊎ (f ≡ Fault.Store)) }
     ensures already { HasCleanDisk (state S.Store conn.new) → (db : Database) → RestsAt db (state S.Store conn.old) → (s : OfficeState) → HoldsState db s
         → IfOk result (λ m. (m ≡ Migrated.Already) × IsAt s (state S.Store conn.new)) }
     ensures reads { HasCleanDisk (state S.Store conn.new) → (db : Database) → RestsAt db (state S.Store conn.old) → (s : OfficeState) → HoldsState db s
         → OnlyReads (state S.Store conn.old) (state S.Store conn.new) }
-    ensures opened { HasCleanDisk (state S.Store conn.new) → (db : Database) → IsOurs db.schema → IsOlder db.schema → RestsAt db (state S.Store conn.old)
+    ensures opened { HasCleanDisk (state S.Store conn.new) → (db : Database) → IsOurs db.schema → IsOlderSchema db.schema → RestsAt db (state S.Store conn.old)
         → IfOk result (λ m. (s : OfficeState) × WasAt db m s × IsAt s (state S.Store conn.new)) }
-    ensures told { HasCleanDisk (state S.Store conn.new) → (db : Database) → IsOurs db.schema → IsOlder db.schema → RestsAt db (state S.Store conn.old) → IfErr result (IsToldInMigration db) }
+    ensures told { HasCleanDisk (state S.Store conn.new) → (db : Database) → IsOurs db.schema → IsOlderSchema db.schema → RestsAt db (state S.Store conn.old)
+        → IfErr result (IsToldInMigration db) }
     ensures unchanged { IfErr result (λ f. (f ≡ Fault.Memory) ⊎ ((f ≡ Fault.Store) ⊎ OnlyReads (state S.Store conn.old) (state S.Store conn.new))) }
     ensures wears { Wears (state S.Store conn.old) (state S.Store conn.new) }
     ensures clean { HasCleanDisk (state S.Store conn.new) → HasCleanDisk (state S.Store conn.old) }
@@ -134,6 +139,7 @@ pub fn migrate<S: Alter>(alloc: Global, conn: &mut Connection<S>) -> Result<Migr
     ensures outside { conn.old.in_transaction ≡ false → conn.new.in_transaction ≡ false }
     ensures alone { (db : Database) (form other : OlderForm) (s t : OfficeState) → HoldsOlder form db s → HoldsOlder other db t → (form ≡ other) × (s ≡ t) }
     ensures equal { (form : OlderForm) (s t : OfficeState) → IsOlderState s → IsOlderState t → SameContents (older_tables form s) (older_tables form t) → s ≡ t }
+    ensures again { (form : OlderForm) (s : OfficeState) (db : Database) → IsDatabase db → StoresOlder form s db.trees → HoldsOlder form db s }
 {
     older_tables_tell_states();
     if !conn.is_autocommit() {

@@ -10,7 +10,7 @@ ghost use Rattle.register.specs.Tabulated.{addition_entries, tabulation_entries}
 ghost use Rattle.rowcheck.specs.States.{state_of, tabulated};
 ghost use Rattle.tables.specs.Schema.{schema_from};
 ghost use Rattle.tables.specs.Contents.{RestsAt};
-ghost use Rattle.tables.specs.Presence.{form_of, IsOlder};
+ghost use Rattle.tables.specs.Presence.{form_of, IsOlderSchema};
 ghost use Rattle.tables.specs.Reading.{OnlyReads};
 ghost use Rattle.register.specs.declared.receipt.Receipt.{Receipt as ReceiptValue};
 ghost use Rattle.store.specs.declared.older.OlderForm.{OlderForm};
@@ -166,9 +166,9 @@ fn read_form<S: Alter>(
 /// does, or where the rows are those of no state.
 pub(crate) fn read_older<S: Alter>(alloc: Global, conn: &mut Connection<S>) -> Result<Older, Fault>
     requires { conn.old.in_transaction ≡ false }
-    ensures found { HasCleanDisk (state S.Store conn.new) → (db : Database) → IsOlder db.schema → HasVersion 1 db → RestsAt db (state S.Store conn.old)
+    ensures found { HasCleanDisk (state S.Store conn.new) → (db : Database) → IsOlderSchema db.schema → HasVersion 1 db → RestsAt db (state S.Store conn.old)
         → IfOk result (λ older. FoundOlder db older.form (addition_entries older.missing)) }
-    ensures told { HasCleanDisk (state S.Store conn.new) → (db : Database) → IsOlder db.schema → RestsAt db (state S.Store conn.old)
+    ensures told { HasCleanDisk (state S.Store conn.new) → (db : Database) → IsOlderSchema db.schema → RestsAt db (state S.Store conn.old)
         → IfErr result (TellsOlder db) }
     ensures opens { HasCleanDisk (state S.Store conn.new) → OnOk result (IsTrue (state S.Store conn.new).is_open) }
     ensures reads { OnlyReads (state S.Store conn.old) (state S.Store conn.new) }

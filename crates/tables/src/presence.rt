@@ -18,7 +18,7 @@ use sqlite_schema::schema::Schema;
 pub enum Form {
     /// All tables.
     Whole,
-    /// All but that of the third keyings.
+    /// All but that of the third clerks.
     WithoutThird,
     /// As `WithoutThird`, and neither of those that a count goes on with.
     WithoutCounts,
@@ -26,7 +26,7 @@ pub enum Form {
     Other,
 }
 
-/// How many tables an office had before third keyings had one.
+/// How many tables an office had before third clerks had one.
 const BEFORE_THIRD: usize = 10;
 
 /// And how many before a count went on with its own.

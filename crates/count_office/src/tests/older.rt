@@ -38,7 +38,7 @@ const TABULATED: &str =
 3| fault 103: damaged
 # DELETE FROM vote WHERE ward = 10
 3| fault 103: damaged
-# DELETE FROM bundle WHERE ward = 10; DELETE FROM third
+# DELETE FROM bundle WHERE ward = 10; UPDATE third SET batch = 9999
 1| refused 2: id used for another subject
 ";
 
@@ -110,28 +110,71 @@ const REFUSED: [(&str, &str); 12] = [
     ("UPDATE office SET version = 3", "106: newer schema"),
 ];
 
-/// Makes a change in a copy of an older office, which isn't brought over then, and stays as it is.
+/// The same of one with ten tables.
+const REFUSED_OF_TEN: [(&str, &str); 6] = [
+    ("DELETE FROM bundle WHERE ward = 7", "103: damaged"),
+    ("UPDATE vote SET units = 1 WHERE ward = 10", "103: damaged"),
+    ("DROP TABLE bundle", "103: damaged"),
+    ("DROP TABLE vote", "103: damaged"),
+    ("CREATE TABLE third (batch INT)", "103: damaged"),
+    ("DELETE FROM lot", "103: damaged"),
+];
+
+/// And of an office of this version.
+const REFUSED_OF_THIS: [(&str, &str); 3] = [
+    ("DROP TABLE third", "103: damaged"),
+    ("DELETE FROM lot", "103: damaged"),
+    ("DELETE FROM bundle WHERE ward = 7", "103: damaged"),
+];
+
+/// Makes each change in a copy of an office, which isn't brought over then, and stays as it is.
 fn refuse(
     rt: &(impl Abort + AllocGlobal),
     office: &Disks,
-    change: &str,
-    fault: &str,
+    changes: &[(&str, &str)],
 ) -> Result<(), Fail> {
-    let changed = format!(in rt.alloc(); "# {change}\n")?;
-    let told = format!(in rt.alloc(); "$ migrate\n3| fault {fault}\n")?;
-    let copy = office.copied(rt.alloc(), File::Log, u64::MAX)?;
-    copy.follow(rt, changed.as_str())?
-        .follow_unchanged(rt, told.as_str())?;
+    for (change, fault) in changes {
+        let changed = format!(in rt.alloc(); "# {change}\n")?;
+        let told = format!(in rt.alloc(); "$ migrate\n3| fault {fault}\n")?;
+        office
+            .copied(rt.alloc(), File::Log, u64::MAX)?
+            .follow(rt, changed.as_str())?
+            .follow_unchanged(rt, told.as_str())?;
+    }
     Ok(())
 }
 
 #[test]
 fn what_is_no_older_office_is_not_brought_over(rt: HostRuntime) -> Result<(), Fail> {
     let office = play_acts(&rt, &OLDER)?;
-    for (change, fault) in REFUSED {
-        refuse(&rt, &office, change, fault)?;
-    }
-    Ok(())
+    refuse(&rt, &office, &REFUSED)?;
+    let office = office.follow(&rt, MIGRATED)?;
+    refuse(&rt, &office, &REFUSED_OF_THIS)?;
+    refuse(&rt, &office.follow(&rt, AGED)?, &REFUSED_OF_TEN)
+}
+
+/// An office in which nothing was done yet; and one beside a table that is none of ours.
+const BARE: &[Act] = &[
+    Act::Typed(OLDER_TABLES),
+    Act::Typed("# INSERT INTO office VALUES (1, 1)\n"),
+    Act::Typed(MIGRATED),
+    Act::Unchanged(AT_THIS_VERSION),
+    Act::Typed("$ ward 7 2 Harbour --id w1\nward 7 added\n"),
+];
+
+const BESIDE_A_NOTE: &[Act] = &[
+    Act::Typed(OLDER_TABLES),
+    Act::Typed(OLDER_ROWS),
+    Act::Typed("# CREATE TABLE note (line TEXT)\n# INSERT INTO note VALUES ('kept')\n"),
+    Act::Typed(MIGRATED),
+    Act::Unchanged(AT_THIS_VERSION),
+    Act::Unchanged(TOLD),
+    Act::Typed(GOES_ON),
+];
+
+#[test]
+fn a_bare_office_and_one_beside_a_note_are_brought_over(rt: HostRuntime) -> Result<(), Fail> {
+    play_all(&rt, &[BARE, BESIDE_A_NOTE])
 }
 
 const OLDER: [Act; 2] = [Act::Typed(OLDER_TABLES), Act::Typed(OLDER_ROWS)];

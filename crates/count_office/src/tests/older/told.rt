@@ -189,6 +189,14 @@ $ ward 10 1 Skerry --id w10
 ward 10 added
 $ withdraw 1 3 --id x1
 candidate 3 of ward 1 withdrawn
+$ import-candidates FILE --id c5
+< ward,candidate,name
+< 2,1,Ivo
+< 2,2,Jan
+< 2,3,Kit
+candidate 1 of ward 2 added
+candidate 2 of ward 2 added
+candidate 3 of ward 2 added
 $ close 2 --id n2
 ward 2 polled
 $ close 3 --id n3
@@ -217,6 +225,19 @@ $ batch 24 2 2 9 11 --id b4
 batch 24 added
 $ batch 25 2 2 11 4 --id b5
 batch 25 added
+$ import-keying 4 22 1 FILE --id k2
+< paper,1,2,3
+< 1,1,,
+< 2,D,,
+< 3,D,,
+< 4,2,1,
+< 5,D,,
+batch 22 round 1 keyed
+$ import-keying 11 23 1 FILE --id k1
+< paper,1,2,3
+< 1,1,2,
+< 2,D,,
+batch 23 round 1 keyed
 $ judge 22 2 accept:,1,2 --id v1
 batch 22 paper 2 accepted
 $ judge 22 3 reject:4 --id v2

@@ -1,5 +1,7 @@
 -- Why `migrate_office` keeps its promise.
 use Rattle.std.proofs.Common.{◌≡◌, ◌⊎◌, inl, inr, refl, ap}
+use Rattle.sqlite.specs.Tree.{Trees}
+use Rattle.sqlite.specs.State.{State}
 use Rattle.sqlite.specs.Held.{state}
 use Rattle.register.specs.Offices.{OfficeState}
 use Rattle.sqlite.specs.Effect.{Database}
@@ -7,7 +9,7 @@ use Rattle.tables.specs.declared.fault.Fault.{Fault}
 use Rattle.tables.specs.declared.fault.Fault.TheVariants.{Memory, Store}
 use Rattle.store.specs.declared.migration.Migrated.{Migrated}
 use Rattle.store.specs.declared.migration.Migrated.TheVariants.{Done, Already}
-use Rattle.store.specs.Migrations.{HoldsNoOlder, WasAt}
+use Rattle.store.specs.Migrations.{HoldsNoOlder, WasAt, LeavesOlderOr}
 use Rattle.store.specs.Openings.{HoldsNoState}
 use Rattle.store.proofs.ReopenLemmas.{left_holds, left_ours}
 use Rattle.desk.specs.Errands.{IsPlain}
@@ -21,6 +23,13 @@ use Rattle.desk.proofs.perform.migrate_office.Goals as goal
 at_none : (db : Database) (m : Migrated) (s : OfficeState) → HoldsNoState db → HoldsNoOlder db → WasAt db m s → ⊥
 at_none db Already s none older was = none s was
 at_none db Done s none older was = older was.0 s was.1
+
+-- where no older office was, a stop leaves what it left before
+none_moved : (db : Database) (old new : State) → HoldsNoOlder db → LeavesOlderOr db old new → (trees : Trees) → new.may_leave trees → old.may_leave trees
+none_moved db old new none leaves trees may = elim (leaves trees may) [
+  | inl was ↦ was
+  | inr made ↦ absurd (none made.1 made.0 made.2)
+]
 
 -- a fault that leaves something is want of memory or a failing store
 plain_or : {P : Type 0} (fault : Fault) → (fault ≡ Memory) ⊎ ((fault ≡ Store) ⊎ P) → IsPlain fault ⊎ P
@@ -65,7 +74,7 @@ returns-in-Err g c =
             );
         in_nothing = λ is. absurd (cc is);
         in_older = λ is form s at. inr (c.in-Err.fault, refl, c.in-Err.ensures.refuses clean form s at, c.migrate.ensures.stops clean form s at);
-        beyond = λ is db ours older rests none no_older. record { fault = c.in-Err.fault; told = refl; given = c.in-Err.ensures.told clean db ours older rests; same = plain_or c.in-Err.fault c.in-Err.ensures.unchanged };
+        beyond = λ is db ours older rests none no_older. record { fault = c.in-Err.fault; told = refl; given = c.in-Err.ensures.told clean db ours older rests; same = plain_or c.in-Err.fault c.in-Err.ensures.unchanged; leaves = none_moved db _ _ no_older (c.migrate.ensures.leaves clean db ours older rests) };
         taken = λ is. absurd (cc is);
         elsewhere = λ errand is. absurd (cc is);
         anywhere = λ port connections is. absurd (cc is);
