@@ -97,7 +97,7 @@ const REFUSED: [(&str, &str); 12] = [
     ("CREATE TABLE bundle (ward INT)", "103: damaged"),
     ("CREATE TABLE third (batch INT)", "103: damaged"),
     ("DROP TABLE lot", "103: damaged"),
-    ("UPDATE ward SET done = 3 WHERE ward = 7", "103: damaged"),
+    ("UPDATE ward SET done = 4 WHERE ward = 7", "103: damaged"),
     ("DELETE FROM lot", "103: damaged"),
     ("UPDATE ward SET name = '' WHERE ward = 7", "103: damaged"),
     (
