@@ -15,7 +15,7 @@ def statements():
 
 
 def make(path):
-    """Makes the file, as that program left it: it says that a log stands beside it, which is empty once it is closed."""
+    """Makes the file, as that program left it, with all rows in the file itself: the log goes as the connection is closed."""
     database = sqlite3.connect(path)
     try:
         database.execute("PRAGMA journal_mode = wal")
