@@ -12,15 +12,18 @@ import sqlite3
 import subprocess
 import time
 
+import older_office
 from refusing import ROOT
 
 TOWN, LOG, FILE = "town.db", "town.db-wal", "rows.csv"
 SECONDS = 60
-MADE = (3, "", "fault 105: wrong database\n")
+# What an order is told that is given again, where what it makes was found and it has no receipt.
+MADE = {"init": (3, "", "fault 105: wrong database\n"), "migrate": (0, "office is at version 2\n", "")}
 
 CANDIDATES = ["ward,candidate,name"] + [f"7,{c},Candidate {c}" for c in range(1, 5)]
 # Nine valid papers of two seats, and a doubtful one: the first candidate has the quota, the fourth is excluded, and a lot is drawn
-# between the two who are left. The second clerk errs once.
+# between the two who are left. The second clerk errs once; a third one is set,
+# and all three may key again.
 MARKS = ["1,,,"] * 4 + [",1,,", ",1,,2", ",,1,", ",,1,", ",,,1", "D,,,"]
 ERROR = ["1,2,,"] + MARKS[1:]
 
@@ -40,6 +43,7 @@ ELECTION = [
     (["batch", "12", "7", str(len(MARKS)), "4", "9", "--id", "b1"], None),
     (["import-keying", "4", "12", "1", FILE, "--id", "k1"], keying(MARKS)),
     (["import-keying", "9", "12", "1", FILE, "--id", "k1"], keying(ERROR)),
+    (["third", "12", "5", "--id", "t1"], None),
     (["again", "12", "--id", "g1"], None),
     (["import-keying", "4", "12", "2", FILE, "--id", "k2"], keying(MARKS)),
     (["import-keying", "9", "12", "2", FILE, "--id", "k2"], keying(MARKS)),
@@ -54,7 +58,7 @@ ELECTION = [
 # Orders that change nothing: each is tried over the office before the order of this number.
 READS = [
     (len(ELECTION), ["status", "7"]), (len(ELECTION), ["sheet", "7"]), (len(ELECTION), ["result", "7"]),
-    (16, ["advance", "7", "--id", "a3"]), (0, ["status", "7"]),
+    (17, ["advance", "7", "--id", "a3"]), (0, ["status", "7"]),
 ]
 
 
@@ -97,6 +101,13 @@ def copied(source, folder):
         path = os.path.join(source, name)
         if os.path.exists(path):
             shutil.copyfile(path, os.path.join(folder, name))
+    return folder
+
+
+def older(folder):
+    """An office of an earlier program."""
+    os.makedirs(folder)
+    older_office.make(os.path.join(folder, TOWN))
     return folder
 
 
@@ -251,7 +262,7 @@ class Trial:
         if beside := set(os.listdir(here)) - {TOWN, LOG, FILE}:
             raise Wrong(f"left behind: {beside}")
         what = self.judged(told, rows(here), faults)
-        wanted = MADE if what[1] and self.order.words == ["init"] else self.told
+        wanted = MADE.get(self.order.words[0], self.told) if what[1] else self.told
         again, _ = order.done(here)
         if again != wanted or rows(here) != self.states[-1]:
             raise Wrong(f"{told}, and given again {again}")
@@ -292,6 +303,7 @@ def trials(folder, only=lambda trial: True):
         offices.append(office)
         office = trial.after
     offices.append(office)
+    found.append(Trial(len(found), folder, older(os.path.join(folder, "older")), Order(["migrate"])))
     for before, words in READS:
         found.append(Trial(len(found), folder, offices[before], Order(words)))
     for before, name, sends in REQUESTS:
