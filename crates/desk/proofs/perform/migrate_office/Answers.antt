@@ -74,7 +74,7 @@ returns-in-Err g c =
             );
         in_nothing = λ is. absurd (cc is);
         in_older = λ is form s at. inr (c.in-Err.fault, refl, c.in-Err.ensures.refuses clean form s at, c.migrate.ensures.stops clean form s at);
-        beyond = λ is db ours older rests none no_older. record { fault = c.in-Err.fault; told = refl; given = c.in-Err.ensures.told clean db ours older rests; same = plain_or c.in-Err.fault c.in-Err.ensures.unchanged; leaves = none_moved db _ _ no_older (c.migrate.ensures.leaves clean db ours older rests) };
+        beyond = λ is db ours older rests none no_older. record { fault = c.in-Err.fault; told = refl; given = c.in-Err.ensures.told clean db ours older rests; same = plain_or c.in-Err.fault c.in-Err.ensures.unchanged; leaves = none_moved db (state g.S.Store c.args.conn) (state g.S.Store c.migrate.new.conn) no_older (c.migrate.ensures.leaves clean db ours older rests) };
         taken = λ is. absurd (cc is);
         elsewhere = λ errand is. absurd (cc is);
         anywhere = λ port connections is. absurd (cc is);
