@@ -5,7 +5,7 @@ mod told;
 
 use super::disks::{Act, Disks, File, play_acts, play_all};
 use super::stops::stop_orders;
-use rows::{OLDER_ROWS, OLDER_TABLES};
+use rows::{OLDER_ROWS, OLDER_TABLES, ROWS_OF_ONE_WARD};
 use std::process::Abort;
 use std::test::Fail;
 use told::{SENT_AGAIN, TOLD};
@@ -181,7 +181,8 @@ const OLDER: [Act; 2] = [Act::Typed(OLDER_TABLES), Act::Typed(OLDER_ROWS)];
 
 #[test]
 fn a_migration_stops_whole_at_its_log(rt: HostRuntime) -> Result<(), Fail> {
-    stop_orders(&rt, &OLDER, MIGRATED, File::Log)
+    let one_ward = [Act::Typed(OLDER_TABLES), Act::Typed(ROWS_OF_ONE_WARD)];
+    stop_orders(&rt, &one_ward, MIGRATED, File::Log)
 }
 
 #[test]
