@@ -16,7 +16,7 @@ use std::marker::Model;
 
 /// Equal papers kept once, seen as the list of their bundles: each list of preferences with the number of
 /// papers that have it, 1 at least, in the order of the lists. They are `MAX_PAPERS` papers at most.
-#[derive(Debug, Drop)]
+#[derive(Drop)]
 pub struct Bundles {
     lists: BTreeMap<Prefs, u32>,
     papers: u32,

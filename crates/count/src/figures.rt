@@ -24,7 +24,7 @@ pub const FRACTIONS: u32 = 99;
 /// 2 excluded earlier, 3 elected and his surplus is transferred at this stage, 4 excluded at this stage with
 /// transfer, 5 excluded at this stage without. Under `NO_CANDIDATE` stands the non-transferable, and under
 /// `FRACTIONS` what is lost, both with mark 0.
-#[derive(Clone, Copy, Debug, PartialEq, Eq)]
+#[derive(Clone, Copy, PartialEq, Eq)]
 pub struct Figure {
     pub candidate: u32,
     pub units: u64,

@@ -26,7 +26,7 @@ use std::marker::Model;
 use votes::ONE_VOTE;
 
 /// Where a count comes to by a stage more.
-#[derive(Debug, Drop)]
+#[derive(Drop)]
 pub struct NextStage {
     /// Where the papers of each bundle lie after it, in the order of the bundles.
     pub places: Vec<Placed>,
@@ -37,7 +37,7 @@ pub struct NextStage {
 /// A count as it was kept: its bundles, where they lie, and the stages so far, from which it goes on; no stage
 /// is counted anew. What was kept was read from somewhere, and where that fails it may be anything. So nothing
 /// is asked of it but its ranges, which are looked at, and what is told is right where it was kept of a count.
-#[derive(Debug, Drop)]
+#[derive(Drop)]
 pub struct KeptCount {
     terms: Terms,
     bundles: Bundles,

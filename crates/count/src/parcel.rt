@@ -21,7 +21,7 @@ pub struct Holding<'a> {
 }
 
 /// What becomes of the value of a paper that is passed on ("Transfer values").
-#[derive(Clone, Copy, Debug)]
+#[derive(Clone, Copy)]
 pub enum TransferRule {
     /// It keeps the value at which it was received.
     AsReceived,

@@ -35,7 +35,7 @@ pub struct Stage {
 }
 
 /// What candidates are tied for.
-#[derive(Clone, Copy, Debug, PartialEq, Eq)]
+#[derive(Clone, Copy, PartialEq, Eq)]
 pub enum Kind {
     /// Equal highest surpluses ("Transfer of ballot papers").
     Surplus,
@@ -44,7 +44,7 @@ pub enum Kind {
 }
 
 /// What comes next in a count.
-#[derive(Clone, Copy, Debug, PartialEq, Eq)]
+#[derive(Clone, Copy, PartialEq, Eq)]
 pub enum Due {
     /// An action is due.
     Act(Action),

@@ -10,7 +10,7 @@ use paper::Columns;
 use votes::{MAX_SEATS, Votes, quota};
 
 /// The candidates, the seats that they contest, and the quota.
-#[derive(Clone, Copy, Debug)]
+#[derive(Clone, Copy)]
 pub struct Terms {
     pub candidates: Columns,
     pub seats: u8,

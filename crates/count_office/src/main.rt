@@ -1,7 +1,7 @@
 //! The program `count-office`: it reads its words to one order and does it over the database DB.
 //!
 //! The crate `desk` reads the words and does the order. Here it gets the file that DB names, the one that
-//! the order names, and the two standard outputs.
+//! the order names, those that a script names, and the two standard outputs.
 //!
 //! ```text
 //! count-office town.db init
@@ -18,7 +18,9 @@ mod tests;
 mod traces;
 
 use desk::perform::perform;
-use desk::{Failure, Order, Progress, WordsFault, order, serve_on, tell_failure, tell_words};
+use desk::{
+    Failure, Folder, Order, Progress, WordsFault, order, serve_on, tell_failure, tell_words,
+};
 use office::Office;
 use sqlite::{Alter, Connection, FileStore, Files, Wary};
 use sqlite_disk::Disk;
@@ -32,6 +34,20 @@ use store::Fault;
 use store::fault::fault_of;
 use traces::Found;
 use votes::{Counted, Sink};
+
+/// The files of this machine.
+#[derive(Clone, Copy)]
+struct Paths<'a> {
+    rt: &'a HostRuntime,
+}
+
+impl Folder for Paths<'_> {
+    type File = File;
+
+    fn open(&self, path: &str) -> Option<File> {
+        File::open(self.rt, path).ok()
+    }
+}
 
 /// The words from DB on.
 fn given_words(rt: &HostRuntime) -> Result<Vec<String>, WordsFault> {
@@ -58,7 +74,7 @@ fn wants_progress(rt: &HostRuntime, order: &Order<'_>) -> bool {
     order.file().is_some() && rt.stderr().is_terminal() && !rt.stdout().is_terminal()
 }
 
-/// Does an order over an opened connection, with the file that it names.
+/// Does an order over an opened connection, with the file that it names, and those that a script names.
 fn perform_on<S: Alter, O: Sink, E: Sink>(
     rt: &HostRuntime,
     order: &Order<'_>,
@@ -72,12 +88,13 @@ fn perform_on<S: Alter, O: Sink, E: Sink>(
     if let Order::Serve { port, connections } = order {
         return serve(rt, conn, *port, *connections, err);
     }
+    let paths = Paths { rt };
     let file = order.file().and_then(|path| File::open(rt, path).ok());
     if wants_progress(rt, order) {
         let mut watched = Progress::new(out, rt.stderr());
-        return perform(rt.alloc(), order, conn, file, &mut watched, err);
+        return perform(rt.alloc(), order, conn, file, &paths, &mut watched, err);
     }
-    perform(rt.alloc(), order, conn, file, out, err)
+    perform(rt.alloc(), order, conn, file, &paths, out, err)
 }
 
 /// Listens on a port of this machine.

@@ -22,10 +22,11 @@ use Rattle.store.specs.Migrations.{IsToldInMigration}
 use Rattle.store.proofs.ReopenLemmas.{left_holds, left_told}
 use Rattle.office.specs.Answers.{Told, again, done, no, told_of}
 use Rattle.office.proofs.RunLemmas.{beginning}
-use Rattle.desk.specs.Errands.{File, IsAnswered, IsAnswerAbove, IsEndOf, IsKept, IsPerformed, IsPerformedAndKept, IsPlain, IsReplyAbove, IsRun, IsSent, IsStopped, Performs, Sends, SendsSome, TellsAnswers, TellsFault, TellsOther}
+use Rattle.desk.specs.Folders.{File}
+use Rattle.desk.specs.Errands.{IsAnswered, IsAnswerAbove, IsEndOf, IsKept, IsPlain, IsReplyAbove, IsRun, IsSent, IsStopped, Sends, SendsSome, TellsAnswers, TellsFault, TellsOther}
 use Rattle.desk.specs.Pages.{Cut, uncut, cut_behind, cut_error, IsShown, Outputs, Page, cut_below, failed, page_told}
 use Rattle.desk.specs.declared.lines.Failure.TheVariants.{Office}
-use Rattle.desk.specs.Requests.{Errand, Work, making, migrating, running, serving}
+use Rattle.desk.specs.Requests.{Errand, Work, making, migrating, replaying, running, serving}
 use Rattle.desk.proofs.PageLemmas.{broken_ends}
 
 -- ---- a connection at rest
@@ -111,7 +112,7 @@ IsAfterSome s rs n x = (k : ℕ) × (n ≤ k) × (k ≤ n + 1) × (k ≤ length 
 abbrev pub LeavesSome : Cut → OfficeState → List Request → Page → State → Type 0
 LeavesSome cut s rs page st = (n : ℕ) × (n ≤ length rs) × LeavesState st (IsAfterSome s rs n) × (page.status ≡ 0 → cut ≡ uncut → n ≡ length rs) × TellsAnswers s rs n cut page
 
-reply_status : (t : Told) (rest page : Page) → IsReplyAbove t rest page → page.status ≡ rest.status
+pub reply_status : (t : Told) (rest page : Page) → IsReplyAbove t rest page → page.status ≡ rest.status
 reply_status (done reply) rest page is = ap (λ (p : Page). p.status) is
 reply_status (again reply) rest page is = ap (λ (p : Page). p.status) is
 reply_status (no why) rest page is = absurd is
@@ -129,7 +130,7 @@ told_above (again reply) others P later cut rest page is stands told = inl (rest
 told_above (no why) others P later cut rest page is stands told = absurd is
 
 -- no output failed, so none did behind the text
-whole_below : (text : Text) (cut later : Cut) → cut ≡ cut_below text later → cut ≡ uncut → later ≡ uncut
+pub whole_below : (text : Text) (cut later : Cut) → cut ≡ cut_below text later → cut ≡ uncut → later ≡ uncut
 whole_below text cut uncut is whole = refl
 whole_below text cut (cut_behind took) is whole = let bad : cut_behind (text ++ took) ≡ uncut = sym is ∙ whole in absurd (cc bad)
 whole_below text cut cut_error is whole = let bad : cut_error ≡ uncut = sym is ∙ whole in absurd (cc bad)
@@ -160,7 +161,7 @@ last_leaves cut s r rs page closed st ends (inr (fault, is, inr shut)) = (
   inr (fault, is),
 )
 
-sent_leaves : (cut : Cut) (s : OfficeState) (rs : List Request) (page : Page) (closed : Bool) (st : State) → IsSent cut s rs page closed st → LeavesSome cut s rs page st
+pub sent_leaves : (cut : Cut) (s : OfficeState) (rs : List Request) (page : Page) (closed : Bool) (st : State) → IsSent cut s rs page closed st → LeavesSome cut s rs page st
 sent_leaves cut s [] page closed st sent =
     (0, omega arith, (λ trees may. let it = sent.2.at.leaves trees may in (it.0, (0, omega arith, omega arith, omega arith, it.1), it.2)), (λ zero whole. refl), inl (sent.0, sent.1))
 sent_leaves cut s (r ∷ rs) page closed st (inl goes) =
@@ -175,7 +176,7 @@ sent_leaves cut s (r ∷ rs) page closed st (inl goes) =
 sent_leaves cut s (r ∷ rs) page closed st (inr last) = last_leaves cut s r rs page closed st last.0 last.1
 
 -- a status 0 comes of a page that was told whole
-shown_zero : (cut : Cut) (old new : Outputs) (page : Page) (status : ℕ) → IsShown cut old new page status → status ≡ 0 → (cut ≡ uncut) × (page.status ≡ 0)
+pub shown_zero : (cut : Cut) (old new : Outputs) (page : Page) (status : ℕ) → IsShown cut old new page status → status ≡ 0 → (cut ≡ uncut) × (page.status ≡ 0)
 shown_zero uncut old new page status all zero = (refl, sym all.ends ∙ zero)
 shown_zero (cut_behind took) old new page status broken zero = let three : status ≡ 3 = broken_ends broken in absurd (omega arith)
 shown_zero cut_error old new page status broken zero = let three : status ≡ 3 = broken.ends in absurd (omega arith)
@@ -185,20 +186,21 @@ sends_some s errand file [] sends = tt
 sends_some s errand file (r ∷ rs) sends = sends
 
 -- a fault is told where nothing was sent
-fault_other : (s : OfficeState) (work : Work) (file : File) (page : Page) (fault : Fault) → page ≡ failed (Office fault) → IsEndOf work fault → TellsOther s work file page
+pub fault_other : (s : OfficeState) (work : Work) (file : File) (page : Page) (fault : Fault) → page ≡ failed (Office fault) → IsEndOf work fault → TellsOther s work file page
 fault_other s making file page fault is ends = (fault, is)
 fault_other s (serving port connections) file page fault is ends = absurd ends
 fault_other s (running errand) file page fault is ends = inr (fault, is)
+fault_other s (replaying folder) file page fault is ends = inr (inr (fault, is))
 fault_other s migrating file page fault is ends = inr (fault, is)
 
 -- where there was nothing to send, nothing is told
-sent_other : (cut : Cut) (s : OfficeState) (errand : Errand) (file : File) (requests : List Request) (page : Page) (closed : Bool) (st : State) → Sends s errand file requests → IsSent cut s requests page closed st
+pub sent_other : (cut : Cut) (s : OfficeState) (errand : Errand) (file : File) (requests : List Request) (page : Page) (closed : Bool) (st : State) → Sends s errand file requests → IsSent cut s requests page closed st
     → requests ≡ [] → TellsOther s (running errand) file page
 sent_other cut s errand file [] page closed st sends sent none = inl (inl (sends, sent.1))
 sent_other cut s errand file (r ∷ rs) page closed st sends sent none = absurd (cc none)
 
 -- nothing was sent, and a stop leaves the state as it was
-nothing_kept : (earlier : List Request) (work : Work) (file : File) (cut : Cut) (page : Page) (status : ℕ) (st : State) → TellsOther (after empty_office earlier) work file page → LeavesState st (λ x. x ≡ after empty_office earlier)
+pub nothing_kept : (earlier : List Request) (work : Work) (file : File) (cut : Cut) (page : Page) (status : ℕ) (st : State) → TellsOther (after empty_office earlier) work file page → LeavesState st (λ x. x ≡ after empty_office earlier)
     → IsKept earlier work file cut page status st
 nothing_kept earlier work file cut page status st tells leaves = record {
   requests = [];
@@ -210,14 +212,14 @@ nothing_kept earlier work file cut page status st tells leaves = record {
   all = λ zero. refl;
 }
 
-stopped_tells : (s : OfficeState) (page : Page) (closed : Bool) (st : State) → IsStopped s page closed st → TellsFault page
+pub stopped_tells : (s : OfficeState) (page : Page) (closed : Bool) (st : State) → IsStopped s page closed st → TellsFault page
 stopped_tells s page closed st stopped = (stopped.0, stopped.1)
 
-stopped_leaves : (s : OfficeState) (page : Page) (closed : Bool) (st : State) → IsStopped s page closed st → LeavesState st (λ x. x ≡ s)
+pub stopped_leaves : (s : OfficeState) (page : Page) (closed : Bool) (st : State) → IsStopped s page closed st → LeavesState st (λ x. x ≡ s)
 stopped_leaves s page closed st (fault, is, inl kept) = kept.open_at.at.leaves
 stopped_leaves s page closed st (fault, is, inr shut) = shut.leaves
 
-run_kept : (earlier : List Request) (errand : Errand) (file : File) (cut : Cut) (old new : Outputs) (page : Page) (status : ℕ) (closed : Bool) (st : State) → IsShown cut old new page status
+pub run_kept : (earlier : List Request) (errand : Errand) (file : File) (cut : Cut) (old new : Outputs) (page : Page) (status : ℕ) (closed : Bool) (st : State) → IsShown cut old new page status
     → IsRun cut (after empty_office earlier) errand file page closed st → IsKept earlier (running errand) file cut page status st
 run_kept earlier errand file cut old new page status closed st shown (inl sent) =
     let it = sent_leaves cut (after empty_office earlier) sent.0 page closed st sent.2 in
@@ -235,21 +237,3 @@ run_kept earlier errand file cut old new page status closed st shown (inr (inl t
 run_kept earlier errand file cut old new page status closed st shown (inr (inr stopped)) =
     let tells = stopped_tells (after empty_office earlier) page closed st stopped in
     nothing_kept earlier (running errand) file cut page status st (inr tells) (stopped_leaves (after empty_office earlier) page closed st stopped)
-
--- what is kept of an order
-pub kept : (earlier : List Request) (work : Work) (file : File) (cut : Cut) (old new : Outputs) (page : Page) (status : ℕ) (st : State) → IsShown cut old new page status
-    → Performs cut (after empty_office earlier) work file page st → IsKept earlier work file cut page status st
-kept earlier work file cut old new page status st shown (inr unopened) =
-    nothing_kept earlier work file cut page status st (fault_other (after empty_office earlier) work file page unopened.0 unopened.1 unopened.2) unopened.3
-kept earlier making file cut old new page status st shown (inl it) = absurd it
-kept earlier migrating file cut old new page status st shown (inl it) = nothing_kept earlier migrating file cut page status st (inl it.0) it.1
-kept earlier (serving port connections) file cut old new page status st shown (inl it) = nothing_kept earlier (serving port connections) file cut page status st it.0 it.1
-kept earlier (running errand) file cut old new page status st shown (inl it) = run_kept earlier errand file cut old new page status it.0 st shown it.1
-
--- what comes of an order, with what is kept of it
-pub with_kept : (cut : Cut) (work : Work) (file : File) (shown_before shown_after : Outputs) (page : Page) (status : ℕ) (old new : State) → IsShown cut shown_before shown_after page status
-    → IsPerformed cut work file page old new → IsPerformedAndKept cut work file page status old new
-with_kept cut work file shown_before shown_after page status old new shown did = record {
-  performed = did;
-  headline = λ db rests earlier left. kept earlier work file cut shown_before shown_after page status new shown (did.in_office db rests (after empty_office earlier) left);
-}

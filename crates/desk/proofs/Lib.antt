@@ -4,6 +4,12 @@ pub mod OrdersNamed
 pub mod PageLemmas
 pub mod SentLemmas
 pub mod KeptLemmas
+pub mod ScriptLemmas
+pub mod ScriptEnds
+pub mod ReplayLemmas
+pub mod ReplayKept
+pub mod PerformedLemmas
 pub mod ServedLemmas
 pub mod WordsRefused
 pub mod FaultsRead
+mod OverviewLemmas

@@ -1,14 +1,16 @@
 -- Words that the office's command takes name one of its orders.
 use Rattle.std.proofs.Common.{◌≡◌, ◌∙◌, Bool, List, Option, Some, None, [], ◌∷◌, true, false, refl, sym, ap}
 use Rattle.std.specs.Prelude.{Box, find, is_some, option_map}
+use Rattle.std.specs.Box.{box_value}
 use Rattle.std.specs.List.{list_all}
-use Rattle.clap.specs.Words.{App, HasMatchesOf, IsParsedFrom, Shape, Text, app_of, has_subcommand, is_simple, built, subcommand_of, subcommand_rows, subcommand_rows_of}
+use Rattle.clap.specs.Words.{App, HasMatchesOf, IsParsedFrom, Row, Shape, Text, app_of, found_of, rows_of, has_subcommand, is_simple, built, subcommand_of, subcommand_rows, subcommand_rows_of}
+use Rattle.clap.specs.Matches.{subcommand_name_of}
 use Rattle.clap.specs.Simple.{argument_words, entered, label_of, names_of, rows_at}
 use Rattle.clap.specs.Walk.{answers_to, stop_after}
 use Rattle.clap.specs.declared.builder.command.Command.{Command}
 use Rattle.clap.specs.declared.builder.command.Command.TheViews.{out-Command}
 use Rattle.clap.specs.declared.parser.matches.ArgMatches.{ArgMatches}
-use Rattle.clap.specs.declared.parser.matches.ArgMatches.TheViews.{out-ArgMatches}
+use Rattle.clap.specs.declared.parser.matches.ArgMatches.TheViews.{out-ArgMatches, out-SubCommand}
 use Rattle.clap.specs.declared.parser.matches.SubCommand.{SubCommand}
 use Rattle.clap.proofs.OnLiterals.{clap_on_literals}
 use Rattle.clap.proofs.CallerLemmas.{subcommand_required}
@@ -68,3 +70,12 @@ matches_name_an_order c m words app local has parsed =
     let needs : (out-Command c).subcommand_required ≡ true = ap (λ (a : App). a.top.subcommand_required) app ∙ an_order_is_required in
     let there = rows_are_there m (subcommand_required c m parsed local needs) in
     ap names_order same ∙ entered_is_order (stop_after (built office_words).top.rules (names_of (built office_words)) (argument_words office_words words)) (ap is_some (sym same) ∙ there)
+
+both_given : {B : Type 0} (f : B → Text) (h : B → List Row) (o : Option B) (name : Text) (rows : List Row) → Some name ≡ option_map f o → Some rows ≡ option_map (λ (p : Text × List Row). p.1) (option_map {U = Text × List Row} (λ b. (f b, h b)) o)
+    → option_map {U = Text × List Row} (λ b. (f b, h b)) o ≡ Some (name, rows)
+both_given f h None name rows a b = absurd (cc a)
+both_given f h (Some x) name rows a b = cc
+
+-- the name and the rows of the matches' subcommand
+pub rows_given : (name : Text) (rows : List Row) (m : ArgMatches) → Some name ≡ subcommand_name_of m → Some rows ≡ option_map (λ (p : Text × List Row). p.1) (subcommand_rows_of m) → subcommand_rows_of m ≡ Some (name, rows)
+rows_given name rows m a b = both_given (λ x. (out-SubCommand (box_value x)).name.now) (λ x. rows_of (found_of (out-SubCommand (box_value x)).matches)) (out-ArgMatches m).subcommand name rows a b

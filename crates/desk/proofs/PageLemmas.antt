@@ -1,6 +1,6 @@
 -- Texts that are put one behind the other, and what was told of a page.
 use Rattle.std.specs.Prelude.{IsErr}
-use Rattle.std.proofs.Common.{◌≡◌, ◌∙◌, ◌+◌, ◌<◌, inl, inr, ℕ, List, [], ◌∷◌, ◌++◌, length, take, drop, get_or, Option, Result, Ok, Err, refl, sym, ap, subst}
+use Rattle.std.proofs.Common.{◌≡◌, ◌∙◌, ◌+◌, ◌<◌, inl, inr, ℕ, List, [], ◌∷◌, ◌++◌, length, take, drop, get_or, Option, Some, None, Result, Ok, Err, refl, sym, ap, subst}
 use Rattle.std.specs.List.{flat_map}
 use Rattle.std.proofs.KnownBytes.{Appends-nil, Appends-trans}
 use Rattle.std.proofs.lemmas.Grind.{flat_map-append}
@@ -8,7 +8,7 @@ use Rattle.std.proofs.lemmas.List.{append-nil, append_assoc, take_more, take-app
 use Rattle.clap.specs.Words.{Text}
 use Rattle.votes.proofs.Beginnings.{AppendsBeginning-front, AppendsBeginning-behind}
 use Rattle.desk.specs.declared.lines.Failure.TheVariants.{Output}
-use Rattle.desk.specs.Pages.{Cut, uncut, cut_behind, cut_error, IsErrorTold, IsOutputBroken, IsPut, IsShown, IsWhole, Outputs, Page, Shows, below, cut_below, failed, outputs_of, printed}
+use Rattle.desk.specs.Pages.{Cut, uncut, cut_behind, cut_error, IsErrorTold, IsOutputBroken, IsPut, IsShown, IsWhole, Outputs, Page, Shows, behind_front, below, cut_below, failed, fronted, line_front, outputs_of, printed}
 
 -- the pieces of one more
 pieces_more : {X : Type 0} (f : X → Text) (xs : List X) (i : ℕ) (d : X) → i < length xs → flat_map f (take (i + 1) xs) ≡ flat_map f (take i xs) ++ f (get_or xs i d)
@@ -99,3 +99,46 @@ shown_below cut_error old mid new text page status first next = record {
   err_failed = next.err_failed ∙ ap (λ n. n + 1) first.err_failed;
   ends = next.ends;
 }
+
+-- ---- pages of a script's lines
+
+pub fronted_status : (line : Option ℕ) (page : Page) → (fronted line page).status ≡ page.status
+fronted_status None page = refl
+fronted_status (Some number) page = refl
+
+pub fronted_out : (line : Option ℕ) (page : Page) → (fronted line page).out ≡ page.out
+fronted_out None page = refl
+fronted_out (Some number) page = refl
+
+-- where nothing goes to the error output, nothing does
+pub fronted_quiet : (line : Option ℕ) (page : Page) → page.err ≡ [] → (fronted line page).err ≡ []
+fronted_quiet None page none = none
+fronted_quiet (Some number) page none = ap (behind_front (line_front (Some number))) none
+
+-- and else it stands behind the number
+pub fronted_err : (line : Option ℕ) (page : Page) (byte : ℕ) (bytes : Text) → page.err ≡ byte ∷ bytes → (fronted line page).err ≡ line_front line ++ page.err
+fronted_err None page byte bytes is = refl
+fronted_err (Some number) page byte bytes is = ap (behind_front (line_front (Some number))) is ∙ ap (λ text. line_front (Some number) ++ text) (sym is)
+
+-- a text on the output is told without it
+pub printed_shown : (line : Option ℕ) (old new : Outputs) (text : Text) (status : ℕ) → Shows old new (printed text) status → Shows old new (fronted line (printed text)) status
+printed_shown None old new text status shown = shown
+printed_shown (Some number) old new text status shown = shown
+
+below_fronted : (line : Option ℕ) (text : Text) (page : Page) → below text (fronted line page) ≡ fronted line (below text page)
+below_fronted None text page = refl
+below_fronted (Some number) text page = refl
+
+pub shown_below_front : (line : Option ℕ) (cut : Cut) (old mid new : Outputs) (text : Text) (page : Page) (status : ℕ) → IsWhole old mid (printed text) 0 → IsShown cut mid new (fronted line page) status
+    → IsShown (cut_below text cut) old new (fronted line (below text page)) status
+shown_below_front line cut old mid new text page status first next =
+    subst (λ p. IsShown (cut_below text cut) old new p status) (below_fronted line text page) (shown_below cut old mid new text (fronted line page) status first next)
+
+module _ {O E : Type 0} (taken : O → Option (List ℕ)) (failed_out : O → ℕ) (taken_err : E → Option (List ℕ)) (failed_err : E → ℕ) where
+  -- a line on the error output, behind the number
+  pub front_shown : (line : Option ℕ) (out : O) (old new : E) (page : Page) (status : ℕ) (byte : ℕ) (bytes : Text) → page.out ≡ [] → page.err ≡ byte ∷ bytes
+      → IsErrorTold taken_err failed_err old new (line_front line ++ page.err) page.status status
+      → Shows (outputs_of taken failed_out taken_err failed_err out old) (outputs_of taken failed_out taken_err failed_err out new) (fronted line page) status
+  front_shown line out old new page status byte bytes none some told =
+      error_shown taken failed_out taken_err failed_err out old new (fronted line page) status (fronted_out line page ∙ none)
+      (rw (fronted_err line page byte bytes some, fronted_status line page) told)

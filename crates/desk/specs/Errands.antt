@@ -1,5 +1,5 @@
 -- What comes of an order at a state of the office.
-use Rattle.std.specs.Prelude.{◌≡◌, ◌≢◌, zero, suc, ◌⊎◌, ⊤, ℕ, Bool, true, false, List, [], ◌∷◌, codes, length, map, Option, Some, None, Result, Ok, Err}
+use Rattle.std.specs.Prelude.{◌≡◌, ◌≢◌, zero, suc, ◌⊎◌, ◌+◌, ⊤, ℕ, Bool, true, false, List, [], ◌∷◌, ◌++◌, IfSome, codes, length, map, Option, Some, None, Result, Ok, Err}
 use Rattle.clap.specs.Words.{Text}
 use Rattle.sqlite.specs.Tree.{Trees}
 use Rattle.sqlite.specs.State.{State, HasCleanDisk}
@@ -29,15 +29,18 @@ use Rattle.keyfile.specs.Reading.{Known}
 use Rattle.keyfile.specs.Records.{file_records}
 use Rattle.keyfile.specs.declared.fault.FileFault.{FileFault}
 use Rattle.keyfile.specs.declared.fault.Flaw.TheVariants.{ReadFailed}
-use Rattle.desk.specs.Pages.{Cut, Page, uncut, below, cut_below, empty_page, failed, migrated_text, page_found, page_told, printed, refused, replied, unread}
-use Rattle.desk.specs.Requests.{Errand, Sent, Work, importing_candidates, importing_keying, keyings_for, making, migrating, printing, requests_for, running, sending, sent_as, serving, telling_status}
+use Rattle.desk.specs.Folders.{File, Folder}
+use Rattle.desk.specs.Overviews.{page_asked}
+use Rattle.desk.specs.Pages.{Cut, Page, uncut, below, cut_below, empty_page, failed, fronted, migrated_text, page_found, page_told, printed, refused, replied, script_page, unread}
+use Rattle.desk.specs.Requests.{Errand, Sent, Work, asking, errand_of, file_of_errand, importing_candidates, importing_keying, keyings_for, making, migrating, printing, replaying, requests_for, running, sending, sent_as, serving, telling_status}
+use Rattle.desk.specs.Scripts.{AreTurns, IsFirstFlaw, script_lines}
+use Rattle.desk.specs.declared.scripts.LineFlaw.{LineFlaw}
+use Rattle.desk.specs.declared.scripts.ScriptFault.TheVariants as script
+use Rattle.desk.specs.declared.scripts.Turn.{Turn}
 use Rattle.desk.specs.Standings.{status_text}
 use Rattle.desk.specs.declared.orders.KeyingFile.{KeyingFile}
+use Rattle.desk.specs.declared.orders.Question.{Question}
 use Rattle.desk.specs.declared.lines.Failure.TheVariants.{Office, Output}
-
--- the file of an order: none where it can't be opened, and of one that is, its bytes, as far as they are told
-abbrev pub File : Type 0
-File = Option (Option (List ℕ))
 
 -- P of the state that an open office kept, where the disk is as `sqlite` states it
 abbrev pub WhereOpen : Bool → State → State → (OfficeState → Type 0) → Type 0
@@ -62,6 +65,7 @@ Sends s (importing_candidates id) file requests = HoldsRequests candidates (requ
 Sends s (importing_keying k) file requests = HoldsKeying (columns_told s k.batch) (keyings_for k) file requests
 Sends s (telling_status ward) file requests = ⊥
 Sends s (printing ward text) file requests = ⊥
+Sends s (asking question) file requests = ⊥
 
 -- ---- what comes of the requests
 
@@ -105,6 +109,7 @@ IsTold s (importing_candidates id) file page = IsRefusedFile candidates file pag
 IsTold s (importing_keying k) file page = IsRefusedKeying (columns_told s k.batch) file page
 IsTold s (telling_status ward) file page = page ≡ page_found (λ status. replied (status_text status)) (status_told s ward)
 IsTold s (printing ward text) file page = page ≡ page_found printed (text_told text s ward)
+IsTold s (asking question) file page = page ≡ page_asked s question
 
 -- a fault before anything was sent: nothing is changed
 abbrev pub IsStopped : OfficeState → Page → Bool → State → Type 0
@@ -113,6 +118,10 @@ IsStopped s page closed st = (fault : Fault) × (page ≡ failed (Office fault))
 -- what is found of a state is told, or why there is nothing; or a fault
 abbrev pub IsFound : {X : Type 0} → OfficeState → (X → Page) → Result X Reason → Page → Bool → State → Type 0
 IsFound s shown found page closed st = ((page ≡ page_found shown found) × IsOpenAt s closed st) ⊎ IsStopped s page closed st
+
+-- what is told of how all stands, or why that isn't; or a fault
+abbrev pub IsAskedOf : OfficeState → Question → Page → Bool → State → Type 0
+IsAskedOf s question page closed st = ((page ≡ page_asked s question) × IsOpenAt s closed st) ⊎ IsStopped s page closed st
 
 -- why a file that was read isn't taken, or want of memory
 abbrev pub IsUnread : {Row : Type 0} → Format Row → File → Page → Type 0
@@ -129,6 +138,65 @@ IsRun cut s errand file page closed st =
     ((requests : List Request) × Sends s errand file requests × IsSent cut s requests page closed st)
     ⊎ ((IsTold s errand file page × IsOpenAt s closed st) ⊎ IsStopped s page closed st)
 
+-- ---- what comes of a script
+
+-- the file holds a text of a kind
+abbrev pub HoldsText : File → (Text → Type 0) → Type 0
+HoldsText None P = ⊥
+HoldsText (Some told) P = Known told P
+
+-- it holds a script of these turns
+abbrev pub HoldsScript : File → List Turn → Type 0
+HoldsScript file turns = HoldsText file (λ text. AreTurns (script_lines text) turns)
+
+-- why the file isn't taken for a script: it can't be opened or read, or this is wrong with the first line that isn't understood
+abbrev pub IsRefusedScript : File → Page → Type 0
+IsRefusedScript None page = page ≡ unread (record { flaw = ReadFailed; record_number = 0 })
+IsRefusedScript (Some told) page =
+    (page ≡ unread (record { flaw = ReadFailed; record_number = 0 }))
+    ⊎ ((number : ℕ) × (flaw : LineFlaw) × (page ≡ script_page (script.Line number flaw)) × Known told (λ text. IsFirstFlaw (script_lines text) number flaw))
+
+-- why its text isn't had
+abbrev pub IsUnreadScript : Page → Type 0
+IsUnreadScript page = (page ≡ unread (record { flaw = ReadFailed; record_number = 0 })) ⊎ (page ≡ failed (Office Memory))
+
+-- the file at a path, if one is named: what the folder has there, as far as that is known
+abbrev pub IsFileAt : Folder → Option Text → File → Type 0
+IsFileAt folder None file = file ≡ None
+IsFileAt folder (Some path) file = IfSome (folder path) (λ found. file ≡ found)
+
+-- the requests that a turn sends at a state
+pub record TurnSends (folder : Folder) (s : OfficeState) (turn : Turn) (requests : List Request) : Type 0 where
+  pub file : File
+  pub found : IsFileAt folder (file_of_errand turn.errand) file
+  pub sends : Sends s (errand_of turn.errand) file requests
+
+-- what comes of a turn at a state
+pub record TurnRuns (folder : Folder) (cut : Cut) (s : OfficeState) (turn : Turn) (page : Page) (closed : Bool) (st : State) : Type 0 where
+  pub file : File
+  pub found : IsFileAt folder (file_of_errand turn.errand) file
+  pub runs : IsRun cut s (errand_of turn.errand) file page closed st
+
+-- requests that all got replies, and these in lines
+abbrev pub Replies : OfficeState → List Request → Text → Type 0
+Replies s [] said = said ≡ []
+Replies s (r ∷ rs) said = (rest : Text) × IsReplyAbove (told_of (step_of s r)) (printed rest) (printed said) × Replies (after_one s r) rs rest
+
+-- Turns taken one after the other: once all requests of one got replies, which were told whole, the next turn is taken, at the state after
+-- them. The first other end is told behind the number of its line, and ends the script; and so does an output that fails.
+abbrev pub IsReplayed : Folder → Cut → OfficeState → List Turn → Page → Bool → State → Type 0
+IsReplayed folder cut s [] page closed st = (cut ≡ uncut) × (page ≡ empty_page) × IsOpenAt s closed st
+IsReplayed folder cut s (turn ∷ turns) page closed st =
+    ((requests : List Request) × (said : Text) × (rest : Page) × (later : Cut) × TurnSends folder s turn requests × Replies s requests said × (page ≡ below said rest) × (cut ≡ cut_below said later)
+    × IsReplayed folder later (after s requests) turns rest closed st)
+    ⊎ ((own : Page) × (page ≡ fronted (Some turn.line) own) × (own.status ≡ 0 → cut ≢ uncut) × TurnRuns folder cut s turn own closed st)
+
+-- What comes of a script in an open office: its turns are taken; or what is wrong with it is told, and nothing is sent; or a fault.
+abbrev pub IsReplay : Folder → Cut → OfficeState → File → Page → Bool → State → Type 0
+IsReplay folder cut s file page closed st =
+    ((turns : List Turn) × HoldsScript file turns × IsReplayed folder cut s turns page closed st)
+    ⊎ ((IsRefusedScript file page × IsOpenAt s closed st) ⊎ IsStopped s page closed st)
+
 -- ---- what comes of an order over a connection to an office at a state
 
 -- want of memory, or a failing store
@@ -140,6 +208,7 @@ abbrev pub IsEndOf : Work → Fault → Type 0
 IsEndOf making fault = IsPlain fault ⊎ (fault ≡ WrongDatabase)
 IsEndOf (serving port connections) fault = ⊥
 IsEndOf (running errand) fault = IsPlain fault
+IsEndOf (replaying folder) fault = IsPlain fault
 IsEndOf migrating fault = IsPlain fault
 
 -- a fault before an office was open: a stop leaves the state as it was
@@ -152,6 +221,7 @@ IsDone cut s making file page st = ⊥
 IsDone cut s migrating file page st = (page ≡ replied (migrated_text Already)) × LeavesState st (λ x. x ≡ s)
 IsDone cut s (serving port connections) file page st = (page ≡ failed Output) × LeavesState st (λ x. x ≡ s)
 IsDone cut s (running errand) file page st = (closed : Bool) × IsRun cut s errand file page closed st
+IsDone cut s (replaying folder) file page st = (closed : Bool) × IsReplay folder cut s file page closed st
 
 -- that, or a fault before
 abbrev pub Performs : Cut → OfficeState → Work → File → Page → State → Type 0
@@ -196,6 +266,12 @@ pub record IsForeign (db : Database) (page : Page) (old new : State) : Type 0 wh
 abbrev pub IsUnserved : Page → State → State → Type 0
 IsUnserved page old new = (page ≡ failed Output) × OnlyReads old new
 
+-- what is done in an office that is there
+abbrev pub NeedsOffice : Work → Type 0
+NeedsOffice (running errand) = ⊤
+NeedsOffice (replaying folder) = ⊤
+NeedsOffice other = ⊥
+
 -- what comes of what is to be done, by what the connection rests at: an office at a state, a database with nothing in it, an office that an
 -- earlier program made, one of neither, one with a table of our names, one of no office, or anything
 pub record IsPerformed (cut : Cut) (work : Work) (file : File) (page : Page) (old new : State) : Type 0 where
@@ -204,18 +280,25 @@ pub record IsPerformed (cut : Cut) (work : Work) (file : File) (page : Page) (ol
   pub in_older : work ≡ migrating → (form : OlderForm) (s : OfficeState) → RestsOlder form s old → IsMigrated form s page old new
   pub beyond : work ≡ migrating → (db : Database) → IsOurs db.schema → IsOlderSchema db.schema → RestsAt db old → HoldsNoState db → HoldsNoOlder db → IsUnmigrated db page old new
   pub taken : work ≡ making → (db : Database) → RestsAt db old → has_some_table db.schema ≡ true → IsTaken page old new
-  pub elsewhere : (errand : Errand) → work ≡ running errand → (db : Database) → IsOurs db.schema → RestsAt db old → HoldsNoState db → IsForeign db page old new
+  pub elsewhere : NeedsOffice work → (db : Database) → IsOurs db.schema → RestsAt db old → HoldsNoState db → IsForeign db page old new
   pub anywhere : (port connections : ℕ) → work ≡ serving port connections → IsUnserved page old new
 
 -- ---- what is kept of an order
 
--- the requests of what is to be done, none where nothing was sent
+-- the requests of a beginning of some turns, one behind the other, each turn's at the state where it comes
+abbrev pub SendsTurns : Folder → OfficeState → List Turn → List Request → Type 0
+SendsTurns folder s [] requests = requests ≡ []
+SendsTurns folder s (turn ∷ turns) requests =
+    (requests ≡ []) ⊎ ((own : List Request) × (others : List Request) × (requests ≡ own ++ others) × TurnSends folder s turn own × SendsTurns folder (after s own) turns others)
+
+-- the requests of what is to be done, none where nothing was sent; of a script, those of its turns up to the last that was taken
 abbrev pub SendsSome : OfficeState → Work → File → List Request → Type 0
 SendsSome s work file [] = ⊤
 SendsSome s making file (r ∷ rs) = ⊥
 SendsSome s migrating file (r ∷ rs) = ⊥
 SendsSome s (serving port connections) file (r ∷ rs) = ⊥
 SendsSome s (running errand) file (r ∷ rs) = Sends s errand file (r ∷ rs)
+SendsSome s (replaying folder) file (r ∷ rs) = (turns : List Turn) × HoldsScript file turns × SendsTurns folder s turns (r ∷ rs)
 
 -- a reply was told whole, and something was told of the requests behind it; or an output failed, and nothing more was sent
 abbrev pub IsReplyTold : Text → ℕ → (Cut → Page → Type 0) → Cut → Page → Type 0
@@ -239,12 +322,45 @@ TellsAnswers s requests zero cut page = ((cut ≡ uncut) × (page ≡ empty_page
 TellsAnswers s [] (suc others) cut page = ⊥
 TellsAnswers s (r ∷ rs) (suc others) cut page = IsAnswerAbove (told_of (step_of s r)) others (TellsAnswers (after_one s r) rs others) cut page
 
+-- where an errand sent nothing, the page tells that there was nothing to send, what was asked or why nothing was sent, or a fault
+abbrev pub TellsNone : OfficeState → Errand → File → Page → Type 0
+TellsNone s errand file page = ((Sends s errand file [] × (page ≡ empty_page)) ⊎ IsTold s errand file page) ⊎ TellsFault page
+
+-- the page of a turn that ended a script: of its requests so many were answered, as the page tells; where none was sent, it tells something
+-- else
+pub record TurnEnds (folder : Folder) (s : OfficeState) (turn : Turn) (requests : List Request) (answered : ℕ) (cut : Cut) (page : Page) : Type 0 where
+  pub file : File
+  pub found : IsFileAt folder (file_of_errand turn.errand) file
+  pub sends : requests ≢ [] → Sends s (errand_of turn.errand) file requests
+  pub told : requests ≢ [] → TellsAnswers s requests answered cut page
+  pub other : requests ≡ [] → TellsNone s (errand_of turn.errand) file page
+  pub ends : page.status ≡ 0 → cut ≢ uncut
+
+-- The page tells the answers to the first so many requests of some turns. These are those of the turns up to the last that was taken: all
+-- turns; or those up to one that ended the script, which is told behind the number of its line.
+abbrev pub TellsTurns : Folder → OfficeState → List Turn → List Request → ℕ → Cut → Page → Type 0
+TellsTurns folder s [] requests answered cut page = (requests ≡ []) × (answered ≡ 0) × (cut ≡ uncut) × (page ≡ empty_page)
+TellsTurns folder s (turn ∷ turns) requests answered cut page =
+    ((own : List Request) × (others : List Request) × (said : Text) × (rest : Page) × (later : Cut) × (left : ℕ) × (requests ≡ own ++ others) × (answered ≡ length own + left) × TurnSends folder s turn own × Replies s own said
+    × (page ≡ below said rest) × (cut ≡ cut_below said later) × TellsTurns folder (after s own) turns others left later rest)
+    ⊎ ((own : Page) × (page ≡ fronted (Some turn.line) own) × TurnEnds folder s turn requests answered cut own)
+
+-- the same of the turns of a script
+abbrev pub TellsScript : Folder → OfficeState → File → List Request → ℕ → Cut → Page → Type 0
+TellsScript folder s file requests answered cut page = (turns : List Turn) × HoldsScript file turns × TellsTurns folder s turns requests answered cut page
+
+-- where something was sent, the page tells the answers to the first so many requests
+abbrev pub TellsSome : OfficeState → Work → File → List Request → ℕ → Cut → Page → Type 0
+TellsSome s (replaying folder) file requests answered cut page = TellsScript folder s file requests answered cut page
+TellsSome s other file requests answered cut page = TellsAnswers s requests answered cut page
+
 -- where nothing was sent, the page tells that there was nothing to send, what was asked or why nothing was sent, or a fault
 abbrev pub TellsOther : OfficeState → Work → File → Page → Type 0
 TellsOther s making file page = TellsFault page
 TellsOther s migrating file page = (page ≡ replied (migrated_text Already)) ⊎ TellsFault page
 TellsOther s (serving port connections) file page = page ≡ failed Output
-TellsOther s (running errand) file page = ((Sends s errand file [] × (page ≡ empty_page)) ⊎ IsTold s errand file page) ⊎ TellsFault page
+TellsOther s (running errand) file page = TellsNone s errand file page
+TellsOther s (replaying folder) file page = ((cut : Cut) × TellsScript folder s file [] 0 cut page) ⊎ (IsRefusedScript file page ⊎ TellsFault page)
 
 -- Of the requests of an order so many were answered, as the page tells; where none was sent, it tells something else. Whatever a stop leaves
 -- is the state after the accepted requests of a beginning, which contains every earlier one, every answered one, and at most one more; with
@@ -253,7 +369,7 @@ pub record IsKept (earlier : List Request) (work : Work) (file : File) (cut : Cu
   pub requests : List Request
   pub sends : SendsSome (after empty_office earlier) work file requests
   pub answered : ℕ
-  pub told : requests ≢ [] → TellsAnswers (after empty_office earlier) requests answered cut page
+  pub told : requests ≢ [] → TellsSome (after empty_office earlier) work file requests answered cut page
   pub other : requests ≡ [] → TellsOther (after empty_office earlier) work file page
   pub leaves : LeavesState st (IsAfterBeginning earlier requests answered)
   pub all : ends ≡ 0 → answered ≡ length requests

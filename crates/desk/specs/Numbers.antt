@@ -1,5 +1,5 @@
 -- The numbers in words.
-use Rattle.std.specs.Prelude.{ℕ, Bool, false, if◌then◌else◌}
+use Rattle.std.specs.Prelude.{ℕ, Bool, false, if◌then◌else◌, Option, Some, None}
 use Rattle.std.specs.Str.Parse.{digits_value, without_leading_plus}
 use Rattle.clap.specs.ValueTests.{accepts}
 use Rattle.clap.specs.Words.{Text}
@@ -12,3 +12,8 @@ is_number t = accepts false (parser.Unsigned 0 4294967295) t
 -- the number that a text is, and 0 where it is none
 abbrev pub number_of : Text → ℕ
 number_of t = if is_number t then digits_value 10 (without_leading_plus t) else 0
+
+-- the number that a text is, if there is one and it is a number
+abbrev pub number_if : Option Text → Option ℕ
+number_if None = None
+number_if (Some t) = if is_number t then Some (digits_value 10 (without_leading_plus t)) else None

@@ -9,6 +9,7 @@ use Rattle.desk.specs.declared.table.Kind.TheVariants as kind
 use Rattle.desk.specs.declared.table.Word.{Word}
 use Rattle.desk.specs.declared.table.Entry.{Entry}
 use Rattle.desk.specs.declared.orders.Errand.TheVariants as errand
+use Rattle.desk.specs.declared.orders.Question.TheVariants as question
 use Rattle.desk.specs.declared.orders.Order.{Order}
 use Rattle.desk.specs.declared.orders.Order.TheVariants as order
 
@@ -33,6 +34,10 @@ entry_of e = record { name = e.name.now; words = map word_of e.words.now }
 -- a word that is a number of 0 to 4294967295
 abbrev pub number : Text → WordEntry
 number name = record { name = name; kind = kind.Number }
+
+-- the same, which may be left out
+abbrev pub number_or_none : Text → WordEntry
+number_or_none name = record { name = name; kind = kind.NumberOrNone }
 
 -- a word that is a port, and one that is a number of connections
 abbrev pub port : Text → WordEntry
@@ -80,11 +85,18 @@ orders =
     ∷ takes (codes "result") (number (codes "WARD") ∷ [])
     ∷ takes (codes "serve") (port (codes "PORT") ∷ connections (codes "CONNECTIONS") ∷ [])
     ∷ takes (codes "migrate") []
+    ∷ takes (codes "wards") []
+    ∷ takes (codes "batches") (number (codes "WARD") ∷ [])
+    ∷ takes (codes "doubtful") (number (codes "WARD") ∷ [])
+    ∷ takes (codes "differences") (number (codes "BATCH") ∷ [])
+    ∷ takes (codes "receipts") (number_or_none (codes "ACTOR") ∷ [])
+    ∷ takes (codes "replay") (text (codes "FILE") ∷ [])
     ∷ []
 
--- a value of an order; a verdict is none where its word says none
+-- a value of an order; a number that may be left out is none then, and a verdict is none where its word says none
 pub data Value : Type 0 where
   numbered : ℕ → Value
+  numbered_or_none : Option ℕ → Value
   worded : Text → Value
   judged : Option Judgement → Value
 
@@ -124,4 +136,10 @@ told (order.Run (errand.ImportKeying k)) = (codes "import-keying", numbered k.cl
 told (order.Run (errand.TellStatus ward)) = (codes "status", numbered ward ∷ [])
 told (order.Run (errand.Print ward ward_text.Sheet)) = (codes "sheet", numbered ward ∷ [])
 told (order.Run (errand.Print ward ward_text.Declaration)) = (codes "result", numbered ward ∷ [])
+told (order.Run (errand.Ask question.Wards)) = (codes "wards", [])
+told (order.Run (errand.Ask (question.Batches ward))) = (codes "batches", numbered ward ∷ [])
+told (order.Run (errand.Ask (question.Doubtful ward))) = (codes "doubtful", numbered ward ∷ [])
+told (order.Run (errand.Ask (question.Differences batch))) = (codes "differences", numbered batch ∷ [])
+told (order.Run (errand.Ask (question.Receipts actor))) = (codes "receipts", numbered_or_none actor ∷ [])
+told (order.Replay file) = (codes "replay", worded file.now ∷ [])
 told (order.Serve port connections) = (codes "serve", numbered port ∷ numbered connections ∷ [])

@@ -1,5 +1,5 @@
 -- What the program prints, and how it ends.
-use Rattle.std.specs.Prelude.{◌≡◌, ◌⊎◌, ◌+◌, ◌++◌, ◌==◌, ℕ, List, [], ◌∷◌, Option, Result, Ok, Err, codes, string_bytes, if◌then◌else◌, OnOk, OnErr}
+use Rattle.std.specs.Prelude.{◌≡◌, ◌⊎◌, ◌+◌, ◌++◌, ◌==◌, ℕ, List, [], ◌∷◌, Option, Some, None, Result, Ok, Err, codes, string_bytes, if◌then◌else◌, OnOk, OnErr}
 use Rattle.std.specs.Fmt.{decimal}
 use Rattle.std.specs.Io.KnownBytes.{Appends}
 use Rattle.std.specs.List.{flat_map}
@@ -12,8 +12,13 @@ use Rattle.tables.specs.declared.fault.Fault.TheVariants as fault
 use Rattle.keyfile.specs.Faults.{flaw_number, flaw_text, is_stop}
 use Rattle.keyfile.specs.declared.fault.FileFault.{FileFault}
 use Rattle.office.specs.Answers.{Told, again, done, no}
+use Rattle.office.specs.declared.answers.Stop.{Stop}
+use Rattle.office.specs.declared.answers.Stop.TheVariants.{Refused, Fault}
 use Rattle.store.specs.declared.migration.Migrated.{Migrated}
 use Rattle.store.specs.declared.migration.Migrated.TheVariants.{Done, Already}
+use Rattle.desk.specs.Scripts.{line_flaw_text}
+use Rattle.desk.specs.declared.scripts.ScriptFault.{ScriptFault}
+use Rattle.desk.specs.declared.scripts.ScriptFault.TheVariants as script
 use Rattle.desk.specs.declared.lines.Failure.{Failure}
 use Rattle.desk.specs.declared.lines.Failure.TheVariants.{Office, Output}
 use Rattle.desk.specs.declared.words.WordsFault.{WordsFault}
@@ -96,6 +101,11 @@ abbrev pub page_found : {X : Type 0} → (X → Page) → Result X Reason → Pa
 page_found page (Ok x) = page x
 page_found page (Err why) = refused why
 
+-- why nothing is found: a refusal, or a fault
+abbrev pub page_stopped : Stop → Page
+page_stopped (Refused why) = refused why
+page_stopped (Fault fault) = failed (Office fault)
+
 -- what a migration came to
 abbrev pub migrated_text : Migrated → Text
 migrated_text Done = codes "office migrated"
@@ -116,6 +126,28 @@ abbrev pub words_page : WordsFault → Page
 words_page words.Memory = failed (Office fault.Memory)
 words_page words.Verdict = record { out = []; err = codes "bad verdict word\n"; status = 2 }
 words_page (words.Words text status) = if status == 0 then printed (string_bytes text) else record { out = []; err = string_bytes text; status = status }
+
+-- ---- pages of a script's lines
+
+-- the front of what is told of a script's line, by its number
+abbrev pub line_front : Option ℕ → Text
+line_front None = []
+line_front (Some number) = joined (codes "line " ∷ decimal number ∷ codes ": " ∷ [])
+
+-- a text behind a front, where there is any
+abbrev pub behind_front : Text → Text → Text
+behind_front front [] = []
+behind_front front (byte ∷ bytes) = front ++ (byte ∷ bytes)
+
+-- a page, where it is that of a script's line: its number stands before what goes to the error output
+abbrev pub fronted : Option ℕ → Page → Page
+fronted None page = page
+fronted (Some number) page = record { out = page.out; err = behind_front (line_front (Some number)) page.err; status = page.status }
+
+-- why a text is no script
+abbrev pub script_page : ScriptFault → Page
+script_page script.Memory = failed (Office fault.Memory)
+script_page (script.Line number flaw) = record { out = []; err = line_front (Some number) ++ line_flaw_text flaw; status = 2 }
 
 -- a page with a text above it on the output
 abbrev pub below : Text → Page → Page
@@ -194,9 +226,16 @@ cut_below text uncut = uncut
 cut_below text (cut_behind took) = cut_behind (text ++ took)
 cut_below text cut_error = cut_error
 
--- what was told is some page of a kind
-pub record Tells (old new : Outputs) (status : ℕ) (P : Cut → Page → Type 0) : Type 0 where
+-- what was told is some page of a kind, that of a script's line or not
+pub record TellsOf (line : Option ℕ) (old new : Outputs) (status : ℕ) (P : Cut → Page → Type 0) : Type 0 where
   pub page : Page
   pub cut : Cut
-  pub shown : IsShown cut old new page status
+  pub shown : IsShown cut old new (fronted line page) status
   pub is : P cut page
+
+abbrev pub Tells : Outputs → Outputs → ℕ → (Cut → Page → Type 0) → Type 0
+Tells old new status P = TellsOf None old new status P
+
+-- a page with status 0 has nothing for the error output
+abbrev pub IsQuiet : Page → Type 0
+IsQuiet page = page.status ≡ 0 → page.err ≡ []

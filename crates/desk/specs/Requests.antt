@@ -14,8 +14,10 @@ use Rattle.register.specs.declared.verdicts.Verdict.TheVariants as verdict
 use Rattle.office.specs.declared.sheets.Text.{Text as WardText}
 use Rattle.keyfile.specs.Candidates.{CandidateEntry}
 use Rattle.keyfile.specs.declared.fault.FileFault.{FileFault}
+use Rattle.desk.specs.Folders.{Folder}
 use Rattle.desk.specs.Verdicts.{Judgement, accepted, rejected}
 use Rattle.desk.specs.declared.orders.KeyingFile.{KeyingFile}
+use Rattle.desk.specs.declared.orders.Question.{Question}
 use Rattle.desk.specs.declared.orders.Errand.{Errand as OrderErrand}
 use Rattle.desk.specs.declared.orders.Errand.TheVariants as order_errand
 use Rattle.desk.specs.declared.orders.Order.{Order}
@@ -79,6 +81,7 @@ pub data Errand : Type 0 where
   importing_keying : KeyingFile → Errand
   telling_status : ℕ → Errand
   printing : ℕ → WardText → Errand
+  asking : Question → Errand
 
 -- what is to be done for an order
 pub data Work : Type 0 where
@@ -86,6 +89,7 @@ pub data Work : Type 0 where
   migrating : Work
   running : Errand → Work
   serving : ℕ → ℕ → Work
+  replaying : Folder → Work
 
 -- what an order does in an opened office
 abbrev pub errand_of : OrderErrand → Errand
@@ -94,18 +98,26 @@ errand_of (order_errand.ImportCandidates file id) = importing_candidates id.now
 errand_of (order_errand.ImportKeying keying) = importing_keying keying
 errand_of (order_errand.TellStatus ward) = telling_status ward
 errand_of (order_errand.Print ward text) = printing ward text
+errand_of (order_errand.Ask question) = asking question
 
--- what is done for an order
-abbrev pub work_for : Order → Work
-work_for order.Init = making
-work_for order.Migrate = migrating
-work_for (order.Run errand) = running (errand_of errand)
-work_for (order.Serve port connections) = serving port connections
+-- what is done for an order; the files that a script names lie in a folder
+abbrev pub work_for : Folder → Order → Work
+work_for folder order.Init = making
+work_for folder order.Migrate = migrating
+work_for folder (order.Run errand) = running (errand_of errand)
+work_for folder (order.Serve port connections) = serving port connections
+work_for folder (order.Replay file) = replaying folder
+
+-- the file that an errand names
+abbrev pub file_of_errand : OrderErrand → Option Text
+file_of_errand (order_errand.ImportCandidates file id) = Some file.now
+file_of_errand (order_errand.ImportKeying keying) = Some keying.file.now
+file_of_errand other = None
 
 -- the file that an order names
 abbrev pub file_of : Order → Option Text
-file_of (order.Run (order_errand.ImportCandidates file id)) = Some file.now
-file_of (order.Run (order_errand.ImportKeying keying)) = Some keying.file.now
+file_of (order.Run errand) = file_of_errand errand
+file_of (order.Replay file) = Some file.now
 file_of other = None
 
 -- the id of the request for the record of some number: the order's, a hyphen, and that number

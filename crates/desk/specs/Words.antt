@@ -13,8 +13,8 @@ use Rattle.desk.specs.declared.words.WordsFault.{WordsFault}
 use Rattle.desk.specs.declared.words.WordsFault.TheVariants as words_fault
 use Rattle.desk.specs.declared.table.Kind.{Kind}
 use Rattle.desk.specs.declared.table.Kind.TheVariants as kind
-use Rattle.desk.specs.Numbers.{number_of}
-use Rattle.desk.specs.Orders.{OrderEntry, Value, WordEntry, judged, numbered, orders, worded}
+use Rattle.desk.specs.Numbers.{number_if, number_of}
+use Rattle.desk.specs.Orders.{OrderEntry, Value, WordEntry, judged, numbered, numbered_or_none, orders, worded}
 use Rattle.desk.specs.Verdicts.{judgement_in}
 
 -- the numbers that a word may be
@@ -31,6 +31,10 @@ any_connections = parser.Signed (pos 1) (pos 1000000)
 abbrev pub number_rule : ValueParser → Text → Rule
 number_rule numbers name = record (new_rule name) { parser = Some numbers; required = true }
 
+-- the same, which may be left out
+abbrev pub free_number_rule : ValueParser → Text → Rule
+free_number_rule numbers name = record (new_rule name) { parser = Some numbers }
+
 -- a word that is any text
 abbrev pub text_rule : Text → Rule
 text_rule name = record (new_rule name) { required = true }
@@ -42,6 +46,7 @@ id_rule name = record (new_rule name) { long = Some name; value_names = 1; requi
 -- what `clap` is told of a word
 abbrev pub rule_of_kind : Kind → Text → Rule
 rule_of_kind kind.Number = number_rule any_number
+rule_of_kind kind.NumberOrNone = free_number_rule any_number
 rule_of_kind kind.Port = number_rule any_port
 rule_of_kind kind.Connections = number_rule any_connections
 rule_of_kind kind.Text = text_rule
@@ -75,6 +80,10 @@ office_words = with_orders start_words orders
 abbrev pub number_at : Text → List Row → ℕ
 number_at name rows = option_map_or number_of (one_of name rows) 0
 
+-- the number that was matched under a name, if there is one
+abbrev pub number_found : Text → List Row → Option ℕ
+number_found name rows = number_if (one_of name rows)
+
 -- the text that was matched under a name, and the empty one without one
 abbrev pub text_at : Text → List Row → Text
 text_at name rows = unwrap_or (first_of name rows) []
@@ -82,6 +91,7 @@ text_at name rows = unwrap_or (first_of name rows) []
 -- the value that the matches give a word
 abbrev pub value_of_kind : Kind → List Row → Text → Value
 value_of_kind kind.Number rows name = numbered (number_at name rows)
+value_of_kind kind.NumberOrNone rows name = numbered_or_none (number_found name rows)
 value_of_kind kind.Port rows name = numbered (number_at name rows)
 value_of_kind kind.Connections rows name = numbered (number_at name rows)
 value_of_kind kind.Text rows name = worded (text_at name rows)
@@ -113,6 +123,7 @@ names_order (Some found) = is_order_name found.0
 -- a value is the word of a verdict that says none
 abbrev pub is_bad_verdict : Value → Bool
 is_bad_verdict (numbered n) = false
+is_bad_verdict (numbered_or_none n) = false
 is_bad_verdict (worded t) = false
 is_bad_verdict (judged o) = is_none o
 

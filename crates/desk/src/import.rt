@@ -22,7 +22,7 @@ use std::io::Read;
 use store::Fault;
 
 /// The fault of a file that can't be opened.
-const UNOPENED: FileFault = FileFault {
+pub(crate) const UNOPENED: FileFault = FileFault {
     flaw: Flaw::ReadFailed,
     record_number: 0,
 };

@@ -8,7 +8,7 @@
 //!
 //! ```text
 //! match order(alloc, words) {
-//!     Ok(order) => perform(alloc, &order, conn, file, out, err),    // the status and the connection
+//!     Ok(order) => perform(alloc, &order, conn, file, folder, out, err),    // the status and the connection
 //!     Err(fault) => tell_words(&fault, out, err),
 //! }
 //! ```
@@ -20,21 +20,28 @@ pub mod orders;
 mod table;
 mod verdicts;
 pub mod words;
+// A script to orders.
+mod cutting;
+pub mod folders;
+mod scripts;
 // An order to requests,
 mod requests;
 // and those to lines and a status.
 mod import;
 pub mod lines;
+mod overviews;
 pub mod patience;
 pub mod perform;
 mod printing;
 pub mod progress;
+mod replaying;
 mod sending;
 pub mod serving;
 mod standing;
 
+pub use folders::Folder;
 pub use lines::{Failure, tell_failure, tell_words};
-pub use orders::{Errand, KeyingFile, Order};
+pub use orders::{Errand, KeyingFile, Order, Question};
 pub use progress::Progress;
 pub use serving::serve_on;
 pub use words::{WordsFault, order};

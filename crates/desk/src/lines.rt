@@ -1,9 +1,10 @@
 //! The lines that an order prints, and its exit status.
 
-ghost use Rattle.std.specs.Prelude.{◌≡◌, ◌⊎◌, ◌-◌, ◌^◌, ◌<◌};
+ghost use Rattle.std.specs.Prelude.{◌≡◌, ◌⊎◌, ◌-◌, ◌^◌, ◌<◌, ◌++◌};
 ghost use Rattle.std.specs.List.{flat_map};
-ghost use Rattle.desk.specs.Pages.{IsErrorTold, IsPut, Shows, failed, failure_number, failure_text, migrated_text, outputs_of, page_of, printed, refused, status_of_file, unread, words_page};
+ghost use Rattle.desk.specs.Pages.{IsErrorTold, IsPut, Shows, failed, failure_number, failure_text, fronted, line_front, migrated_text, outputs_of, page_of, printed, refused, script_page, status_of_file, unread, words_page};
 
+use crate::scripts::ScriptFault;
 use crate::words::WordsFault;
 use itoa::Buffer;
 use keyfile::{FileFault, Flaw};
@@ -13,7 +14,7 @@ use thiserror::Error;
 use votes::{Broken, Sink, put_all};
 
 /// What an order came to.
-#[derive(Debug, Drop)]
+#[derive(Drop)]
 pub(crate) enum Outcome {
     /// An office was made.
     Ready,
@@ -84,22 +85,42 @@ fn tell_text<O: Sink, E: Sink>(pieces: &[&str], out: &mut O, err: &mut E) -> u8
     }
 }
 
-/// Tells a line in pieces on the error output, and gives the status: this one, or 3 where the error output
-/// fails.
-fn tell_error<E: Sink>(pieces: &[&str], status: u8, err: &mut E) -> u8
-    requires { E.failed err.old < 2 ^ 64 - 1 }
-    ensures { IsErrorTold E.taken E.failed err.old err.new (flat_map (λ piece. piece.now) pieces.now) status result }
+/// Puts the front of what is told of a script's line, if it is.
+fn put_front<W: Sink>(line: Option<usize>, sink: &mut W) -> Result<(), Broken>
+    requires { W.failed sink.old < 2 ^ 64 - 1 }
+    ensures { IsPut W.taken W.failed sink.old sink.new (line_front line) result }
 {
-    match put_pieces(pieces, err) {
+    match line {
+        Some(number) => put_pieces(&["line ", Buffer::new().format(number), ": "], sink),
+        None => Ok(()),
+    }
+}
+
+/// Puts the front, and pieces of text behind it.
+fn put_line<W: Sink>(line: Option<usize>, pieces: &[&str], sink: &mut W) -> Result<(), Broken>
+    requires { W.failed sink.old < 2 ^ 64 - 1 }
+    ensures { IsPut W.taken W.failed sink.old sink.new (line_front line ++ flat_map (λ piece. piece.now) pieces.now) result }
+{
+    put_front(line, sink)?;
+    put_pieces(pieces, sink)
+}
+
+/// Tells a line in pieces on the error output, behind the number of the script's line that it is of, and gives the
+/// status: this one, or 3 where the error output fails.
+fn tell_error<E: Sink>(line: Option<usize>, pieces: &[&str], status: u8, err: &mut E) -> u8
+    requires { E.failed err.old < 2 ^ 64 - 1 }
+    ensures { IsErrorTold E.taken E.failed err.old err.new (line_front line ++ flat_map (λ piece. piece.now) pieces.now) status result }
+{
+    match put_line(line, pieces, err) {
         Ok(()) => status,
         Err(Broken) => 3,
     }
 }
 
 /// Tells a refusal, and gives the status: 1, or 3 where the error output fails.
-fn tell_refusal<E: Sink>(refusal: &Refusal, err: &mut E) -> u8
+fn tell_refusal<E: Sink>(line: Option<usize>, refusal: &Refusal, err: &mut E) -> u8
     requires { E.failed err.old < 2 ^ 64 - 1 }
-    ensures { IsErrorTold E.taken E.failed err.old err.new (refused refusal.now).err 1 result }
+    ensures { IsErrorTold E.taken E.failed err.old err.new (line_front line ++ (refused refusal.now).err) 1 result }
 {
     let mut number = Buffer::new();
     let pieces = [
@@ -109,7 +130,7 @@ fn tell_refusal<E: Sink>(refusal: &Refusal, err: &mut E) -> u8
         refusal.text(),
         "\n",
     ];
-    tell_error(&pieces, 1, err)
+    tell_error(line, &pieces, 1, err)
 }
 
 /// The status of a file that isn't taken: 3 where its reading was stopped.
@@ -124,9 +145,9 @@ fn status_of_file(fault: FileFault) -> u8
 
 /// Tells why a file isn't taken, and gives the status: 1, or 3 where its reading was stopped or the error
 /// output fails.
-fn tell_file_fault<E: Sink>(fault: FileFault, err: &mut E) -> u8
+fn tell_file_fault<E: Sink>(line: Option<usize>, fault: FileFault, err: &mut E) -> u8
     requires { E.failed err.old < 2 ^ 64 - 1 }
-    ensures { IsErrorTold E.taken E.failed err.old err.new (unread fault).err (status_of_file fault) result }
+    ensures { IsErrorTold E.taken E.failed err.old err.new (line_front line ++ (unread fault).err) (status_of_file fault) result }
 {
     let (mut number, mut record) = (Buffer::new(), Buffer::new());
     let pieces = [
@@ -138,15 +159,13 @@ fn tell_file_fault<E: Sink>(fault: FileFault, err: &mut E) -> u8
         fault.flaw.text(),
         "\n",
     ];
-    tell_error(&pieces, status_of_file(fault), err)
+    tell_error(line, &pieces, status_of_file(fault), err)
 }
 
-/// Tells a failure on the error output, and gives its status, 3.
-///
-/// Where the error output fails too, nothing more can be told.
-pub fn tell_failure<E: Sink>(failure: Failure, err: &mut E) -> u8
+/// Tells a failure, and gives its status, 3.
+fn tell_failure_at<E: Sink>(line: Option<usize>, failure: Failure, err: &mut E) -> u8
     requires { E.failed err.old < 2 ^ 64 - 1 }
-    ensures { IsErrorTold E.taken E.failed err.old err.new (failed failure).err 3 result }
+    ensures { IsErrorTold E.taken E.failed err.old err.new (line_front line ++ (failed failure).err) 3 result }
 {
     let mut number = Buffer::new();
     let pieces = [
@@ -156,7 +175,17 @@ pub fn tell_failure<E: Sink>(failure: Failure, err: &mut E) -> u8
         failure.text(),
         "\n",
     ];
-    tell_error(&pieces, 3, err)
+    tell_error(line, &pieces, 3, err)
+}
+
+/// Tells a failure on the error output, and gives its status, 3.
+///
+/// Where the error output fails too, nothing more can be told.
+pub fn tell_failure<E: Sink>(failure: Failure, err: &mut E) -> u8
+    requires { E.failed err.old < 2 ^ 64 - 1 }
+    ensures { IsErrorTold E.taken E.failed err.old err.new (failed failure).err 3 result }
+{
+    tell_failure_at(None, failure, err)
 }
 
 /// What a migration came to, in words.
@@ -171,20 +200,38 @@ fn migrated_text(migrated: Migrated) -> &'static str
 
 /// Tells an outcome, and gives its status: 0 with a line on the output; 1 with a refusal of a request or a
 /// file, or 3 with a fault or a file that couldn't be read, on the error output; and 3 where one of the two
-/// fails, which has then taken a beginning.
-pub(crate) fn tell<O: Sink, E: Sink>(outcome: &Outcome, out: &mut O, err: &mut E) -> u8
+/// fails, which has then taken a beginning. What goes to the error output begins with the number of the script's
+/// line that it is of, if it is of one.
+pub(crate) fn tell<O: Sink, E: Sink>(
+    line: Option<usize>,
+    outcome: &Outcome,
+    out: &mut O,
+    err: &mut E,
+) -> u8
     requires out { O.failed out.old < 2 ^ 64 - 1 }
     requires err { E.failed err.old < 2 ^ 64 - 1 }
-    ensures { let outputs = outputs_of O.taken O.failed E.taken E.failed in Shows (outputs out.old err.old) (outputs out.new err.new) (page_of outcome.now) result }
+    ensures { let outputs = outputs_of O.taken O.failed E.taken E.failed in Shows (outputs out.old err.old) (outputs out.new err.new) (fronted line (page_of outcome.now)) result }
 {
     match outcome {
         Outcome::Ready => tell_text(&["office ready", "\n"], out, err),
         Outcome::Migrated(migrated) => tell_text(&[migrated_text(*migrated), "\n"], out, err),
         Outcome::Replied(reply) => tell_text(&[reply.as_str(), "\n"], out, err),
         Outcome::Printed(text) => tell_text(&[text.as_str()], out, err),
-        Outcome::Refused(refusal) => tell_refusal(refusal, err),
-        Outcome::Unread(fault) => tell_file_fault(*fault, err),
-        Outcome::Failed(fault) => tell_failure(Failure::Office(*fault), err),
+        Outcome::Refused(refusal) => tell_refusal(line, refusal, err),
+        Outcome::Unread(fault) => tell_file_fault(line, *fault, err),
+        Outcome::Failed(fault) => tell_failure_at(line, Failure::Office(*fault), err),
+    }
+}
+
+/// Tells why a text is no script, and gives the status: 2 for a line that isn't understood, and 3 for want of memory or
+/// where the error output fails.
+pub(crate) fn tell_script_fault<E: Sink>(fault: &ScriptFault, err: &mut E) -> u8
+    requires { E.failed err.old < 2 ^ 64 - 1 }
+    ensures { IsErrorTold E.taken E.failed err.old err.new (script_page fault.now).err (script_page fault.now).status result }
+{
+    match fault {
+        ScriptFault::Memory => tell_failure(Failure::Office(Fault::Memory), err),
+        ScriptFault::Line(number, flaw) => tell_error(Some(*number), &[flaw.text()], 2, err),
     }
 }
 
@@ -198,8 +245,8 @@ pub fn tell_words<O: Sink, E: Sink>(fault: &WordsFault, out: &mut O, err: &mut E
 {
     match fault {
         WordsFault::Memory => tell_failure(Failure::Office(Fault::Memory), err),
-        WordsFault::Verdict => tell_error(&["bad verdict word\n"], 2, err),
+        WordsFault::Verdict => tell_error(None, &["bad verdict word\n"], 2, err),
         WordsFault::Words { text, status: 0 } => tell_text(&[text.as_str()], out, err),
-        WordsFault::Words { text, status } => tell_error(&[text.as_str()], *status, err),
+        WordsFault::Words { text, status } => tell_error(None, &[text.as_str()], *status, err),
     }
 }

@@ -6,13 +6,13 @@ ghost use Rattle.clap.specs.Words.{found_of, rows_of, subcommand_rows_of};
 ghost use Rattle.desk.specs.Orders.{office_words_of, told};
 ghost use Rattle.desk.specs.Requests.{asked_by, judgement_given};
 ghost use Rattle.desk.specs.Verdicts.{judgement_in};
-ghost use Rattle.desk.specs.Words.{has_bad_verdict, is_order_name, meaning, meaning_of, names_order, number_at, text_at};
+ghost use Rattle.desk.specs.Words.{has_bad_verdict, is_order_name, meaning, meaning_of, names_order, number_at, number_found, text_at};
 
-use crate::orders::{Errand, KeyingFile, Order};
+use crate::orders::{Errand, KeyingFile, Order, Question};
 use crate::requests::by_office;
 use crate::table::{
-    BATCH, CANDIDATE, CLERK, CONNECTIONS, FILE, FIRST_CLERK, ID, NAME, PAPER, PORT, ROUND, SEATS,
-    SECOND_CLERK, SIZE, STAGE, VERDICT, WARD, Word,
+    ACTOR, BATCH, CANDIDATE, CLERK, CONNECTIONS, FILE, FIRST_CLERK, ID, NAME, PAPER, PORT, ROUND,
+    SCRIPT, SEATS, SECOND_CLERK, SIZE, STAGE, VERDICT, WARD, Word,
 };
 use crate::verdicts::verdict_in;
 use clap::ArgMatches;
@@ -23,7 +23,7 @@ use register::{
 use std::alloc::{AllocError, Global};
 
 /// Why matched words mean no order.
-#[derive(Clone, Copy, Debug)]
+#[derive(Clone, Copy)]
 pub(crate) enum NoOrder {
     /// They name none.
     Unknown,
@@ -47,6 +47,12 @@ fn number_in(matches: &ArgMatches<'_>, word: Word) -> u32
     ensures { result ≡ number_at word.name.now (rows_of (found_of matches.now)) }
 {
     matches.get_one::<u32>(word.name).unwrap_or(0)
+}
+
+fn number_found_in(matches: &ArgMatches<'_>, word: Word) -> Option<u32>
+    ensures { result ≡ number_found word.name.now (rows_of (found_of matches.now)) }
+{
+    matches.get_one::<u32>(word.name)
 }
 
 fn text_in<'a>(matches: &ArgMatches<'a>, word: Word) -> &'a str
@@ -262,6 +268,46 @@ fn result<'a>(matches: &ArgMatches<'a>) -> Order<'a>
     })
 }
 
+fn batches<'a>(matches: &ArgMatches<'a>) -> Order<'a>
+    ensures { meaning_of (codes "batches") (rows_of (found_of matches.now)) ≡ Some (told result) }
+{
+    Order::Run(Errand::Ask(Question::Batches {
+        ward: number_in(matches, WARD),
+    }))
+}
+
+fn doubtful<'a>(matches: &ArgMatches<'a>) -> Order<'a>
+    ensures { meaning_of (codes "doubtful") (rows_of (found_of matches.now)) ≡ Some (told result) }
+{
+    Order::Run(Errand::Ask(Question::Doubtful {
+        ward: number_in(matches, WARD),
+    }))
+}
+
+fn differences<'a>(matches: &ArgMatches<'a>) -> Order<'a>
+    ensures { meaning_of (codes "differences") (rows_of (found_of matches.now)) ≡ Some (told result) }
+{
+    Order::Run(Errand::Ask(Question::Differences {
+        batch: number_in(matches, BATCH),
+    }))
+}
+
+fn receipts<'a>(matches: &ArgMatches<'a>) -> Order<'a>
+    ensures { meaning_of (codes "receipts") (rows_of (found_of matches.now)) ≡ Some (told result) }
+{
+    Order::Run(Errand::Ask(Question::Receipts {
+        actor: number_found_in(matches, ACTOR),
+    }))
+}
+
+fn replay<'a>(matches: &ArgMatches<'a>) -> Order<'a>
+    ensures { meaning_of (codes "replay") (rows_of (found_of matches.now)) ≡ Some (told result) }
+{
+    Order::Replay {
+        file: text_in(matches, SCRIPT),
+    }
+}
+
 fn serve<'a>(matches: &ArgMatches<'a>) -> Order<'a>
     ensures { meaning_of (codes "serve") (rows_of (found_of matches.now)) ≡ Some (told result) }
 {
@@ -302,6 +348,12 @@ fn order_named<'a>(
         "sheet" => Ok(sheet(matches)),
         "result" => Ok(result(matches)),
         "serve" => Ok(serve(matches)),
+        "wards" => Ok(Order::Run(Errand::Ask(Question::Wards))),
+        "batches" => Ok(batches(matches)),
+        "doubtful" => Ok(doubtful(matches)),
+        "differences" => Ok(differences(matches)),
+        "receipts" => Ok(receipts(matches)),
+        "replay" => Ok(replay(matches)),
         _ => Err(NoOrder::Unknown),
     }
 }

@@ -1,7 +1,8 @@
 //! The orders that the program takes.
 
 ghost use Rattle.std.specs.Prelude.{◌≡◌, option_map};
-ghost use Rattle.desk.specs.Requests.{file_of};
+ghost use Rattle.desk.specs.Requests.{file_of, file_of_errand};
+ghost use Rattle.desk.specs.Scripts.{sends_requests};
 
 use office::Text;
 use register::Request;
@@ -14,6 +15,21 @@ pub struct KeyingFile<'a> {
     pub round: u32,
     pub file: &'a str,
     pub id: &'a str,
+}
+
+/// What the office alone asks of how all stands.
+#[derive(Clone, Copy, Debug)]
+pub enum Question {
+    /// How each ward stands.
+    Wards,
+    /// How each batch of a ward stands.
+    Batches { ward: u32 },
+    /// Which papers of a ward are doubtful.
+    Doubtful { ward: u32 },
+    /// On which papers the keyings of a batch differ.
+    Differences { batch: u32 },
+    /// What was kept of an actor, or of all.
+    Receipts { actor: Option<u32> },
 }
 
 /// What the program is to do in an office that is there. The numbers are as they were given, in range or
@@ -30,6 +46,31 @@ pub enum Errand<'a> {
     TellStatus { ward: u32 },
     /// Print the stage sheet or the declaration of a ward.
     Print { ward: u32, text: Text },
+    /// Tell how all stands.
+    Ask(Question),
+}
+
+impl<'a> Errand<'a> {
+    /// The path of the file that the errand reads, if it reads one.
+    pub fn file(&self) -> Option<&'a str>
+        ensures { option_map (λ path. path.now) result ≡ file_of_errand self.now }
+    {
+        match self {
+            Errand::ImportCandidates { file, .. } => Some(file),
+            Errand::ImportKeying(keying) => Some(keying.file),
+            _ => None,
+        }
+    }
+
+    /// It sends requests: no other stands in a script.
+    pub(crate) fn sends(&self) -> bool
+        ensures { result ≡ sends_requests self.now }
+    {
+        matches!(
+            self,
+            Errand::Send(_) | Errand::ImportCandidates { .. } | Errand::ImportKeying(_)
+        )
+    }
 }
 
 /// What the program is to do.
@@ -39,6 +80,8 @@ pub enum Order<'a> {
     Init,
     /// Open the office, and do this in it.
     Run(Errand<'a>),
+    /// Open the office, and send the orders of a script in turn.
+    Replay { file: &'a str },
     /// Bring an office that an earlier program made over to this one.
     Migrate,
     /// Answer so many connections on a port of this machine.
@@ -51,8 +94,8 @@ impl<'a> Order<'a> {
         ensures { option_map (λ path. path.now) result ≡ file_of self.now }
     {
         match self {
-            Order::Run(Errand::ImportCandidates { file, .. }) => Some(file),
-            Order::Run(Errand::ImportKeying(keying)) => Some(keying.file),
+            Order::Run(errand) => errand.file(),
+            Order::Replay { file } => Some(file),
             _ => None,
         }
     }

@@ -3,14 +3,18 @@
 ghost use Rattle.std.specs.Prelude.{◌-◌, ◌^◌, ◌<◌, option_map};
 ghost use Rattle.sqlite.specs.State.{HasCleanDisk};
 ghost use Rattle.sqlite.specs.Held.{state};
-ghost use Rattle.desk.specs.Errands.{File, IsPerformed, IsPerformedAndKept, IsRun, WhereOpen};
-ghost use Rattle.desk.specs.Pages.{Tells, outputs_of};
-ghost use Rattle.desk.specs.Requests.{errand_of, making, migrating, running, work_for};
+ghost use Rattle.desk.specs.Errands.{IsPerformed, IsPerformedAndKept, IsRun, WhereOpen};
+ghost use Rattle.desk.specs.Folders.{File};
+ghost use Rattle.desk.specs.Pages.{IsQuiet, Tells, TellsOf, outputs_of};
+ghost use Rattle.desk.specs.Requests.{errand_of, making, migrating, replaying, running, work_for};
 
+use crate::folders::Folder;
 use crate::import::{candidate_requests, keying_of};
 use crate::lines::{Failure, Outcome, tell, tell_failure};
 use crate::orders::{Errand, Order};
+use crate::overviews::answer_to;
 use crate::printing::text_of;
+use crate::replaying::replay;
 use crate::sending::send_all;
 use crate::standing::standing_of;
 use office::Office;
@@ -20,10 +24,12 @@ use std::io::Read;
 use std::slice;
 use votes::Sink;
 
-/// Does an errand in an opened office, tells what comes of it, and gives the status.
-fn run<S: Alter, R: Read + Drop, O: Sink, E: Sink>(
+/// Does an errand in an opened office, tells what comes of it, as that of a script's line if it is of one, and gives
+/// the status.
+pub(crate) fn run<S: Alter, R: Read + Drop, O: Sink, E: Sink>(
     alloc: Global,
     office: &mut Office<S>,
+    line: Option<usize>,
     errand: &Errand<'_>,
     file: Option<R>,
     out: &mut O,
@@ -31,23 +37,24 @@ fn run<S: Alter, R: Read + Drop, O: Sink, E: Sink>(
 ) -> u8
     requires out { O.failed out.old < 2 ^ 64 - 1 }
     requires err { E.failed err.old < 2 ^ 64 - 1 }
-    ensures ran { let outputs = outputs_of O.taken O.failed E.taken E.failed in Tells (outputs out.old err.old) (outputs out.new err.new) result
-        (λ cut page. WhereOpen office.old.closed (state S.Store office.old.held) (state S.Store office.new.held)
+    ensures ran { let outputs = outputs_of O.taken O.failed E.taken E.failed in TellsOf line (outputs out.old err.old) (outputs out.new err.new) result
+        (λ cut page. IsQuiet page × WhereOpen office.old.closed (state S.Store office.old.held) (state S.Store office.new.held)
         (λ s. IsRun cut s (errand_of errand.now) (option_map R.remaining file) page office.new.closed (state S.Store office.new.held))) }
     ensures clean { HasCleanDisk (state S.Store office.new.held) → HasCleanDisk (state S.Store office.old.held) }
 {
     match errand {
-        Errand::Send(request) => send_all(office, slice::from_ref(request), out, err),
+        Errand::Send(request) => send_all(office, line, slice::from_ref(request), out, err),
         Errand::ImportCandidates { id, .. } => match candidate_requests(alloc, id, file) {
-            Ok(requests) => send_all(office, &requests, out, err),
-            Err(outcome) => tell(&outcome, out, err),
+            Ok(requests) => send_all(office, line, &requests, out, err),
+            Err(outcome) => tell(line, &outcome, out, err),
         },
         Errand::ImportKeying(keyed) => match keying_of(alloc, office, *keyed, file) {
-            Ok(request) => send_all(office, &[request], out, err),
-            Err(outcome) => tell(&outcome, out, err),
+            Ok(request) => send_all(office, line, &[request], out, err),
+            Err(outcome) => tell(line, &outcome, out, err),
         },
-        Errand::TellStatus { ward } => tell(&standing_of(alloc, office, *ward), out, err),
-        Errand::Print { ward, text } => tell(&text_of(office, *ward, *text), out, err),
+        Errand::TellStatus { ward } => tell(line, &standing_of(alloc, office, *ward), out, err),
+        Errand::Print { ward, text } => tell(line, &text_of(office, *ward, *text), out, err),
+        Errand::Ask(question) => tell(line, &answer_to(alloc, office, *question), out, err),
     }
 }
 
@@ -67,10 +74,33 @@ fn run_opened<S: Alter, R: Read + Drop, O: Sink, E: Sink>(
 {
     match Office::open_from(alloc, conn) {
         Ok(mut office) => {
-            let status = run(alloc, &mut office, errand, file, out, err);
+            let status = run(alloc, &mut office, None, errand, file, out, err);
             (status, office.into_connection())
         }
-        Err((fault, conn)) => (tell(&Outcome::Failed(fault), out, err), conn),
+        Err((fault, conn)) => (tell(None, &Outcome::Failed(fault), out, err), conn),
+    }
+}
+
+/// Opens the office that a connection has, and sends the orders of a script.
+fn replay_opened<S: Alter, R: Read + Drop, F: Folder, O: Sink, E: Sink>(
+    alloc: Global,
+    conn: Connection<S>,
+    file: Option<R>,
+    folder: &F,
+    out: &mut O,
+    err: &mut E,
+) -> (u8, Connection<S>)
+    requires out { O.failed out.old < 2 ^ 64 - 1 }
+    requires err { E.failed err.old < 2 ^ 64 - 1 }
+    ensures { let outputs = outputs_of O.taken O.failed E.taken E.failed in Tells (outputs out.old err.old) (outputs out.new err.new) result.0
+        (λ cut page. HasCleanDisk (state S.Store result.1) → IsPerformed cut (replaying (F.held folder.now)) (option_map R.remaining file) page (state S.Store conn) (state S.Store result.1)) }
+{
+    match Office::open_from(alloc, conn) {
+        Ok(mut office) => {
+            let status = replay(alloc, &mut office, file, folder, out, err);
+            (status, office.into_connection())
+        }
+        Err((fault, conn)) => (tell(None, &Outcome::Failed(fault), out, err), conn),
     }
 }
 
@@ -87,8 +117,11 @@ fn make_office<S: Alter, O: Sink, E: Sink>(
         (λ cut page. HasCleanDisk (state S.Store result.1) → (told : File) → IsPerformed cut making told page (state S.Store conn) (state S.Store result.1)) }
 {
     match Office::create(alloc, conn) {
-        Ok(office) => (tell(&Outcome::Ready, out, err), office.into_connection()),
-        Err((fault, conn)) => (tell(&Outcome::Failed(fault), out, err), conn),
+        Ok(office) => (
+            tell(None, &Outcome::Ready, out, err),
+            office.into_connection(),
+        ),
+        Err((fault, conn)) => (tell(None, &Outcome::Failed(fault), out, err), conn),
     }
 }
 
@@ -105,22 +138,27 @@ fn migrate_office<S: Alter, O: Sink, E: Sink>(
         (λ cut page. HasCleanDisk (state S.Store result.1) → (told : File) → IsPerformed cut migrating told page (state S.Store conn) (state S.Store result.1)) }
 {
     match Office::migrate(alloc, &mut conn) {
-        Ok(migrated) => (tell(&Outcome::Migrated(migrated), out, err), conn),
-        Err(fault) => (tell(&Outcome::Failed(fault), out, err), conn),
+        Ok(migrated) => (tell(None, &Outcome::Migrated(migrated), out, err), conn),
+        Err(fault) => (tell(None, &Outcome::Failed(fault), out, err), conn),
     }
 }
 
 /// Does an order over an opened connection, which it gives back, prints its lines, and gives the status.
 ///
 /// `file` is the one that the order names, None where it can't be opened or none is named. It is read
-/// after the office was opened, and whole before anything is sent.
+/// after the office was opened, and whole before anything is sent. `folder` opens the import files that a script names,
+/// each when its turn comes.
 ///
-/// The status is 0 where each reply, `office ready`, what a migration came to, how a ward stands, or its sheet or declaration went to
+/// The status is 0 where each reply, `office ready`, what a migration came to, how a ward or all stand, or a sheet or declaration went to
 /// `out`; 1 where a request or the file was refused and 3 at a fault, which `err` is told; and 3 where one of
 /// the two failed, which has then taken a beginning. What was replied before the first refusal or fault
 /// stands. Whatever a stop then leaves is the state after the accepted requests of a beginning of all that
 /// were ever sent, which contains every answered one and at most one more; with status 0 all of the order's
 /// were answered.
+///
+/// Of a script all lines are understood before the first order is sent; else the first line that isn't is told, with
+/// status 2, and nothing is sent. A refusal or a fault of an order of it ends it, and is told behind the number of its
+/// line; its requests are those of its orders up to that one.
 ///
 /// A database that holds no office, or a newer, an older or a damaged one, is told as that fault, and not
 /// changed. Where a table has one of our names, `init` makes no office: that is told (105), and nothing is
@@ -129,11 +167,12 @@ fn migrate_office<S: Alter, O: Sink, E: Sink>(
 ///
 /// An order to serve needs a socket, which is none of these: `serve_on` follows it, and here it is told as
 /// a failed one.
-pub fn perform<S: Alter, R: Read + Drop, O: Sink, E: Sink>(
+pub fn perform<S: Alter, R: Read + Drop, F: Folder, O: Sink, E: Sink>(
     alloc: Global,
     order: &Order<'_>,
     conn: Connection<S>,
     file: Option<R>,
+    folder: &F,
     out: &mut O,
     err: &mut E,
 ) -> (u8, Connection<S>)
@@ -141,12 +180,13 @@ pub fn perform<S: Alter, R: Read + Drop, O: Sink, E: Sink>(
     requires err { E.failed err.old < 2 ^ 64 - 1 }
     ensures headline { let outputs = outputs_of O.taken O.failed E.taken E.failed in Tells (outputs out.old err.old) (outputs out.new err.new) result.0
         (λ cut page. HasCleanDisk (state S.Store result.1)
-        → IsPerformedAndKept cut (work_for order.now) (option_map R.remaining file) page result.0 (state S.Store conn) (state S.Store result.1)) }
+        → IsPerformedAndKept cut (work_for (F.held folder.now) order.now) (option_map R.remaining file) page result.0 (state S.Store conn) (state S.Store result.1)) }
 {
     match order {
         Order::Init => make_office(alloc, conn, out, err),
         Order::Migrate => migrate_office(alloc, conn, out, err),
         Order::Run(errand) => run_opened(alloc, conn, errand, file, out, err),
+        Order::Replay { .. } => replay_opened(alloc, conn, file, folder, out, err),
         Order::Serve { .. } => (tell_failure(Failure::Output, err), conn),
     }
 }

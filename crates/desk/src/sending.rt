@@ -5,7 +5,7 @@ ghost use Rattle.sqlite.specs.State.{HasCleanDisk};
 ghost use Rattle.sqlite.specs.Held.{state};
 ghost use Rattle.register.specs.Machine.{step_of};
 ghost use Rattle.desk.specs.Errands.{IsAnswered, IsSent, WhereOpen};
-ghost use Rattle.desk.specs.Pages.{Tells, outputs_of, page_of};
+ghost use Rattle.desk.specs.Pages.{IsQuiet, TellsOf, outputs_of, page_of};
 
 use crate::lines::{Outcome, tell};
 use office::{Answer, Office};
@@ -27,22 +27,24 @@ fn outcome_of<S: Alter>(office: &mut Office<S>, request: &Request) -> Outcome
 }
 
 /// Sends requests to an office in turn, and tells each reply, up to the first refusal or fault, which is
-/// told too, or the first output that fails. The status is that of the last that was told.
+/// told too, behind the number of the script's line that they are of, if they are of one; or the first output that
+/// fails. The status is that of the last that was told.
 pub(crate) fn send_all<S: Alter, O: Sink, E: Sink>(
     office: &mut Office<S>,
+    line: Option<usize>,
     requests: &[Request],
     out: &mut O,
     err: &mut E,
 ) -> u8
     requires out { O.failed out.old < 2 ^ 64 - 1 }
     requires err { E.failed err.old < 2 ^ 64 - 1 }
-    ensures sent { let outputs = outputs_of O.taken O.failed E.taken E.failed in Tells (outputs out.old err.old) (outputs out.new err.new) result
-        (λ cut page. WhereOpen office.old.closed (state S.Store office.old.held) (state S.Store office.new.held)
+    ensures sent { let outputs = outputs_of O.taken O.failed E.taken E.failed in TellsOf line (outputs out.old err.old) (outputs out.new err.new) result
+        (λ cut page. IsQuiet page × WhereOpen office.old.closed (state S.Store office.old.held) (state S.Store office.new.held)
         (λ s. IsSent cut s requests.now page office.new.closed (state S.Store office.new.held))) }
     ensures clean { HasCleanDisk (state S.Store office.new.held) → HasCleanDisk (state S.Store office.old.held) }
 {
     for request in requests {
-        let status = tell(&outcome_of(office, request), out, err);
+        let status = tell(line, &outcome_of(office, request), out, err);
         if status != 0 {
             return status;
         }

@@ -16,7 +16,7 @@ use sqlite::Alter;
 use std::alloc::{AllocError, Global};
 use store::Fault;
 
-fn phase_word(phase: Phase) -> &'static str
+pub(crate) fn phase_word(phase: Phase) -> &'static str
     ensures { result.now ≡ phase_word phase }
 {
     match phase {

@@ -13,6 +13,8 @@ ghost use Rattle.desk.specs.Orders.{entry_of, orders};
 pub(crate) enum Kind {
     /// A number of 0 to 4294967295.
     Number,
+    /// The same, which may be left out.
+    NumberOrNone,
     /// A port, 1 to 65535.
     Port,
     /// A number of connections, 1 to 1000000.
@@ -33,12 +35,22 @@ pub(crate) struct Word {
     pub(crate) help: &'static str,
 }
 
+/// Where help shows an order.
+#[derive(Clone, Copy)]
+pub(crate) enum Heading {
+    /// Among the orders of an election.
+    Election,
+    /// Among those for the office alone, whose heading the end of the help has.
+    Office,
+}
+
 /// An order's name and words, and its help, which ends with an example as it is typed.
 #[derive(Clone, Copy)]
 pub(crate) struct Entry {
     pub(crate) name: &'static str,
     pub(crate) words: &'static [Word],
     pub(crate) help: &'static str,
+    pub(crate) heading: Heading,
 }
 
 pub(crate) const WARD: Word = Word {
@@ -95,6 +107,12 @@ pub(crate) const CLERK: Word = Word {
     help: "The clerk who keys it, 1 to 999",
 };
 
+pub(crate) const ACTOR: Word = Word {
+    name: "ACTOR",
+    kind: Kind::NumberOrNone,
+    help: "Whose receipts, a clerk's number, 1 to 999, or 0 for the office;\nleft out, those of all",
+};
+
 pub(crate) const ROUND: Word = Word {
     name: "ROUND",
     kind: Kind::Number,
@@ -125,6 +143,12 @@ pub(crate) const FILE: Word = Word {
     help: "The path of an import file; docs/FORMATS.md tells its form",
 };
 
+pub(crate) const SCRIPT: Word = Word {
+    name: "FILE",
+    kind: Kind::Text,
+    help: "The path of a script; docs/FORMATS.md tells its form",
+};
+
 /// The highest port.
 pub(crate) const MAX_PORT: i64 = 65535;
 
@@ -149,107 +173,164 @@ pub(crate) const ID: Word = Word {
     help: "An id that you choose for this order, 1 to 40 of a-z, 0-9 and -;\nsent again under the same id, it does nothing twice",
 };
 
-/// All orders, in the sequence of an election; the last brings an older office over.
-const ORDERS: [Entry; 20] = [
+/// All orders, in the sequence of an election; then the one that brings an older office over, and those for the office
+/// alone.
+const ORDERS: [Entry; 26] = [
     Entry {
         name: "init",
         words: &[],
         help: "Makes an office in DB, a new file or an empty one:\ncount-office town.db init",
+        heading: Heading::Election,
     },
     Entry {
         name: "ward",
         words: &[WARD, SEATS, NAME, ID],
         help: "Adds a ward, its nominations open:\ncount-office town.db ward 7 2 Harbour --id w1",
+        heading: Heading::Election,
     },
     Entry {
         name: "candidate",
         words: &[WARD, CANDIDATE, NAME, ID],
         help: "Adds a candidate to a ward:\ncount-office town.db candidate 7 1 Ann --id c1",
+        heading: Heading::Election,
     },
     Entry {
         name: "import-candidates",
         words: &[FILE, ID],
         help: "Adds the candidates of a file, the first under ID-1:\ncount-office town.db import-candidates names.csv --id c",
+        heading: Heading::Election,
     },
     Entry {
         name: "withdraw",
         words: &[WARD, CANDIDATE, ID],
         help: "Takes a candidate off a ward, while nominations are open:\ncount-office town.db withdraw 7 5 --id x1",
+        heading: Heading::Election,
     },
     Entry {
         name: "close",
         words: &[WARD, ID],
         help: "Closes the nominations of a ward:\ncount-office town.db close 7 --id n1",
+        heading: Heading::Election,
     },
     Entry {
         name: "batch",
         words: &[BATCH, WARD, SIZE, FIRST_CLERK, SECOND_CLERK, ID],
         help: "Gives out a batch of papers of a ward to two clerks, who key it:\ncount-office town.db batch 12 7 8 4 9 --id b1",
+        heading: Heading::Election,
     },
     Entry {
         name: "import-keying",
         words: &[CLERK, BATCH, ROUND, FILE, ID],
         help: "Keeps a clerk's keying of a batch, in a round, from a file:\ncount-office town.db import-keying 4 12 1 k4-12.csv --id k1",
+        heading: Heading::Election,
     },
     Entry {
         name: "again",
         words: &[BATCH, ID],
         help: "Opens the next round of a batch whose keyings differ:\ncount-office town.db again 13 --id r1",
+        heading: Heading::Election,
     },
     Entry {
         name: "third",
         words: &[BATCH, CLERK, ID],
         help: "Gives a batch whose keyings differ to a third clerk too:\ncount-office town.db third 13 5 --id t1",
+        heading: Heading::Election,
     },
     Entry {
         name: "judge",
         words: &[BATCH, PAPER, VERDICT, ID],
         help: "Keeps the verdict on a doubtful paper of a batch that is taken:\ncount-office town.db judge 12 6 accept:1,,, --id v1",
+        heading: Heading::Election,
     },
     Entry {
         name: "seal",
         words: &[WARD, ID],
         help: "Seals a ward whose papers are all agreed and judged:\ncount-office town.db seal 7 --id s1",
+        heading: Heading::Election,
     },
     Entry {
         name: "advance",
         words: &[WARD, ID],
         help: "Counts the one stage that is due in a sealed ward:\ncount-office town.db advance 7 --id a1",
+        heading: Heading::Election,
     },
     Entry {
         name: "lot",
         words: &[WARD, STAGE, CANDIDATE, ID],
         help: "Records the candidate whom the lot for a stage named:\ncount-office town.db lot 7 3 4 --id l1",
+        heading: Heading::Election,
     },
     Entry {
         name: "declare",
         words: &[WARD, ID],
         help: "Declares the result of a ward whose count is finished:\ncount-office town.db declare 7 --id d1",
+        heading: Heading::Election,
     },
     Entry {
         name: "status",
         words: &[WARD],
         help: "Tells how a ward stands, at any moment:\ncount-office town.db status 7",
+        heading: Heading::Election,
     },
     Entry {
         name: "sheet",
         words: &[WARD],
         help: "Prints the stage sheet of a sealed ward:\ncount-office town.db sheet 7",
+        heading: Heading::Election,
     },
     Entry {
         name: "result",
         words: &[WARD],
         help: "Prints the declaration of a declared ward:\ncount-office town.db result 7",
+        heading: Heading::Election,
     },
     Entry {
         name: "serve",
         words: &[PORT, CONNECTIONS],
         help: "Answers clerks over HTTP on this machine, so many connections:\ncount-office town.db serve 8080 1000",
+        heading: Heading::Election,
     },
     Entry {
         name: "migrate",
         words: &[],
         help: "Brings an office of an earlier program over to this one:\ncount-office town.db migrate",
+        heading: Heading::Election,
+    },
+    Entry {
+        name: "wards",
+        words: &[],
+        help: "Tells how each ward stands, and what is left to do:\ncount-office town.db wards",
+        heading: Heading::Office,
+    },
+    Entry {
+        name: "batches",
+        words: &[WARD],
+        help: "Tells of each batch of a ward who has keyed it, and how it stands:\ncount-office town.db batches 7",
+        heading: Heading::Office,
+    },
+    Entry {
+        name: "doubtful",
+        words: &[WARD],
+        help: "Tells the doubtful papers of a ward, each open or with its verdict:\ncount-office town.db doubtful 7",
+        heading: Heading::Office,
+    },
+    Entry {
+        name: "differences",
+        words: &[BATCH],
+        help: "Tells on which papers a batch differs, which no clerk is to see:\ncount-office town.db differences 13",
+        heading: Heading::Office,
+    },
+    Entry {
+        name: "receipts",
+        words: &[ACTOR],
+        help: "Tells what was kept, under which id, of an actor or of all:\ncount-office town.db receipts 0",
+        heading: Heading::Office,
+    },
+    Entry {
+        name: "replay",
+        words: &[SCRIPT],
+        help: "Sends the orders of a text file, a line each, up to a refusal:\ncount-office town.db replay evening.txt",
+        heading: Heading::Office,
     },
 ];
 

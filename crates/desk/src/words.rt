@@ -4,11 +4,11 @@ ghost use Rattle.std.specs.Prelude.{◌≡◌, ◌≢◌, ◌⊎◌, true, false
 ghost use Rattle.clap.specs.Words.{app_of, subcommand_of, takes, with_rule, with_subcommand};
 ghost use Rattle.clap.specs.declared.builder.command.Command.TheViews.{out-Command as fields_of};
 ghost use Rattle.desk.specs.Orders.{entry_of, told};
-ghost use Rattle.desk.specs.Words.{IsOwnText, IsToldOf, TellsOwnText, TellsRefusal, has_bad_verdict, id_rule, meaning, number_rule, office_words, order_words, rule_of_kind, start_words, status_of_kind, text_rule, with_orders, wrong_with};
+ghost use Rattle.desk.specs.Words.{IsOwnText, IsToldOf, TellsOwnText, TellsRefusal, free_number_rule, has_bad_verdict, id_rule, meaning, number_rule, office_words, order_words, rule_of_kind, start_words, status_of_kind, text_rule, with_orders, wrong_with};
 
 use crate::matched::{NoOrder, order_in};
 use crate::orders::Order;
-use crate::table::{Entry, Kind, MAX_CONNECTIONS, MAX_PORT, Word, entries};
+use crate::table::{Entry, Heading, Kind, MAX_CONNECTIONS, MAX_PORT, Word, entries};
 use clap::builder::ValueParser;
 use clap::error::ErrorKind;
 use clap::{Arg, Command, value_parser};
@@ -24,8 +24,18 @@ candidates, their batches of papers as the clerks keyed them, and a receipt of e
 that it accepted: the same request, sent again under the same id, prints the same reply and
 changes nothing.";
 
-const OUTCOMES: &str =
-    "An example stands under each order. Its words, with their ranges, are shown by
+/// The end of the help: the orders of [`Heading::Office`], and what comes of orders.
+const END_OF_HELP: &str =
+    "For the office alone. The first five change nothing, and no clerk is to see what they tell:
+  wards              How each ward stands, and what is left to do
+  batches WARD       Who has keyed each batch of a ward, how it stands, and which other
+                     batch has the very same papers
+  doubtful WARD      Which papers of a ward are doubtful, each open or with its verdict
+  differences BATCH  On which papers a batch differs
+  receipts [ACTOR]   What was kept, under which id: of an actor, 0 for the office, or of all
+  replay FILE        Sends the orders of a text file, a line each, up to a refusal
+
+An example stands under each order. Its words, with their ranges, are shown by
   count-office DB ORDER --help
 
 A reply goes to standard output, with status 0. What the office refuses goes to standard
@@ -38,7 +48,7 @@ refusal and each fault means, and what to do about it.";
 const NOT_UNDERSTOOD: &str = "error: the words are not understood\n";
 
 /// Why the words are no order.
-#[derive(Debug, Drop)]
+#[derive(Drop)]
 pub enum WordsFault {
     /// Memory was wanting.
     Memory,
@@ -64,6 +74,21 @@ fn with_number<'a>(
         .help(help)
         .value_parser(parser)
         .required(true);
+    Ok(command.arg(arg)?)
+}
+
+/// Adds a word that is a number, or may be left out.
+fn with_free_number<'a>(
+    alloc: Global,
+    command: Command<'a>,
+    name: &'a str,
+    help: &'a str,
+    parser: ValueParser<'a>,
+) -> Result<Command<'a>, AllocError>
+    ensures app { IfOk result (λ c. app_of c ≡ with_rule (app_of command.entry) (free_number_rule parser.entry name.entry.now)) }
+    ensures local { (fields_of command.entry).has_globals ≡ false → IfOk result (λ c. (fields_of c).has_globals ≡ false) }
+{
+    let arg = Arg::new(alloc, name).help(help).value_parser(parser);
     Ok(command.arg(arg)?)
 }
 
@@ -105,6 +130,9 @@ fn with_word<'a>(alloc: Global, command: Command<'a>, word: Word) -> Result<Comm
 {
     match word.kind {
         Kind::Number => with_number(alloc, command, word.name, word.help, value_parser!(u32)),
+        Kind::NumberOrNone => {
+            with_free_number(alloc, command, word.name, word.help, value_parser!(u32))
+        }
         Kind::Port => {
             let parser = value_parser!(u32).range(1..=MAX_PORT);
             with_number(alloc, command, word.name, word.help, parser)
@@ -123,7 +151,9 @@ fn order_command<'a>(alloc: Global, entry: Entry) -> Result<Command<'a>, AllocEr
     ensures app { IfOk result (λ c. app_of c ≡ order_words (entry_of entry)) }
     ensures local { IfOk result (λ c. (fields_of c).has_globals ≡ false) }
 {
-    let mut command = Command::new(alloc, entry.name).about(entry.help);
+    let mut command = Command::new(alloc, entry.name)
+        .about(entry.help)
+        .hide(matches!(entry.heading, Heading::Office));
     for word in entry.words {
         command = with_word(alloc, command, *word)?;
     }
@@ -136,7 +166,7 @@ fn start_command<'a>(alloc: Global) -> Command<'a>
 {
     Command::new(alloc, "count-office")
         .about(ABOUT)
-        .after_help(OUTCOMES)
+        .after_help(END_OF_HELP)
         .subcommand_required(true)
         .arg_required_else_help(true)
         .disable_help_subcommand(true)

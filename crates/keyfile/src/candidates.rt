@@ -18,7 +18,7 @@ const MOST_CANDIDATE_ROWS: u32 = 2970;
 
 /// A candidate of an import file. The numbers have 1 to 5 digits and the name is any text: whether
 /// they are in range is decided when the candidate is added.
-#[derive(Debug, Drop)]
+#[derive(Drop)]
 pub struct CandidateRow {
     pub ward: u32,
     pub candidate: u32,

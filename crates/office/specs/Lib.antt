@@ -4,3 +4,4 @@ pub mod Runs
 pub mod Clerks
 pub mod Reads
 pub mod Sheets
+pub mod Overviews

@@ -7,7 +7,7 @@ use register::decision::Reply;
 use store::Fault;
 
 /// The answer to a request.
-#[derive(Debug, Drop)]
+#[derive(Drop)]
 pub enum Answer {
     /// It was accepted now, and is kept: no stop takes it back.
     Done(Reply),
@@ -18,7 +18,7 @@ pub enum Answer {
 }
 
 /// Why a read tells nothing.
-#[derive(Debug, Drop)]
+#[derive(Drop)]
 pub enum Stop {
     /// There is nothing to tell, for this reason.
     Refused(Refusal),
@@ -27,7 +27,7 @@ pub enum Stop {
 }
 
 /// The answers to a list of requests, in order, up to the first fault, and that fault.
-#[derive(Debug, Drop)]
+#[derive(Drop)]
 pub struct Run {
     pub answers: Vec<Answer>,
     pub fault: Option<Fault>,

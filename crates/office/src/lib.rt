@@ -3,7 +3,8 @@
 //! `Office` stands over any store of `sqlite`. `create` makes an empty office, `open_from` opens one, and
 //! `migrate` makes of an earlier program's office one that opens;
 //! `handle` answers one request and `run` a list of them; `status`, `columns`, `work`, `sheet` and `result`
-//! tell of the state, and change nothing. A fault inside a transaction closes the
+//! tell of the state, and change nothing, as `wards`, `batches`, `doubtful`, `differences` and `receipts` tell the
+//! office alone. A fault inside a transaction closes the
 //! office: it answers 104 until it is opened again, and what is found then is the state before the
 //! request or the one after it, whole.
 //!
@@ -22,11 +23,12 @@ mod deciding;
 mod migration;
 pub mod offices;
 // what is told of the state
+mod overviews;
 mod reads;
 mod sheets;
 
 pub use answers::{Answer, Run, Stop};
 pub use offices::Office;
-pub use register::{Status, Work};
+pub use register::{Receipt, Status, Work};
 pub use sheets::{Text, texts_are_there};
 pub use store::Migrated;

@@ -23,7 +23,7 @@ use std::alloc::{AllocError, Global};
 use store::Fault;
 
 /// A refusal for a reason, or want of memory.
-fn refused(alloc: Global, reason: Reason) -> Stop
+pub(crate) fn refused(alloc: Global, reason: Reason) -> Stop
     ensures reason { StopsFor reason result }
     ensures closes { (closed : Bool) → ClosesAt closed result }
     ensures memory { IsOfMemory result }
@@ -36,7 +36,7 @@ fn refused(alloc: Global, reason: Reason) -> Stop
 
 impl<S: Alter> Office<S> {
     /// What stops a read before it asks the store: the office is closed, or the number is out of its range.
-    fn stop_before(&self, is_in_range: bool) -> Option<Stop>
+    pub(crate) fn stop_before(&self, is_in_range: bool) -> Option<Stop>
         ensures closed { self.now.closed ≡ true → result ≡ Some (Stop.Fault Fault.Closed) }
         ensures range { self.now.closed ≡ false → IfSome result (λ stop. (is_in_range ≡ false) × StopsFor Reason.NumberOutOfRange stop × IsOfMemory stop) }
         ensures none { IfNone result ((self.now.closed ≡ false) × (is_in_range ≡ true)) }
@@ -52,7 +52,7 @@ impl<S: Alter> Office<S> {
     }
 
     /// Tells a fault that a read met. Any but want of memory closes the office.
-    fn stopped_by(&mut self, fault: Fault) -> Stop
+    pub(crate) fn stopped_by(&mut self, fault: Fault) -> Stop
         ensures told { result ≡ Stop.Fault fault }
         ensures held { self.new.held ≡ self.old.held }
         ensures kept { fault ≡ Fault.Memory → self.new.closed ≡ false }

@@ -5,18 +5,18 @@ ghost use Rattle.std.specs.List.{list_all};
 ghost use Rattle.register.specs.Ranges.{is_candidate_number};
 ghost use Rattle.register.specs.Offices.{WardEntry, OfficeState, ward_at, candidate_entry};
 ghost use Rattle.register.specs.Items.{IsState};
-ghost use Rattle.register.specs.Elections.{ElectionEntry, election_of, elected_of, has_count, is_counted, stages_of as stages_done};
+ghost use Rattle.register.specs.Elections.{ElectionEntry, election_of, has_count, is_counted, stages_of as stages_done};
 ghost use Rattle.register.specs.Tabulated.{IsCountedWard, IsSheetOf};
 ghost use Rattle.sheet.specs.Entries.{shown};
 ghost use Rattle.sheet.specs.Wards.{HasFewPapers, CanBePrinted};
 ghost use Rattle.office.specs.Sheets.{is_numbered, IsTextual, candidate_shown, poll_shown, shown_with, sheet_of, declaration_of, is_told_in};
 
 use count::Stage;
-use paper::Columns;
 use register::marks::columns_of;
 use register::{Candidate, CountedWard, Phase, WardSheet};
 use sheet::{Poll, Ward, can_be_printed, declaration_text, sheet_text};
 use std::alloc::{AllocError, Global};
+use store::elected_in;
 
 /// The law of the texts of an office, for its callers: at a state, those of each ward can be written.
 pub fn texts_are_there()
@@ -129,16 +129,6 @@ fn stages_of(counted: &CountedWard) -> &[Stage]
     match &counted.count {
         Some(count) => count.kept.stages(),
         None => &[],
-    }
-}
-
-/// Who is elected; in an uncontested ward all its candidates.
-fn elected_in(counted: &CountedWard) -> Columns
-    ensures { (e : ElectionEntry) → IsCountedWard e counted.now → is_counted e.ward.phase ≡ true → result ≡ elected_of e }
-{
-    match &counted.count {
-        Some(count) => count.kept.elected(),
-        None => columns_of(&counted.candidates),
     }
 }
 

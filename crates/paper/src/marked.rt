@@ -116,7 +116,7 @@ fn push_field(text: &mut String, i: usize, mark: u8) -> Result<(), AllocError>
 }
 
 /// The candidates beside whom one number stands.
-#[derive(Clone, Copy, Debug, PartialEq, Eq)]
+#[derive(Clone, Copy, PartialEq, Eq)]
 pub(crate) enum Bearers {
     Nobody,
     One(u8),

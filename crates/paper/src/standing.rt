@@ -9,7 +9,7 @@ use crate::columns::{Columns, MAX_CANDIDATES};
 use std::marker::Model;
 
 /// Where the bearer of a number stands.
-#[derive(Clone, Copy, Debug, PartialEq, Eq)]
+#[derive(Clone, Copy, PartialEq, Eq)]
 pub enum Status {
     /// Neither elected nor excluded.
     Continuing,
@@ -24,7 +24,7 @@ const NUMBERS: usize = MAX_CANDIDATES + 1;
 
 /// A status for each number 1 to `MAX_CANDIDATES`, seen as the list of them from number 0 on; any other number is
 /// absent.
-#[derive(Clone, Copy, Debug, PartialEq, Eq)]
+#[derive(Clone, Copy, PartialEq, Eq)]
 pub struct Standing {
     statuses: [Status; NUMBERS],
 }

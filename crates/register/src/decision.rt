@@ -15,7 +15,7 @@ use crate::wards::Ward;
 pub type Reply = String;
 
 /// What an accepted command does to the state, beside its receipt.
-#[derive(Debug, Drop)]
+#[derive(Drop)]
 pub enum Effect {
     /// This ward is new.
     WardAdded(Ward),
@@ -42,7 +42,7 @@ pub enum Effect {
 }
 
 /// All that an accepted request changes. It is kept whole or not at all.
-#[derive(Debug, Drop)]
+#[derive(Drop)]
 pub struct Change {
     pub effect: Effect,
     /// What it adds to the tabulation of the counts: nothing, but where a stage is counted.
@@ -51,7 +51,7 @@ pub struct Change {
 }
 
 /// The machine's answer to a request.
-#[derive(Debug, Drop)]
+#[derive(Drop)]
 pub enum Decision {
     /// The state changes, and this is replied.
     Accepted(Change, Reply),

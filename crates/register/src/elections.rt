@@ -28,7 +28,7 @@ use votes::{MAX_SEATS, quota};
 /// The election in a ward: its candidates in the order of their numbers, its ballot papers as far as its
 /// batches are taken, and the lots that are recorded, each the stage (counted from 1) and the candidate
 /// that it names, in the order of the stages.
-#[derive(Debug, Drop)]
+#[derive(Drop)]
 pub struct Election {
     pub ward: Ward,
     pub candidates: Vec<Candidate>,
@@ -38,14 +38,14 @@ pub struct Election {
 
 /// The count of a ward that goes on from where it was kept, and the lots that are recorded, each the stage
 /// (counted from 1) and the candidate that it names, in the order of the stages.
-#[derive(Debug, Drop)]
+#[derive(Drop)]
 pub struct Count {
     pub kept: KeptCount,
     pub lots: Vec<(u8, u8)>,
 }
 
 /// A ward, its candidates and, where it is in count, its count.
-#[derive(Debug, Drop)]
+#[derive(Drop)]
 pub struct CountedWard {
     pub ward: Ward,
     pub candidates: Vec<Candidate>,
@@ -54,14 +54,14 @@ pub struct CountedWard {
 
 /// What a stage sheet is written from: a ward with its count, and how many of its ballot papers are rejected,
 /// by code 1 to 5.
-#[derive(Debug, Drop)]
+#[derive(Drop)]
 pub struct WardSheet {
     pub counted: CountedWard,
     pub rejected: [u32; REJECTIONS],
 }
 
 /// Where a count stands: what is due by the recorded lots, and who is elected after the stages done.
-#[derive(Clone, Copy, Debug)]
+#[derive(Clone, Copy)]
 pub struct Progress {
     pub due: Due,
     pub elected: Columns,

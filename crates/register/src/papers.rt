@@ -75,7 +75,7 @@ pub fn differ(first: &[KeyedPaper], second: &[KeyedPaper], third: &[KeyedPaper])
 }
 
 /// The clerks who key a batch, in the order of their numbers.
-#[derive(Clone, Copy, Debug)]
+#[derive(Clone, Copy)]
 pub struct Clerks {
     pub first: u32,
     pub second: u32,

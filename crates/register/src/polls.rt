@@ -21,7 +21,7 @@ use votes::{MAX_PAPERS, Votes};
 pub const REJECTIONS: usize = 5;
 
 /// What becomes of a keyed ballot paper.
-#[derive(Clone, Copy, Debug)]
+#[derive(Clone, Copy)]
 pub enum Judgement {
     /// It is valid, with these preferences.
     Valid(Prefs),
@@ -66,7 +66,7 @@ impl KeepsPapers for Bundles {
 }
 
 /// Keeps no paper, for those who ask how many are rejected alone.
-#[derive(Debug, Drop)]
+#[derive(Drop)]
 pub struct NoPapers;
 
 impl KeepsPapers for NoPapers {
@@ -80,7 +80,7 @@ impl KeepsPapers for NoPapers {
 /// The ballot papers of a ward, as far as its batches are taken: the preferences of each valid one, which
 /// come in the order of batch and number, how many are rejected, by code 1 to 5, and whether each batch is
 /// taken and each doubtful paper has a verdict.
-#[derive(Debug, Drop)]
+#[derive(Drop)]
 pub struct Ballots<P> {
     pub papers: P,
     pub rejected: [u32; REJECTIONS],
@@ -89,7 +89,7 @@ pub struct Ballots<P> {
 
 /// What is told of a ward's ballot papers: how many are valid, how many rejected, by code 1 to 5, the
 /// quota ("Quota"), and whether each batch is taken and each doubtful paper has a verdict.
-#[derive(Clone, Copy, Debug)]
+#[derive(Clone, Copy)]
 pub struct Poll {
     pub valid: u32,
     pub rejected: [u32; REJECTIONS],

@@ -9,7 +9,7 @@ use std::alloc::{AllocError, Global};
 use std::marker::Model;
 
 /// Why a request is refused.
-#[derive(Clone, Copy, PartialEq, Eq, Debug)]
+#[derive(Clone, Copy, PartialEq, Eq)]
 pub enum Reason {
     /// The id isn't 1 to 40 characters of `a-z`, `0-9` and `-`.
     BadId,
@@ -135,7 +135,7 @@ impl Reason {
 /// A refusal: its reason, and the reason in words. It changes nothing and leaves no receipt.
 ///
 /// Contracts see its reason.
-#[derive(Debug, Drop)]
+#[derive(Drop)]
 pub struct Refusal {
     reason: Reason,
     text: String,

@@ -7,7 +7,7 @@ use paper::Columns;
 /// of the batches are taken, two keyings of their current round being equal, and how many differ, at least two
 /// being there and no two equal; how many doubtful papers of the taken ones have no verdict yet;
 /// and how many stages of its count are done.
-#[derive(Clone, Copy, Debug, PartialEq, Eq)]
+#[derive(Clone, Copy, PartialEq, Eq)]
 pub struct Status {
     pub ward: u32,
     pub phase: Phase,
@@ -21,7 +21,7 @@ pub struct Status {
 
 /// A batch (1 to 9999) that a clerk keys: its ward (1 to 99), the columns of its papers, how many they are
 /// (1 to 500), its current round (1 to 99), and whether this clerk has keyed that round.
-#[derive(Clone, Copy, Debug, PartialEq, Eq)]
+#[derive(Clone, Copy, PartialEq, Eq)]
 pub struct Work {
     pub batch: u32,
     pub ward: u32,

@@ -28,7 +28,7 @@ use votes::{MAX_PAPERS, Votes};
 /// A bundle of equal ballot papers of a ward, where it lies after the stages done: the preferences, one
 /// candidate's number (1 to 30) a byte; how many papers there are, 1 or more; who holds them, a candidate's
 /// number or 0 for no one; and the value of each, in units.
-#[derive(Debug, PartialEq, Eq, Drop)]
+#[derive(PartialEq, Eq, Drop)]
 pub struct PlacedBundle {
     pub ward: u32,
     pub list: Vec<u8>,
@@ -38,7 +38,7 @@ pub struct PlacedBundle {
 }
 
 /// A figure of a stage of a ward's count, as `count::Figure` has it.
-#[derive(Clone, Copy, Debug, PartialEq, Eq)]
+#[derive(Clone, Copy, PartialEq, Eq)]
 pub struct StageFigure {
     pub ward: u32,
     pub stage: u32,
@@ -48,7 +48,7 @@ pub struct StageFigure {
 }
 
 /// All that is tabulated: the bundles by ward and list, the figures by ward, stage and candidate.
-#[derive(Debug, Drop)]
+#[derive(Drop)]
 pub struct Tabulation {
     pub bundles: Vec<PlacedBundle>,
     pub figures: Vec<StageFigure>,
@@ -57,7 +57,7 @@ pub struct Tabulation {
 /// What an accepted request adds to the tabulation: bundles that come into it, as all of a ward do at its first
 /// stage; bundles that lie elsewhere than before; and the figures of a new stage. Nothing of it, where no stage
 /// is counted.
-#[derive(Debug, Drop)]
+#[derive(Drop)]
 pub struct Addition {
     pub placed: Vec<PlacedBundle>,
     pub moved: Vec<PlacedBundle>,

@@ -23,7 +23,7 @@ use std::alloc::Global;
 /// names; the poll of the ward; what is due in the ward's count by the recorded lots, and who is
 /// elected after the stages done; and the count that a stage is to be added to. A keying is in the
 /// order of its papers.
-#[derive(Debug, Drop)]
+#[derive(Drop)]
 pub struct Part {
     pub ward: Option<Ward>,
     pub candidate: Option<Candidate>,
@@ -67,7 +67,7 @@ impl Part {
 
 /// What the machine sees for one request: who sends it under which id, the receipt of that actor and id
 /// if there is one, and the part of the state that the command needs.
-#[derive(Debug, Drop)]
+#[derive(Drop)]
 pub struct View<'a> {
     pub actor: u32,
     pub id: &'a str,

@@ -1,7 +1,7 @@
 //! A ward as a sheet and a declaration tell it.
 
 /// The papers of a contested ward.
-#[derive(Clone, Copy, Debug, PartialEq, Eq)]
+#[derive(Clone, Copy, PartialEq, Eq)]
 pub struct Poll {
     /// How many papers are valid, at most [`votes::MAX_PAPERS`].
     pub valid: u32,
@@ -11,7 +11,7 @@ pub struct Poll {
 
 /// A ward: its number and name, 1 to [`votes::MAX_SEATS`] seats, and its candidates in ascending number
 /// 1 to [`paper::MAX_CANDIDATES`], each with his name.
-#[derive(Clone, Copy, Debug)]
+#[derive(Clone, Copy)]
 pub struct Ward<'a> {
     pub number: u8,
     pub name: &'a str,

@@ -1,5 +1,5 @@
 -- The row with a key is that of the state's entry with it.
-use Rattle.std.proofs.Common.{◌≡◌, ◌==◌, ◌&&◌, map, ℕ, pos, List, [], ◌∷◌, true, filter, option_map, IfSome, refl, sym, ap, ◌∙◌, nat_cmp, Ordering, Less, Equal, Greater}
+use Rattle.std.proofs.Common.{◌≡◌, ◌==◌, ◌&&◌, map, ℕ, pos, List, [], ◌∷◌, true, filter, Some, option_map, IfSome, refl, sym, ap, ◌∙◌, nat_cmp, Ordering, Less, Equal, Greater}
 use Rattle.std.specs.Option.{option_to_list}
 use Rattle.std.specs.Ordering.{ordering_then, is_eq}
 use Rattle.std.specs.Cmp.Lexicographic.{slice_cmp}
@@ -20,6 +20,7 @@ use Rattle.tables.specs.Reading.{Finds}
 use Rattle.store.specs.EntryRows.{row_of_ward, IsWardRow, row_of_candidate, IsCandidateRow, row_of_batch, IsBatchRow, row_of_third, IsThirdRow, row_of_keyed, IsKeyedRow, row_of_judged, IsJudgedRow, row_of_lot, row_of_receipt, IsReceiptRow, row_of_placed, row_of_figure}
 use Rattle.store.specs.Elections.{bundles_at, figures_at}
 use Rattle.store.specs.Offices.{tables_of, tables_with}
+use Rattle.store.specs.Overviews.{receipts_of}
 use Rattle.tables.proofs.OrderLemmas.{equal-number, key_of_number, key_of_two_numbers, key_of_three_numbers, key_of_number_and_text, same_number, same_three_numbers}
 use Rattle.store.proofs.StateLemmas.{tables_rise}
 use Rattle.store.proofs.FitLemmas.{wards_fit, candidates_fit, batches_fit, thirds_fit, keyings_fit, verdicts_fit, receipts_fit}
@@ -39,6 +40,11 @@ both_equal Equal b h = (refl, h)
 both_equal Less b h = absurd cc
 both_equal Greater b h = absurd cc
 
+-- each entry passes what all do
+all_kept : {X : Type 0} (xs : List X) → filter (λ x. true) xs ≡ xs
+all_kept [] = refl
+all_kept (x ∷ xs) = ap (λ l. x ∷ l) (all_kept xs)
+
 -- ---- wards and candidates
 
 pub ward_found : (s : OfficeState) → IsState s → (number : ℕ) → filter (begins_with (Int (pos number) ∷ [])) (tables_of s Ward) ≡ option_to_list (option_map row_of_ward (ward_at s number))
@@ -49,6 +55,12 @@ ward_found s is number =
 pub ward_fits : (s : OfficeState) → IsState s → (number : ℕ) → IfSome (option_map row_of_ward (ward_at s number)) IsWardRow
 unfolding tables_of tables_with
 ward_fits s is number = found_fits IsWardRow row_of_ward _ s.wards (wards_fit s is)
+
+-- all rows are those of all wards, in the order of their numbers
+pub all_wards_listed : (s : OfficeState) → IsState s → (rows : List Row) → Finds Ward (begins_with []) (tables_of s) rows → rows ≡ map row_of_ward s.wards
+unfolding tables_of tables_with
+all_wards_listed s is rows finds =
+    listed_as Ward row_of_ward (begins_with []) (λ w. true) (λ w. refl) s.wards (tables_rise s is Ward refl) rows finds.same finds.sorted ∙ ap (map row_of_ward) (all_kept s.wards)
 
 pub candidate_found : (s : OfficeState) → IsState s → (ward number : ℕ)
     → filter (begins_with (Int (pos ward) ∷ Int (pos number) ∷ [])) (tables_of s Candidate) ≡ option_to_list (option_map row_of_candidate (candidate_at s ward number))
@@ -96,10 +108,6 @@ pub all_batches_listed : (s : OfficeState) → IsState s → (rows : List Row) �
 unfolding tables_of tables_with
 all_batches_listed s is rows finds =
     listed_as Batch row_of_batch (begins_with []) (λ b. true) (λ b. refl) s.batches (tables_rise s is Batch refl) rows finds.same finds.sorted ∙ ap (map row_of_batch) (all_kept s.batches)
-  where
-    all_kept : {X : Type 0} (xs : List X) → filter (λ x. true) xs ≡ xs
-    all_kept [] = refl
-    all_kept (x ∷ xs) = ap (λ l. x ∷ l) (all_kept xs)
 
 -- the rows that refer to a ward are those of its batches
 pub batches_listed : (s : OfficeState) → IsState s → (ward : ℕ) (rows : List Row) → Finds Batch (refers_to WardOfBatch (Int (pos ward))) (tables_of s) rows → rows ≡ map row_of_batch (batches_of s ward)
@@ -210,3 +218,15 @@ receipt_found s is actor id =
 pub receipt_fits : (s : OfficeState) → IsState s → (actor : ℕ) (id : List ℕ) → IfSome (option_map row_of_receipt (receipt_at s actor id)) IsReceiptRow
 unfolding tables_of tables_with
 receipt_fits s is actor id = found_fits IsReceiptRow row_of_receipt _ s.receipts (receipts_fit s is)
+
+-- all rows are those of all receipts, by actor and id
+pub all_receipts_listed : (s : OfficeState) → IsState s → (rows : List Row) → Finds Receipt (begins_with []) (tables_of s) rows → rows ≡ map row_of_receipt s.receipts
+unfolding tables_of tables_with
+all_receipts_listed s is rows finds =
+    listed_as Receipt row_of_receipt (begins_with []) (λ r. true) (λ r. refl) s.receipts (tables_rise s is Receipt refl) rows finds.same finds.sorted ∙ ap (map row_of_receipt) (all_kept s.receipts)
+
+-- the rows that begin with an actor are those of his receipts, by id
+pub receipts_listed : (s : OfficeState) → IsState s → (actor : ℕ) (rows : List Row) → Finds Receipt (begins_with (Int (pos actor) ∷ [])) (tables_of s) rows → rows ≡ map row_of_receipt (receipts_of s (Some actor))
+unfolding tables_of tables_with
+receipts_listed s is actor rows finds =
+    listed_as Receipt row_of_receipt (begins_with (Int (pos actor) ∷ [])) (λ r. r.actor == actor) (λ r. same_number actor r.actor) s.receipts (tables_rise s is Receipt refl) rows finds.same finds.sorted

@@ -18,3 +18,5 @@ pub mod ElectionLemmas
 pub mod ReadsLemmas
 pub mod SettledLemmas
 pub mod MigrationLemmas
+pub mod OverviewLemmas
+pub mod PileLemmas

@@ -8,3 +8,5 @@ pub mod Elections
 pub mod Reads
 pub mod Settled
 pub mod Migrations
+pub mod Overviews
+pub mod Piles

@@ -4,7 +4,8 @@
 //! `open_from` finds the state that the rows of a database stand for, `load_view` reads the part of it
 //! that one request needs, `load_status` and `load_columns` how a ward stands and what a batch's papers have
 //! as columns, `load_work` what a clerk has to key, `load_sheet` and `load_counted` what the texts of a ward
-//! are written from, `load_book` its count as it was kept, and `commit` keeps a change in one transaction,
+//! are written from, `load_book` its count as it was kept, `load_wards`, `load_batches`, `load_doubtful`,
+//! `load_differences` and `load_receipts` how all stands, and `commit` keeps a change in one transaction,
 //! whole or not at all. `migrate` makes of an office that an earlier program made one that opens. `Fault`
 //! says why a call gave up.
 //!
@@ -22,6 +23,7 @@ mod listing;
 pub mod migration;
 pub mod older;
 mod opening;
+pub mod overviews;
 mod standings;
 pub mod storage;
 mod views;
@@ -29,6 +31,11 @@ mod working;
 mod writing;
 
 pub use migration::{Migrated, migrate};
+pub use overviews::batches::{BatchOverview, Standing};
+pub use overviews::clerks::ClerkOverview;
+pub use overviews::differences::Differences;
+pub use overviews::doubtful::DoubtfulPaper;
+pub use overviews::wards::{WardOverview, elected_in};
 pub use storage::Store;
 pub use tables::fault;
 pub use tables::fault::Fault;

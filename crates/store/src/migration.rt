@@ -22,7 +22,7 @@ use std::alloc::Global;
 use tables::Fault;
 
 /// What a migration came to.
-#[derive(Clone, Copy, Debug, PartialEq, Eq)]
+#[derive(Clone, Copy, PartialEq, Eq)]
 pub enum Migrated {
     /// The office is at this program's version now.
     Done,

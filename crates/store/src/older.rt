@@ -28,7 +28,7 @@ use tables::Fault;
 use tables::presence::{Form, form_of};
 
 /// Which tables an older office has.
-#[derive(Clone, Copy, Debug, PartialEq, Eq)]
+#[derive(Clone, Copy, PartialEq, Eq)]
 pub enum OlderForm {
     /// All but that of the third clerks.
     WithCounts,

@@ -118,7 +118,7 @@ fn tally_all<S: Alter>(
 }
 
 /// How a ward stands.
-fn ward_status<S: Alter>(
+pub(crate) fn ward_status<S: Alter>(
     alloc: Global,
     conn: &mut Connection<S>,
     ward: &Ward,

@@ -18,7 +18,7 @@ pub(crate) mod candidates;
 mod counts;
 pub(crate) mod elections;
 pub(crate) mod papers;
-mod receipts;
+pub(crate) mod receipts;
 pub(crate) mod settled;
 pub(crate) mod sheets;
 pub(crate) mod wards;

@@ -14,7 +14,7 @@ use sqlite_schema::names::same_name;
 use sqlite_schema::schema::Schema;
 
 /// Which tables of an office a database has. Where it lacks the last ones, an older program made it.
-#[derive(Clone, Copy, Debug, PartialEq, Eq)]
+#[derive(Clone, Copy, PartialEq, Eq)]
 pub enum Form {
     /// All tables.
     Whole,

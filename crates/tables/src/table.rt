@@ -4,7 +4,7 @@ ghost use Rattle.std.specs.Prelude.{◌≡◌, length};
 ghost use Rattle.tables.specs.Schema.{shape, changes_rows, table_sought, table_set};
 
 /// The tables, in the order of making.
-#[derive(Clone, Copy, Debug, PartialEq, Eq)]
+#[derive(Clone, Copy, PartialEq, Eq)]
 pub enum Table {
     Office,
     Ward,
@@ -83,7 +83,7 @@ impl Table {
 }
 
 /// The columns outside a key by which rows are sought.
-#[derive(Clone, Copy, Debug, PartialEq, Eq)]
+#[derive(Clone, Copy, PartialEq, Eq)]
 pub enum Reference {
     /// The ward of a batch.
     WardOfBatch,
@@ -101,7 +101,7 @@ impl Reference {
 }
 
 /// The columns outside a key that are set alone, while the others stay.
-#[derive(Clone, Copy, Debug, PartialEq, Eq)]
+#[derive(Clone, Copy, PartialEq, Eq)]
 pub enum Setting {
     /// The version of the office.
     VersionOfOffice,

@@ -18,7 +18,7 @@ use votes::Source;
 /// A clerk's keying of a batch in a round: under which id it is sent, and the marks text of each paper.
 /// Clerk and batch have 1 to 5 digits and the round is any number of 32 bits: whether they are in range
 /// is decided when the keying is handled.
-#[derive(Debug, Drop)]
+#[derive(Drop)]
 pub struct Keying {
     pub clerk: u32,
     pub batch: u32,
@@ -28,7 +28,7 @@ pub struct Keying {
 }
 
 /// What a request asks.
-#[derive(Debug, Drop)]
+#[derive(Drop)]
 pub enum Asked {
     /// Nothing that the office could be asked.
     Denied(Denial),

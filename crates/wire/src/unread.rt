@@ -7,7 +7,7 @@ use std::alloc::AllocError;
 use votes::Broken;
 
 /// Why a request wasn't read.
-#[derive(Clone, Copy, Debug, PartialEq, Eq)]
+#[derive(Clone, Copy, PartialEq, Eq)]
 pub enum Unread {
     /// The source failed, and counts one failure more.
     Broken,

@@ -61,6 +61,15 @@ Commands:
 Options:
   -h, --help  Print help
 
+For the office alone. The first five change nothing, and no clerk is to see what they tell:
+  wards              How each ward stands, and what is left to do
+  batches WARD       Who has keyed each batch of a ward, how it stands, and which other
+                     batch has the very same papers
+  doubtful WARD      Which papers of a ward are doubtful, each open or with its verdict
+  differences BATCH  On which papers a batch differs
+  receipts [ACTOR]   What was kept, under which id: of an actor, 0 for the office, or of all
+  replay FILE        Sends the orders of a text file, a line each, up to a refusal
+
 An example stands under each order. Its words, with their ranges, are shown by
   count-office DB ORDER --help
 
@@ -182,6 +191,34 @@ Arguments:
   <CONNECTIONS>  How many connections are answered, 1 to 1000000
 $ migrate --help
 Usage: count-office DB migrate
+$ wards --help
+Usage: count-office DB wards
+$ batches --help
+Usage: count-office DB batches <WARD>
+
+Arguments:
+  <WARD>  The ward's number, 1 to 99
+$ doubtful --help
+Usage: count-office DB doubtful <WARD>
+
+Arguments:
+  <WARD>  The ward's number, 1 to 99
+$ differences --help
+Usage: count-office DB differences <BATCH>
+
+Arguments:
+  <BATCH>  The batch's number, over all wards, 1 to 9999
+$ receipts --help
+Usage: count-office DB receipts [ACTOR]
+
+Arguments:
+  [ACTOR]  Whose receipts, a clerk's number, 1 to 999, or 0 for the office;
+           left out, those of all
+$ replay --help
+Usage: count-office DB replay <FILE>
+
+Arguments:
+  <FILE>  The path of a script; docs/FORMATS.md tells its form
 $ declare --help
       --id <ID>  An id that you choose for this order, 1 to 40 of a-z, 0-9 and -;
                  sent again under the same id, it does nothing twice

@@ -6,7 +6,7 @@ use super::clients::{Client, Coming, Jumping, Taking};
 use super::loads::loads;
 use desk::perform::perform;
 use desk::serving::serve_all;
-use desk::{order, serve_on, tell_words};
+use desk::{Folder, order, serve_on, tell_words};
 use office::{Answer, Office, Run, Stop, Work};
 use register::Request;
 use sqlite::{Alter, Connection};
@@ -23,6 +23,8 @@ pub enum Step<'a> {
     Order(&'a [&'a str]),
     /// The same, where the file that it names has these bytes.
     FileOrder(&'a [&'a str], &'a [u8]),
+    /// The same of a script, where each file that it names has the bytes beside its path, and no other is there.
+    Script(&'a [u8], Shelf<'a>),
     /// The same, where each of the two outputs takes no more than so many bytes.
     BreakingOrder(&'a [&'a str], &'a [u8], Rooms),
     /// A new office, and a list of requests handed to it; their answers stand as the output.
@@ -43,6 +45,31 @@ pub enum Step<'a> {
     /// Every row of every table, as the output.
     Contents,
 }
+
+/// Files in memory: the path and the bytes of each.
+pub type Shelf<'a> = &'a [(&'a str, &'a [u8])];
+
+/// What opens them.
+#[derive(Clone, Copy)]
+struct Shelved<'a> {
+    files: Shelf<'a>,
+}
+
+impl<'a> Folder for Shelved<'a> {
+    type File = &'a [u8];
+
+    fn open(&self, path: &str) -> Option<&'a [u8]> {
+        for (name, bytes) in self.files {
+            if *name == path {
+                return Some(bytes);
+            }
+        }
+        None
+    }
+}
+
+/// The words that send a script.
+const REPLAY: &[&str] = &["DB", "replay", "FILE"];
 
 /// How many bytes the output takes before it fails, and how many the error output.
 #[derive(Clone, Copy, Debug)]
@@ -108,6 +135,7 @@ fn give<S: Alter + Drop, O: Sink, E: Sink>(
     conn: Connection<S>,
     words: &[&str],
     file: Option<&[u8]>,
+    shelf: Shelf<'_>,
     out: &mut O,
     err: &mut E,
 ) -> (u8, Connection<S>)
@@ -115,7 +143,15 @@ fn give<S: Alter + Drop, O: Sink, E: Sink>(
     requires err { E.failed err.old < 2 ^ 64 - 1 }
 {
     match order(alloc, words) {
-        Ok(order) => perform(alloc, &order, conn, file, out, err),
+        Ok(order) => perform(
+            alloc,
+            &order,
+            conn,
+            file,
+            &Shelved { files: shelf },
+            out,
+            err,
+        ),
         Err(fault) => (tell_words(&fault, out, err), conn),
     }
 }
@@ -264,6 +300,7 @@ fn ordered<S: Alter + Drop>(
     conn: Connection<S>,
     words: &[&str],
     file: Option<&[u8]>,
+    shelf: Shelf<'_>,
     rooms: Rooms,
 ) -> Result<(Said, Connection<S>), Fail> {
     let mut out = Taking::new(alloc, rooms.out);
@@ -271,7 +308,7 @@ fn ordered<S: Alter + Drop>(
     let (status, conn) = {
         let mut out = Counted::new(&mut out);
         let mut err = Counted::new(&mut err);
-        give(alloc, conn, words, file, &mut out, &mut err)
+        give(alloc, conn, words, file, shelf, &mut out, &mut err)
     };
     let (out, err) = (out.text()?, err.text()?);
     Ok((Said { status, out, err }, conn))
@@ -283,10 +320,11 @@ fn done<S: Alter + Drop>(
     step: Step<'_>,
 ) -> Result<(Said, Connection<S>), Fail> {
     match step {
-        Step::Order(words) => ordered(alloc, conn, words, None, AMPLE),
-        Step::FileOrder(words, file) => ordered(alloc, conn, words, Some(file), AMPLE),
+        Step::Order(words) => ordered(alloc, conn, words, None, &[], AMPLE),
+        Step::FileOrder(words, file) => ordered(alloc, conn, words, Some(file), &[], AMPLE),
+        Step::Script(script, shelf) => ordered(alloc, conn, REPLAY, Some(script), shelf, AMPLE),
         Step::BreakingOrder(words, file, rooms) => {
-            ordered(alloc, conn, words, Some(file), rooms)
+            ordered(alloc, conn, words, Some(file), &[], rooms)
         }
         Step::List(requests) => list(alloc, conn, requests),
         Step::Work(clerk) => work(alloc, conn, clerk),

@@ -56,8 +56,22 @@ $ sheet 7
 Run(Print { ward: 7, text: Sheet })
 $ result 7
 Run(Print { ward: 7, text: Declaration })
+$ wards
+Run(Ask(Wards))
+$ batches 7
+Run(Ask(Batches { ward: 7 }))
+$ doubtful 4294967295
+Run(Ask(Doubtful { ward: 4294967295 }))
+$ differences 12
+Run(Ask(Differences { batch: 12 }))
+$ receipts
+Run(Ask(Receipts { actor: None }))
+$ receipts 0
+Run(Ask(Receipts { actor: Some(0) }))
 $ serve 8080 1000000
 Serve { port: 8080, connections: 1000000 }
+$ replay evening.txt
+Replay { file: "evening.txt" }
 "#;
 
 /// Words with spaces, and without a letter.
@@ -100,7 +114,7 @@ fn words_are_read_to_orders(rt: HostRuntime) -> Result<(), Fail> {
 }
 
 /// Words that are no order, parted by spaces; how what is told of them begins, and what stands in it.
-const NO_ORDERS: [(&str, &str, &str); 24] = [
+const NO_ORDERS: [(&str, &str, &str); 27] = [
     (
         "DB serve 8080",
         "2 error: ",
@@ -164,6 +178,13 @@ const NO_ORDERS: [(&str, &str, &str); 24] = [
         "DB serve x 2",
         "2 error: ",
         "invalid value 'x' for '<PORT>'",
+    ),
+    ("DB batches", "2 error: ", "<WARD>"),
+    ("DB wards 7", "2 error: ", "unexpected argument '7' found"),
+    (
+        "DB receipts x",
+        "2 error: ",
+        "invalid value 'x' for '[ACTOR]'",
     ),
     ("DB serve 0 2", "2 error: ", "0 is not in 1..=65535"),
     ("DB serve 65536 2", "2 error: ", "65536 is not in 1..=65535"),

@@ -1,6 +1,6 @@
 //! Wards, read for a request.
 
-ghost use Rattle.std.specs.Prelude.{◌≡◌, false, option_map};
+ghost use Rattle.std.specs.Prelude.{◌≡◌, false, map, option_map};
 ghost use Rattle.sqlite.specs.Held.{state};
 ghost use Rattle.register.specs.Offices.{ward_entry, ward_at, candidates_of};
 ghost use Rattle.register.specs.Parts.{empty_part, part_entries};
@@ -13,7 +13,7 @@ use sqlite::{Alter, Connection};
 use std::alloc::Global;
 use tables::Fault;
 use tables::cells::number;
-use tables::finding::find_entry;
+use tables::finding::{entries_beginning, find_entry};
 
 /// The ward with this number, if it is there.
 pub(crate) fn find_ward<S: Alter>(
@@ -24,6 +24,17 @@ pub(crate) fn find_ward<S: Alter>(
     ensures { Reads (state S.Store conn.old) (state S.Store conn.new) result (λ s found. option_map ward_entry found ≡ ward_at s ward) }
 {
     find_entry::<Wards, S>(conn, &[number(ward)])
+}
+
+/// All wards, in the order of their numbers.
+pub(crate) fn all_wards<S: Alter>(
+    alloc: Global,
+    conn: &mut Connection<S>,
+) -> Result<Vec<Ward>, Fault>
+    requires { conn.old.in_transaction ≡ false }
+    ensures { Reads (state S.Store conn.old) (state S.Store conn.new) result (λ s found. map ward_entry found.items ≡ s.wards) }
+{
+    entries_beginning::<Wards, S>(alloc, conn, &[])
 }
 
 /// The part of a command that needs a ward.

@@ -1,14 +1,27 @@
 -- Why `tell` keeps its promise.
 use Rattle.std.proofs.Common.{refl}
-use Rattle.desk.specs.Pages.{unread}
-use Rattle.desk.proofs.PageLemmas.{error_shown}
+use Rattle.desk.specs.Pages.{failed, refused, unread}
+use Rattle.desk.specs.declared.lines.Failure.TheVariants.{Office}
+use Rattle.desk.proofs.PageLemmas.{front_shown, printed_shown}
 use Rattle.desk.proofs.lines.tell.Goals as goal
 
 pub returns-in-Ready : goal.returns-in-Ready
-returns-in-Ready g c = rw c.in-Ready.is c.tell_text.ensures
+returns-in-Ready g c = rw c.in-Ready.is (printed_shown c.args.line _ _ _ _ c.tell_text.ensures)
 
 pub returns-in-Migrated : goal.returns-in-Migrated
-returns-in-Migrated g c = rw c.in-Migrated.is (rw c.migrated_text.ensures at c.tell_text-in-Migrated.ensures)
+returns-in-Migrated g c = rw c.in-Migrated.is (printed_shown c.args.line _ _ _ _ (rw c.migrated_text.ensures at c.tell_text-in-Migrated.ensures))
+
+pub returns-in-Replied : goal.returns-in-Replied
+returns-in-Replied g c = rw c.in-Replied.is (printed_shown c.args.line _ _ _ _ (rw c.as_str.ensures.value at c.tell_text-in-Replied.ensures))
+
+pub returns-in-Refused : goal.returns-in-Refused
+returns-in-Refused g c =
+    rw c.in-Refused.is (front_shown g.O.Sink.taken g.O.Sink.failed g.E.Sink.taken g.E.Sink.failed c.args.line _ _ _ (refused c.in-Refused.refusal) c.tell_refusal.result _ _ refl refl c.tell_refusal.ensures)
 
 pub returns-in-Unread : goal.returns-in-Unread
-returns-in-Unread g c = rw c.in-Unread.is (error_shown g.O.Sink.taken g.O.Sink.failed g.E.Sink.taken g.E.Sink.failed _ _ _ (unread c.in-Unread.fault) c.tell_file_fault.result refl c.tell_file_fault.ensures)
+returns-in-Unread g c =
+    rw c.in-Unread.is (front_shown g.O.Sink.taken g.O.Sink.failed g.E.Sink.taken g.E.Sink.failed c.args.line _ _ _ (unread c.in-Unread.fault) c.tell_file_fault.result _ _ refl refl c.tell_file_fault.ensures)
+
+pub returns-in-Failed : goal.returns-in-Failed
+returns-in-Failed g c =
+    rw c.in-Failed.is (front_shown g.O.Sink.taken g.O.Sink.failed g.E.Sink.taken g.E.Sink.failed c.args.line _ _ _ (failed (Office c.in-Failed.fault)) c.tell_failure_at.result _ _ refl refl c.tell_failure_at.ensures)

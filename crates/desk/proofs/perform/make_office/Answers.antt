@@ -27,7 +27,7 @@ returns-in-Ok g c =
             taken = λ is db rests there. absurd (c.in-Ok.ensures.taken (table_rests db (state g.S.Store c.args.conn) rests there));
             in_older = λ is. absurd (cc is);
             beyond = λ is. absurd (cc is);
-            elsewhere = λ errand is. absurd (cc is);
+            elsewhere = λ needs. absurd needs;
             anywhere = λ port connections is. absurd (cc is);
           };
     }
@@ -43,7 +43,7 @@ returns-in-Err g c =
         in_nothing = λ is blank. inr (c.in-Err.fault, refl, blank_told (state g.S.Store c.args.conn) c.in-Err.fault blank c.in-Err.ensures.told, c.in-Err.ensures.stops clean blank);
         in_older = λ is. absurd (cc is);
         beyond = λ is. absurd (cc is);
-        elsewhere = λ errand is. absurd (cc is);
+        elsewhere = λ needs. absurd needs;
         anywhere = λ port connections is. absurd (cc is);
         taken = λ is db rests there.
             let st = state g.S.Store c.args.conn in

@@ -50,7 +50,7 @@ returns-in-Ok g c =
         in_older = λ is form s at. let it = c.in-Ok.ensures.moved clean form s at in inl (ap (λ m. replied (migrated_text m)) it.0, it.1);
         beyond = λ is db ours older rests none no_older. let it = c.in-Ok.ensures.opened clean db ours older rests in absurd (at_none db c.in-Ok.migrated it.0 none no_older it.1);
         taken = λ is. absurd (cc is);
-        elsewhere = λ errand is. absurd (cc is);
+        elsewhere = λ needs. absurd needs;
         anywhere = λ port connections is. absurd (cc is);
       };
     }
@@ -76,7 +76,7 @@ returns-in-Err g c =
         in_older = λ is form s at. inr (c.in-Err.fault, refl, c.in-Err.ensures.refuses clean form s at, c.migrate.ensures.stops clean form s at);
         beyond = λ is db ours older rests none no_older. record { fault = c.in-Err.fault; told = refl; given = c.in-Err.ensures.told clean db ours older rests; same = plain_or c.in-Err.fault c.in-Err.ensures.unchanged; leaves = none_moved db (state g.S.Store c.args.conn) (state g.S.Store c.migrate.new.conn) no_older (c.migrate.ensures.leaves clean db ours older rests) };
         taken = λ is. absurd (cc is);
-        elsewhere = λ errand is. absurd (cc is);
+        elsewhere = λ needs. absurd needs;
         anywhere = λ port connections is. absurd (cc is);
       };
     }

@@ -5,7 +5,8 @@ use Rattle.tables.proofs.ReadLemmas.{only_reads_itself}
 use Rattle.desk.specs.Pages.{failed}
 use Rattle.desk.specs.Requests.{work_for}
 use Rattle.desk.specs.declared.lines.Failure.TheVariants.{Output}
-use Rattle.desk.proofs.KeptLemmas.{rests_leaves, with_kept}
+use Rattle.desk.proofs.KeptLemmas.{rests_leaves}
+use Rattle.desk.proofs.PerformedLemmas.{with_kept}
 use Rattle.desk.proofs.PageLemmas.{error_shown}
 use Rattle.desk.proofs.perform.perform.Goals as goal
 
@@ -18,7 +19,7 @@ returns-in-Init g c =
         page = told.page;
         cut = told.cut;
         shown = told.shown;
-        is = λ clean. with_kept told.cut (work_for c.args.order.now) file _ _ told.page c.make_office.result.0 (state g.S.Store c.args.conn) (state g.S.Store c.make_office.result.1) told.shown
+        is = λ clean. with_kept told.cut (work_for (g.F.Folder.held c.args.folder.now) c.args.order.now) file _ _ told.page c.make_office.result.0 (state g.S.Store c.args.conn) (state g.S.Store c.make_office.result.1) told.shown
             (rw c.in-Init.is (told.is clean file));
       };
     }
@@ -32,7 +33,7 @@ returns-in-Migrate g c =
         page = told.page;
         cut = told.cut;
         shown = told.shown;
-        is = λ clean. with_kept told.cut (work_for c.args.order.now) file _ _ told.page c.migrate_office.result.0 (state g.S.Store c.args.conn) (state g.S.Store c.migrate_office.result.1) told.shown
+        is = λ clean. with_kept told.cut (work_for (g.F.Folder.held c.args.folder.now) c.args.order.now) file _ _ told.page c.migrate_office.result.0 (state g.S.Store c.args.conn) (state g.S.Store c.migrate_office.result.1) told.shown
             (rw c.in-Migrate.is (told.is clean file));
       };
     }
@@ -46,8 +47,22 @@ returns-in-Run g c =
         page = told.page;
         cut = told.cut;
         shown = told.shown;
-        is = λ clean. with_kept told.cut (work_for c.args.order.now) file _ _ told.page c.run_opened.result.0 (state g.S.Store c.args.conn) (state g.S.Store c.run_opened.result.1) told.shown
+        is = λ clean. with_kept told.cut (work_for (g.F.Folder.held c.args.folder.now) c.args.order.now) file _ _ told.page c.run_opened.result.0 (state g.S.Store c.args.conn) (state g.S.Store c.run_opened.result.1) told.shown
             (rw c.in-Run.is (told.is clean));
+      };
+    }
+
+pub returns-in-Replay : goal.returns-in-Replay
+returns-in-Replay g c =
+    let told = c.replay_opened.ensures in
+    let file = option_map g.R.Read.remaining c.args.file in
+    record {
+      headline = record {
+        page = told.page;
+        cut = told.cut;
+        shown = told.shown;
+        is = λ clean. with_kept told.cut (work_for (g.F.Folder.held c.args.folder.now) c.args.order.now) file _ _ told.page c.replay_opened.result.0 (state g.S.Store c.args.conn) (state g.S.Store c.replay_opened.result.1) told.shown
+            (rw c.in-Replay.is (told.is clean));
       };
     }
 
@@ -61,14 +76,14 @@ returns-in-Serve g c =
         page = failed Output;
         cut = told.0;
         shown = told.1;
-        is = λ clean. with_kept told.0 (work_for c.args.order.now) file _ _ (failed Output) c.tell_failure.result st st told.1
+        is = λ clean. with_kept told.0 (work_for (g.F.Folder.held c.args.folder.now) c.args.order.now) file _ _ (failed Output) c.tell_failure.result st st told.1
             (rw c.in-Serve.is (record {
               in_office = λ db rests s left. inl (refl, rests_leaves s db st (λ trees is_open may. g.met.S.Store.settled c.args.conn.store trees is_open may) rests left);
               in_nothing = λ is. absurd (cc is);
               taken = λ is. absurd (cc is);
               in_older = λ is. absurd (cc is);
               beyond = λ is. absurd (cc is);
-              elsewhere = λ errand is. absurd (cc is);
+              elsewhere = λ needs. absurd needs;
               anywhere = λ port connections is. (refl, only_reads_itself st);
             }));
       };

@@ -4,6 +4,7 @@ use Rattle.sqlite.specs.Held.{state}
 use Rattle.office.specs.Answers.{IsOpenAt}
 use Rattle.tables.specs.declared.fault.Fault.TheVariants.{Memory}
 use Rattle.desk.specs.Pages.{page_of}
+use Rattle.desk.proofs.SentLemmas.{silent}
 use Rattle.desk.proofs.perform.run.Goals as goal
 
 pub returns-in-Send-clause-ran : goal.returns-in-Send-clause-ran
@@ -13,7 +14,7 @@ returns-in-Send-clause-ran g c =
       page = told.page;
       cut = told.cut;
       shown = told.shown;
-      is = λ clean is_open s at. rw c.in-Send.is (inl (c.in-Send.request ∷ [], refl, rw c.from_ref.ensures.value at (told.is clean is_open s at)));
+      is = (told.is.0, λ clean is_open s at. rw c.in-Send.is (inl (c.in-Send.request ∷ [], refl, rw c.from_ref.ensures.value at (told.is.1 clean is_open s at))));
     }
 
 pub returns-in-Err-clause-ran : goal.returns-in-Err-clause-ran
@@ -23,10 +24,13 @@ returns-in-Err-clause-ran g c =
       page = page_of c.in-Err.outcome;
       cut = told.0;
       shown = told.1;
-      is = λ clean is_open s at.
-          let here : IsOpenAt s c.args.office.now.closed (state g.S.Store c.args.office.now.held) = record { is_open = is_open; at = at } in
-          rw c.in-ImportCandidates.is
-          (inr (elim c.in-Err.ensures.refused [ inl why ↦ inl (why, here) | inr memory ↦ inr (Memory, memory, inl (record { memory = refl; open_at = here })) ]));
+      is = (
+        silent c.in-Err.outcome,
+        λ clean is_open s at.
+            let here : IsOpenAt s c.args.office.now.closed (state g.S.Store c.args.office.now.held) = record { is_open = is_open; at = at } in
+            rw c.in-ImportCandidates.is
+            (inr (elim c.in-Err.ensures.refused [ inl why ↦ inl (why, here) | inr memory ↦ inr (Memory, memory, inl (record { memory = refl; open_at = here })) ])),
+      );
     }
 
 pub returns-in-Ok-keying_of-clause-ran : goal.returns-in-Ok-keying_of-clause-ran
@@ -36,9 +40,12 @@ returns-in-Ok-keying_of-clause-ran g c =
       page = told.page;
       cut = told.cut;
       shown = told.shown;
-      is = λ clean is_open s at.
-          let read = c.in-Ok-keying_of.ensures.read (c.send_all-in-Ok-keying_of.ensures.clean clean) is_open s at in
-          rw c.in-ImportKeying.is (inl (c.in-Ok-keying_of.request ∷ [], read.0, told.is clean read.1.is_open s read.1.at));
+      is = (
+        told.is.0,
+        λ clean is_open s at.
+            let read = c.in-Ok-keying_of.ensures.read (c.send_all-in-Ok-keying_of.ensures.clean clean) is_open s at in
+            rw c.in-ImportKeying.is (inl (c.in-Ok-keying_of.request ∷ [], read.0, told.is.1 clean read.1.is_open s read.1.at)),
+      );
     }
 
 pub returns-in-Err-keying_of-clause-ran : goal.returns-in-Err-keying_of-clause-ran
@@ -48,15 +55,20 @@ returns-in-Err-keying_of-clause-ran g c =
       page = page_of c.in-Err-keying_of.outcome;
       cut = told.0;
       shown = told.1;
-      is = λ clean is_open s at. rw c.in-ImportKeying.is (inr (c.in-Err-keying_of.ensures.read clean is_open s at));
+      is = (silent c.in-Err-keying_of.outcome, λ clean is_open s at. rw c.in-ImportKeying.is (inr (c.in-Err-keying_of.ensures.read clean is_open s at)));
     }
 
 pub returns-in-TellStatus-clause-ran : goal.returns-in-TellStatus-clause-ran
 returns-in-TellStatus-clause-ran g c =
     let told = c.tell-in-TellStatus.ensures in
-    record { page = page_of c.standing_of.result; cut = told.0; shown = told.1; is = λ clean is_open s at. rw c.in-TellStatus.is (inr (c.standing_of.ensures.found clean is_open s at)) }
+    record { page = page_of c.standing_of.result; cut = told.0; shown = told.1; is = (silent c.standing_of.result, λ clean is_open s at. rw c.in-TellStatus.is (inr (c.standing_of.ensures.found clean is_open s at))) }
 
 pub returns-in-Print-clause-ran : goal.returns-in-Print-clause-ran
 returns-in-Print-clause-ran g c =
     let told = c.tell-in-Print.ensures in
-    record { page = page_of c.text_of.result; cut = told.0; shown = told.1; is = λ clean is_open s at. rw c.in-Print.is (inr (c.text_of.ensures.found clean is_open s at)) }
+    record { page = page_of c.text_of.result; cut = told.0; shown = told.1; is = (silent c.text_of.result, λ clean is_open s at. rw c.in-Print.is (inr (c.text_of.ensures.found clean is_open s at))) }
+
+pub returns-in-Ask-clause-ran : goal.returns-in-Ask-clause-ran
+returns-in-Ask-clause-ran g c =
+    let told = c.tell-in-Ask.ensures in
+    record { page = page_of c.answer_to.result; cut = told.0; shown = told.1; is = (silent c.answer_to.result, λ clean is_open s at. rw c.in-Ask.is (inr (c.answer_to.ensures.found clean is_open s at))) }

@@ -4,8 +4,8 @@ use Rattle.std.proofs.lemmas.List.{take_all}
 use Rattle.sqlite.specs.Held.{state}
 use Rattle.register.specs.Machine.{after}
 use Rattle.desk.specs.Pages.{below, cut_below, uncut, empty_page, page_of}
-use Rattle.desk.proofs.PageLemmas.{shown_below}
-use Rattle.desk.proofs.SentLemmas.{nothing_told, sent_all, sent_last, sent_more, status_zero, told_all, told_more}
+use Rattle.desk.proofs.PageLemmas.{shown_below_front}
+use Rattle.desk.proofs.SentLemmas.{nothing_told, sent_all, sent_last, sent_more, silent, status_zero, told_all, told_more}
 use Rattle.desk.proofs.sending.send_all.Goals as goal
 
 pub loop-request-init : goal.loop-request-init
@@ -25,13 +25,13 @@ loop-request-preserved g c =
       clean = λ clean. c.loop-request.invariant.clean (c.outcome_of.ensures.clean clean);
       so_far = record {
         said = so_far.said ++ (page_of o).out;
-        shown = told_more _ _ _ so_far.said o c.tell-status.result c.if-status-ne0.false so_far.shown c.tell-status.ensures;
+        shown = told_more c.args.line _ _ _ so_far.said (page_of o) c.tell-status.result (silent o) c.if-status-ne0.false so_far.shown c.tell-status.ensures;
         is = λ clean is_open s at.
             let so = so_far.is (c.outcome_of.ensures.clean clean) is_open s at in
             sent_more s rs i c.request-item.result so_far.said c.loop-request.office.closed (state g.S.Store c.loop-request.office.held) (page_of o) c.outcome_of.new.office.closed
             (state g.S.Store c.outcome_of.new.office.held) within c.request-item.is so
             (c.outcome_of.ensures.told clean so.open_at.is_open (after s (take i rs)) so.open_at.at)
-            (status_zero _ _ (page_of o) c.tell-status.result c.if-status-ne0.false c.tell-status.ensures);
+            (status_zero c.args.line _ _ (page_of o) c.tell-status.result c.if-status-ne0.false c.tell-status.ensures);
       };
     }
 
@@ -46,12 +46,15 @@ returns-then-status-ne0-clause-sent g c =
     record {
       page = below so_far.said page;
       cut = cut_below so_far.said told.0;
-      shown = shown_below told.0 _ _ _ so_far.said page c.tell-status.result so_far.shown told.1;
-      is = λ clean is_open s at.
-          let so = so_far.is (c.outcome_of.ensures.clean clean) is_open s at in
-          sent_last s rs i c.request-item.result so_far.said c.loop-request.office.closed (state g.S.Store c.loop-request.office.held) told.0 _ _ c.tell-status.result page c.outcome_of.new.office.closed
-          (state g.S.Store c.outcome_of.new.office.held) within c.request-item.is so
-          (c.outcome_of.ensures.told clean so.open_at.is_open (after s (take i rs)) so.open_at.at) c.if-status-ne0.true told.1;
+      shown = shown_below_front c.args.line told.0 _ _ _ so_far.said page c.tell-status.result so_far.shown told.1;
+      is = (
+        silent c.outcome_of.result,
+        λ clean is_open s at.
+            let so = so_far.is (c.outcome_of.ensures.clean clean) is_open s at in
+            sent_last c.args.line s rs i c.request-item.result so_far.said c.loop-request.office.closed (state g.S.Store c.loop-request.office.held) told.0 _ _ c.tell-status.result page c.outcome_of.new.office.closed
+            (state g.S.Store c.outcome_of.new.office.held) within c.request-item.is so
+            (c.outcome_of.ensures.told clean so.open_at.is_open (after s (take i rs)) so.open_at.at) c.if-status-ne0.true told.1,
+      );
     }
 
 pub returns-clause-sent : goal.returns-clause-sent
@@ -61,7 +64,10 @@ returns-clause-sent g c =
     record {
       page = below so_far.said empty_page;
       cut = uncut;
-      shown = told_all _ _ so_far.said so_far.shown;
-      is = λ clean is_open s at. sent_all s rs (take c.loop-request.request-index rs) so_far.said c.loop-request.office.closed (state g.S.Store c.loop-request.office.held)
-          (take_all _ _ c.loop-request-test.false) (so_far.is clean is_open s at);
+      shown = told_all c.args.line _ _ so_far.said so_far.shown;
+      is = (
+        λ zero. refl,
+        λ clean is_open s at. sent_all s rs (take c.loop-request.request-index rs) so_far.said c.loop-request.office.closed (state g.S.Store c.loop-request.office.held)
+            (take_all _ _ c.loop-request-test.false) (so_far.is clean is_open s at),
+      );
     }

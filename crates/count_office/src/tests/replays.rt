@@ -1,0 +1,196 @@
+//! Scripts: orders in a text, sent in turn.
+
+use super::disks::{Act, play_acts};
+use super::steps::{Shelf, Step};
+use std::test::Fail;
+
+/// A small election, with its lines as people write them.
+const ELECTION: &[u8] = b"# the evening of the count
+ward 7 2 'Old Harbour' --id w1\r
+\tcandidate 7 1 Ann --id c1
+
+import-candidates names.csv --id c
+close 7 --id n1
+batch 12 7 2 4 9 --id b1
+import-keying 4 12 1 \"clerk 4.csv\" --id k1
+import-keying 9 12 1 clerk' '9.csv --id k1
+seal 7 --id s1
+advance 7 --id a1
+declare 7 --id d1";
+
+/// The files that it names.
+const SHELF: Shelf<'static> = &[
+    ("names.csv", b"ward,candidate,name\n7,2,Bob\n7,3,Cy\n"),
+    ("clerk 4.csv", b"paper,1,2,3\n1,1,2,\n2,,1,\n"),
+    ("clerk 9.csv", b"paper,1,2,3\n1,1,2,\n2,,1,\n"),
+];
+
+/// What is told of it, the first time and each time after.
+const REPLIES: &str = "ward 7 added
+candidate 1 of ward 7 added
+candidate 2 of ward 7 added
+candidate 3 of ward 7 added
+ward 7 polled
+batch 12 added
+batch 12 round 1 keyed
+batch 12 round 1 keyed
+ward 7 sealed: 2 valid, 0 rejected, quota 1.00000
+ward 7 stage 1 first preferences
+ward 7 declared: 1, 2
+";
+
+const MADE: &[Act] = &[Act::Typed("$ init\noffice ready\n")];
+
+#[test]
+fn a_script_is_sent_and_sent_again(rt: HostRuntime) -> Result<(), Fail> {
+    let told = (Step::Script(ELECTION, SHELF), (0, REPLIES, ""));
+    play_acts(&rt, MADE)?
+        .hear(&rt, &[told])?
+        .hear_unchanged(&rt, &[told, told])?;
+    Ok(())
+}
+
+/// A line that is refused ends a script: those before it stand, and those behind it aren't sent.
+#[test]
+fn a_refusal_ends_a_script(rt: HostRuntime) -> Result<(), Fail> {
+    let cases = [
+        (
+            Step::Script(
+                b"ward 7 2 Harbour --id w1\n\nseal 7 --id s1\nward 8 2 Quay --id w2\n",
+                &[],
+            ),
+            (1, "ward 7 added\n", "line 3: refused 9: wrong phase\n"),
+        ),
+        (
+            Step::Order(&["DB", "status", "8"]),
+            (1, "", "refused 5: no such ward\n"),
+        ),
+        // An import file that isn't there, and one that is refused.
+        (
+            Step::Script(
+                b"ward 7 2 Harbour --id w1\nimport-candidates names.csv --id c\nward 8 2 Quay --id w2",
+                &[],
+            ),
+            (
+                3,
+                "ward 7 added\n",
+                "line 2: file fault 8 at record 0: read failed\n",
+            ),
+        ),
+        (
+            Step::Script(
+                b"import-candidates names.csv --id c\nward 8 2 Quay --id w2",
+                &[("names.csv", b"names\n")],
+            ),
+            (1, "", "line 1: file fault 1 at record 0: header\n"),
+        ),
+        (
+            Step::Order(&["DB", "status", "8"]),
+            (1, "", "refused 5: no such ward\n"),
+        ),
+        // A script with nothing in it.
+        (Step::Script(b"", &[]), (0, "", "")),
+        (
+            Step::Script(b" \n#ward 8 2 Quay --id w2\r\n\t# x\n", &[]),
+            (0, "", ""),
+        ),
+    ];
+    play_acts(&rt, MADE)?.hear(&rt, &cases)?;
+    Ok(())
+}
+
+/// Texts that are no script: nothing is done, whatever stands before.
+const NO_SCRIPTS: [(&[u8], &str); 12] = [
+    (
+        b"ward 7 2 'Old Harbour --id w1",
+        "line 1: error: a quote is not closed\n",
+    ),
+    (
+        b"ward 8 2 Quay --id w2\nward 7 2 \"Har'bour --id w1\nx",
+        "line 2: error: a quote is not closed\n",
+    ),
+    (
+        b"#\nward 7 2 \xff --id w1",
+        "line 2: error: a word is not UTF-8\n",
+    ),
+    (
+        b"ward 8 2 Quay --id w2\njudge 12 2 maybe --id v1",
+        "line 2: bad verdict word\n",
+    ),
+    (
+        b"ward 8 2 Quay --id w2\n\n\ninit now",
+        "line 4: error: unexpected argument 'now' found
+
+Usage: count-office DB init
+
+For more information, try '--help'.
+",
+    ),
+    (
+        b"replay FILE",
+        "line 1: error: this order stands in no script\n",
+    ),
+    (
+        b"ward 8 2 Quay --id w2\ninit",
+        "line 2: error: this order stands in no script\n",
+    ),
+    (
+        b"migrate",
+        "line 1: error: this order stands in no script\n",
+    ),
+    (
+        b"status 7",
+        "line 1: error: this order stands in no script\n",
+    ),
+    (
+        b"sheet 7",
+        "line 1: error: this order stands in no script\n",
+    ),
+    (
+        b"serve 8080 1",
+        "line 1: error: this order stands in no script\n",
+    ),
+    (
+        b"ward --help",
+        "line 1: error: this order stands in no script\n",
+    ),
+];
+
+#[test]
+fn a_script_is_understood_before_it_is_sent(rt: HostRuntime) -> Result<(), Fail> {
+    let mut disks = play_acts(&rt, MADE)?;
+    for (text, told) in NO_SCRIPTS {
+        disks = disks.hear_unchanged(&rt, &[(Step::Script(text, &[]), (2, "", told))])?;
+    }
+    let unread = (3, "", "file fault 8 at record 0: read failed\n");
+    disks.hear_unchanged(&rt, &[(Step::Order(&["DB", "replay", "FILE"]), unread)])?;
+    Ok(())
+}
+
+/// Words, as a script cuts a line, and as the shell does.
+#[test]
+fn words_are_cut_as_by_a_shell(rt: HostRuntime) -> Result<(), Fail> {
+    let cases = [
+        (
+            Step::Script(
+                b"ward 7 \"2\" Old\" Har\"'bour' '--id' w1 # no comment",
+                &[],
+            ),
+            (
+                2,
+                "",
+                "line 1: error: unexpected argument '#' found\n\nUsage: count-office DB ward --id <ID> <WARD> <SEATS> <NAME>\n\nFor more information, try '--help'.\n",
+            ),
+        ),
+        (
+            Step::Script(b"ward\t7  \"2\" Old\" Har\"'bour' '--id' w1 \r\n", &[]),
+            (0, "ward 7 added\n", ""),
+        ),
+        (
+            Step::Script(b"ward 8 2 'a \"b\" c\\' --id w2\nward 9 2 '' --id w3", &[]),
+            (1, "ward 8 added\n", "line 2: refused 4: bad name\n"),
+        ),
+    ];
+    play_acts(&rt, MADE)?.hear(&rt, &cases)?;
+    Ok(())
+}

@@ -1,0 +1,32 @@
+-- Why what is told of how all stands is the definition's page.
+use Rattle.std.proofs.Common.{◌≡◌, ◌⊎◌, ◌∙◌, ◌++◌, inl, inr, Bool, List, [], ◌∷◌, map, Result, Ok, Err, IfOk, IfErr, refl, sym, ap}
+use Rattle.std.specs.List.{flat_map}
+use Rattle.clap.specs.Words.{Text}
+use Rattle.sqlite.specs.State.{State}
+use Rattle.register.specs.Offices.{OfficeState}
+use Rattle.register.specs.declared.refusal.Reason.{Reason}
+use Rattle.tables.specs.declared.fault.Fault.TheVariants.{Memory}
+use Rattle.office.specs.Reads.{Read}
+use Rattle.office.specs.declared.answers.Stop.{Stop}
+use Rattle.office.specs.declared.answers.Stop.TheVariants.{Refused, Fault}
+use Rattle.desk.specs.Errands.{IsFound}
+use Rattle.desk.specs.Overviews.{lines_of}
+use Rattle.desk.specs.Pages.{Page, failed, line, page_found, page_stopped, printed}
+use Rattle.desk.specs.declared.lines.Failure.TheVariants.{Office}
+
+-- the lines of values are those of what they stand for
+lines_viewed : {X V : Type 0} (text : V → Text) (view : X → V) (xs : List X) → flat_map (λ x. line (text (view x))) xs ≡ lines_of text (map view xs)
+lines_viewed text view [] = refl
+lines_viewed text view (x ∷ xs) = ap (λ rest. line (text (view x)) ++ rest) (lines_viewed text view xs)
+
+-- lines of what was read, or why there are none, are what is told
+pub lines_found : {W X V : Type 0} (items : W → List X) (text : V → Text) (view : X → V) (s : OfficeState) (told : Result (List V) Reason) (found : Result W Stop) (page : Page) (closed : Bool) (st : State)
+    → Read (λ w. map view (items w)) s told found closed st
+    → IfOk found (λ w. (page ≡ printed (flat_map (λ x. line (text (view x))) (items w))) ⊎ (page ≡ failed (Office Memory)))
+    → IfErr found (λ stop. page ≡ page_stopped stop)
+    → IsFound s (λ views. printed (lines_of text views)) told page closed st
+lines_found items text view s told (Ok w) page closed st read (inl is) stops =
+    inl (is ∙ ap printed (lines_viewed text view (items w)) ∙ sym (ap (page_found (λ views. printed (lines_of text views))) read.0), read.1)
+lines_found items text view s told (Ok w) page closed st read (inr is) stops = inr (Memory, is, inl (record { memory = refl; open_at = read.1 }))
+lines_found items text view s told (Err (Refused why)) page closed st read lines is = inl (is ∙ sym (ap (page_found (λ views. printed (lines_of text views))) read.0), read.1)
+lines_found items text view s told (Err (Fault fault)) page closed st read lines is = inr (fault, is, read)

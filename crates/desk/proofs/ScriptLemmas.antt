@@ -1,0 +1,107 @@
+-- The turns of a script's lines.
+use Rattle.std.proofs.Common.{◌≡◌, ◌∙◌, ◌<◌, ◌+◌, ℕ, length, get_or, map, take, drop, subst, Bool, true, false, List, [], ◌∷◌, ◌++◌, Result, Ok, Err, inl, inr, refl, sym, ap}
+use Rattle.std.specs.Prelude.{◌==◌, IsOkAnd, IsUtf8, if◌then◌else◌, is_ok, is_err}
+use Rattle.std.specs.List.{list_all, list_any}
+use Rattle.std.proofs.lemmas.Bool.{false≢true}
+use Rattle.std.proofs.lemmas.List.{map-append, take-append-drop, take_more}
+use Rattle.std.proofs.lemmas.List.Folds.{list_all_at, list_all-append, list_all-map}
+use Rattle.std.proofs.lemmas.Str.{IsUtf8-from_is_utf8, is_utf8-from_IsUtf8}
+use Rattle.std.specs.Borrow.{Bor}
+use Rattle.std.specs.Str.{is_utf8}
+use Rattle.clap.specs.Words.{Kinds, Text}
+use Rattle.desk.specs.Words.{status_of_kind}
+use Rattle.desk.specs.Scripts.{AreTurns, IsFirstFlaw, IsFlawOf, IsTurn, Means, Typed, sends_requests}
+use Rattle.desk.specs.declared.orders.Errand.{Errand}
+use Rattle.desk.specs.declared.scripts.Garbled.{Garbled}
+use Rattle.desk.specs.declared.scripts.LineFlaw.{LineFlaw}
+use Rattle.desk.specs.declared.scripts.ScriptFault.{ScriptFault}
+use Rattle.desk.specs.declared.scripts.ScriptFault.TheVariants as script
+use Rattle.desk.specs.declared.scripts.Turn.{Turn}
+use Rattle.desk.specs.Cuttings.{IsFaultOfLine, IsFaultOfLines}
+use Rattle.desk.proofs.SentLemmas.{next_left}
+
+-- one line more
+pub turns_more : (lines : List Typed) (turns : List Turn) (line : Typed) (turn : Turn) → AreTurns lines turns → IsTurn line turn → AreTurns (lines ++ line ∷ []) (turns ++ turn ∷ [])
+turns_more [] turns line turn none is = (turn, [], ap (λ ts. ts ++ turn ∷ []) none, is, refl)
+turns_more (l ∷ ls) turns line turn are is = (are.0, are.1 ++ turn ∷ [], ap (λ ts. ts ++ turn ∷ []) are.2, are.3, turns_more ls are.1 line turn are.4 is)
+
+-- what is wrong with a line that stands behind turns
+pub flaw_behind : (lines : List Typed) (turns : List Turn) (line : Typed) (left : List Typed) (number : ℕ) (flaw : LineFlaw) → AreTurns lines turns → line.number ≡ number → IsFlawOf line.words flaw
+    → IsFirstFlaw (lines ++ line ∷ left) number flaw
+flaw_behind [] turns line left number flaw none here is = inl (here, is)
+flaw_behind (l ∷ ls) turns line left number flaw are here is = inr (are.0, are.3, flaw_behind ls are.1 line left number flaw are.4 here is)
+
+turn_sends : (words : Result (List Text) Garbled) (errand : Errand) → IsOkAnd words (λ ws. Means ws errand) → sends_requests errand ≡ true
+turn_sends (Ok words) errand means = means.sends
+turn_sends (Err why) errand means = absurd means
+
+-- each turn sends requests
+pub all_send : (lines : List Typed) (turns : List Turn) → AreTurns lines turns → list_all (λ turn. sends_requests turn.errand) turns ≡ true
+all_send [] turns none = rw none refl
+all_send (l ∷ ls) turns are = rw are.2 (rw (turn_sends l.words are.0.errand are.3.means) (all_send ls are.1 are.4))
+
+at_some : {X : Type 0} (p : X → Bool) (xs : List X) (i : ℕ) (x : X) → i < length xs → x ≡ get_or xs i x → list_all p xs ≡ true → p x ≡ true
+at_some p xs i x within is all = by (p x) refl
+  where
+    by : (b : Bool) → p x ≡ b → p x ≡ true
+    by true e = e
+    by false e = absurd (false≢true (sym (list_all_at p xs i x within (ap p (sym is) ∙ e)) ∙ all))
+
+-- and so does the one of some number
+pub sends_at : (turns : List Turn) (i : ℕ) (turn : Turn) → i < length turns → turn ≡ get_or turns i turn → list_all (λ turn. sends_requests turn.errand) turns ≡ true → sends_requests turn.errand ≡ true
+sends_at turns i turn within is all = at_some (λ t. sends_requests t.errand) turns i turn within is all
+
+-- ---- words that are text
+
+module _ {X : Type 0} (f : X → List ℕ) where
+  one_more : (xs : List X) (i : ℕ) (x : X) → i < length xs → x ≡ get_or xs i x → map f (take (i + 1) xs) ≡ map f (take i xs) ++ f x ∷ []
+  one_more xs i x within is = ap (map f) (take_more xs i x within) ∙ (map-append f (take i xs) (get_or xs i x ∷ []) ∙ ap (λ y. map f (take i xs) ++ f y ∷ []) (sym is))
+
+  -- one word more, behind another
+  pub words_more : (first : Text) (xs : List X) (i : ℕ) (x : X) (texts new : List (Bor Text)) (text : Bor Text) → i < length xs → x ≡ get_or xs i x → new ≡ texts ++ text ∷ [] → text.now ≡ f x
+      → map (λ t. t.now) texts ≡ first ∷ map f (take i xs) → map (λ t. t.now) new ≡ first ∷ map f (take (i + 1) xs)
+  words_more first xs i x texts new text within is more same so =
+      ap (map (λ (t : Bor Text). t.now)) more ∙ (map-append (λ (t : Bor Text). t.now) texts (text ∷ []) ∙ (ap (λ l. l ++ text.now ∷ []) so ∙ (ap (λ t. first ∷ (map f (take i xs) ++ t ∷ [])) same ∙ ap (λ l. first ∷ l) (sym (one_more xs i x within is)))))
+
+  pub text_more : (xs : List X) (i : ℕ) (x : X) → i < length xs → x ≡ get_or xs i x → IsUtf8 (f x) → list_all is_utf8 (map f (take i xs)) ≡ true → list_all is_utf8 (map f (take (i + 1) xs)) ≡ true
+  text_more xs i x within is text so =
+      ap (list_all is_utf8) (one_more xs i x within is) ∙ (list_all-append is_utf8 (map f (take i xs)) (f x ∷ []) ∙ rw (so, is_utf8-from_IsUtf8 (f x) text) refl)
+
+  -- a word that isn't text
+  pub not_text : (xs : List X) (i : ℕ) (x : X) → i < length xs → x ≡ get_or xs i x → ¬ (IsUtf8 (f x)) → list_all is_utf8 (map f xs) ≡ false
+  not_text xs i x within is other = list_all-map is_utf8 f xs ∙ list_all_at (λ y. is_utf8 (f y)) xs i x within (ap (λ y. is_utf8 (f y)) (sym is) ∙ by (is_utf8 (f x)) refl)
+    where
+      by : (b : Bool) → is_utf8 (f x) ≡ b → is_utf8 (f x) ≡ false
+      by false e = e
+      by true e = absurd (other (IsUtf8-from_is_utf8 (f x) e))
+
+-- ---- the lines so far
+
+module _ {X : Type 0} (f : X → Typed) where
+  line_more : (xs : List X) (i : ℕ) (x : X) → i < length xs → x ≡ get_or xs i x → map f (take (i + 1) xs) ≡ map f (take i xs) ++ f x ∷ []
+  line_more xs i x within is = ap (map f) (take_more xs i x within) ∙ (map-append f (take i xs) (get_or xs i x ∷ []) ∙ ap (λ y. map f (take i xs) ++ f y ∷ []) (sym is))
+
+  -- one more of them is a turn
+  pub turns_so : (xs : List X) (i : ℕ) (x : X) (turns new : List Turn) (turn : Turn) → i < length xs → x ≡ get_or xs i x → AreTurns (map f (take i xs)) turns → IsTurn (f x) turn → new ≡ turns ++ turn ∷ []
+      → AreTurns (map f (take (i + 1) xs)) new
+  turns_so xs i x turns new turn within is so one more =
+      rw more (subst (λ ls. AreTurns ls (turns ++ turn ∷ [])) (sym (line_more xs i x within is)) (turns_more (map f (take i xs)) turns (f x) turn so one))
+
+  -- what is wrong with one behind them
+  pub fault_behind : (xs : List X) (i : ℕ) (x : X) (turns : List Turn) (fault : ScriptFault) → i < length xs → x ≡ get_or xs i x → AreTurns (map f (take i xs)) turns → IsFaultOfLine (f x) fault → IsFaultOfLines (map f xs) fault
+  fault_behind xs i x turns script.Memory within is so wrong = tt
+  fault_behind xs i x turns (script.Line number flaw) within is so wrong =
+      let left : map f xs ≡ map f (take i xs) ++ f x ∷ map f (drop (i + 1) xs) =
+      ap (map f) (sym (take-append-drop i xs)) ∙ (map-append f (take i xs) (drop i xs) ∙ ap (λ ls. map f (take i xs) ++ map f ls) (next_left xs i x within is)) in
+      subst (λ ls. IsFirstFlaw ls number flaw) (sym left) (flaw_behind (map f (take i xs)) turns (f x) (map f (drop (i + 1) xs)) number flaw so wrong.0 wrong.1)
+
+-- ---- what `clap` says of words
+
+pub told_help : (kinds : Kinds) (status : ℕ) → status ≡ 0 → list_any (λ kind. status_of_kind kind == status) kinds ≡ true → list_any (λ kind. status_of_kind kind == 0) kinds ≡ true
+told_help kinds status zero told = subst (λ n. list_any (λ kind. status_of_kind kind == n) kinds ≡ true) zero told
+
+-- ---- a push that didn't fail
+
+pub pushed : {X : Type 0} {R E : Type 0} (r : Result R E) (new all old : List X) → is_err r ≡ false → new ≡ (if is_ok r then all else old) → new ≡ all
+pushed (Ok x) new all old fine is = is
+pushed (Err e) new all old fine is = absurd (cc fine)

@@ -1,0 +1,9 @@
+-- What the loop of `clerks_words` keeps: those so far, and those that are left, are all.
+use Rattle.std.proofs.Common.{◌≡◌, ◌++◌, drop, map, string_bytes}
+use Rattle.std.specs.List.{flat_map}
+use Rattle.store.specs.Overviews.{clerk_view}
+use Rattle.desk.specs.Overviews.{clerk_words}
+use Rattle.desk.proofs.overviews.clerks_words.Given as goal
+
+abbrev pub invariant-loop-clerk : goal.invariant-loop-clerk
+invariant-loop-clerk l = string_bytes l.text ++ flat_map clerk_words (map clerk_view (drop l.clerk-index l.clerks)) ≡ flat_map clerk_words (map clerk_view l.clerks)

@@ -1,0 +1,7 @@
+-- Why `differences_of` keeps its promise where memory was wanting for the line.
+use Rattle.std.proofs.Common.{inl, inr, refl}
+use Rattle.tables.specs.declared.fault.Fault.TheVariants.{Memory}
+use Rattle.desk.proofs.overviews.differences_of.Goals as goal
+
+pub returns-in-Ok-clause-found : goal.returns-in-Ok-clause-found
+returns-in-Ok-clause-found g c = λ clean is_open s at. inr (Memory, refl, inl (record { memory = refl; open_at = (c.in-Ok.ensures.reads clean is_open s at).1 }))

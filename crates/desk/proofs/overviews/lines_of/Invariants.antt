@@ -1,0 +1,8 @@
+-- What the loop of `lines_of` keeps: the lines so far, and those that are left, are all.
+use Rattle.std.proofs.Common.{◌≡◌, ◌++◌, drop, string_bytes}
+use Rattle.std.specs.List.{flat_map}
+use Rattle.desk.specs.Pages.{line}
+use Rattle.desk.proofs.overviews.lines_of.Given as goal
+
+abbrev pub invariant-loop-told : goal.invariant-loop-told
+invariant-loop-told g l = string_bytes l.text ++ flat_map (λ t. line (g.T.Lined.text t)) (drop l.told-index l.found) ≡ flat_map (λ t. line (g.T.Lined.text t)) l.found

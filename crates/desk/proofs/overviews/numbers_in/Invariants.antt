@@ -1,0 +1,6 @@
+-- What the loop of `numbers_in` keeps: the numbers so far.
+use Rattle.std.proofs.Common.{◌≡◌, take}
+use Rattle.desk.proofs.overviews.numbers_in.Given as goal
+
+abbrev pub invariant-loop-number : goal.invariant-loop-number
+invariant-loop-number l = l.numbers.items ≡ take l.number-index l.all

@@ -1,0 +1,58 @@
+-- Why `replay_opened` keeps its promise.
+use Rattle.std.proofs.Common.{inl, inr, option_map, refl, subst, sym}
+use Rattle.sqlite.specs.State.{HasCleanDisk}
+use Rattle.sqlite.specs.Held.{state}
+use Rattle.desk.specs.Errands.{IsDone}
+use Rattle.desk.specs.Pages.{failed}
+use Rattle.desk.specs.Requests.{replaying}
+use Rattle.desk.specs.declared.lines.Failure.TheVariants.{Office}
+use Rattle.desk.proofs.KeptLemmas.{read_leaves}
+use Rattle.desk.proofs.perform.replay_opened.Goals as goal
+
+pub returns-in-Ok : goal.returns-in-Ok
+returns-in-Ok g c =
+    let told = c.replay-status.ensures.ran in
+    record {
+      page = told.page;
+      cut = told.cut;
+      shown = told.shown;
+      is = λ clean.
+          let ended = subst (λ conn. HasCleanDisk (state g.S.Store conn)) c.into_connection.ensures clean in
+          let opened = c.replay-status.ensures.clean ended in
+          record {
+            in_office = λ db rests s left.
+                let here = c.in-Ok.ensures.reopens opened db rests s left in
+                let ran = told.is ended here.is_open s here.at in
+                inl (subst (λ conn. IsDone told.cut s (replaying (g.F.Folder.held c.args.folder.now)) (option_map g.R.Read.remaining c.args.file) told.page (state g.S.Store conn)) (sym c.into_connection.ensures) (c.replay-status.new.office.closed, ran));
+            in_nothing = λ is. absurd (cc is);
+            taken = λ is. absurd (cc is);
+            anywhere = λ port connections is. absurd (cc is);
+            in_older = λ is. absurd (cc is);
+            beyond = λ is. absurd (cc is);
+            elsewhere = λ needs db ours rests none. let held = c.in-Ok.ensures.opened opened db ours rests in absurd (none held.0 held.1);
+          };
+    }
+
+pub returns-in-Err : goal.returns-in-Err
+returns-in-Err g c =
+    let told = c.tell.ensures in
+    record {
+      page = failed (Office c.in-Err.fault);
+      cut = told.0;
+      shown = told.1;
+      is = λ clean. record {
+        in_office = λ db rests s left.
+            inr (
+              c.in-Err.fault,
+              refl,
+              c.in-Err.ensures.refuses clean db rests s left,
+              read_leaves s db (state g.S.Store c.args.conn) (state g.S.Store c.in-Err.conn) (λ trees is_open may. g.met.S.Store.settled c.args.conn.store trees is_open may) c.in-Err.ensures.reads_too clean rests left,
+            );
+        in_nothing = λ is. absurd (cc is);
+        taken = λ is. absurd (cc is);
+        anywhere = λ port connections is. absurd (cc is);
+        in_older = λ is. absurd (cc is);
+        beyond = λ is. absurd (cc is);
+        elsewhere = λ needs db ours rests none. record { fault = c.in-Err.fault; told = refl; given = c.in-Err.ensures.told clean db ours rests; same = c.in-Err.ensures.reads_too };
+      };
+    }

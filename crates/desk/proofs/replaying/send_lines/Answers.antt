@@ -1,0 +1,27 @@
+-- Why `send_lines` keeps its promise.
+use Rattle.std.proofs.Common.{inl, inr, map, refl}
+use Rattle.desk.specs.Cuttings.{said_entry}
+use Rattle.desk.specs.Pages.{script_page}
+use Rattle.desk.proofs.PageLemmas.{error_shown}
+use Rattle.desk.proofs.ScriptEnds.{no_output}
+use Rattle.desk.proofs.ScriptLemmas.{all_send}
+use Rattle.desk.proofs.replaying.send_lines.Goals as goal
+
+pub send_turns-requires-clause-turns : goal.send_turns-requires-clause-turns
+send_turns-requires-clause-turns g c = rw c.deref.ensures.value (all_send (map said_entry c.args.lines.now) c.in-Ok.turns.items c.in-Ok.ensures.ok)
+
+pub returns-in-Ok-clause-sent : goal.returns-in-Ok-clause-sent
+returns-in-Ok-clause-sent g c =
+    let told = c.send_turns.ensures.sent in
+    record {
+      page = told.page;
+      cut = told.cut;
+      shown = told.shown;
+      is = λ clean is_open s at. inl (c.in-Ok.turns.items, c.in-Ok.ensures.ok, rw c.deref.ensures.value at (told.is clean is_open s at));
+    }
+
+pub returns-in-Err-clause-sent : goal.returns-in-Err-clause-sent
+returns-in-Err-clause-sent g c =
+    let why = c.in-Err.fault in
+    let told = error_shown g.O.Sink.taken g.O.Sink.failed g.E.Sink.taken g.E.Sink.failed c.args.out.now c.args.err.now c.tell_script_fault.new.err (script_page why) c.tell_script_fault.result (no_output why) c.tell_script_fault.ensures in
+    record { page = script_page why; cut = told.0; shown = told.1; is = λ clean is_open s at. inr (why, refl, c.in-Err.ensures.err, record { is_open = is_open; at = at }) }

@@ -1,0 +1,71 @@
+-- Why `send_turns` keeps its promise.
+use Rattle.std.proofs.Common.{◌<◌, ◌++◌, None, Some, length, take, refl, arith}
+use Rattle.std.proofs.lemmas.List.{take_all}
+use Rattle.sqlite.specs.Held.{state}
+use Rattle.desk.specs.Pages.{below, cut_below, uncut, empty_page, fronted}
+use Rattle.desk.proofs.PageLemmas.{shown_below}
+use Rattle.desk.proofs.ReplayLemmas.{turn_last, turn_more, turns_all}
+use Rattle.desk.proofs.ScriptLemmas.{sends_at}
+use Rattle.desk.proofs.SentLemmas.{ended_so, nothing_told, status_zero, told_all, told_more, whole_cut}
+use Rattle.desk.proofs.replaying.send_turns.Goals as goal
+
+pub loop-turn-init : goal.loop-turn-init
+loop-turn-init g c = record {
+  clean = λ clean. clean;
+  so_far = record { said = _; shown = nothing_told _; is = λ clean is_open s at. record { end = s; replied = (refl, refl); open_at = record { is_open = is_open; at = at } } };
+}
+
+pub loop-turn-preserved : goal.loop-turn-preserved
+loop-turn-preserved g c =
+    let turns = c.args.turns.now in
+    let i = c.loop-turn.turn-index in
+    let within : i < length turns = omega arith in
+    let turn = c.turn-item.result in
+    let so_far = c.loop-turn.invariant.so_far in
+    let told = c.run-status.ensures.ran in
+    let zero = status_zero (Some turn.line) _ _ told.page c.run-status.result c.if-status-ne0.false (told.cut, told.shown) in
+    let all = whole_cut told.cut _ _ (fronted (Some turn.line) told.page) c.run-status.result c.if-status-ne0.false told.shown in
+    record {
+      clean = λ clean. c.loop-turn.invariant.clean (c.run-status.ensures.clean clean);
+      so_far = record {
+        said = so_far.said ++ told.page.out;
+        shown = told_more (Some turn.line) _ _ _ so_far.said told.page c.run-status.result told.is.0 c.if-status-ne0.false so_far.shown (told.cut, told.shown);
+        is = λ clean is_open s at.
+            let so = so_far.is (c.run-status.ensures.clean clean) is_open s at in
+            turn_more (g.F.Folder.held c.args.folder.now) s turns i turn so_far.said c.loop-turn.office.closed (state g.S.Store c.loop-turn.office.held) told.cut told.page c.run-status.new.office.closed
+            (state g.S.Store c.run-status.new.office.held) within c.turn-item.is (sends_at turns i turn within c.turn-item.is c.requires.turns) so
+            (record { file = _; found = c.opened-file.ensures; runs = told.is.1 clean so.open_at.is_open so.end so.open_at.at }) zero all;
+      };
+    }
+
+pub returns-then-status-ne0-clause-sent : goal.returns-then-status-ne0-clause-sent
+returns-then-status-ne0-clause-sent g c =
+    let turns = c.args.turns.now in
+    let i = c.loop-turn.turn-index in
+    let within : i < length turns = omega arith in
+    let turn = c.turn-item.result in
+    let so_far = c.loop-turn.invariant.so_far in
+    let told = c.run-status.ensures.ran in
+    record {
+      page = below so_far.said (fronted (Some turn.line) told.page);
+      cut = cut_below so_far.said told.cut;
+      shown = shown_below told.cut _ _ _ so_far.said (fronted (Some turn.line) told.page) c.run-status.result so_far.shown told.shown;
+      is = λ clean is_open s at.
+          let so = so_far.is (c.run-status.ensures.clean clean) is_open s at in
+          turn_last (g.F.Folder.held c.args.folder.now) s turns i turn so_far.said c.loop-turn.office.closed (state g.S.Store c.loop-turn.office.held) told.cut told.page c.run-status.new.office.closed
+          (state g.S.Store c.run-status.new.office.held) within c.turn-item.is so
+          (record { file = _; found = c.opened-file.ensures; runs = told.is.1 clean so.open_at.is_open so.end so.open_at.at })
+          (ended_so (Some turn.line) told.cut _ _ told.page c.run-status.result c.if-status-ne0.true told.shown);
+    }
+
+pub returns-clause-sent : goal.returns-clause-sent
+returns-clause-sent g c =
+    let turns = c.args.turns.now in
+    let so_far = c.loop-turn.invariant.so_far in
+    record {
+      page = below so_far.said empty_page;
+      cut = uncut;
+      shown = told_all None _ _ so_far.said so_far.shown;
+      is = λ clean is_open s at. turns_all (g.F.Folder.held c.args.folder.now) s turns (take c.loop-turn.turn-index turns) so_far.said c.loop-turn.office.closed (state g.S.Store c.loop-turn.office.held)
+          (take_all _ _ c.loop-turn-test.false) (so_far.is clean is_open s at);
+    }

@@ -1,0 +1,103 @@
+-- How all stands, in lines: the wards, the batches of a ward, their doubtful papers, where a batch differs, and what was kept.
+use Rattle.std.specs.Prelude.{ℕ, Bool, true, false, ◌==◌, ◌-◌, ◌++◌, if◌then◌else◌, List, [], Option, Some, None, codes, length}
+use Rattle.std.specs.Fmt.{decimal}
+use Rattle.std.specs.List.{flat_map}
+use Rattle.clap.specs.Words.{Text}
+use Rattle.register.specs.Offices.{JudgedEntry, OfficeState, ReceiptEntry}
+use Rattle.register.specs.Texts.{listed}
+use Rattle.store.specs.Overviews.{BatchView, DifferencesView, DoubtfulView, WardView}
+use Rattle.store.specs.declared.overviews.batches.Standing.{Standing}
+use Rattle.store.specs.declared.overviews.batches.Standing.TheVariants.{Taken, Differing, Waiting}
+use Rattle.office.specs.Overviews.{batches_told, differences_told, doubtful_told, receipts_told, wards_told}
+use Rattle.desk.specs.Pages.{Page, line, page_found, printed, replied}
+use Rattle.desk.specs.Standings.{phase_word}
+use Rattle.desk.specs.declared.orders.Question.{Question}
+use Rattle.desk.specs.declared.orders.Question.TheVariants as question
+
+-- ---- a ward
+
+-- the ward, its phase and its seats
+unfoldable pub seats_words : WardView → Text
+seats_words v = codes "ward " ++ (decimal v.ward.number ++ (codes " " ++ (phase_word v.ward.phase ++ (codes ": " ++ (decimal v.ward.seats ++ codes " seats")))))
+
+-- its candidates, its batches, and how many of those aren't taken
+unfoldable pub untaken_words : WardView → Text
+untaken_words v = decimal v.status.candidates ++ (codes " candidates, " ++ (decimal v.status.batches ++ (codes " batches, " ++ (decimal (v.status.batches - v.status.taken) ++ codes " not taken"))))
+
+-- how many differ, how many doubtful papers are open, and how far its count is
+unfoldable pub open_words : WardView → Text
+open_words v = decimal v.status.differing ++ (codes " differing, " ++ (decimal v.status.doubtful_open ++ (codes " doubtful open, " ++ (decimal v.status.stages ++ codes " stages"))))
+
+-- who is elected, once that is declared, and how many seats stay empty
+unfoldable pub elected_words : ℕ → Option (List ℕ) → Text
+elected_words seats None = []
+elected_words seats (Some elected) = codes ", elected " ++ (listed elected ++ (codes ", " ++ (decimal (seats - length elected) ++ codes " seats empty")))
+
+-- the line that tells how a ward stands, its name last
+unfoldable pub ward_line : WardView → Text
+ward_line v = seats_words v ++ (codes ", " ++ (untaken_words v ++ (codes ", " ++ (open_words v ++ (elected_words v.ward.seats v.elected ++ (codes ": " ++ v.ward.name))))))
+
+-- ---- a batch
+
+-- the batch, its round and its size
+unfoldable pub size_words : BatchView → Text
+size_words v = codes "batch " ++ (decimal v.batch.number ++ (codes " round " ++ (decimal v.batch.round ++ (codes ": " ++ (decimal v.batch.size ++ codes " papers")))))
+
+-- whether a clerk has keyed it, in a word
+abbrev pub keyed_word : Bool → Text
+keyed_word true = codes "keyed"
+keyed_word false = codes "not keyed"
+
+-- a clerk of it, and whether he has keyed it
+unfoldable pub clerk_words : ℕ × Bool → Text
+clerk_words c = codes ", clerk " ++ (decimal c.0 ++ (codes " " ++ keyed_word c.1))
+
+-- how it stands, in a word
+abbrev pub standing_word : Standing → Text
+standing_word Taken = codes "taken"
+standing_word Differing = codes "differing"
+standing_word Waiting = codes "waiting"
+
+-- another batch with the same papers
+unfoldable pub twin_words : Option ℕ → Text
+twin_words None = []
+twin_words (Some batch) = codes ", same papers as batch " ++ decimal batch
+
+-- the line that tells how a batch stands
+unfoldable pub batch_line : BatchView → Text
+batch_line v = size_words v ++ (flat_map clerk_words v.clerks ++ (codes ", " ++ (standing_word v.standing ++ (codes ", " ++ (decimal v.doubtful_open ++ (codes " doubtful open" ++ twin_words v.twin))))))
+
+-- ---- a doubtful paper
+
+-- the verdict on it: accepted with these marks, or rejected with this code
+unfoldable pub verdict_words : Option JudgedEntry → Text
+verdict_words None = codes "open"
+verdict_words (Some v) = if v.code == 0 then codes "accepted " ++ v.marks else codes "rejected " ++ decimal v.code
+
+-- the line that tells of it
+unfoldable pub doubtful_line : DoubtfulView → Text
+doubtful_line v = codes "batch " ++ (decimal v.batch ++ (codes " paper " ++ (decimal v.paper ++ (codes " " ++ verdict_words v.verdict))))
+
+-- ---- differences, and receipts
+
+-- the line that tells on which papers a batch differs
+unfoldable pub differences_line : DifferencesView → Text
+differences_line v = codes "batch " ++ (decimal v.batch.number ++ (codes " round " ++ (decimal v.batch.round ++ (codes " differs on papers " ++ listed v.papers))))
+
+-- the line that tells a receipt: the actor, the id, the subject and the reply
+unfoldable pub receipt_line : ReceiptEntry → Text
+receipt_line r = codes "actor " ++ (decimal r.actor ++ (codes " id " ++ (r.id ++ (codes ", " ++ (r.subject ++ (codes ": " ++ r.reply))))))
+
+-- ---- what is told
+
+-- each in a line of its own
+abbrev pub lines_of : {X : Type 0} → (X → Text) → List X → Text
+lines_of text xs = flat_map (λ x. line (text x)) xs
+
+-- what is told of how all stands, or why there is nothing
+abbrev pub page_asked : OfficeState → Question → Page
+page_asked s question.Wards = page_found (λ wards. printed (lines_of ward_line wards)) (wards_told s)
+page_asked s (question.Batches ward) = page_found (λ batches. printed (lines_of batch_line batches)) (batches_told s ward)
+page_asked s (question.Doubtful ward) = page_found (λ papers. printed (lines_of doubtful_line papers)) (doubtful_told s ward)
+page_asked s (question.Differences batch) = page_found (λ differences. replied (differences_line differences)) (differences_told s batch)
+page_asked s (question.Receipts actor) = page_found (λ receipts. printed (lines_of receipt_line receipts)) (receipts_told s actor)

@@ -1,0 +1,177 @@
+-- The orders of a script: the lines of its text, the words of a line, and the order that these are.
+use Rattle.std.specs.Prelude.{◌≡◌, ◌≢◌, ◌⊎◌, ◌==◌, ◌||◌, ◌++◌, ℕ, suc, Bool, true, false, List, [], ◌∷◌, Option, Some, None, Result, Ok, Err, codes, if◌then◌else◌, map, fold, string_bytes, IsOkAnd}
+use Rattle.std.specs.List.{list_all, list_any}
+use Rattle.std.specs.Str.{is_utf8}
+use Rattle.clap.specs.Words.{Text, subcommand_of}
+use Rattle.desk.specs.Orders.{told}
+use Rattle.desk.specs.Words.{IsToldOf, meaning, office_words, status_of_kind, wrong_with}
+use Rattle.desk.specs.declared.orders.Errand.{Errand}
+use Rattle.desk.specs.declared.orders.Errand.TheVariants as errand
+use Rattle.desk.specs.declared.orders.Order.{Order}
+use Rattle.desk.specs.declared.orders.Order.TheVariants as order
+use Rattle.desk.specs.declared.words.WordsFault.TheVariants as words_fault
+use Rattle.desk.specs.declared.cutting.Place.{Place}
+use Rattle.desk.specs.declared.cutting.Place.TheVariants.{Between, Within, Quoted}
+use Rattle.desk.specs.declared.scripts.Garbled.{Garbled}
+use Rattle.desk.specs.declared.scripts.Garbled.TheVariants as garbled
+use Rattle.desk.specs.declared.scripts.LineFlaw.{LineFlaw}
+use Rattle.desk.specs.declared.scripts.LineFlaw.TheVariants as flaw
+use Rattle.desk.specs.declared.scripts.Turn.{Turn}
+
+-- ---- the lines of a text
+
+-- the lines of a text behind the beginning of the first; a line feed ends one
+abbrev pub lines_from : Text → Text → List Text
+lines_from line [] = line ∷ []
+lines_from line (byte ∷ bytes) = if byte == 10 then line ∷ lines_from [] bytes else lines_from (line ++ byte ∷ []) bytes
+
+-- the lines of a text
+abbrev pub lines_of : Text → List Text
+lines_of text = lines_from [] text
+
+-- ---- the words of a line
+
+-- a space, a tab, or a carriage return, as before a line's end
+abbrev pub is_blank : ℕ → Bool
+is_blank byte = byte == 32 || (byte == 9 || byte == 13)
+
+-- either quote, " or '
+abbrev pub is_quote : ℕ → Bool
+is_quote byte = byte == 34 || byte == 39
+
+-- a line is passed over: nothing but blanks stands in it, or the first byte that isn't one is #
+abbrev pub passes_over : Text → Bool
+passes_over [] = true
+passes_over (byte ∷ bytes) = if is_blank byte then passes_over bytes else byte == 35
+
+-- how far a line is cut: its words so far, the one that is begun, and where the next byte stands
+pub record Cutting : Type 0 where
+  pub words : List Text
+  pub word : Text
+  pub place : Place
+
+-- the next byte stands elsewhere
+abbrev pub moved_to : Place → Cutting → Cutting
+moved_to place c = record { words = c.words; word = c.word; place = place }
+
+-- the word has one byte more
+abbrev pub with_byte : Cutting → ℕ → Cutting
+with_byte c byte = record { words = c.words; word = c.word ++ byte ∷ []; place = c.place }
+
+-- the word is whole
+abbrev pub with_word : Cutting → Cutting
+with_word c = record { words = c.words ++ c.word ∷ []; word = []; place = Between }
+
+-- a byte that is no blank, outside quotes: a quote opens, any other belongs to the word
+abbrev pub cut_open : Cutting → ℕ → Cutting
+cut_open c byte = if is_quote byte then moved_to (Quoted byte) c else moved_to Within (with_byte c byte)
+
+-- one byte more: in quotes each belongs to the word up to the same quote, and outside a blank ends a word
+abbrev pub cut_at : Place → Cutting → ℕ → Cutting
+cut_at Between c byte = if is_blank byte then c else cut_open c byte
+cut_at Within c byte = if is_blank byte then with_word c else cut_open c byte
+cut_at (Quoted quote) c byte = if byte == quote then moved_to Within c else with_byte c byte
+
+abbrev pub cut_byte : Cutting → ℕ → Cutting
+cut_byte c byte = cut_at c.place c byte
+
+-- the words of a line that was cut to its end; none where a quote isn't closed
+abbrev pub words_at : Place → Cutting → Option (List Text)
+words_at Between c = Some c.words
+words_at Within c = Some (c.words ++ c.word ∷ [])
+words_at (Quoted quote) c = None
+
+abbrev pub words_cut : Cutting → Option (List Text)
+words_cut c = words_at c.place c
+
+-- the words of a line, none where a quote isn't closed
+abbrev pub words_of : Text → Option (List Text)
+words_of line = words_cut (fold cut_byte (record { words = []; word = []; place = Between }) line)
+
+-- ---- the lines of a script
+
+-- a line with its number
+pub record Numbered : Type 0 where
+  pub number : ℕ
+  pub words : Option (List Text)
+
+-- the lines from some number on that aren't passed over
+abbrev pub numbered_from : ℕ → List Text → List Numbered
+numbered_from k [] = []
+numbered_from k (line ∷ lines) = if passes_over line then numbered_from (suc k) lines else record { number = k; words = words_of line } ∷ numbered_from (suc k) lines
+
+-- the words as typed behind the program's name, with DB; or why they are none: a quote isn't closed, or one isn't UTF-8
+abbrev pub typed : Option (List Text) → Result (List Text) Garbled
+typed None = Err garbled.Quote
+typed (Some words) = if list_all is_utf8 words then Ok (codes "DB" ∷ words) else Err garbled.NotUtf8
+
+-- a line that was typed
+pub record Typed : Type 0 where
+  pub number : ℕ
+  pub words : Result (List Text) Garbled
+
+abbrev pub typed_line : Numbered → Typed
+typed_line line = record { number = line.number; words = typed line.words }
+
+-- the lines of a script
+abbrev pub script_lines : Text → List Typed
+script_lines text = map typed_line (numbered_from 1 (lines_of text))
+
+-- ---- the order of a line
+
+-- an errand sends requests: no other stands in a script
+abbrev pub sends_requests : Errand → Bool
+sends_requests (errand.Send request) = true
+sends_requests (errand.ImportCandidates file id) = true
+sends_requests (errand.ImportKeying keying) = true
+sends_requests other = false
+
+-- and so does an order
+abbrev pub stands_in_script : Order → Bool
+stands_in_script (order.Run errand) = sends_requests errand
+stands_in_script other = false
+
+-- the words are those of an order that stands in a script, and this is its errand
+pub record Means (words : List Text) (errand : Errand) : Type 0 where
+  pub right : wrong_with words ≡ []
+  pub means : meaning (subcommand_of office_words words) ≡ Some (told (order.Run errand))
+  pub sends : sends_requests errand ≡ true
+
+-- a line is this turn
+pub record IsTurn (line : Typed) (turn : Turn) : Type 0 where
+  pub line_number : turn.line ≡ line.number
+  pub means : IsOkAnd line.words (λ words. Means words turn.errand)
+
+-- the lines are these turns, one each
+abbrev pub AreTurns : List Typed → List Turn → Type 0
+AreTurns [] turns = turns ≡ []
+AreTurns (line ∷ lines) turns = (turn : Turn) × (others : List Turn) × (turns ≡ turn ∷ others) × IsTurn line turn × AreTurns lines others
+
+-- ---- what is wrong with a line
+
+-- in words
+abbrev pub line_flaw_text : LineFlaw → Text
+line_flaw_text (flaw.NoWords garbled.Quote) = codes "error: a quote is not closed\n"
+line_flaw_text (flaw.NoWords garbled.NotUtf8) = codes "error: a word is not UTF-8\n"
+line_flaw_text flaw.Verdict = codes "bad verdict word\n"
+line_flaw_text (flaw.Words text) = string_bytes text
+line_flaw_text flaw.Elsewhere = codes "error: this order stands in no script\n"
+
+-- what is wrong with its words: what `clap` says of them, or that the order stands in no script, as one that asks for help
+abbrev pub IsFlawOfWords : List Text → LineFlaw → Type 0
+IsFlawOfWords words (flaw.NoWords why) = ⊥
+IsFlawOfWords words flaw.Verdict = IsToldOf (wrong_with words) words_fault.Verdict
+IsFlawOfWords words (flaw.Words text) = (status : ℕ) × (status ≢ 0) × IsToldOf (wrong_with words) (words_fault.Words text status)
+IsFlawOfWords words flaw.Elsewhere =
+    (list_any (λ kind. status_of_kind kind == 0) (wrong_with words) ≡ true)
+    ⊎ ((o : Order) × (meaning (subcommand_of office_words words) ≡ Some (told o)) × (stands_in_script o ≡ false))
+
+-- what is wrong with a line
+abbrev pub IsFlawOf : Result (List Text) Garbled → LineFlaw → Type 0
+IsFlawOf (Err why) found = found ≡ flaw.NoWords why
+IsFlawOf (Ok words) found = IsFlawOfWords words found
+
+-- this is wrong with the line of some number, and nothing with those before it
+abbrev pub IsFirstFlaw : List Typed → ℕ → LineFlaw → Type 0
+IsFirstFlaw [] k found = ⊥
+IsFirstFlaw (line ∷ lines) k found = ((line.number ≡ k) × IsFlawOf line.words found) ⊎ ((turn : Turn) × IsTurn line turn × IsFirstFlaw lines k found)

@@ -1,0 +1,18 @@
+//! Where the files lie that the orders of a script name.
+
+ghost use Rattle.std.specs.Prelude.{◌≡◌, IfSome, None, option_map};
+ghost use Rattle.clap.specs.Words.{Text};
+ghost use Rattle.desk.specs.Folders.{Folder};
+
+use std::io::Read;
+
+/// Opens files by their paths.
+pub trait Folder {
+    type File: Read + Drop;
+
+    ghost held: { Self → Folder } = { λ _ _. None };
+
+    /// The file at a path, None where it can't be opened.
+    fn open(&self, path: &str) -> Option<Self::File>
+        ensures { IfSome (held self.now path.now) (λ file. option_map Self.File.remaining result ≡ file) };
+}

@@ -1,0 +1,368 @@
+//! How all stands, told in lines: the wards, the batches of a ward, their doubtful papers, where a batch differs,
+//! and what was kept.
+
+ghost use Rattle.std.specs.Prelude.{◌≡◌, ◌⊎◌, ◌++◌, map, option_map, IfOk, IfErr, string_bytes};
+ghost use Rattle.std.specs.List.{flat_map};
+ghost use Rattle.sqlite.specs.Held.{state};
+ghost use Rattle.register.specs.Offices.{judged_entry, receipt_entry};
+ghost use Rattle.register.specs.Texts.{behind, listed};
+ghost use Rattle.store.specs.Overviews.{batch_view, clerk_view, differences_view, doubtful_view, ward_view};
+ghost use Rattle.tables.specs.Reading.{OnlyReads};
+ghost use Rattle.desk.specs.Errands.{IsAskedOf, WhereOpen};
+ghost use Rattle.desk.specs.Overviews.{batch_line, clerk_words, differences_line, doubtful_line, elected_words, keyed_word, open_words, receipt_line, seats_words, size_words, standing_word, twin_words, untaken_words, verdict_words, ward_line};
+ghost use Rattle.desk.specs.Pages.{failed, line, page_of, page_stopped, printed};
+
+use crate::lines::{Failure, Outcome};
+use crate::orders::Question;
+use crate::standing::phase_word;
+use office::{Office, Stop};
+use paper::Columns;
+use register::{JudgedPaper, Receipt};
+use sqlite::Alter;
+use std::alloc::{AllocError, Global};
+use store::{
+    BatchOverview, ClerkOverview, Differences, DoubtfulPaper, Fault, Standing, WardOverview,
+};
+
+/// What is told in a line.
+trait Lined {
+    ghost use Rattle.clap.specs.Words.{Text};
+
+    /// The line, without its end.
+    ghost text: { Self → Text };
+
+    /// The line, without its end.
+    fn line(&self, alloc: Global) -> Result<String, AllocError>
+        ensures { IfOk result (λ told. string_bytes told ≡ text self.now) };
+}
+
+/// Puts a number behind others: `, 3`.
+fn put_behind(alloc: Global, text: &mut String, number: u32) -> Result<(), AllocError>
+    ensures { IfOk result (λ _. string_bytes text.new ≡ string_bytes text.old ++ behind number) }
+{
+    let told = format!(in alloc; ", {number}")?;
+    text.push_str(told.as_str())
+}
+
+#[tactic(auto, unfolding(register::specs::Texts::listed))]
+/// Numbers, parted by a comma and a space: `1, 3`.
+fn listed(alloc: Global, numbers: &[u32]) -> Result<String, AllocError>
+    ensures { IfOk result (λ text. string_bytes text ≡ listed numbers.now) }
+{
+    let Some((first, others)) = numbers.split_first() else {
+        return Ok(String::new(alloc));
+    };
+    let mut text = format!(in alloc; "{first}")?;
+    for number in others {
+        put_behind(alloc, &mut text, *number)?;
+    }
+    Ok(text)
+}
+
+/// The candidates' numbers of a set, in ascending order.
+fn numbers_in(alloc: Global, columns: &Columns) -> Result<Vec<u32>, AllocError>
+    ensures { IfOk result (λ numbers. numbers.items ≡ columns.now) }
+{
+    let mut numbers = Vec::new(alloc);
+    let all = columns.as_slice();
+    for number in all {
+        numbers.push(u32::from(*number))?;
+    }
+    Ok(numbers)
+}
+
+// ---- a ward
+
+#[tactic(auto, unfolding(crate::specs::Overviews::seats_words))]
+/// The ward, its phase and its seats.
+fn seats_words(alloc: Global, overview: &WardOverview) -> Result<String, AllocError>
+    ensures { IfOk result (λ text. string_bytes text ≡ seats_words (ward_view overview.now)) }
+{
+    let (ward, phase) = (overview.ward.number, phase_word(overview.ward.phase));
+    let seats = overview.ward.seats;
+    format!(in alloc; "ward {ward} {phase}: {seats} seats")
+}
+
+#[tactic(auto, unfolding(crate::specs::Overviews::untaken_words))]
+/// Its candidates, its batches, and how many of those aren't taken.
+fn untaken_words(alloc: Global, overview: &WardOverview) -> Result<String, AllocError>
+    ensures { IfOk result (λ text. string_bytes text ≡ untaken_words (ward_view overview.now)) }
+{
+    let (candidates, batches) = (overview.status.candidates, overview.status.batches);
+    let untaken = batches.saturating_sub(overview.status.taken);
+    format!(in alloc; "{candidates} candidates, {batches} batches, {untaken} not taken")
+}
+
+#[tactic(auto, unfolding(crate::specs::Overviews::open_words))]
+/// How many batches differ, how many doubtful papers are open, and how far its count is.
+fn open_words(alloc: Global, overview: &WardOverview) -> Result<String, AllocError>
+    ensures { IfOk result (λ text. string_bytes text ≡ open_words (ward_view overview.now)) }
+{
+    let (differing, open) = (overview.status.differing, overview.status.doubtful_open);
+    let stages = overview.status.stages;
+    format!(in alloc; "{differing} differing, {open} doubtful open, {stages} stages")
+}
+
+#[tactic(auto, unfolding(crate::specs::Overviews::elected_words))]
+/// Who is elected to so many seats, once that is declared, and how many stay empty.
+fn elected_words(alloc: Global, seats: u32, elected: &Option<Columns>) -> Result<String, AllocError>
+    ensures { IfOk result (λ text. string_bytes text ≡ elected_words seats elected.now) }
+{
+    let Some(elected) = elected else {
+        return Ok(String::new(alloc));
+    };
+    let numbers = numbers_in(alloc, elected)?;
+    let empty = (seats as usize).saturating_sub(numbers.len());
+    let told = listed(alloc, &numbers)?;
+    format!(in alloc; ", elected {told}, {empty} seats empty")
+}
+
+#[tactic(auto, unfolding(crate::specs::Overviews::ward_line))]
+/// The line that tells how a ward stands, its name last.
+fn ward_line(alloc: Global, overview: &WardOverview) -> Result<String, AllocError>
+    ensures { IfOk result (λ text. string_bytes text ≡ ward_line (ward_view overview.now)) }
+{
+    let seats = seats_words(alloc, overview)?;
+    let untaken = untaken_words(alloc, overview)?;
+    let open = open_words(alloc, overview)?;
+    let elected = elected_words(alloc, overview.ward.seats, &overview.elected)?;
+    let name = overview.ward.name.as_str();
+    format!(in alloc; "{seats}, {untaken}, {open}{elected}: {name}")
+}
+
+impl Lined for WardOverview {
+    ghost text = { λ o. ward_line (ward_view o) };
+
+    fn line(&self, alloc: Global) -> Result<String, AllocError> {
+        ward_line(alloc, self)
+    }
+}
+
+// ---- a batch
+
+#[tactic(auto, unfolding(crate::specs::Overviews::size_words))]
+/// The batch, its round and its size.
+fn size_words(alloc: Global, overview: &BatchOverview) -> Result<String, AllocError>
+    ensures { IfOk result (λ text. string_bytes text ≡ size_words (batch_view overview.now)) }
+{
+    let (batch, round) = (overview.batch.number, overview.batch.round);
+    let size = overview.batch.size;
+    format!(in alloc; "batch {batch} round {round}: {size} papers")
+}
+
+/// Whether a clerk has keyed, in a word.
+fn keyed_word(keyed: bool) -> &'static str
+    ensures { result.now ≡ keyed_word keyed }
+{
+    if keyed { "keyed" } else { "not keyed" }
+}
+
+#[tactic(auto, unfolding(crate::specs::Overviews::clerk_words))]
+/// Puts a clerk of the batch behind what was told, and whether he has keyed it.
+fn put_clerk(alloc: Global, text: &mut String, overview: &ClerkOverview) -> Result<(), AllocError>
+    ensures { IfOk result (λ _. string_bytes text.new ≡ string_bytes text.old ++ clerk_words (clerk_view overview.now)) }
+{
+    let (clerk, keyed) = (overview.clerk, keyed_word(overview.keyed));
+    let told = format!(in alloc; ", clerk {clerk} {keyed}")?;
+    text.push_str(told.as_str())
+}
+
+/// Its clerks, and whether each has keyed it.
+fn clerks_words(alloc: Global, clerks: &[ClerkOverview]) -> Result<String, AllocError>
+    ensures { IfOk result (λ text. string_bytes text ≡ flat_map clerk_words (map clerk_view clerks.now)) }
+{
+    let mut text = String::new(alloc);
+    for clerk in clerks {
+        put_clerk(alloc, &mut text, clerk)?;
+    }
+    Ok(text)
+}
+
+/// How it stands, in a word.
+fn standing_word(standing: Standing) -> &'static str
+    ensures { result.now ≡ standing_word standing }
+{
+    match standing {
+        Standing::Taken => "taken",
+        Standing::Differing => "differing",
+        Standing::Waiting => "waiting",
+    }
+}
+
+#[tactic(auto, unfolding(crate::specs::Overviews::twin_words))]
+/// Another batch with the same papers.
+fn twin_words(alloc: Global, twin: Option<u32>) -> Result<String, AllocError>
+    ensures { IfOk result (λ text. string_bytes text ≡ twin_words twin) }
+{
+    match twin {
+        Some(batch) => format!(in alloc; ", same papers as batch {batch}"),
+        None => Ok(String::new(alloc)),
+    }
+}
+
+#[tactic(auto, unfolding(crate::specs::Overviews::batch_line))]
+/// The line that tells how a batch stands.
+fn batch_line(alloc: Global, overview: &BatchOverview) -> Result<String, AllocError>
+    ensures { IfOk result (λ text. string_bytes text ≡ batch_line (batch_view overview.now)) }
+{
+    let size = size_words(alloc, overview)?;
+    let clerks = clerks_words(alloc, &overview.clerks)?;
+    let (standing, open) = (standing_word(overview.standing), overview.doubtful_open);
+    let twin = twin_words(alloc, overview.twin)?;
+    format!(in alloc; "{size}{clerks}, {standing}, {open} doubtful open{twin}")
+}
+
+impl Lined for BatchOverview {
+    ghost text = { λ o. batch_line (batch_view o) };
+
+    fn line(&self, alloc: Global) -> Result<String, AllocError> {
+        batch_line(alloc, self)
+    }
+}
+
+// ---- a doubtful paper
+
+#[tactic(auto, unfolding(crate::specs::Overviews::verdict_words))]
+/// The verdict on it.
+fn verdict_words(alloc: Global, verdict: &Option<JudgedPaper>) -> Result<String, AllocError>
+    ensures { IfOk result (λ text. string_bytes text ≡ verdict_words (option_map judged_entry verdict.now)) }
+{
+    let Some(judged) = verdict else {
+        return String::from_str(alloc, "open");
+    };
+    if judged.code == 0 {
+        let marks = judged.marks.as_str();
+        return format!(in alloc; "accepted {marks}");
+    }
+    let code = judged.code;
+    format!(in alloc; "rejected {code}")
+}
+
+#[tactic(auto, unfolding(crate::specs::Overviews::doubtful_line))]
+/// The line that tells of a doubtful paper.
+fn doubtful_line(alloc: Global, doubtful: &DoubtfulPaper) -> Result<String, AllocError>
+    ensures { IfOk result (λ text. string_bytes text ≡ doubtful_line (doubtful_view doubtful.now)) }
+{
+    let (batch, paper) = (doubtful.batch, doubtful.paper);
+    let verdict = verdict_words(alloc, &doubtful.verdict)?;
+    format!(in alloc; "batch {batch} paper {paper} {verdict}")
+}
+
+impl Lined for DoubtfulPaper {
+    ghost text = { λ d. doubtful_line (doubtful_view d) };
+
+    fn line(&self, alloc: Global) -> Result<String, AllocError> {
+        doubtful_line(alloc, self)
+    }
+}
+
+// ---- differences, and receipts
+
+#[tactic(auto, unfolding(crate::specs::Overviews::differences_line))]
+/// The line that tells on which papers a batch differs.
+fn differences_line(alloc: Global, found: &Differences) -> Result<String, AllocError>
+    ensures { IfOk result (λ text. string_bytes text ≡ differences_line (differences_view found.now)) }
+{
+    let (batch, round) = (found.batch.number, found.batch.round);
+    let papers = listed(alloc, &found.papers)?;
+    format!(in alloc; "batch {batch} round {round} differs on papers {papers}")
+}
+
+#[tactic(auto, unfolding(crate::specs::Overviews::receipt_line))]
+/// The line that tells a receipt.
+fn receipt_line(alloc: Global, receipt: &Receipt) -> Result<String, AllocError>
+    ensures { IfOk result (λ text. string_bytes text ≡ receipt_line (receipt_entry receipt.now)) }
+{
+    let (actor, id) = (receipt.actor, receipt.id.as_str());
+    let (subject, reply) = (receipt.subject.as_str(), receipt.reply.as_str());
+    format!(in alloc; "actor {actor} id {id}, {subject}: {reply}")
+}
+
+impl Lined for Receipt {
+    ghost text = { λ r. receipt_line (receipt_entry r) };
+
+    fn line(&self, alloc: Global) -> Result<String, AllocError> {
+        receipt_line(alloc, self)
+    }
+}
+
+// ---- what is told
+
+/// Puts something behind what was told, in a line of its own.
+fn put_line<T: Lined>(alloc: Global, text: &mut String, told: &T) -> Result<(), AllocError>
+    ensures { IfOk result (λ _. string_bytes text.new ≡ string_bytes text.old ++ line (T.text told.now)) }
+{
+    let line = told.line(alloc)?;
+    text.push_str(line.as_str())?;
+    text.push_str("\n")
+}
+
+/// Each in a line of its own.
+fn lines_of<T: Lined>(alloc: Global, found: &[T]) -> Result<String, AllocError>
+    ensures { IfOk result (λ text. string_bytes text ≡ flat_map (λ t. line (T.text t)) found.now) }
+{
+    let mut text = String::new(alloc);
+    for told in found {
+        put_line(alloc, &mut text, told)?;
+    }
+    Ok(text)
+}
+
+/// What is told where nothing was found.
+fn stopped(stop: Stop) -> Outcome
+    ensures { page_of result ≡ page_stopped stop }
+{
+    match stop {
+        Stop::Refused(refusal) => Outcome::Refused(refusal),
+        Stop::Fault(fault) => Outcome::Failed(fault),
+    }
+}
+
+/// What is told of what was found, or why there is nothing; or that memory was wanting for the lines.
+fn outcome_of<T: Lined + Drop>(alloc: Global, found: Result<Vec<T>, Stop>) -> Outcome
+    ensures lines { IfOk found (λ all. (page_of result ≡ printed (flat_map (λ t. line (T.text t)) all.items)) ⊎ (page_of result ≡ failed (Failure.Office Fault.Memory))) }
+    ensures stop { IfErr found (λ stop. page_of result ≡ page_stopped stop) }
+{
+    let found = match found {
+        Ok(found) => found,
+        Err(stop) => return stopped(stop),
+    };
+    match lines_of(alloc, &found) {
+        Ok(text) => Outcome::Printed(text),
+        Err(AllocError) => Outcome::Failed(Fault::Memory),
+    }
+}
+
+/// On which papers a batch differs, in a line; or why that isn't told.
+fn differences_of<S: Alter>(alloc: Global, office: &mut Office<S>, batch: u32) -> Outcome
+    ensures found { WhereOpen office.old.closed (state S.Store office.old.held) (state S.Store office.new.held)
+        (λ s. IsAskedOf s (Question.Differences batch) (page_of result) office.new.closed (state S.Store office.new.held)) }
+    ensures same { OnlyReads (state S.Store office.old.held) (state S.Store office.new.held) }
+{
+    match office.differences(batch) {
+        Ok(found) => match differences_line(alloc, &found) {
+            Ok(line) => Outcome::Replied(line),
+            Err(AllocError) => Outcome::Failed(Fault::Memory),
+        },
+        Err(stop) => stopped(stop),
+    }
+}
+
+/// What the office is told of how all stands, or why that isn't told.
+pub(crate) fn answer_to<S: Alter>(
+    alloc: Global,
+    office: &mut Office<S>,
+    question: Question,
+) -> Outcome
+    ensures found { WhereOpen office.old.closed (state S.Store office.old.held) (state S.Store office.new.held)
+        (λ s. IsAskedOf s question (page_of result) office.new.closed (state S.Store office.new.held)) }
+    ensures same { OnlyReads (state S.Store office.old.held) (state S.Store office.new.held) }
+{
+    match question {
+        Question::Wards => outcome_of(alloc, office.wards()),
+        Question::Batches { ward } => outcome_of(alloc, office.batches(ward)),
+        Question::Doubtful { ward } => outcome_of(alloc, office.doubtful(ward)),
+        Question::Differences { batch } => differences_of(alloc, office, batch),
+        Question::Receipts { actor } => outcome_of(alloc, office.receipts(actor)),
+    }
+}

@@ -1,0 +1,199 @@
+//! A script: orders in a text, a line each, read to errands.
+
+ghost use Rattle.std.specs.Prelude.{◌≡◌, map, IfErr, IfOk, IfSome, Some};
+ghost use Rattle.desk.specs.Cuttings.{IsFaultOfLine, IsFaultOfLines, line_entry, said_entry, said_words};
+ghost use Rattle.desk.specs.Scripts.{AreTurns, IsFlawOfWords, IsTurn, Means, line_flaw_text, lines_of, numbered_from, typed, typed_line};
+
+use crate::cutting;
+use crate::orders::{Errand, Order};
+use crate::words::{WordsFault, order};
+use std::alloc::{AllocError, Global};
+use std::str;
+
+/// Why a line has no words.
+#[derive(Clone, Copy)]
+pub(crate) enum Garbled {
+    /// A quote isn't closed.
+    Quote,
+    /// A word isn't UTF-8.
+    NotUtf8,
+}
+
+/// What is wrong with a line.
+#[derive(Drop)]
+pub(crate) enum LineFlaw {
+    /// It has no words.
+    NoWords(Garbled),
+    /// The word of a verdict says none.
+    Verdict,
+    /// The words are no order; this is told of them.
+    Words(String),
+    /// The order stands in no script.
+    Elsewhere,
+}
+
+impl LineFlaw {
+    /// What is told of it, its lines ended.
+    pub(crate) fn text(&self) -> &str
+        ensures { result.now ≡ line_flaw_text self.now }
+    {
+        match self {
+            LineFlaw::NoWords(Garbled::Quote) => "error: a quote is not closed\n",
+            LineFlaw::NoWords(Garbled::NotUtf8) => "error: a word is not UTF-8\n",
+            LineFlaw::Verdict => "bad verdict word\n",
+            LineFlaw::Words(text) => text.as_str(),
+            LineFlaw::Elsewhere => "error: this order stands in no script\n",
+        }
+    }
+}
+
+/// Why a text is no script.
+#[derive(Drop)]
+pub(crate) enum ScriptFault {
+    /// Memory was wanting.
+    Memory,
+    /// This is wrong with the line of this number.
+    Line(usize, LineFlaw),
+}
+
+/// A line that isn't passed over: its number, from 1 on, and its words, None where a quote isn't closed.
+#[derive(Drop)]
+pub(crate) struct Line {
+    number: usize,
+    words: Option<Vec<Vec<u8>>>,
+}
+
+/// A line as it would be typed behind the program's name.
+#[derive(Drop)]
+pub(crate) struct Said<'a> {
+    number: usize,
+    words: Result<Vec<&'a str>, Garbled>,
+}
+
+/// An order of a script, and the number of its line.
+#[derive(Drop)]
+pub(crate) struct Turn<'a> {
+    pub(crate) line: usize,
+    pub(crate) errand: Errand<'a>,
+}
+
+/// The lines of a text that aren't passed over, of all its lines.
+fn numbered(alloc: Global, all: &[Vec<u8>]) -> Result<Vec<Line>, AllocError>
+    ensures { IfOk result (λ lines. map line_entry lines.items ≡ numbered_from 1 (map (λ line. line.items) all.now)) }
+{
+    let mut lines = Vec::new(alloc);
+    for (i, line) in all.iter().enumerate() {
+        if !cutting::passes_over(line) {
+            lines.push(Line {
+                number: i + 1,
+                words: cutting::words_of(alloc, line)?,
+            })?;
+        }
+    }
+    Ok(lines)
+}
+
+/// The lines of a text that aren't passed over.
+pub(crate) fn lines_in(alloc: Global, text: &[u8]) -> Result<Vec<Line>, AllocError>
+    ensures { IfOk result (λ lines. map line_entry lines.items ≡ numbered_from 1 (lines_of text.now)) }
+{
+    numbered(alloc, &cutting::lines_of(alloc, text)?)
+}
+
+/// Words as they would be typed, or that one isn't UTF-8.
+fn texts_of<'a>(
+    alloc: Global,
+    words: &'a [Vec<u8>],
+) -> Result<Result<Vec<&'a str>, Garbled>, AllocError>
+    ensures { IfOk result (λ texts. said_words texts ≡ typed (Some (map (λ w. w.items) words.now))) }
+{
+    let mut texts = vec![in alloc; "DB"]?;
+    for word in words {
+        match str::from_utf8(word) {
+            Ok(text) => texts.push(text)?,
+            Err(_) => return Ok(Err(Garbled::NotUtf8)),
+        }
+    }
+    Ok(Ok(texts))
+}
+
+/// A line as it would be typed.
+fn as_typed<'a>(alloc: Global, line: &'a Line) -> Result<Said<'a>, AllocError>
+    ensures { IfOk result (λ said. said_entry said ≡ typed_line (line_entry line.now)) }
+{
+    let words = match &line.words {
+        Some(words) => texts_of(alloc, words)?,
+        None => Err(Garbled::Quote),
+    };
+    Ok(Said {
+        number: line.number,
+        words,
+    })
+}
+
+/// Lines as they would be typed.
+pub(crate) fn all_said<'a>(alloc: Global, lines: &'a [Line]) -> Result<Vec<Said<'a>>, AllocError>
+    ensures { IfOk result (λ all. map said_entry all.items ≡ map typed_line (map line_entry lines.now)) }
+{
+    let mut all = Vec::new(alloc);
+    for line in lines {
+        all.push(as_typed(alloc, line)?)?;
+    }
+    Ok(all)
+}
+
+/// The errand that words mean, or what is wrong with them; None where memory was wanting.
+fn errand_in<'a>(alloc: Global, words: &'a [&'a str]) -> Result<Errand<'a>, Option<LineFlaw>>
+    ensures ok { IfOk result (λ errand. Means (map (λ s. s.now) words.entry.now) errand) }
+    ensures err { IfErr result (λ why. IfSome why (λ flaw. IsFlawOfWords (map (λ s. s.now) words.entry.now) flaw)) }
+{
+    match order(alloc, words) {
+        Ok(Order::Run(errand)) if errand.sends() => Ok(errand),
+        Ok(_) => Err(Some(LineFlaw::Elsewhere)),
+        Err(WordsFault::Memory) => Err(None),
+        Err(WordsFault::Verdict) => Err(Some(LineFlaw::Verdict)),
+        Err(WordsFault::Words { status: 0, .. }) => Err(Some(LineFlaw::Elsewhere)),
+        Err(WordsFault::Words { text, .. }) => Err(Some(LineFlaw::Words(text))),
+    }
+}
+
+/// The turn that a line is, or what is wrong with it.
+fn turn_in<'a, 'b>(alloc: Global, said: &'a Said<'b>) -> Result<Turn<'a>, ScriptFault>
+    ensures ok { IfOk result (λ turn. IsTurn (said_entry said.entry.now) turn) }
+    ensures err { IfErr result (λ fault. IsFaultOfLine (said_entry said.entry.now) fault) }
+{
+    let words = match &said.words {
+        Ok(words) => words,
+        Err(why) => return Err(ScriptFault::Line(said.number, LineFlaw::NoWords(*why))),
+    };
+    match errand_in(alloc, words) {
+        Ok(errand) => Ok(Turn {
+            line: said.number,
+            errand,
+        }),
+        Err(Some(flaw)) => Err(ScriptFault::Line(said.number, flaw)),
+        Err(None) => Err(ScriptFault::Memory),
+    }
+}
+
+/// The turns of a script, one a line; or what is wrong with the first line that is none.
+pub(crate) fn turns_in<'a, 'b>(
+    alloc: Global,
+    lines: &'a [Said<'b>],
+) -> Result<Vec<Turn<'a>>, ScriptFault>
+    ensures ok { IfOk result (λ turns. AreTurns (map said_entry lines.entry.now) turns.items) }
+    ensures err { IfErr result (λ fault. IsFaultOfLines (map said_entry lines.entry.now) fault) }
+{
+    let mut turns = Vec::new(alloc);
+    for line in lines {
+        match turn_in(alloc, line) {
+            Ok(turn) => {
+                if turns.push(turn).is_err() {
+                    return Err(ScriptFault::Memory);
+                }
+            }
+            Err(fault) => return Err(fault),
+        }
+    }
+    Ok(turns)
+}

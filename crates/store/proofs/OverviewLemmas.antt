@@ -1,0 +1,94 @@
+-- Why what was read of how all stands is so.
+use Rattle.std.proofs.Common.{◌≡◌, ◌<◌, ℕ, true, cond, not, ◌&&◌, ◌||◌, List, [], ◌∷◌, ◌++◌, map, filter, length, get_or, Option, Some, None, option_map, refl, sym, ap, subst, ◌∙◌}
+use Rattle.std.proofs.Math.Bool.{or-false}
+use Rattle.std.proofs.lemmas.Bool.{cond-true}
+use Rattle.std.proofs.lemmas.List.{map-append}
+use Rattle.std.specs.List.{AllByRecursion}
+use Rattle.sqlite_trees.proofs.ListLemmas.{all-get_or}
+use Rattle.register.specs.declared.elections.CountedWard.{CountedWard}
+use Rattle.register.specs.declared.phase.Phase.{Phase}
+use Rattle.register.specs.declared.phase.Phase.TheVariants.{Nominations, Keying, Sealed, Declared}
+use Rattle.register.specs.declared.wards.Ward.{Ward}
+use Rattle.register.specs.Offices.{WardEntry, BatchEntry, KeyedEntry, JudgedEntry, OfficeState, ward_entry, ward_at, verdicts_of}
+use Rattle.register.specs.Papers.{is_keyed, of_three, agreed, keyings_now}
+use Rattle.register.specs.Elections.{ElectionEntry, election_of, elected_of, is_counted, is_declared}
+use Rattle.register.specs.Items.{IsState}
+use Rattle.register.specs.Tabulated.{IsCountedWard}
+use Rattle.tables.proofs.ListLemmas.{get_mapped, mapped_length}
+use Rattle.store.specs.Elections.{IsCountedIn, IsCountedInFor}
+use Rattle.store.specs.Overviews.{WardView, declared_in, DoubtfulView, doubtful_among, doubtful_in, has_alike, is_apart, apart_among, papers_apart}
+use Rattle.store.proofs.DoneLemmas.{wards_there}
+
+-- ---- lists
+
+-- one more, where those before are alike
+pub mapped_more : {A B C : Type 0} (f : A → C) (g : B → C) (xs : List A) (x : A) (ys : List B) (y : B) → map f xs ≡ map g ys → f x ≡ g y → map f (xs ++ x ∷ []) ≡ map g (ys ++ y ∷ [])
+mapped_more {C = C} f g xs x ys y before one =
+    map-append f xs (x ∷ []) ∙ ap (λ (zs : List C). zs ++ f x ∷ []) before ∙ ap (λ (z : C). map g ys ++ z ∷ []) one ∙ sym (map-append g ys (y ∷ []))
+
+-- what holds of the entry of each item holds of that of the one at a place
+pub each_there : {A B : Type 0} (P : B → Type 0) (entry : A → B) (xs : List A) (k : ℕ) (x : A) → AllByRecursion P (map entry xs) → k < length xs → x ≡ get_or xs k x → P (entry x)
+each_there P entry xs k x all within is =
+    subst P (get_mapped entry xs k (entry x) x within ∙ ap entry (sym is)) (all-get_or P (map entry xs) k (entry x) all (subst (λ n. k < n) (sym (mapped_length entry xs)) within))
+
+-- ---- wards
+
+-- wards with the same fields are the same
+pub same_ward_view : (x y : WardView) → x.ward ≡ y.ward → x.status ≡ y.status → x.elected ≡ y.elected → x ≡ y
+same_ward_view x y ward status elected = ap (λ v. record x { ward = v }) ward ∙ ap (λ v. record x { ward = y.ward; status = v }) status ∙ ap (λ v. record y { elected = v }) elected
+
+-- a ward of a state is the one of its number
+pub ward_there : (s : OfficeState) → IsState s → (ws : List Ward) → map ward_entry ws ≡ s.wards → (k : ℕ) (w : Ward) → k < length ws → w ≡ get_or ws k w → ward_at s w.number ≡ Some (ward_entry w)
+ward_there s is ws are k w within at =
+    each_there (λ (e : WardEntry). ward_at s e.number ≡ Some e) ward_entry ws k w (subst (AllByRecursion (λ (e : WardEntry). ward_at s e.number ≡ Some e)) (sym are) (wards_there s.wards is.rise.wards)) within at
+
+-- a declared ward has been sealed
+declared_counted : (phase : Phase) → is_declared phase ≡ true → is_counted phase ≡ true
+declared_counted Nominations is = absurd cc
+declared_counted Keying is = absurd cc
+declared_counted Sealed is = refl
+declared_counted Declared is = refl
+
+-- who is elected by the count that was found of a declared ward
+pub declared_told : (s : OfficeState) (w : WardEntry) (found : Option CountedWard) (counted : CountedWard) (elected : List ℕ) → found ≡ Some counted → IsCountedInFor (option_map (election_of s) (ward_at s w.number)) found
+    → ((e : ElectionEntry) → IsCountedWard e counted → is_counted e.ward.phase ≡ true → elected ≡ elected_of e) → is_declared w.phase ≡ true → ward_at s w.number ≡ Some w → Some elected ≡ declared_in s w
+declared_told s w found counted elected is told law declared there =
+    let here : IsCountedIn (election_of s w) found = subst (λ (o : Option WardEntry). IsCountedInFor (option_map (election_of s) o) found) there told in
+    let same : here.0 ≡ counted = some_same (sym here.1 ∙ is) in
+    ap (λ (cs : List ℕ). Some cs) (law (election_of s w) (subst (IsCountedWard (election_of s w)) same here.2) (declared_counted w.phase declared))
+    ∙ sym (cond-true (is_declared w.phase) (Some (elected_of (election_of s w))) None declared)
+  where
+    some_same : {a b : CountedWard} → ◌≡◌ {A = Option CountedWard} (Some a) (Some b) → a ≡ b
+    some_same e = cc
+
+-- ---- doubtful papers
+
+-- those of one batch more
+pub doubtful_put : (s : OfficeState) (b : BatchEntry) (before after : List DoubtfulView) (verdicts : List JudgedEntry) (papers : List KeyedEntry) (keyings : List (List KeyedEntry)) → after ≡ before ++ doubtful_among verdicts papers
+    → verdicts ≡ verdicts_of s b.number → papers ≡ agreed keyings → keyings ≡ keyings_now s b → after ≡ before ++ doubtful_in s b
+doubtful_put s b before after verdicts papers keyings put judged taken are =
+    put ∙ ap (λ (vs : List JudgedEntry). before ++ doubtful_among vs papers) judged ∙ ap (λ (ks : List KeyedEntry). before ++ doubtful_among (verdicts_of s b.number) ks) (taken ∙ ap agreed are)
+
+-- ---- differences
+
+-- a paper, and two keyings that may be there
+pub apart_two : (k : KeyedEntry) (second third : List KeyedEntry)
+    → is_apart (filter is_keyed (second ∷ third ∷ [])) k ≡ ((is_keyed second && not (has_alike k second)) || (is_keyed third && not (has_alike k third)))
+apart_two k [] [] = refl
+apart_two k [] (t ∷ ts) = or-false (not (has_alike k (t ∷ ts)))
+apart_two k (s ∷ ss) [] = refl
+apart_two k (s ∷ ss) (t ∷ ts) = ap (λ b. not (has_alike k (s ∷ ss)) || b) (or-false (not (has_alike k (t ∷ ts))))
+
+-- a keying beside no other
+apart_alone : (keying : List KeyedEntry) → apart_among [] keying ≡ []
+apart_alone [] = refl
+apart_alone (k ∷ ks) = apart_alone ks
+
+-- of three keyings that may be there
+pub apart_three : (first second third : List KeyedEntry)
+    → papers_apart (of_three first second third) ≡ cond (is_keyed first) (apart_among (filter is_keyed (second ∷ third ∷ [])) first) (apart_among (filter is_keyed (third ∷ [] ∷ [])) second)
+apart_three (k ∷ ks) second third = refl
+apart_three [] (k ∷ ks) [] = refl
+apart_three [] (k ∷ ks) (t ∷ ts) = refl
+apart_three [] [] [] = refl
+apart_three [] [] (t ∷ ts) = apart_alone (t ∷ ts)

@@ -1,0 +1,11 @@
+-- What the loop of `apart_among` keeps.
+use Rattle.std.proofs.Common.{◌≡◌, ◌++◌, ◌∷◌, [], map, filter, drop}
+use Rattle.register.specs.Offices.{keyed_entry}
+use Rattle.register.specs.Papers.{is_keyed}
+use Rattle.store.specs.Overviews.{apart_among}
+use Rattle.store.proofs.overviews.differences.apart_among.Given as goal
+
+abbrev pub invariant-loop-keyed : goal.invariant-loop-keyed
+invariant-loop-keyed l =
+    let others = filter is_keyed (map keyed_entry l.second ∷ map keyed_entry l.third ∷ []) in
+    l.papers.items ++ apart_among others (map keyed_entry (drop l.keyed-index l.keying)) ≡ apart_among others (map keyed_entry l.keying)

@@ -1,0 +1,192 @@
+-- What the office is told of how all stands: its wards, the batches of a ward, their doubtful papers, where a batch differs, and what was kept.
+use Rattle.std.specs.Prelude.{ℕ, Bool, not, ◌==◌, ◌&&◌, ◌++◌, if◌then◌else◌, List, [], ◌∷◌, map, find, codes, Option, Some, None, option_map}
+use Rattle.std.specs.List.{filter, flat_map, list_any}
+use Rattle.std.specs.Fmt.{decimal}
+use Rattle.std.specs.Str.{bytes_eq}
+use Rattle.register.specs.Offices.{WardEntry, BatchEntry, KeyedEntry, JudgedEntry, ReceiptEntry, OfficeState, ward_entry, batch_entry, judged_entry, ward_at, batch_at, candidates_of, keying_of, verdicts_of}
+use Rattle.register.specs.Marks.{columns_of}
+use Rattle.register.specs.Papers.{is_keyed, is_doubtful, clerks_of, keyings_now, taken_papers, are_taken, differ, is_taken, batches_of, open_in}
+use Rattle.register.specs.Elections.{election_of, elected_of, is_declared}
+use Rattle.register.specs.Standings.{StatusEntry, status_of, status_entry}
+use Rattle.store.specs.declared.overviews.batches.Standing.{Standing}
+use Rattle.store.specs.declared.overviews.batches.Standing.TheVariants.{Taken, Differing, Waiting}
+use Rattle.store.specs.declared.overviews.wards.WardOverview.{WardOverview}
+use Rattle.store.specs.declared.overviews.clerks.ClerkOverview.{ClerkOverview}
+use Rattle.store.specs.declared.overviews.batches.BatchOverview.{BatchOverview}
+use Rattle.store.specs.declared.overviews.doubtful.DoubtfulPaper.{DoubtfulPaper}
+use Rattle.store.specs.declared.overviews.differences.Differences.{Differences}
+
+-- ---- the wards
+
+-- a ward, how it stands, and who is elected where that is declared
+pub record WardView : Type 0 where
+  pub ward : WardEntry
+  pub status : StatusEntry
+  pub elected : Option (List ℕ)
+
+-- who is elected in a ward, once it is declared
+abbrev pub declared_in : OfficeState → WardEntry → Option (List ℕ)
+declared_in s w = if is_declared w.phase then Some (elected_of (election_of s w)) else None
+
+abbrev pub ward_view_of : OfficeState → WardEntry → WardView
+ward_view_of s w = record { ward = w; status = status_of s w; elected = declared_in s w }
+
+-- all wards, in the order of their numbers
+abbrev pub ward_views : OfficeState → List WardView
+ward_views s = map (ward_view_of s) s.wards
+
+-- ---- the batches of a ward
+
+-- a batch is taken, or it differs; else it waits for keyings
+abbrev pub standing_by : List (List KeyedEntry) → Standing
+standing_by keyings = if are_taken keyings then Taken else if differ keyings then Differing else Waiting
+
+abbrev pub standing_of : OfficeState → BatchEntry → Standing
+standing_of s b = standing_by (keyings_now s b)
+
+-- a clerk of a batch, and whether he has keyed its current round
+abbrev pub clerk_view_of : OfficeState → BatchEntry → ℕ → ℕ × Bool
+clerk_view_of s b clerk = (clerk, is_keyed (keying_of s b.number b.round clerk))
+
+-- a text, and the end of its line
+abbrev pub in_a_line : List ℕ → List ℕ
+in_a_line text = text ++ codes "\n"
+
+-- candidates' numbers, and the marks of papers, a line each
+abbrev pub candidate_lines : List ℕ → List ℕ
+candidate_lines columns = flat_map (λ c. in_a_line (decimal c)) columns
+
+abbrev pub paper_lines : List KeyedEntry → List ℕ
+paper_lines papers = flat_map (λ (k : KeyedEntry). in_a_line k.marks) papers
+
+-- The papers of a batch that is taken, as one text: the numbers of the ward's candidates, a line each, an empty line, and the marks of each
+-- paper in a line of its own. Neither a number nor marks hold a line end, so texts are alike where the candidates are and each paper is.
+unfoldable pub pile_text : List ℕ → List KeyedEntry → List ℕ
+pile_text columns papers = candidate_lines columns ++ (codes "\n" ++ paper_lines papers)
+
+abbrev pub pile_text_of : OfficeState → BatchEntry → List ℕ
+pile_text_of s b = pile_text (columns_of (candidates_of s b.ward)) (taken_papers s b)
+
+-- the text of its papers, if it is taken
+abbrev pub pile_in : OfficeState → BatchEntry → Option (List ℕ)
+pile_in s b = if is_taken s b then Some (pile_text_of s b) else None
+
+-- another batch is taken with the very same papers, of a ward with the same candidates' numbers
+abbrev pub is_twin : OfficeState → BatchEntry → BatchEntry → Bool
+is_twin s b c = not (c.number == b.number) && (is_taken s c && bytes_eq (pile_text_of s b) (pile_text_of s c))
+
+-- the number of the first such batch
+abbrev pub twin_of : OfficeState → BatchEntry → Option ℕ
+twin_of s b = if is_taken s b then option_map (λ (c : BatchEntry). c.number) (find (is_twin s b) s.batches) else None
+
+-- a batch, its clerks in the order of their numbers, how it stands, how many of its doubtful papers have no verdict, and its twin
+pub record BatchView : Type 0 where
+  pub batch : BatchEntry
+  pub clerks : List (ℕ × Bool)
+  pub standing : Standing
+  pub doubtful_open : ℕ
+  pub twin : Option ℕ
+
+abbrev pub batch_view_with : OfficeState → BatchEntry → Option ℕ → BatchView
+batch_view_with s b twin = record { batch = b; clerks = map (clerk_view_of s b) (clerks_of s b); standing = standing_of s b; doubtful_open = open_in s b; twin = twin }
+
+abbrev pub batch_view_of : OfficeState → BatchEntry → BatchView
+batch_view_of s b = batch_view_with s b (twin_of s b)
+
+-- the batches of a ward, in the order of their numbers
+abbrev pub batch_views : OfficeState → ℕ → List BatchView
+batch_views s ward = map (batch_view_of s) (batches_of s ward)
+
+-- the same of the ward of a number, if there is one
+abbrev pub batch_views_at : OfficeState → ℕ → Option (List BatchView)
+batch_views_at s ward = option_map (λ (w : WardEntry). batch_views s w.number) (ward_at s ward)
+
+-- ---- doubtful papers
+
+-- a doubtful paper of a batch, and the verdict on it, if there is one
+pub record DoubtfulView : Type 0 where
+  pub batch : ℕ
+  pub paper : ℕ
+  pub verdict : Option JudgedEntry
+
+-- among the verdicts of a batch that on the paper of a number
+abbrev pub verdict_on : List JudgedEntry → ℕ → Option JudgedEntry
+verdict_on verdicts paper = find (λ (v : JudgedEntry). v.paper == paper) verdicts
+
+abbrev pub doubtful_view_of : List JudgedEntry → KeyedEntry → DoubtfulView
+doubtful_view_of verdicts k = record { batch = k.batch; paper = k.paper; verdict = verdict_on verdicts k.paper }
+
+-- the doubtful ones among the papers of a batch
+abbrev pub doubtful_among : List JudgedEntry → List KeyedEntry → List DoubtfulView
+doubtful_among verdicts papers = map (doubtful_view_of verdicts) (filter is_doubtful papers)
+
+-- the doubtful papers of a batch, if it is taken
+abbrev pub doubtful_in : OfficeState → BatchEntry → List DoubtfulView
+doubtful_in s b = doubtful_among (verdicts_of s b.number) (taken_papers s b)
+
+-- those of the batches of a ward
+abbrev pub doubtful_views : OfficeState → ℕ → List DoubtfulView
+doubtful_views s ward = flat_map (doubtful_in s) (batches_of s ward)
+
+-- the same of the ward of a number, if there is one
+abbrev pub doubtful_at : OfficeState → ℕ → Option (List DoubtfulView)
+doubtful_at s ward = option_map (λ (w : WardEntry). doubtful_views s w.number) (ward_at s ward)
+
+-- ---- differences
+
+-- a keying has this paper with these marks
+abbrev pub has_alike : KeyedEntry → List KeyedEntry → Bool
+has_alike k keying = list_any (λ (j : KeyedEntry). (j.paper == k.paper) && bytes_eq j.marks k.marks) keying
+
+-- some of the others have it with other marks
+abbrev pub is_apart : List (List KeyedEntry) → KeyedEntry → Bool
+is_apart others k = list_any (λ keying. not (has_alike k keying)) others
+
+-- the numbers of such papers of a keying
+abbrev pub apart_among : List (List KeyedEntry) → List KeyedEntry → List ℕ
+apart_among others keying = map (λ (k : KeyedEntry). k.paper) (filter (is_apart others) keying)
+
+-- the numbers of the papers on which some keyings of a round differ: those of the first that another one has with other marks
+abbrev pub papers_apart : List (List KeyedEntry) → List ℕ
+papers_apart [] = []
+papers_apart (keying ∷ others) = apart_among others keying
+
+-- a batch, whether it differs, and on which papers the keyings of its round do
+pub record DifferencesView : Type 0 where
+  pub batch : BatchEntry
+  pub differs : Bool
+  pub papers : List ℕ
+
+abbrev pub differences_by : BatchEntry → List (List KeyedEntry) → DifferencesView
+differences_by b keyings = record { batch = b; differs = differ keyings; papers = papers_apart keyings }
+
+abbrev pub differences_of : OfficeState → BatchEntry → DifferencesView
+differences_of s b = differences_by b (keyings_now s b)
+
+-- the same of the batch with a number, if there is one
+abbrev pub differences_at : OfficeState → ℕ → Option DifferencesView
+differences_at s batch = option_map (differences_of s) (batch_at s batch)
+
+-- ---- receipts
+
+-- the receipts of an actor, or of all, by actor and id
+abbrev pub receipts_of : OfficeState → Option ℕ → List ReceiptEntry
+receipts_of s None = s.receipts
+receipts_of s (Some actor) = filter (λ (r : ReceiptEntry). r.actor == actor) s.receipts
+
+-- ---- what values stand for
+
+abbrev pub ward_view : WardOverview → WardView
+ward_view o = record { ward = ward_entry o.ward; status = status_entry o.status; elected = o.elected }
+
+abbrev pub clerk_view : ClerkOverview → ℕ × Bool
+clerk_view c = (c.clerk, c.keyed)
+
+abbrev pub batch_view : BatchOverview → BatchView
+batch_view o = record { batch = batch_entry o.batch; clerks = map clerk_view o.clerks.items; standing = o.standing; doubtful_open = o.doubtful_open; twin = o.twin }
+
+abbrev pub doubtful_view : DoubtfulPaper → DoubtfulView
+doubtful_view d = record { batch = d.batch; paper = d.paper; verdict = option_map judged_entry d.verdict }
+
+abbrev pub differences_view : Differences → DifferencesView
+differences_view d = record { batch = batch_entry d.batch; differs = d.differs; papers = d.papers.items }

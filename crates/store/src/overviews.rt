@@ -1,0 +1,10 @@
+//! How all stands, for the office alone: its wards, the batches of a ward, their doubtful papers, where a batch
+//! differs, and what was kept, read from the tables.
+
+pub mod batches;
+pub mod clerks;
+pub mod differences;
+pub mod doubtful;
+mod piles;
+mod receipts;
+pub mod wards;

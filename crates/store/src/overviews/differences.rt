@@ -1,0 +1,157 @@
+//! Where the keyings of a batch differ, read from the tables.
+
+ghost use Rattle.std.specs.Prelude.{◌≡◌, ◌∷◌, [], false, not, ◌&&◌, map, filter, option_map, IfOk, IfErr, OnOk, IsTrue};
+ghost use Rattle.sqlite.specs.State.{HasCleanDisk};
+ghost use Rattle.sqlite.specs.Held.{state};
+ghost use Rattle.register.specs.Offices.{OfficeState, batch_entry, keyed_entry};
+ghost use Rattle.register.specs.Papers.{is_keyed, of_three, differ};
+ghost use Rattle.tables.specs.declared.fault.Fault.{Fault};
+ghost use Rattle.tables.specs.Reading.{OnlyReads, FailsBy};
+ghost use Rattle.store.specs.Keyings.{keyings_by};
+ghost use Rattle.store.specs.Offices.{IsAt};
+ghost use Rattle.store.specs.Overviews.{has_alike, is_apart, apart_among, papers_apart, differences_view, differences_by, differences_of, differences_at};
+ghost use Rattle.store.specs.Reads.{Reads};
+
+use crate::storage::Store;
+use crate::views::batches::find_batch;
+use crate::views::papers::{Keyings, keyings_of};
+use register::papers::{differ, is_keyed};
+use register::{Batch, KeyedPaper};
+use sqlite::{Alter, Connection};
+use std::alloc::{AllocError, Global};
+use tables::Fault;
+
+/// A batch, whether it differs, and the numbers of the papers on which keyings of its current round differ.
+#[derive(Drop)]
+pub struct Differences {
+    pub batch: Batch,
+    pub differs: bool,
+    pub papers: Vec<u32>,
+}
+
+/// Whether a keying has this paper with these marks.
+fn has_alike(keyed: &KeyedPaper, keying: &[KeyedPaper]) -> bool
+    ensures { result ≡ has_alike (keyed_entry keyed.now) (map keyed_entry keying.now) }
+{
+    for other in keying {
+        if other.paper == keyed.paper && other.marks.as_str() == keyed.marks.as_str() {
+            return true;
+        }
+    }
+    false
+}
+
+#[tactic(auto, using(crate::proofs::OverviewLemmas::apart_two))]
+/// Whether one of two other keyings that is there has a paper with other marks.
+fn is_apart(keyed: &KeyedPaper, second: &[KeyedPaper], third: &[KeyedPaper]) -> bool
+    ensures { result ≡ is_apart (filter is_keyed (map keyed_entry second.now ∷ map keyed_entry third.now ∷ [])) (keyed_entry keyed.now) }
+{
+    (is_keyed(second) & !has_alike(keyed, second)) | (is_keyed(third) & !has_alike(keyed, third))
+}
+
+/// The numbers of the papers of a keying that one of two others that is there has with other marks.
+fn apart_among(
+    alloc: Global,
+    keying: &[KeyedPaper],
+    second: &[KeyedPaper],
+    third: &[KeyedPaper],
+) -> Result<Vec<u32>, AllocError>
+    ensures { IfOk result (λ papers. papers.items ≡ apart_among (filter is_keyed (map keyed_entry second.now ∷ map keyed_entry third.now ∷ [])) (map keyed_entry keying.now)) }
+{
+    let mut papers = Vec::new(alloc);
+    for keyed in keying {
+        if is_apart(keyed, second, third) {
+            papers.push(keyed.paper)?;
+        }
+    }
+    Ok(papers)
+}
+
+#[tactic(auto, using(crate::proofs::OverviewLemmas::apart_three))]
+/// The numbers of the papers on which keyings of a round differ: those of the first one that is there which
+/// another one has with other marks.
+fn papers_apart(
+    alloc: Global,
+    first: &[KeyedPaper],
+    second: &[KeyedPaper],
+    third: &[KeyedPaper],
+) -> Result<Vec<u32>, AllocError>
+    ensures { IfOk result (λ papers. papers.items ≡ papers_apart (of_three (map keyed_entry first.now) (map keyed_entry second.now) (map keyed_entry third.now))) }
+{
+    if is_keyed(first) {
+        apart_among(alloc, first, second, third)
+    } else {
+        apart_among(alloc, second, third, &[])
+    }
+}
+
+/// A batch, and where these keyings of its current round differ. An error is `Memory`.
+fn differences_by(alloc: Global, batch: Batch, keyings: &Keyings) -> Result<Differences, Fault>
+    ensures is { IfOk result (λ found. differences_view found ≡ differences_by (batch_entry batch) (keyings_by keyings.now)) }
+    ensures cause { IfErr result (λ f. f ≡ Fault.Memory) }
+{
+    let Keyings {
+        first,
+        second,
+        third,
+        ..
+    } = keyings;
+    let Ok(papers) = papers_apart(alloc, first, second, third) else {
+        return Err(Fault::Memory);
+    };
+    Ok(Differences {
+        batch,
+        differs: differ(first, second, third),
+        papers,
+    })
+}
+
+/// Where the keyings of a batch differ.
+fn batch_differences<S: Alter>(
+    alloc: Global,
+    conn: &mut Connection<S>,
+    batch: Batch,
+) -> Result<Differences, Fault>
+    requires { conn.old.in_transaction ≡ false }
+    ensures { Reads (state S.Store conn.old) (state S.Store conn.new) result (λ s found. differences_view found ≡ differences_of s (batch_entry batch)) }
+{
+    let keyings = keyings_of(alloc, conn, &batch)?;
+    let found = differences_by(alloc, batch, &keyings)?;
+    Ok(found)
+}
+
+/// Where the keyings of the batch with this number differ, if there is one.
+fn find_differences<S: Alter>(
+    alloc: Global,
+    conn: &mut Connection<S>,
+    batch: u32,
+) -> Result<Option<Differences>, Fault>
+    requires { conn.old.in_transaction ≡ false }
+    ensures { Reads (state S.Store conn.old) (state S.Store conn.new) result (λ s found. option_map differences_view found ≡ differences_at s batch) }
+{
+    let found = find_batch(conn, batch)?;
+    match found {
+        Some(batch) => {
+            let differences = batch_differences(alloc, conn, batch)?;
+            Ok(Some(differences))
+        }
+        None => Ok(None),
+    }
+}
+
+impl<S: Alter> Store<S> {
+    /// The batch with this number, if there is one, whether it differs, and the numbers of the papers on which
+    /// keyings of its current round differ, in the order of the papers; those are told too where two keyings
+    /// of three are equal. It changes nothing, and adds nothing to what a stop may leave. `Memory` or `Store`
+    /// where a row can't be read.
+    pub fn load_differences(&mut self, batch: u32) -> Result<Option<Differences>, Fault>
+        ensures shows { HasCleanDisk (state S.Store self.new) → (s : OfficeState) → IsAt s (state S.Store self.old)
+            → IfOk result (λ found. option_map differences_view found ≡ differences_at s batch) }
+        ensures cause { HasCleanDisk (state S.Store self.new) → (s : OfficeState) → IsAt s (state S.Store self.old) → IfErr result (FailsBy (state S.Store self.old) (state S.Store self.new)) }
+        ensures opens { HasCleanDisk (state S.Store self.new) → OnOk result (IsTrue (state S.Store self.new).is_open) }
+        ensures reads { OnlyReads (state S.Store self.old) (state S.Store self.new) }
+        ensures keeps { HasCleanDisk (state S.Store self.new) → (s : OfficeState) → IsAt s (state S.Store self.old) → IsAt s (state S.Store self.new) }
+    {
+        find_differences(self.alloc, &mut self.conn, batch)
+    }
+}

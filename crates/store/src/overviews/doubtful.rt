@@ -1,0 +1,174 @@
+//! The doubtful papers of a ward, read from the tables.
+
+ghost use Rattle.std.specs.Prelude.{◌≡◌, ◌==◌, ◌++◌, false, map, filter, find, option_map, IfOk, IfErr, OnOk, IsTrue};
+ghost use Rattle.std.specs.List.{flat_map};
+ghost use Rattle.sqlite.specs.State.{HasCleanDisk};
+ghost use Rattle.sqlite.specs.Held.{state};
+ghost use Rattle.register.specs.Offices.{OfficeState, batch_entry, keyed_entry, judged_entry};
+ghost use Rattle.register.specs.Papers.{is_doubtful};
+ghost use Rattle.tables.specs.declared.fault.Fault.{Fault};
+ghost use Rattle.tables.specs.Reading.{OnlyReads, FailsBy};
+ghost use Rattle.store.specs.Offices.{IsAt};
+ghost use Rattle.store.specs.Overviews.{verdict_on, doubtful_view, doubtful_view_of, doubtful_among, doubtful_in, doubtful_views, doubtful_at};
+ghost use Rattle.store.specs.Reads.{Reads};
+
+use crate::storage::Store;
+use crate::views::batches::list_batches;
+use crate::views::papers::{Keyings, keyings_of, list_verdicts};
+use crate::views::wards::find_ward;
+use register::papers::{agreed, is_doubtful};
+use register::{Batch, JudgedPaper, KeyedPaper};
+use sqlite::{Alter, Connection};
+use std::alloc::{AllocError, Global};
+use tables::Fault;
+
+/// A doubtful paper (1 to 500) of a batch (1 to 9999) that is taken, and the verdict on it, if there is one.
+#[derive(Drop)]
+pub struct DoubtfulPaper {
+    pub batch: u32,
+    pub paper: u32,
+    pub verdict: Option<JudgedPaper>,
+}
+
+/// The same verdict once more.
+fn copy_of(judged: &JudgedPaper) -> Result<JudgedPaper, AllocError>
+    ensures { IfOk result (λ copy. judged_entry copy ≡ judged_entry judged.now) }
+{
+    Ok(JudgedPaper {
+        batch: judged.batch,
+        paper: judged.paper,
+        code: judged.code,
+        marks: judged.marks.clone()?,
+    })
+}
+
+/// Among some verdicts that on the paper of this number, if there is one.
+fn verdict_on(verdicts: &[JudgedPaper], paper: u32) -> Result<Option<JudgedPaper>, AllocError>
+    ensures { IfOk result (λ found. option_map judged_entry found ≡ verdict_on (map judged_entry verdicts.now) paper) }
+{
+    for judged in verdicts {
+        if judged.paper == paper {
+            return Ok(Some(copy_of(judged)?));
+        }
+    }
+    Ok(None)
+}
+
+/// A doubtful paper, with the verdict that some have on it.
+fn doubtful_paper(keyed: &KeyedPaper, verdicts: &[JudgedPaper]) -> Result<DoubtfulPaper, AllocError>
+    ensures { IfOk result (λ found. doubtful_view found ≡ doubtful_view_of (map judged_entry verdicts.now) (keyed_entry keyed.now)) }
+{
+    Ok(DoubtfulPaper {
+        batch: keyed.batch,
+        paper: keyed.paper,
+        verdict: verdict_on(verdicts, keyed.paper)?,
+    })
+}
+
+/// Puts the doubtful papers among some, each with the verdict that some have on it, behind others.
+fn put_doubtful(
+    found: &mut Vec<DoubtfulPaper>,
+    papers: &[KeyedPaper],
+    verdicts: &[JudgedPaper],
+) -> Result<(), AllocError>
+    ensures { IfOk result (λ _. map doubtful_view found.new.items ≡ map doubtful_view found.old.items ++ doubtful_among (map judged_entry verdicts.now) (map keyed_entry papers.now)) }
+{
+    for keyed in papers {
+        if is_doubtful(keyed) {
+            found.push(doubtful_paper(keyed, verdicts)?)?;
+        }
+    }
+    Ok(())
+}
+
+/// The doubtful papers of a batch, if it is taken, behind others.
+fn batch_doubtful<S: Alter>(
+    alloc: Global,
+    conn: &mut Connection<S>,
+    before: Vec<DoubtfulPaper>,
+    batch: &Batch,
+) -> Result<Vec<DoubtfulPaper>, Fault>
+    requires { conn.old.in_transaction ≡ false }
+    ensures { Reads (state S.Store conn.old) (state S.Store conn.new) result (λ s found. map doubtful_view found.items ≡ map doubtful_view before.items ++ doubtful_in s (batch_entry batch.now)) }
+{
+    let mut found = before;
+    let Keyings {
+        first,
+        second,
+        third,
+        ..
+    } = keyings_of(alloc, conn, batch)?;
+    let verdicts = list_verdicts(alloc, conn, batch.number)?;
+    let papers = agreed(&first, &second, &third);
+    if put_doubtful(&mut found, papers, &verdicts).is_err() {
+        return Err(Fault::Memory);
+    }
+    Ok(found)
+}
+
+/// The doubtful papers of batches, read one after the other.
+fn all_doubtful<S: Alter>(
+    alloc: Global,
+    conn: &mut Connection<S>,
+    batches: &[Batch],
+) -> Result<Vec<DoubtfulPaper>, Fault>
+    requires outside { conn.old.in_transaction ≡ false }
+    requires is_open { HasCleanDisk (state S.Store conn.old) → IsTrue (state S.Store conn.old).is_open }
+    ensures { Reads (state S.Store conn.old) (state S.Store conn.new) result (λ s found. map doubtful_view found.items ≡ flat_map (doubtful_in s) (map batch_entry batches.now)) }
+{
+    let mut found = Vec::new(alloc);
+    for batch in batches {
+        found = batch_doubtful(alloc, conn, found, batch)?;
+    }
+    Ok(found)
+}
+
+/// The doubtful papers of the batches of a ward.
+fn ward_doubtful<S: Alter>(
+    alloc: Global,
+    conn: &mut Connection<S>,
+    ward: u32,
+) -> Result<Vec<DoubtfulPaper>, Fault>
+    requires { conn.old.in_transaction ≡ false }
+    ensures { Reads (state S.Store conn.old) (state S.Store conn.new) result (λ s found. map doubtful_view found.items ≡ doubtful_views s ward) }
+{
+    let batches = list_batches(alloc, conn, ward)?;
+    let found = all_doubtful(alloc, conn, &batches)?;
+    Ok(found)
+}
+
+/// The same of the ward of this number, if there is one.
+fn find_doubtful<S: Alter>(
+    alloc: Global,
+    conn: &mut Connection<S>,
+    ward: u32,
+) -> Result<Option<Vec<DoubtfulPaper>>, Fault>
+    requires { conn.old.in_transaction ≡ false }
+    ensures { Reads (state S.Store conn.old) (state S.Store conn.new) result (λ s found. option_map (λ papers. map doubtful_view papers.items) found ≡ doubtful_at s ward) }
+{
+    let found = find_ward(conn, ward)?;
+    match found {
+        Some(ward) => {
+            let papers = ward_doubtful(alloc, conn, ward.number)?;
+            Ok(Some(papers))
+        }
+        None => Ok(None),
+    }
+}
+
+impl<S: Alter> Store<S> {
+    /// The doubtful papers of the taken batches of the ward of this number, by batch and paper, each with the
+    /// verdict on it, if there is one; none at all where there is no such ward. Its batches are read one after
+    /// the other, each with its keyings of the current round and the verdicts on its papers. It changes
+    /// nothing, and adds nothing to what a stop may leave. `Memory` or `Store` where a row can't be read.
+    pub fn load_doubtful(&mut self, ward: u32) -> Result<Option<Vec<DoubtfulPaper>>, Fault>
+        ensures shows { HasCleanDisk (state S.Store self.new) → (s : OfficeState) → IsAt s (state S.Store self.old)
+            → IfOk result (λ found. option_map (λ papers. map doubtful_view papers.items) found ≡ doubtful_at s ward) }
+        ensures cause { HasCleanDisk (state S.Store self.new) → (s : OfficeState) → IsAt s (state S.Store self.old) → IfErr result (FailsBy (state S.Store self.old) (state S.Store self.new)) }
+        ensures opens { HasCleanDisk (state S.Store self.new) → OnOk result (IsTrue (state S.Store self.new).is_open) }
+        ensures reads { OnlyReads (state S.Store self.old) (state S.Store self.new) }
+        ensures keeps { HasCleanDisk (state S.Store self.new) → (s : OfficeState) → IsAt s (state S.Store self.old) → IsAt s (state S.Store self.new) }
+    {
+        find_doubtful(self.alloc, &mut self.conn, ward)
+    }
+}

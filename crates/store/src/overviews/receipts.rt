@@ -1,0 +1,47 @@
+//! The receipts of an actor, or of all, read from the tables.
+
+ghost use Rattle.std.specs.Prelude.{◌≡◌, false, map, IfOk, IfErr, OnOk, IsTrue};
+ghost use Rattle.sqlite.specs.State.{HasCleanDisk};
+ghost use Rattle.sqlite.specs.Held.{state};
+ghost use Rattle.register.specs.Offices.{OfficeState, receipt_entry};
+ghost use Rattle.tables.specs.Reading.{OnlyReads, FailsBy};
+ghost use Rattle.store.specs.Offices.{IsAt};
+ghost use Rattle.store.specs.Overviews.{receipts_of};
+ghost use Rattle.store.specs.Reads.{Reads};
+
+use crate::storage::Store;
+use crate::views::receipts::{all_receipts, list_receipts};
+use register::Receipt;
+use sqlite::{Alter, Connection};
+use std::alloc::Global;
+use tables::Fault;
+
+/// The receipts of this actor, or where none is told of all.
+fn find_receipts<S: Alter>(
+    alloc: Global,
+    conn: &mut Connection<S>,
+    actor: Option<u32>,
+) -> Result<Vec<Receipt>, Fault>
+    requires { conn.old.in_transaction ≡ false }
+    ensures { Reads (state S.Store conn.old) (state S.Store conn.new) result (λ s found. map receipt_entry found.items ≡ receipts_of s actor) }
+{
+    match actor {
+        Some(actor) => list_receipts(alloc, conn, actor),
+        None => all_receipts(alloc, conn),
+    }
+}
+
+impl<S: Alter> Store<S> {
+    /// The receipts of an actor (0 is the office, a clerk 1 to 999), by id; where no actor is told, those of
+    /// all, by actor and id. It changes nothing, and adds nothing to what a stop may leave. `Memory` or
+    /// `Store` where a row can't be read.
+    pub fn load_receipts(&mut self, actor: Option<u32>) -> Result<Vec<Receipt>, Fault>
+        ensures shows { HasCleanDisk (state S.Store self.new) → (s : OfficeState) → IsAt s (state S.Store self.old) → IfOk result (λ found. map receipt_entry found.items ≡ receipts_of s actor) }
+        ensures cause { HasCleanDisk (state S.Store self.new) → (s : OfficeState) → IsAt s (state S.Store self.old) → IfErr result (FailsBy (state S.Store self.old) (state S.Store self.new)) }
+        ensures opens { HasCleanDisk (state S.Store self.new) → OnOk result (IsTrue (state S.Store self.new).is_open) }
+        ensures reads { OnlyReads (state S.Store self.old) (state S.Store self.new) }
+        ensures keeps { HasCleanDisk (state S.Store self.new) → (s : OfficeState) → IsAt s (state S.Store self.old) → IsAt s (state S.Store self.new) }
+    {
+        find_receipts(self.alloc, &mut self.conn, actor)
+    }
+}

@@ -1,0 +1,133 @@
+//! How all wards stand, read from the tables.
+
+ghost use Rattle.std.specs.Prelude.{◌≡◌, true, false, map, Some, IfOk, IfErr, OnOk, IsTrue};
+ghost use Rattle.sqlite.specs.State.{HasCleanDisk};
+ghost use Rattle.sqlite.specs.Held.{state};
+ghost use Rattle.register.specs.Offices.{OfficeState, ward_entry, ward_at};
+ghost use Rattle.register.specs.Elections.{ElectionEntry, elected_of, is_counted, is_declared};
+ghost use Rattle.register.specs.Tabulated.{IsCountedWard};
+ghost use Rattle.tables.specs.Reading.{OnlyReads, FailsBy};
+ghost use Rattle.store.specs.Offices.{IsAt};
+ghost use Rattle.store.specs.Overviews.{declared_in, ward_view, ward_view_of, ward_views};
+ghost use Rattle.store.specs.Reads.{Reads};
+
+use crate::standings::ward_status;
+use crate::storage::Store;
+use crate::views::sheets::find_counted;
+use crate::views::wards::all_wards;
+use paper::Columns;
+use register::marks::columns_of;
+use register::{CountedWard, Phase, Status, Ward};
+use sqlite::{Alter, Connection};
+use std::alloc::Global;
+use tables::Fault;
+
+/// A ward, how it stands, and who is elected where that is declared.
+#[derive(Drop)]
+pub struct WardOverview {
+    pub ward: Ward,
+    pub status: Status,
+    pub elected: Option<Columns>,
+}
+
+/// Who is elected; in an uncontested ward all its candidates.
+pub fn elected_in(counted: &CountedWard) -> Columns
+    ensures { (e : ElectionEntry) → IsCountedWard e counted.now → is_counted e.ward.phase ≡ true → result ≡ elected_of e }
+{
+    match &counted.count {
+        Some(count) => count.kept.elected(),
+        None => columns_of(&counted.candidates),
+    }
+}
+
+/// Whether a phase is that of a ward that is declared.
+fn is_declared(phase: Phase) -> bool
+    ensures { result ≡ is_declared phase }
+{
+    phase.number() == Phase::Declared.number()
+}
+
+/// Who is elected in a ward, where that is declared.
+fn declared_in<S: Alter>(
+    alloc: Global,
+    conn: &mut Connection<S>,
+    ward: &Ward,
+) -> Result<Option<Columns>, Fault>
+    requires outside { conn.old.in_transaction ≡ false }
+    requires is_open { HasCleanDisk (state S.Store conn.old) → IsTrue (state S.Store conn.old).is_open }
+    ensures { Reads (state S.Store conn.old) (state S.Store conn.new) result
+        (λ s elected. ward_at s ward.now.number ≡ Some (ward_entry ward.now) → elected ≡ declared_in s (ward_entry ward.now)) }
+{
+    if !is_declared(ward.phase) {
+        return Ok(None);
+    }
+    let found = find_counted(alloc, conn, ward.number)?;
+    match found {
+        Some(counted) => Ok(Some(elected_in(&counted))),
+        None => Ok(None),
+    }
+}
+
+/// How a ward stands, and who is elected where that is declared.
+fn ward_overview<S: Alter>(
+    alloc: Global,
+    conn: &mut Connection<S>,
+    ward: Ward,
+) -> Result<WardOverview, Fault>
+    requires { conn.old.in_transaction ≡ false }
+    ensures { Reads (state S.Store conn.old) (state S.Store conn.new) result
+        (λ s found. ward_at s ward.number ≡ Some (ward_entry ward) → ward_view found ≡ ward_view_of s (ward_entry ward)) }
+{
+    let status = ward_status(alloc, conn, &ward)?;
+    let elected = declared_in(alloc, conn, &ward)?;
+    Ok(WardOverview {
+        ward,
+        status,
+        elected,
+    })
+}
+
+/// How all wards of an office stand, which these are, read one after the other.
+fn ward_overviews<S: Alter>(
+    alloc: Global,
+    conn: &mut Connection<S>,
+    wards: Vec<Ward>,
+) -> Result<Vec<WardOverview>, Fault>
+    requires outside { conn.old.in_transaction ≡ false }
+    requires is_open { HasCleanDisk (state S.Store conn.old) → IsTrue (state S.Store conn.old).is_open }
+    ensures { Reads (state S.Store conn.old) (state S.Store conn.new) result (λ s found. map ward_entry wards.items ≡ s.wards → map ward_view found.items ≡ ward_views s) }
+{
+    let mut found = Vec::new(alloc);
+    for ward in wards {
+        let overview = ward_overview(alloc, conn, ward)?;
+        if found.push(overview).is_err() {
+            return Err(Fault::Memory);
+        }
+    }
+    Ok(found)
+}
+
+/// How all wards stand, in the order of their numbers.
+fn find_wards<S: Alter>(alloc: Global, conn: &mut Connection<S>) -> Result<Vec<WardOverview>, Fault>
+    requires { conn.old.in_transaction ≡ false }
+    ensures { Reads (state S.Store conn.old) (state S.Store conn.new) result (λ s found. map ward_view found.items ≡ ward_views s) }
+{
+    let wards = all_wards(alloc, conn)?;
+    let found = ward_overviews(alloc, conn, wards)?;
+    Ok(found)
+}
+
+impl<S: Alter> Store<S> {
+    /// How all wards stand, in the order of their numbers: each with its status, and with who is elected once
+    /// that is declared, by its count as it was kept. It changes nothing, and adds nothing to what a stop may
+    /// leave. `Memory` or `Store` where a row can't be read.
+    pub fn load_wards(&mut self) -> Result<Vec<WardOverview>, Fault>
+        ensures shows { HasCleanDisk (state S.Store self.new) → (s : OfficeState) → IsAt s (state S.Store self.old) → IfOk result (λ found. map ward_view found.items ≡ ward_views s) }
+        ensures cause { HasCleanDisk (state S.Store self.new) → (s : OfficeState) → IsAt s (state S.Store self.old) → IfErr result (FailsBy (state S.Store self.old) (state S.Store self.new)) }
+        ensures opens { HasCleanDisk (state S.Store self.new) → OnOk result (IsTrue (state S.Store self.new).is_open) }
+        ensures reads { OnlyReads (state S.Store self.old) (state S.Store self.new) }
+        ensures keeps { HasCleanDisk (state S.Store self.new) → (s : OfficeState) → IsAt s (state S.Store self.old) → IsAt s (state S.Store self.new) }
+    {
+        find_wards(self.alloc, &mut self.conn)
+    }
+}
