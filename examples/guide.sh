@@ -42,7 +42,7 @@ type_line() {
     echo "status $status"
 }
 
-# A line of a block of the guide: in `console` one that is typed, or that was printed; in `csv NAME` one of the file NAME.
+# A line of a block of the guide: in `console` one that is typed, or that was printed; in `csv NAME` or `text NAME` one of the file NAME.
 play_line() {
     local block=$1 line=$2
     case $block in
@@ -50,7 +50,7 @@ play_line() {
             echo "$line" >>said
             if [[ $line == '$ '* ]]; then type_line "${line:2}"; fi
             ;;
-        'csv '*) echo "$line" >>"${block#csv }" ;;
+        'csv '* | 'text '*) echo "$line" >>"${block#* }" ;;
     esac
 }
 
@@ -63,7 +63,7 @@ play_guide() {
         fi
         block=${line:3}
         # A file that is shown again is another one.
-        if [[ $block == 'csv '* ]]; then : >"${block#csv }"; fi
+        case $block in 'csv '* | 'text '*) : >"${block#* }" ;; esac
     done 3<"$guide"
 }
 
