@@ -19,7 +19,8 @@ mod traces;
 
 use desk::perform::perform;
 use desk::{
-    Failure, Folder, Order, Progress, WordsFault, order, serve_on, tell_failure, tell_words,
+    Failure, Folder, Order, Progress, WordsFault, copy_office, order, serve_on, tell_failure,
+    tell_words,
 };
 use office::Office;
 use sqlite::{Alter, Connection, FileStore, Files, Wary};
@@ -85,8 +86,12 @@ fn perform_on<S: Alter, O: Sink, E: Sink>(
     requires out { O.failed out.old < 2 ^ 64 - 1 }
     requires err { E.failed err.old < 2 ^ 64 - 1 }
 {
-    if let Order::Serve { port, connections } = order {
-        return serve(rt, conn, *port, *connections, err);
+    match order {
+        Order::Serve { port, connections } => {
+            return serve(rt, conn, *port, *connections, err);
+        }
+        Order::Copy { path } => return copy(rt, conn, path, out, err),
+        _ => {}
     }
     let paths = Paths { rt };
     let file = order.file().and_then(|path| File::open(rt, path).ok());
@@ -126,6 +131,48 @@ fn serve<S: Alter, E: Sink>(
         Err(failure) => tell_failure(failure, err),
     };
     (status, office.into_connection())
+}
+
+/// Makes a copy of the office at a path where there is nothing yet, and closes it. Where that failed, nothing is left
+/// there. Where its log can't be copied into it behind the reply, that is told, and both files are the copy.
+fn copy<S: Alter, O: Sink, E: Sink>(
+    rt: &HostRuntime,
+    mut conn: Connection<S>,
+    path: &str,
+    out: &mut O,
+    err: &mut E,
+) -> (u8, Connection<S>)
+    requires out { O.failed out.old < 2 ^ 64 - 1 }
+    requires err { E.failed err.old < 2 ^ 64 - 1 }
+{
+    let Ok(found) = Found::at(rt, path) else {
+        return (
+            tell_failure(Failure::Office(Fault::Memory), err),
+            conn,
+        );
+    };
+    if !found.is_free() {
+        return (tell_failure(Failure::CopyTaken, err), conn);
+    }
+    let mut made = match Connection::open_from(rt, path, false, Wary) {
+        Ok(made) => made,
+        Err((error, _)) => {
+            found.remove(rt);
+            let failure = match fault_of(error) {
+                Fault::Memory => Failure::Office(Fault::Memory),
+                _ => Failure::CopyFailed,
+            };
+            return (tell_failure(failure, err), conn);
+        }
+    };
+    let status = copy_office(rt.alloc(), &mut conn, &mut made, out, err);
+    if status != 0 {
+        found.remove(rt);
+    }
+    match close(made) {
+        None if status == 0 => (tell_failure(Failure::CopyFailed, err), conn),
+        _ => (status, conn),
+    }
 }
 
 /// Copies the log into the database file, so that DB alone is the office, also after a stop, and gives both files

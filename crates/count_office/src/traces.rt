@@ -62,6 +62,20 @@ impl Found {
         }
     }
 
+    /// Nothing at all is there, neither a database nor a log.
+    pub fn is_free(&self) -> bool {
+        self.database_length.is_none() && self.log_length.is_none()
+    }
+
+    /// Removes both files, of which none was there before: a copy that wasn't made. It is to be called while the
+    /// database is held, or once it can't be opened.
+    pub fn remove(&self, rt: &HostRuntime) {
+        if self.is_free() {
+            let _ = fs::remove_file(rt, self.log.as_str());
+            let _ = fs::remove_file(rt, self.database.as_str());
+        }
+    }
+
     /// Removes each of the two files that wasn't there, where nothing was kept in it. It is to be called while
     /// the database is held, so that no other program has opened them.
     pub fn leave(&self, rt: &HostRuntime) {

@@ -26,7 +26,7 @@ use Rattle.desk.specs.Folders.{File}
 use Rattle.desk.specs.Errands.{IsAnswered, IsAnswerAbove, IsEndOf, IsKept, IsPlain, IsReplyAbove, IsRun, IsSent, IsStopped, Sends, SendsSome, TellsAnswers, TellsFault, TellsOther}
 use Rattle.desk.specs.Pages.{Cut, uncut, cut_behind, cut_error, IsShown, Outputs, Page, cut_below, failed, page_told}
 use Rattle.desk.specs.declared.lines.Failure.TheVariants.{Office}
-use Rattle.desk.specs.Requests.{Errand, Work, making, migrating, replaying, running, serving}
+use Rattle.desk.specs.Requests.{Errand, Work, copying, making, migrating, replaying, running, serving}
 use Rattle.desk.proofs.PageLemmas.{broken_ends}
 
 -- ---- a connection at rest
@@ -189,6 +189,7 @@ sends_some s errand file (r ∷ rs) sends = sends
 pub fault_other : (s : OfficeState) (work : Work) (file : File) (page : Page) (fault : Fault) → page ≡ failed (Office fault) → IsEndOf work fault → TellsOther s work file page
 fault_other s making file page fault is ends = (fault, is)
 fault_other s (serving port connections) file page fault is ends = absurd ends
+fault_other s copying file page fault is ends = absurd ends
 fault_other s (running errand) file page fault is ends = inr (fault, is)
 fault_other s (replaying folder) file page fault is ends = inr (inr (fault, is))
 fault_other s migrating file page fault is ends = inr (fault, is)

@@ -8,6 +8,7 @@ pub mod ScriptLemmas
 pub mod ScriptEnds
 pub mod ReplayLemmas
 pub mod ReplayKept
+pub mod CopyingLemmas
 pub mod PerformedLemmas
 pub mod ServedLemmas
 pub mod WordsRefused

@@ -1,14 +1,17 @@
 -- What comes of an order, with what is kept of it.
-use Rattle.std.proofs.Common.{inl, inr, ℕ, List}
+use Rattle.std.proofs.Common.{◌≡◌, inl, inr, ℕ, List, IsTrue, refl}
+use Rattle.sqlite.specs.Tree.{Trees}
 use Rattle.sqlite.specs.State.{State}
 use Rattle.register.specs.Offices.{empty_office}
 use Rattle.register.specs.Machine.{after}
 use Rattle.register.specs.declared.command.Request.{Request}
 use Rattle.desk.specs.Folders.{File}
-use Rattle.desk.specs.Errands.{IsKept, IsPerformed, IsPerformedAndKept, Performs}
-use Rattle.desk.specs.Pages.{Cut, IsShown, Outputs, Page}
-use Rattle.desk.specs.Requests.{Work, making, migrating, replaying, running, serving}
-use Rattle.desk.proofs.KeptLemmas.{fault_other, nothing_kept, run_kept}
+use Rattle.tables.proofs.ReadLemmas.{only_reads_itself}
+use Rattle.desk.specs.Errands.{IsKept, IsPerformed, IsPerformedAndKept, NeedsMore, Performs}
+use Rattle.desk.specs.Pages.{Cut, IsShown, Outputs, Page, failed}
+use Rattle.desk.specs.Requests.{Work, copying, making, migrating, replaying, running, serving}
+use Rattle.desk.specs.declared.lines.Failure.TheVariants.{Output}
+use Rattle.desk.proofs.KeptLemmas.{fault_other, nothing_kept, rests_leaves, run_kept}
 use Rattle.desk.proofs.ReplayKept.{replay_kept}
 
 -- what is kept of an order
@@ -19,6 +22,7 @@ kept earlier work file cut old new page status st shown (inr unopened) =
 kept earlier making file cut old new page status st shown (inl it) = absurd it
 kept earlier migrating file cut old new page status st shown (inl it) = nothing_kept earlier migrating file cut page status st (inl it.0) it.1
 kept earlier (serving port connections) file cut old new page status st shown (inl it) = nothing_kept earlier (serving port connections) file cut page status st it.0 it.1
+kept earlier copying file cut old new page status st shown (inl it) = nothing_kept earlier copying file cut page status st it.0 it.1
 kept earlier (running errand) file cut old new page status st shown (inl it) = run_kept earlier errand file cut old new page status it.0 st shown it.1
 kept earlier (replaying folder) file cut old new page status st shown (inl it) = replay_kept earlier folder file cut old new page status it.0 st shown it.1
 
@@ -29,3 +33,28 @@ with_kept cut work file shown_before shown_after page status old new shown did =
   performed = did;
   headline = λ db rests earlier left. kept earlier work file cut shown_before shown_after page status new shown (did.in_office db rests (after empty_office earlier) left);
 }
+
+-- what needs more than the connection is told as a failed output, and nothing is changed
+pub unserved : (cut : Cut) (work : Work) (file : File) (st : State) → NeedsMore work → ((trees : Trees) → IsTrue st.is_open → st.may_leave trees → trees ≡ st.committed.trees) → IsPerformed cut work file (failed Output) st st
+unserved cut (serving port connections) file st needs settled = record {
+  in_office = λ db rests s left. inl (refl, rests_leaves s db st settled rests left);
+  in_nothing = λ is. absurd (cc is);
+  taken = λ is. absurd (cc is);
+  in_older = λ is. absurd (cc is);
+  beyond = λ is. absurd (cc is);
+  elsewhere = λ needs. absurd needs;
+  anywhere = λ needs. (refl, only_reads_itself st);
+}
+unserved cut copying file st needs settled = record {
+  in_office = λ db rests s left. inl (refl, rests_leaves s db st settled rests left);
+  in_nothing = λ is. absurd (cc is);
+  taken = λ is. absurd (cc is);
+  in_older = λ is. absurd (cc is);
+  beyond = λ is. absurd (cc is);
+  elsewhere = λ needs. absurd needs;
+  anywhere = λ needs. (refl, only_reads_itself st);
+}
+unserved cut making file st needs settled = absurd needs
+unserved cut migrating file st needs settled = absurd needs
+unserved cut (running errand) file st needs settled = absurd needs
+unserved cut (replaying folder) file st needs settled = absurd needs

@@ -32,7 +32,7 @@ use Rattle.keyfile.specs.declared.fault.Flaw.TheVariants.{ReadFailed}
 use Rattle.desk.specs.Folders.{File, Folder}
 use Rattle.desk.specs.Overviews.{page_asked}
 use Rattle.desk.specs.Pages.{Cut, Page, uncut, below, cut_below, empty_page, failed, fronted, migrated_text, page_found, page_told, printed, refused, replied, script_page, unread}
-use Rattle.desk.specs.Requests.{Errand, Sent, Work, asking, errand_of, file_of_errand, importing_candidates, importing_keying, keyings_for, making, migrating, printing, replaying, requests_for, running, sending, sent_as, serving, telling_status}
+use Rattle.desk.specs.Requests.{Errand, Sent, Work, asking, copying, errand_of, file_of_errand, importing_candidates, importing_keying, keyings_for, making, migrating, printing, replaying, requests_for, running, sending, sent_as, serving, telling_status}
 use Rattle.desk.specs.Scripts.{AreTurns, IsFirstFlaw, script_lines}
 use Rattle.desk.specs.declared.scripts.LineFlaw.{LineFlaw}
 use Rattle.desk.specs.declared.scripts.ScriptFault.TheVariants as script
@@ -203,23 +203,25 @@ IsReplay folder cut s file page closed st =
 abbrev pub IsPlain : Fault → Type 0
 IsPlain fault = (fault ≡ Memory) ⊎ (fault ≡ Store)
 
--- the faults that may end what is to be done before an office is open: none is made where one is, and for a socket none is opened
+-- the faults that may end what is to be done before an office is open: none is made where one is, and for a socket or a copy none is opened
 abbrev pub IsEndOf : Work → Fault → Type 0
 IsEndOf making fault = IsPlain fault ⊎ (fault ≡ WrongDatabase)
 IsEndOf (serving port connections) fault = ⊥
 IsEndOf (running errand) fault = IsPlain fault
 IsEndOf (replaying folder) fault = IsPlain fault
 IsEndOf migrating fault = IsPlain fault
+IsEndOf copying fault = ⊥
 
 -- a fault before an office was open: a stop leaves the state as it was
 abbrev pub IsUnopened : OfficeState → Work → Page → State → Type 0
 IsUnopened s work page st = (fault : Fault) × (page ≡ failed (Office fault)) × IsEndOf work fault × LeavesState st (λ x. x ≡ s)
 
--- what comes of what is to be done: an errand is run; what needs a socket is told as a failed one
+-- what comes of what is to be done: an errand is run; what needs a socket, or a second database, is told as a failed one
 abbrev pub IsDone : Cut → OfficeState → Work → File → Page → State → Type 0
 IsDone cut s making file page st = ⊥
 IsDone cut s migrating file page st = (page ≡ replied (migrated_text Already)) × LeavesState st (λ x. x ≡ s)
 IsDone cut s (serving port connections) file page st = (page ≡ failed Output) × LeavesState st (λ x. x ≡ s)
+IsDone cut s copying file page st = (page ≡ failed Output) × LeavesState st (λ x. x ≡ s)
 IsDone cut s (running errand) file page st = (closed : Bool) × IsRun cut s errand file page closed st
 IsDone cut s (replaying folder) file page st = (closed : Bool) × IsReplay folder cut s file page closed st
 
@@ -262,7 +264,7 @@ pub record IsForeign (db : Database) (page : Page) (old new : State) : Type 0 wh
   pub given : IsToldBy db fault
   pub same : OnlyReads old new
 
--- What needs a socket is told as a failed one, and nothing is changed.
+-- What needs a socket, or a second database, is told as a failed one, and nothing is changed.
 abbrev pub IsUnserved : Page → State → State → Type 0
 IsUnserved page old new = (page ≡ failed Output) × OnlyReads old new
 
@@ -271,6 +273,12 @@ abbrev pub NeedsOffice : Work → Type 0
 NeedsOffice (running errand) = ⊤
 NeedsOffice (replaying folder) = ⊤
 NeedsOffice other = ⊥
+
+-- what needs more than a connection to the office: a socket, or a second database
+abbrev pub NeedsMore : Work → Type 0
+NeedsMore (serving port connections) = ⊤
+NeedsMore copying = ⊤
+NeedsMore other = ⊥
 
 -- what comes of what is to be done, by what the connection rests at: an office at a state, a database with nothing in it, an office that an
 -- earlier program made, one of neither, one with a table of our names, one of no office, or anything
@@ -281,7 +289,7 @@ pub record IsPerformed (cut : Cut) (work : Work) (file : File) (page : Page) (ol
   pub beyond : work ≡ migrating → (db : Database) → IsOurs db.schema → IsOlderSchema db.schema → RestsAt db old → HoldsNoState db → HoldsNoOlder db → IsUnmigrated db page old new
   pub taken : work ≡ making → (db : Database) → RestsAt db old → has_some_table db.schema ≡ true → IsTaken page old new
   pub elsewhere : NeedsOffice work → (db : Database) → IsOurs db.schema → RestsAt db old → HoldsNoState db → IsForeign db page old new
-  pub anywhere : (port connections : ℕ) → work ≡ serving port connections → IsUnserved page old new
+  pub anywhere : NeedsMore work → IsUnserved page old new
 
 -- ---- what is kept of an order
 
@@ -297,6 +305,7 @@ SendsSome s work file [] = ⊤
 SendsSome s making file (r ∷ rs) = ⊥
 SendsSome s migrating file (r ∷ rs) = ⊥
 SendsSome s (serving port connections) file (r ∷ rs) = ⊥
+SendsSome s copying file (r ∷ rs) = ⊥
 SendsSome s (running errand) file (r ∷ rs) = Sends s errand file (r ∷ rs)
 SendsSome s (replaying folder) file (r ∷ rs) = (turns : List Turn) × HoldsScript file turns × SendsTurns folder s turns (r ∷ rs)
 
@@ -359,6 +368,7 @@ abbrev pub TellsOther : OfficeState → Work → File → Page → Type 0
 TellsOther s making file page = TellsFault page
 TellsOther s migrating file page = (page ≡ replied (migrated_text Already)) ⊎ TellsFault page
 TellsOther s (serving port connections) file page = page ≡ failed Output
+TellsOther s copying file page = page ≡ failed Output
 TellsOther s (running errand) file page = TellsNone s errand file page
 TellsOther s (replaying folder) file page = ((cut : Cut) × TellsScript folder s file [] 0 cut page) ⊎ (IsRefusedScript file page ⊎ TellsFault page)
 

@@ -91,6 +91,7 @@ orders =
     ∷ takes (codes "differences") (number (codes "BATCH") ∷ [])
     ∷ takes (codes "receipts") (number_or_none (codes "ACTOR") ∷ [])
     ∷ takes (codes "replay") (text (codes "FILE") ∷ [])
+    ∷ takes (codes "copy") (text (codes "NEW") ∷ [])
     ∷ []
 
 -- a value of an order; a number that may be left out is none then, and a verdict is none where its word says none
@@ -142,4 +143,5 @@ told (order.Run (errand.Ask (question.Doubtful ward))) = (codes "doubtful", numb
 told (order.Run (errand.Ask (question.Differences batch))) = (codes "differences", numbered batch ∷ [])
 told (order.Run (errand.Ask (question.Receipts actor))) = (codes "receipts", numbered_or_none actor ∷ [])
 told (order.Replay file) = (codes "replay", worded file.now ∷ [])
+told (order.Copy path) = (codes "copy", worded path.now ∷ [])
 told (order.Serve port connections) = (codes "serve", numbered port ∷ numbered connections ∷ [])

@@ -14,13 +14,15 @@ use Rattle.keyfile.specs.declared.fault.FileFault.{FileFault}
 use Rattle.office.specs.Answers.{Told, again, done, no}
 use Rattle.office.specs.declared.answers.Stop.{Stop}
 use Rattle.office.specs.declared.answers.Stop.TheVariants.{Refused, Fault}
+use Rattle.store.specs.declared.copying.CopyFault.{CopyFault}
+use Rattle.store.specs.declared.copying.CopyFault.TheVariants as uncopied
 use Rattle.store.specs.declared.migration.Migrated.{Migrated}
 use Rattle.store.specs.declared.migration.Migrated.TheVariants.{Done, Already}
 use Rattle.desk.specs.Scripts.{line_flaw_text}
 use Rattle.desk.specs.declared.scripts.ScriptFault.{ScriptFault}
 use Rattle.desk.specs.declared.scripts.ScriptFault.TheVariants as script
 use Rattle.desk.specs.declared.lines.Failure.{Failure}
-use Rattle.desk.specs.declared.lines.Failure.TheVariants.{Office, Output}
+use Rattle.desk.specs.declared.lines.Failure.TheVariants.{Office, Output, CopyTaken, CopyFailed}
 use Rattle.desk.specs.declared.words.WordsFault.{WordsFault}
 use Rattle.desk.specs.declared.words.WordsFault.TheVariants as words
 use Rattle.desk.specs.declared.lines.Outcome.{Outcome}
@@ -50,11 +52,22 @@ numbered_line kind number text = joined (kind ∷ decimal number ∷ codes ": " 
 abbrev pub failure_number : Failure → ℕ
 failure_number (Office fault) = fault_number fault
 failure_number Output = 107
+failure_number CopyTaken = 109
+failure_number CopyFailed = 110
 
 -- and its text
 abbrev pub failure_text : Failure → Text
 failure_text (Office fault) = fault_text fault
 failure_text Output = codes "socket or output"
+failure_text CopyTaken = codes "copy is there already"
+failure_text CopyFailed = codes "copy not written"
+
+-- why no copy was made; want of memory is told as ever
+abbrev pub failure_of : CopyFault → Failure
+failure_of (uncopied.Office fault) = Office fault
+failure_of uncopied.Taken = CopyTaken
+failure_of (uncopied.Copy fault.Memory) = Office fault.Memory
+failure_of (uncopied.Copy other) = CopyFailed
 
 -- the status of a file that isn't taken: a fault where its reading was stopped
 abbrev pub status_of_file : FileFault → ℕ
@@ -120,6 +133,7 @@ page_of (outcome.Printed text) = printed (string_bytes text)
 page_of (outcome.Refused why) = refused why
 page_of (outcome.Unread fault) = unread fault
 page_of (outcome.Failed fault) = failed (Office fault)
+page_of (outcome.Uncopied why) = failed (failure_of why)
 
 -- why words are no order: help goes to the output, and what isn't understood to the error output
 abbrev pub words_page : WordsFault → Page

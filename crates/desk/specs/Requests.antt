@@ -90,6 +90,7 @@ pub data Work : Type 0 where
   running : Errand → Work
   serving : ℕ → ℕ → Work
   replaying : Folder → Work
+  copying : Work
 
 -- what an order does in an opened office
 abbrev pub errand_of : OrderErrand → Errand
@@ -107,6 +108,7 @@ work_for folder order.Migrate = migrating
 work_for folder (order.Run errand) = running (errand_of errand)
 work_for folder (order.Serve port connections) = serving port connections
 work_for folder (order.Replay file) = replaying folder
+work_for folder (order.Copy path) = copying
 
 -- the file that an errand names
 abbrev pub file_of_errand : OrderErrand → Option Text

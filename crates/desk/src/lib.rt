@@ -3,7 +3,8 @@
 //! [`order`](words) reads the words to an [`Order`](orders), and [`perform`](perform) does an order over an
 //! opened connection, to any store of `sqlite`, and prints its lines. An order may read a file, whose path
 //! [`file`](orders) tells. Words that are no order, and other failures, are told by [`lines`](lines). An
-//! order to serve is followed by [`serve_on`](serving), over an opened office. Which files, outputs and
+//! order to serve is followed by [`serve_on`](serving), over an opened office, and one to copy by
+//! [`copy_office`](copying), over two connections. Which files, outputs and
 //! sockets these are, the program says.
 //!
 //! ```text
@@ -27,6 +28,7 @@ mod scripts;
 // An order to requests,
 mod requests;
 // and those to lines and a status.
+pub mod copying;
 mod import;
 pub mod lines;
 mod overviews;
@@ -39,6 +41,7 @@ mod sending;
 pub mod serving;
 mod standing;
 
+pub use copying::copy_office;
 pub use folders::Folder;
 pub use lines::{Failure, tell_failure, tell_words};
 pub use orders::{Errand, KeyingFile, Order, Question};

@@ -2,14 +2,14 @@
 
 ghost use Rattle.std.specs.Prelude.{◌≡◌, ◌⊎◌, ◌-◌, ◌^◌, ◌<◌, ◌++◌};
 ghost use Rattle.std.specs.List.{flat_map};
-ghost use Rattle.desk.specs.Pages.{IsErrorTold, IsPut, Shows, failed, failure_number, failure_text, fronted, line_front, migrated_text, outputs_of, page_of, printed, refused, script_page, status_of_file, unread, words_page};
+ghost use Rattle.desk.specs.Pages.{IsErrorTold, IsPut, Shows, failed, failure_number, failure_of, failure_text, fronted, line_front, migrated_text, outputs_of, page_of, printed, refused, script_page, status_of_file, unread, words_page};
 
 use crate::scripts::ScriptFault;
 use crate::words::WordsFault;
 use itoa::Buffer;
 use keyfile::{FileFault, Flaw};
 use register::{Refusal, Reply};
-use store::{Fault, Migrated};
+use store::{CopyFault, Fault, Migrated};
 use thiserror::Error;
 use votes::{Broken, Sink, put_all};
 
@@ -30,15 +30,19 @@ pub(crate) enum Outcome {
     Unread(FileFault),
     /// The office gave up.
     Failed(Fault),
+    /// No copy was made.
+    Uncopied(CopyFault),
 }
 
-/// Why the program gives up: a fault of the office, told by its number 101 to 106 or 108, or an output that
-/// fails, 107.
+/// Why the program gives up: a fault of the office, told by its number 101 to 106 or 108; an output that
+/// fails, 107; or a copy that is there already, 109, or can't be written, 110.
 #[derive(Clone, Copy, Debug, PartialEq, Eq, Drop, Error)]
 #[error("{}", self.text())]
 pub enum Failure {
     Office(Fault),
     Output,
+    CopyTaken,
+    CopyFailed,
 }
 
 impl Failure {
@@ -48,6 +52,8 @@ impl Failure {
         match self {
             Failure::Office(fault) => fault.number(),
             Failure::Output => 107,
+            Failure::CopyTaken => 109,
+            Failure::CopyFailed => 110,
         }
     }
 
@@ -57,6 +63,8 @@ impl Failure {
         match self {
             Failure::Office(fault) => fault.text(),
             Failure::Output => "socket or output",
+            Failure::CopyTaken => "copy is there already",
+            Failure::CopyFailed => "copy not written",
         }
     }
 }
@@ -188,6 +196,18 @@ pub fn tell_failure<E: Sink>(failure: Failure, err: &mut E) -> u8
     tell_failure_at(None, failure, err)
 }
 
+/// Why no copy was made, as the program tells it: want of memory is told as ever.
+fn failure_of(fault: CopyFault) -> Failure
+    ensures { result ≡ failure_of fault }
+{
+    match fault {
+        CopyFault::Office(fault) => Failure::Office(fault),
+        CopyFault::Taken => Failure::CopyTaken,
+        CopyFault::Copy(Fault::Memory) => Failure::Office(Fault::Memory),
+        CopyFault::Copy(_) => Failure::CopyFailed,
+    }
+}
+
 /// What a migration came to, in words.
 fn migrated_text(migrated: Migrated) -> &'static str
     ensures { result.now ≡ migrated_text migrated }
@@ -220,6 +240,7 @@ pub(crate) fn tell<O: Sink, E: Sink>(
         Outcome::Refused(refusal) => tell_refusal(line, refusal, err),
         Outcome::Unread(fault) => tell_file_fault(line, *fault, err),
         Outcome::Failed(fault) => tell_failure_at(line, Failure::Office(*fault), err),
+        Outcome::Uncopied(fault) => tell_failure_at(line, failure_of(*fault), err),
     }
 }
 

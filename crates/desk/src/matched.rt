@@ -11,8 +11,8 @@ ghost use Rattle.desk.specs.Words.{has_bad_verdict, is_order_name, meaning, mean
 use crate::orders::{Errand, KeyingFile, Order, Question};
 use crate::requests::by_office;
 use crate::table::{
-    ACTOR, BATCH, CANDIDATE, CLERK, CONNECTIONS, FILE, FIRST_CLERK, ID, NAME, PAPER, PORT, ROUND,
-    SCRIPT, SEATS, SECOND_CLERK, SIZE, STAGE, VERDICT, WARD, Word,
+    ACTOR, BATCH, CANDIDATE, CLERK, CONNECTIONS, FILE, FIRST_CLERK, ID, NAME, NEW, PAPER, PORT,
+    ROUND, SCRIPT, SEATS, SECOND_CLERK, SIZE, STAGE, VERDICT, WARD, Word,
 };
 use crate::verdicts::verdict_in;
 use clap::ArgMatches;
@@ -308,6 +308,14 @@ fn replay<'a>(matches: &ArgMatches<'a>) -> Order<'a>
     }
 }
 
+fn copy<'a>(matches: &ArgMatches<'a>) -> Order<'a>
+    ensures { meaning_of (codes "copy") (rows_of (found_of matches.now)) ≡ Some (told result) }
+{
+    Order::Copy {
+        path: text_in(matches, NEW),
+    }
+}
+
 fn serve<'a>(matches: &ArgMatches<'a>) -> Order<'a>
     ensures { meaning_of (codes "serve") (rows_of (found_of matches.now)) ≡ Some (told result) }
 {
@@ -354,6 +362,7 @@ fn order_named<'a>(
         "differences" => Ok(differences(matches)),
         "receipts" => Ok(receipts(matches)),
         "replay" => Ok(replay(matches)),
+        "copy" => Ok(copy(matches)),
         _ => Err(NoOrder::Unknown),
     }
 }

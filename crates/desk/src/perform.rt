@@ -165,8 +165,8 @@ fn migrate_office<S: Alter, O: Sink, E: Sink>(
 /// changed. `migrate` alone takes an older one: after it a stop leaves the older office or the whole of the new
 /// one, at the very state of before.
 ///
-/// An order to serve needs a socket, which is none of these: `serve_on` follows it, and here it is told as
-/// a failed one.
+/// An order to serve needs a socket, and one to copy a second database, which are none of these: `serve_on` and
+/// `copy_office` follow them, and here each is told as a failed one.
 pub fn perform<S: Alter, R: Read + Drop, F: Folder, O: Sink, E: Sink>(
     alloc: Global,
     order: &Order<'_>,
@@ -188,5 +188,6 @@ pub fn perform<S: Alter, R: Read + Drop, F: Folder, O: Sink, E: Sink>(
         Order::Run(errand) => run_opened(alloc, conn, errand, file, out, err),
         Order::Replay { .. } => replay_opened(alloc, conn, file, folder, out, err),
         Order::Serve { .. } => (tell_failure(Failure::Output, err), conn),
+        Order::Copy { .. } => (tell_failure(Failure::Output, err), conn),
     }
 }

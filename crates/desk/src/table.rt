@@ -143,6 +143,12 @@ pub(crate) const FILE: Word = Word {
     help: "The path of an import file; docs/FORMATS.md tells its form",
 };
 
+pub(crate) const NEW: Word = Word {
+    name: "NEW",
+    kind: Kind::Text,
+    help: "The path of the copy; there must be nothing at it yet",
+};
+
 pub(crate) const SCRIPT: Word = Word {
     name: "FILE",
     kind: Kind::Text,
@@ -175,7 +181,7 @@ pub(crate) const ID: Word = Word {
 
 /// All orders, in the sequence of an election; then the one that brings an older office over, and those for the office
 /// alone.
-const ORDERS: [Entry; 26] = [
+const ORDERS: [Entry; 27] = [
     Entry {
         name: "init",
         words: &[],
@@ -330,6 +336,12 @@ const ORDERS: [Entry; 26] = [
         name: "replay",
         words: &[SCRIPT],
         help: "Sends the orders of a text file, a line each, up to a refusal:\ncount-office town.db replay evening.txt",
+        heading: Heading::Office,
+    },
+    Entry {
+        name: "copy",
+        words: &[NEW],
+        help: "Makes a copy of the office, in a file that isn't there yet:\ncount-office town.db copy evening.db",
         heading: Heading::Office,
     },
 ];

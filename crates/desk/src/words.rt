@@ -34,6 +34,7 @@ const END_OF_HELP: &str =
   differences BATCH  On which papers a batch differs
   receipts [ACTOR]   What was kept, under which id: of an actor, 0 for the office, or of all
   replay FILE        Sends the orders of a text file, a line each, up to a refusal
+  copy NEW           Makes a copy of the office, in a file that isn't there yet
 
 An example stands under each order. Its words, with their ranges, are shown by
   count-office DB ORDER --help

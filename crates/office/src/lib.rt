@@ -1,7 +1,7 @@
 //! The office: requests in, answers out, every accepted request kept before it is acknowledged.
 //!
 //! `Office` stands over any store of `sqlite`. `create` makes an empty office, `open_from` opens one, and
-//! `migrate` makes of an earlier program's office one that opens;
+//! `migrate` makes of an earlier program's office one that opens, and `copy` the same office in another database;
 //! `handle` answers one request and `run` a list of them; `status`, `columns`, `work`, `sheet` and `result`
 //! tell of the state, and change nothing, as `wards`, `batches`, `doubtful`, `differences` and `receipts` tell the
 //! office alone. A fault inside a transaction closes the
@@ -19,6 +19,7 @@
 #![tactic(auto)]
 
 pub mod answers;
+mod copying;
 mod deciding;
 mod migration;
 pub mod offices;
@@ -31,4 +32,4 @@ pub use answers::{Answer, Run, Stop};
 pub use offices::Office;
 pub use register::{Receipt, Status, Work};
 pub use sheets::{Text, texts_are_there};
-pub use store::Migrated;
+pub use store::{CopyFault, Holdings, Migrated};

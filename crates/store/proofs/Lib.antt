@@ -10,6 +10,7 @@ pub mod WriteLemmas
 pub mod KeepLemmas
 pub mod TellLemmas
 pub mod ReopenLemmas
+pub mod CopyLemmas
 pub mod ListsLemmas
 pub mod TallyLemmas
 pub mod WorkLemmas

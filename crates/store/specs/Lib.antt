@@ -10,3 +10,4 @@ pub mod Settled
 pub mod Migrations
 pub mod Overviews
 pub mod Piles
+pub mod Copies

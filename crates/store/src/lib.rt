@@ -6,8 +6,8 @@
 //! as columns, `load_work` what a clerk has to key, `load_sheet` and `load_counted` what the texts of a ward
 //! are written from, `load_book` its count as it was kept, `load_wards`, `load_batches`, `load_doubtful`,
 //! `load_differences` and `load_receipts` how all stands, and `commit` keeps a change in one transaction,
-//! whole or not at all. `migrate` makes of an office that an earlier program made one that opens. `Fault`
-//! says why a call gave up.
+//! whole or not at all. `migrate` makes of an office that an earlier program made one that opens, and `copy`
+//! makes the same office in another database. `Fault` says why a call gave up.
 //!
 //! ```text
 //! let mut store = Store::open_from(alloc, conn)?;
@@ -18,6 +18,7 @@
 //! The statements over any table stand in the crate `tables`; here stand the rows of a state.
 #![tactic(auto)]
 
+pub mod copying;
 mod entries;
 mod listing;
 pub mod migration;
@@ -30,6 +31,7 @@ mod views;
 mod working;
 mod writing;
 
+pub use copying::{CopyFault, Holdings, copy};
 pub use migration::{Migrated, migrate};
 pub use overviews::batches::{BatchOverview, Standing};
 pub use overviews::clerks::ClerkOverview;

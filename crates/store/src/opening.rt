@@ -6,7 +6,7 @@ ghost use Rattle.sqlite.specs.State.{HasCleanDisk};
 ghost use Rattle.sqlite.specs.Held.{state};
 ghost use Rattle.register.specs.Offices.{OfficeState, MapsRise};
 ghost use Rattle.register.specs.Items.{IsState};
-ghost use Rattle.register.specs.Tabulated.{tabulation_entries};
+ghost use Rattle.register.specs.Tabulated.{tabulation_entries, item8};
 ghost use Rattle.rowcheck.specs.States.{state_of, tabulated};
 ghost use Rattle.tables.specs.Schema.{BeginsTo, IsOfficeSchema};
 ghost use Rattle.tables.specs.Contents.{RestsAt};
@@ -133,11 +133,11 @@ fn are_of_state(alloc: Global, rows: &Rows) -> Result<bool, Fault>
     }
 }
 
-/// Sees that the tables beside that of the office are those of a state.
-fn check_tables<S: Alter>(alloc: Global, conn: &mut Connection<S>) -> Result<(), Fault>
+/// The rows of the tables beside that of the office, which are those of a state.
+fn checked_tables<S: Alter>(alloc: Global, conn: &mut Connection<S>) -> Result<Rows, Fault>
     requires { conn.old.in_transaction ≡ false }
     ensures holds { HasCleanDisk (state S.Store conn.new) → (db : Database) → IsOfficeSchema db.schema → IsDatabase db → RestsAt db (state S.Store conn.old)
-        → OnOk result ((s : OfficeState) × HoldsEntries db s) }
+        → IfOk result (λ rows. HoldsEntries db (state_of rows) × item8 (tabulated rows) (state_of rows)) }
     ensures told { HasCleanDisk (state S.Store conn.new) → (db : Database) → IsOfficeSchema db.schema → RestsAt db (state S.Store conn.old)
         → IfErr result (TellsNoState db) }
     ensures fails { HasCleanDisk (state S.Store conn.new) → (db : Database) → IsOfficeSchema db.schema → RestsAt db (state S.Store conn.old)
@@ -149,10 +149,36 @@ fn check_tables<S: Alter>(alloc: Global, conn: &mut Connection<S>) -> Result<(),
     let rows = all_rows(alloc, conn)?;
     let of_state = are_of_state(alloc, &rows)?;
     if of_state {
-        Ok(())
+        Ok(rows)
     } else {
         Err(Fault::Damaged)
     }
+}
+
+/// The rows of the office that the database is, as `check` judges it.
+pub(crate) fn checked_rows<S: Alter>(alloc: Global, conn: &mut Connection<S>) -> Result<Rows, Fault>
+    requires { conn.old.in_transaction ≡ false }
+    ensures holds { HasCleanDisk (state S.Store conn.new) → (db : Database) → IsOurs db.schema → RestsAt db (state S.Store conn.old)
+        → IfOk result (λ rows. HoldsState db (state_of rows) × item8 (tabulated rows) (state_of rows)) }
+    ensures told { HasCleanDisk (state S.Store conn.new) → (db : Database) → IsOurs db.schema → RestsAt db (state S.Store conn.old)
+        → IfErr result (IsToldBy db) }
+    ensures fails { HasCleanDisk (state S.Store conn.new) → (db : Database) → IsOurs db.schema → RestsAt db (state S.Store conn.old)
+        → IfErr result (FailsToList db (state S.Store conn.old) (state S.Store conn.new)) }
+    ensures older { HasCleanDisk (state S.Store conn.new) → (db : Database) → IsOurs db.schema → RestsAt db (state S.Store conn.old)
+        → IfErr result (λ f. f ≡ Fault.OlderSchema → IsTrue (state S.Store conn.new).is_open) }
+    ensures opens { HasCleanDisk (state S.Store conn.new) → OnOk result (IsTrue (state S.Store conn.new).is_open) }
+    ensures reads { OnlyReads (state S.Store conn.old) (state S.Store conn.new) }
+    ensures outside { conn.new.in_transaction ≡ false }
+{
+    if !has_table(conn, Table::Office) {
+        return Err(Fault::WrongDatabase);
+    }
+    check_office(conn)?;
+    if !has_every_table(conn) {
+        return Err(Fault::Damaged);
+    }
+    let rows = checked_tables(alloc, conn)?;
+    Ok(rows)
 }
 
 /// Sees that the database is the office of a state, by its rows alone, and changes nothing. Told are,
@@ -175,13 +201,8 @@ pub fn check<S: Alter>(alloc: Global, conn: &mut Connection<S>) -> Result<(), Fa
     ensures reads { OnlyReads (state S.Store conn.old) (state S.Store conn.new) }
     ensures outside { conn.new.in_transaction ≡ false }
 {
-    if !has_table(conn, Table::Office) {
-        return Err(Fault::WrongDatabase);
+    match checked_rows(alloc, conn) {
+        Ok(_) => Ok(()),
+        Err(fault) => Err(fault),
     }
-    check_office(conn)?;
-    if !has_every_table(conn) {
-        return Err(Fault::Damaged);
-    }
-    check_tables(alloc, conn)?;
-    Ok(())
 }

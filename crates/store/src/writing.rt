@@ -14,6 +14,7 @@ ghost use Rattle.store.specs.Offices.{tables_of, tables_with, ChangesTo};
 
 mod batches;
 mod candidates;
+pub(crate) mod copies;
 mod counts;
 pub(crate) mod older;
 mod papers;

@@ -3,7 +3,7 @@
 
 ghost use Rattle.std.specs.Prelude.{⊤};
 
-use super::steps::{Case, Said, Step, Told, play};
+use super::steps::{Case, Said, Step, Told, copied, play};
 use super::transcripts::{Typed, read};
 use sqlite::{Connection, Error, ErrorCode, FileStore, Files, Options};
 use sqlite_disk::{Crash, Disk, Fuse, Memory};
@@ -179,6 +179,44 @@ impl Disks {
         Ok(disks)
     }
 
+    /// Copies the office onto other files, and leaves both as they are. Where those stop as they are opened, nothing is said.
+    pub fn copy_onto(
+        self,
+        alloc: Global,
+        onto: Disks,
+    ) -> Result<(Option<Said>, Disks, Disks), Fail> {
+        let Ok(mut conn) = opened(alloc, self.files) else {
+            return Err(Fail::from("the office isn't opened"));
+        };
+        let mut made = match opened(alloc, onto.files) {
+            Ok(made) => made,
+            Err((Some(Error::SqliteFailure(ErrorCode::OutOfMemory)), _)) => {
+                return Err(Fail::from("memory was wanting"));
+            }
+            Err((_, files)) => {
+                let office = conn.into_store().close();
+                return Ok((None, Disks { files: office }, Disks { files }));
+            }
+        };
+        let said = copied(alloc, &mut conn, &mut made)?;
+        let (office, copy) = (conn.into_store().close(), made.into_store().close());
+        Ok((Some(said), Disks { files: office }, Disks { files: copy }))
+    }
+
+    /// Copies the office onto new files, of which this must be told: both hold the same rows then. It isn't copied onto
+    /// them again. Gives the copy.
+    fn copy(self, rt: &(impl Abort + AllocGlobal), told: &str) -> Result<Disks, Fail> {
+        let (rows, office) = self.rows(rt.alloc())?;
+        let (said, office, copy) = office.copy_onto(rt.alloc(), Disks::lasting(rt.alloc()))?;
+        let (left, office) = office.rows(rt.alloc())?;
+        let (again, _, copy) = office.copy_onto(rt.alloc(), copy)?;
+        let (made, copy) = copy.rows(rt.alloc())?;
+        assert!(rt; rows.as_str() == left.as_str() && rows.as_str() == made.as_str(), "{told}");
+        assert!(rt; matches!(&said, Some(said) if said.told() == (0, told, "")), "{said:?}");
+        assert!(rt; matches!(&again, Some(said) if said.told() == TAKEN), "{again:?}");
+        Ok(copy)
+    }
+
     /// Makes a change in a copy, where the office must then tell this of another ward; a fault leaves each row.
     fn damage(&self, rt: &(impl Abort + AllocGlobal), typed: &Typed<'_>) -> Result<(), Fail> {
         let (change, told) = typed.case();
@@ -198,6 +236,7 @@ impl Disks {
             Act::Typed(transcript) => self.follow(rt, transcript),
             Act::Unchanged(transcript) => self.follow_unchanged(rt, transcript),
             Act::Keyed(papers) => self.key(rt, papers),
+            Act::Copied(told) => self.copy(rt, told),
             Act::Damage(changes) => {
                 for typed in &read(rt.alloc(), changes)? {
                     self.damage(rt, typed)?;
@@ -217,9 +256,14 @@ pub enum Act {
     Unchanged(&'static str),
     /// Both clerks of batch 12 key these papers alike.
     Keyed(&'static str),
+    /// The office is copied onto new files, which this is told of, and gone on with there.
+    Copied(&'static str),
     /// Changes, each made alone, and what the office then tells when ward 8 is to be added.
     Damage(&'static str),
 }
+
+/// What is told of a copy where there is one already.
+const TAKEN: Told<'static> = (3, "", "fault 109: copy is there already\n");
 
 const CHANGED: Told<'static> = (0, "", "");
 

@@ -69,6 +69,7 @@ For the office alone. The first five change nothing, and no clerk is to see what
   differences BATCH  On which papers a batch differs
   receipts [ACTOR]   What was kept, under which id: of an actor, 0 for the office, or of all
   replay FILE        Sends the orders of a text file, a line each, up to a refusal
+  copy NEW           Makes a copy of the office, in a file that isn't there yet
 
 An example stands under each order. Its words, with their ranges, are shown by
   count-office DB ORDER --help
@@ -219,6 +220,11 @@ Usage: count-office DB replay <FILE>
 
 Arguments:
   <FILE>  The path of a script; docs/FORMATS.md tells its form
+$ copy --help
+Usage: count-office DB copy <NEW>
+
+Arguments:
+  <NEW>  The path of the copy; there must be nothing at it yet
 $ declare --help
       --id <ID>  An id that you choose for this order, 1 to 40 of a-z, 0-9 and -;
                  sent again under the same id, it does nothing twice

@@ -100,7 +100,7 @@ fn a_refusal_ends_a_script(rt: HostRuntime) -> Result<(), Fail> {
 }
 
 /// Texts that are no script: nothing is done, whatever stands before.
-const NO_SCRIPTS: [(&[u8], &str); 12] = [
+const NO_SCRIPTS: [(&[u8], &str); 13] = [
     (
         b"ward 7 2 'Old Harbour --id w1",
         "line 1: error: a quote is not closed\n",
@@ -136,6 +136,10 @@ For more information, try '--help'.
     ),
     (
         b"migrate",
+        "line 1: error: this order stands in no script\n",
+    ),
+    (
+        b"copy evening.db",
         "line 1: error: this order stands in no script\n",
     ),
     (

@@ -72,6 +72,8 @@ $ serve 8080 1000000
 Serve { port: 8080, connections: 1000000 }
 $ replay evening.txt
 Replay { file: "evening.txt" }
+$ copy evening.db
+Copy { path: "evening.db" }
 "#;
 
 /// Words with spaces, and without a letter.

@@ -28,7 +28,7 @@ returns-in-Ok g c =
             in_older = λ is. absurd (cc is);
             beyond = λ is. absurd (cc is);
             elsewhere = λ needs. absurd needs;
-            anywhere = λ port connections is. absurd (cc is);
+            anywhere = λ needs. absurd needs;
           };
     }
 
@@ -44,7 +44,7 @@ returns-in-Err g c =
         in_older = λ is. absurd (cc is);
         beyond = λ is. absurd (cc is);
         elsewhere = λ needs. absurd needs;
-        anywhere = λ port connections is. absurd (cc is);
+        anywhere = λ needs. absurd needs;
         taken = λ is db rests there.
             let st = state g.S.Store c.args.conn in
             let wrong = c.in-Err.ensures.wrong (table_rests db (state g.S.Store c.args.conn) rests there) rests.outside in

@@ -51,7 +51,7 @@ returns-in-Ok g c =
         beyond = λ is db ours older rests none no_older. let it = c.in-Ok.ensures.opened clean db ours older rests in absurd (at_none db c.in-Ok.migrated it.0 none no_older it.1);
         taken = λ is. absurd (cc is);
         elsewhere = λ needs. absurd needs;
-        anywhere = λ port connections is. absurd (cc is);
+        anywhere = λ needs. absurd needs;
       };
     }
 
@@ -77,6 +77,6 @@ returns-in-Err g c =
         beyond = λ is db ours older rests none no_older. record { fault = c.in-Err.fault; told = refl; given = c.in-Err.ensures.told clean db ours older rests; same = plain_or c.in-Err.fault c.in-Err.ensures.unchanged; leaves = none_moved db (state g.S.Store c.args.conn) (state g.S.Store c.migrate.new.conn) no_older (c.migrate.ensures.leaves clean db ours older rests) };
         taken = λ is. absurd (cc is);
         elsewhere = λ needs. absurd needs;
-        anywhere = λ port connections is. absurd (cc is);
+        anywhere = λ needs. absurd needs;
       };
     }

@@ -1,12 +1,10 @@
 -- Why `perform` keeps its promise.
-use Rattle.std.proofs.Common.{inl, option_map, refl}
+use Rattle.std.proofs.Common.{option_map, refl}
 use Rattle.sqlite.specs.Held.{state}
-use Rattle.tables.proofs.ReadLemmas.{only_reads_itself}
 use Rattle.desk.specs.Pages.{failed}
-use Rattle.desk.specs.Requests.{work_for}
+use Rattle.desk.specs.Requests.{copying, serving, work_for}
 use Rattle.desk.specs.declared.lines.Failure.TheVariants.{Output}
-use Rattle.desk.proofs.KeptLemmas.{rests_leaves}
-use Rattle.desk.proofs.PerformedLemmas.{with_kept}
+use Rattle.desk.proofs.PerformedLemmas.{unserved, with_kept}
 use Rattle.desk.proofs.PageLemmas.{error_shown}
 use Rattle.desk.proofs.perform.perform.Goals as goal
 
@@ -77,14 +75,21 @@ returns-in-Serve g c =
         cut = told.0;
         shown = told.1;
         is = λ clean. with_kept told.0 (work_for (g.F.Folder.held c.args.folder.now) c.args.order.now) file _ _ (failed Output) c.tell_failure.result st st told.1
-            (rw c.in-Serve.is (record {
-              in_office = λ db rests s left. inl (refl, rests_leaves s db st (λ trees is_open may. g.met.S.Store.settled c.args.conn.store trees is_open may) rests left);
-              in_nothing = λ is. absurd (cc is);
-              taken = λ is. absurd (cc is);
-              in_older = λ is. absurd (cc is);
-              beyond = λ is. absurd (cc is);
-              elsewhere = λ needs. absurd needs;
-              anywhere = λ port connections is. (refl, only_reads_itself st);
-            }));
+            (rw c.in-Serve.is (unserved told.0 (serving c.in-Serve.port.now c.in-Serve.connections.now) file st tt (λ trees is_open may. g.met.S.Store.settled c.args.conn.store trees is_open may)));
+      };
+    }
+
+pub returns-in-Copy : goal.returns-in-Copy
+returns-in-Copy g c =
+    let told = error_shown g.O.Sink.taken g.O.Sink.failed g.E.Sink.taken g.E.Sink.failed c.args.out.now c.args.err.now c.tell_failure-in-Copy.new.err (failed Output) c.tell_failure-in-Copy.result refl c.tell_failure-in-Copy.ensures in
+    let file = option_map g.R.Read.remaining c.args.file in
+    let st = state g.S.Store c.args.conn in
+    record {
+      headline = record {
+        page = failed Output;
+        cut = told.0;
+        shown = told.1;
+        is = λ clean. with_kept told.0 (work_for (g.F.Folder.held c.args.folder.now) c.args.order.now) file _ _ (failed Output) c.tell_failure-in-Copy.result st st told.1
+            (rw c.in-Copy.is (unserved told.0 copying file st tt (λ trees is_open may. g.met.S.Store.settled c.args.conn.store trees is_open may)));
       };
     }

@@ -26,7 +26,7 @@ returns-in-Ok g c =
                 inl (subst (λ conn. IsDone told.cut s (replaying (g.F.Folder.held c.args.folder.now)) (option_map g.R.Read.remaining c.args.file) told.page (state g.S.Store conn)) (sym c.into_connection.ensures) (c.replay-status.new.office.closed, ran));
             in_nothing = λ is. absurd (cc is);
             taken = λ is. absurd (cc is);
-            anywhere = λ port connections is. absurd (cc is);
+            anywhere = λ needs. absurd needs;
             in_older = λ is. absurd (cc is);
             beyond = λ is. absurd (cc is);
             elsewhere = λ needs db ours rests none. let held = c.in-Ok.ensures.opened opened db ours rests in absurd (none held.0 held.1);
@@ -50,7 +50,7 @@ returns-in-Err g c =
             );
         in_nothing = λ is. absurd (cc is);
         taken = λ is. absurd (cc is);
-        anywhere = λ port connections is. absurd (cc is);
+        anywhere = λ needs. absurd needs;
         in_older = λ is. absurd (cc is);
         beyond = λ is. absurd (cc is);
         elsewhere = λ needs db ours rests none. record { fault = c.in-Err.fault; told = refl; given = c.in-Err.ensures.told clean db ours rests; same = c.in-Err.ensures.reads_too };

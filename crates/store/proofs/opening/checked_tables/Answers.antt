@@ -1,20 +1,21 @@
--- Why `check_tables` keeps its promise.
+-- Why `checked_tables` keeps its promise.
 use Rattle.std.proofs.Common.{◌≡◌, true, false, sym, ◌∙◌, rules}
 use Rattle.std.proofs.lemmas.Result.{err_from_is_err_and}
 use Rattle.rowcheck.specs.States.{state_of, tabulated}
 use Rattle.tables.specs.declared.fault.Fault.TheVariants.{Memory, Store}
 use Rattle.store.proofs.TellLemmas.{maps_are, entries_held}
-use Rattle.store.proofs.opening.check_tables.Goals as goal
+use Rattle.store.proofs.opening.checked_tables.Goals as goal
 
 pub returns-then-of_state-clause-holds : goal.returns-then-of_state-clause-holds
 returns-then-of_state-clause-holds g c clean db has sound rests =
     let of : c.in_ok-of_state.of_state ≡ true = search rules in
     let s = state_of c.in_ok-rows.rows in
     let lists = c.in_ok-rows.ensures.lists clean db has rests in
-    (s, entries_held db has sound s (tabulated c.in_ok-rows.rows) (c.in_ok-of_state.ensures.some of) lists)
+    let is = c.in_ok-of_state.ensures.some of in
+    (entries_held db has sound s (tabulated c.in_ok-rows.rows) is lists, is.1)
 
-pub returns-clause-told : goal.returns-clause-told
-returns-clause-told g c clean db has rests =
+pub returns-else-of_state-clause-told : goal.returns-else-of_state-clause-told
+returns-else-of_state-clause-told g c clean db has rests =
     let not : c.in_ok-of_state.of_state ≡ false = search rules in
     let lists = c.in_ok-rows.ensures.lists clean db has rests in
     λ s holds. c.in_ok-of_state.ensures.none not (maps_are db (state_of c.in_ok-rows.rows) s (tabulated c.in_ok-rows.rows) lists holds)

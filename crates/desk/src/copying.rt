@@ -1,0 +1,71 @@
+//! A copy of the office.
+
+ghost use Rattle.std.specs.Prelude.{◌≡◌, ◌-◌, ◌^◌, ◌<◌, IfOk, string_bytes};
+ghost use Rattle.sqlite.specs.State.{HasCleanDisk};
+ghost use Rattle.sqlite.specs.Held.{state};
+ghost use Rattle.tables.specs.Reading.{OnlyReads};
+ghost use Rattle.desk.specs.Copying.{IsCopied, copied_text};
+ghost use Rattle.desk.specs.Pages.{Tells, outputs_of, page_of};
+
+use crate::lines::{Outcome, tell};
+use office::{Holdings, Office};
+use sqlite::{Alter, Connection};
+use std::alloc::{AllocError, Global};
+use store::Fault;
+use votes::Sink;
+
+#[tactic(auto, unfolding(crate::specs::Copying::copied_text))]
+/// How much a copy has, in a line without its end.
+fn copied_text(alloc: Global, holdings: Holdings) -> Result<String, AllocError>
+    ensures { IfOk result (λ text. string_bytes text ≡ copied_text holdings) }
+{
+    let (wards, batches) = (holdings.wards, holdings.batches);
+    let (keyings, receipts) = (holdings.keyings, holdings.receipts);
+    format!(in alloc; "copied {wards} wards, {batches} batches, {keyings} keyings, {receipts} receipts")
+}
+
+/// Copies the office, and says what came of it.
+fn copied<S: Alter, T: Alter>(
+    alloc: Global,
+    conn: &mut Connection<S>,
+    copy: &mut Connection<T>,
+) -> Outcome
+    ensures copied { HasCleanDisk (state S.Store conn.new) → IsCopied (page_of result) (state S.Store conn.old) (state S.Store conn.new) (state T.Store copy.old) (state T.Store copy.new) }
+    ensures reads { OnlyReads (state S.Store conn.old) (state S.Store conn.new) }
+{
+    match Office::copy(alloc, conn, copy) {
+        Ok(holdings) => match copied_text(alloc, holdings) {
+            Ok(text) => Outcome::Replied(text),
+            Err(_) => Outcome::Failed(Fault::Memory),
+        },
+        Err(fault) => Outcome::Uncopied(fault),
+    }
+}
+
+/// Makes a copy of the office that an opened connection has, over another, to a database with nothing in it, tells how
+/// much the copy has, and gives the status. Neither is closed.
+///
+/// The copy is made whole in one transaction: after its reply it keeps the very state of the office, with every
+/// receipt, and whatever a stop leaves of it before is nothing or the whole of it. The office is only read,
+/// whatever comes of it.
+///
+/// A database that holds no office, or a newer, an older or a damaged one, is told as that fault (105, 106, 108,
+/// 103), and nothing is copied. Where a table of the other database has one of our names, that is told (109), and it is not
+/// changed. A copy that can't be written is told (110), and want of memory, or a store that fails while the office is
+/// read, as ever.
+pub fn copy_office<S: Alter, T: Alter, O: Sink, E: Sink>(
+    alloc: Global,
+    conn: &mut Connection<S>,
+    copy: &mut Connection<T>,
+    out: &mut O,
+    err: &mut E,
+) -> u8
+    requires out { O.failed out.old < 2 ^ 64 - 1 }
+    requires err { E.failed err.old < 2 ^ 64 - 1 }
+    ensures copied { let outputs = outputs_of O.taken O.failed E.taken E.failed in Tells (outputs out.old err.old) (outputs out.new err.new) result
+        (λ _ page. HasCleanDisk (state S.Store conn.new) → IsCopied page (state S.Store conn.old) (state S.Store conn.new) (state T.Store copy.old) (state T.Store copy.new)) }
+    ensures reads { OnlyReads (state S.Store conn.old) (state S.Store conn.new) }
+{
+    let outcome = copied(alloc, conn, copy);
+    tell(None, &outcome, out, err)
+}

@@ -1,0 +1,89 @@
+-- An office that is copied.
+use Rattle.std.proofs.Common.{◌≡◌, ◌⊎◌, inl, inr, List, [], ◌∷◌, ◌++◌, map, filter, length, Bool, IsTrue, refl, sym, ap, subst, ◌∙◌, append-nil}
+use Rattle.std.specs.List.Sorted.{IsPermutation}
+use Rattle.std.proofs.lemmas.List.Sorted.{IsPermutation-refl}
+use Rattle.sqlite.specs.Order.{Row}
+use Rattle.sqlite.specs.Tree.{Trees}
+use Rattle.sqlite.specs.Effect.{Database}
+use Rattle.sqlite.specs.State.{State, HasCleanDisk, Survives}
+use Rattle.register.specs.Offices.{OfficeState, empty_office, ward_entry, candidate_entry, batch_entry, third_entry, keyed_entry, judged_entry, lot_entry, receipt_entry}
+use Rattle.register.specs.Tabulated.{TabulationEntries, tabulation_of, item8, placed_entry, figure_entry}
+use Rattle.rowcheck.specs.declared.rows.Rows.{Rows}
+use Rattle.rowcheck.specs.States.{state_of, tabulated}
+use Rattle.tables.specs.declared.table.Table.TheVariants.{Office, Ward, Candidate, Batch, Keying, Verdict, Lot, Receipt, Bundle, Vote, Third}
+use Rattle.tables.specs.Contents.{Contents, SameContents, added_all, Stores, Rests}
+use Rattle.store.specs.EntryRows.{row_of_ward, row_of_candidate, row_of_batch, row_of_third, row_of_keyed, row_of_judged, row_of_lot, row_of_receipt, row_of_placed, row_of_figure}
+use Rattle.store.specs.Copies.{LeavesNoneOrAll, holdings_of}
+use Rattle.store.specs.Offices.{tables_of, tables_with, HoldsState, IsAt}
+use Rattle.store.specs.Openings.{IsLeftAt}
+use Rattle.tables.proofs.ListLemmas.{mapped_twice}
+use Rattle.store.proofs.KeepLemmas.{rests_is_at}
+use Rattle.store.proofs.StateLemmas.{one_state}
+use Rattle.store.proofs.ReopenLemmas.{left_holds}
+
+-- ---- the rows of a copy
+
+-- the rows of entries, added to a table with no row
+rows_alone : {V X : Type 0} (entry : V → X) (row : X → Row) (items : List V) → IsPermutation (map (λ v. row (entry v)) items ++ []) (map row (map entry items))
+rows_alone entry row items =
+    subst (IsPermutation (map (λ v. row (entry v)) items ++ [])) (append-nil (map (λ v. row (entry v)) items) ∙ sym (mapped_twice entry row items)) (IsPermutation-refl _)
+
+-- the wards, the candidates and the batches,
+abbrev pub contests_added : Rows → Contents → Contents
+contests_added rows c =
+    added_all Batch (map (λ b. row_of_batch (batch_entry b)) rows.batches.items)
+    (added_all Candidate (map (λ x. row_of_candidate (candidate_entry x)) rows.candidates.items)
+    (added_all Ward (map (λ w. row_of_ward (ward_entry w)) rows.wards.items) c))
+
+-- the third clerks, the papers and the verdicts,
+abbrev pub papers_added : Rows → Contents → Contents
+papers_added rows c =
+    added_all Verdict (map (λ v. row_of_judged (judged_entry v)) rows.verdicts.items)
+    (added_all Keying (map (λ k. row_of_keyed (keyed_entry k)) rows.keyings.items)
+    (added_all Third (map (λ t. row_of_third (third_entry t)) rows.thirds.items) c))
+
+-- the lots, the receipts, and what is tabulated,
+abbrev pub records_added : Rows → Contents → Contents
+records_added rows c =
+    added_all Vote (map (λ f. row_of_figure (figure_entry f)) rows.figures.items)
+    (added_all Bundle (map (λ b. row_of_placed (placed_entry b)) rows.bundles.items)
+    (added_all Receipt (map (λ r. row_of_receipt (receipt_entry r)) rows.receipts.items)
+    (added_all Lot (map (λ l. row_of_lot (lot_entry l)) rows.lots.items) c)))
+
+-- make of an empty office the one of these rows
+pub whole_put : (rows : Rows) → SameContents (records_added rows (papers_added rows (contests_added rows (tables_of empty_office)))) (tables_with (state_of rows) (tabulated rows))
+unfolding added_all tables_of tables_with tabulation_of
+whole_put rows Office = IsPermutation-refl _
+whole_put rows Ward = rows_alone ward_entry row_of_ward rows.wards.items
+whole_put rows Candidate = rows_alone candidate_entry row_of_candidate rows.candidates.items
+whole_put rows Batch = rows_alone batch_entry row_of_batch rows.batches.items
+whole_put rows Keying = rows_alone keyed_entry row_of_keyed rows.keyings.items
+whole_put rows Verdict = rows_alone judged_entry row_of_judged rows.verdicts.items
+whole_put rows Lot = rows_alone lot_entry row_of_lot rows.lots.items
+whole_put rows Receipt = rows_alone receipt_entry row_of_receipt rows.receipts.items
+whole_put rows Bundle = rows_alone placed_entry row_of_placed rows.bundles.items
+whole_put rows Vote = rows_alone figure_entry row_of_figure rows.figures.items
+whole_put rows Third = rows_alone third_entry row_of_third rows.thirds.items
+
+-- ---- the state of a copy
+
+-- the tables of a state, where what is tabulated beside it is that of its counts
+pub are_tables : (s : OfficeState) (t : TabulationEntries) → item8 t s → tables_with s t ≡ tables_of s
+unfolding tables_of
+are_tables s t is = ap (tables_with s) is
+
+-- a copy that rests at them is kept at that state
+pub copy_is_at : (s : OfficeState) (t : TabulationEntries) (db : Database) (st : State) → HoldsState db s → item8 t s → ((trees : Trees) → IsTrue st.is_open → st.may_leave trees → trees ≡ st.committed.trees)
+    → Rests (tables_with s t) st → IsAt s st
+copy_is_at s t db st holds is settled rests = rests_is_at s st settled holds.is (subst (λ (c : Contents). Rests c st) (are_tables s t is) rests)
+
+-- and a stop leaves none of it or all
+pub copy_stops : (s : OfficeState) (t : TabulationEntries) (old new : State) → item8 t s → HasCleanDisk new → Survives old new (Stores (tables_with s t)) → LeavesNoneOrAll s old new
+copy_stops s t old new is clean survives trees may = elim (survives.crash clean trees may) [
+  | inl was ↦ inl was
+  | inr made ↦ inr (subst (λ (c : Contents). Stores c trees) (are_tables s t is) made)
+]
+
+-- the state that was read is the one that a stop left
+pub read_left : (s x : OfficeState) (db : Database) → IsLeftAt s db → HoldsState db x → x ≡ s
+read_left s x db left holds = one_state db x s holds (left_holds s db left)

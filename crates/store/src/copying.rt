@@ -1,0 +1,136 @@
+//! An office, copied into another database.
+
+ghost use Rattle.std.specs.Prelude.{◌≡◌, ◌⊎◌, true, false, map, filter, length, Err, IfOk, IfErr, OnOk};
+ghost use Rattle.sqlite.specs.Effect.{Database};
+ghost use Rattle.sqlite.specs.State.{HasCleanDisk, Survives};
+ghost use Rattle.sqlite.specs.Held.{state};
+ghost use Rattle.register.specs.Offices.{OfficeState, keyed_entry};
+ghost use Rattle.rowcheck.specs.States.{state_of, tabulated};
+ghost use Rattle.tables.specs.Contents.{Rests, RestsAt, Stores};
+ghost use Rattle.tables.specs.Presence.{has_some_table, IsOurs};
+ghost use Rattle.tables.specs.Reading.{OnlyReads};
+ghost use Rattle.store.specs.Copies.{is_first_paper, holdings_of, LeavesNoneOrAll, IsToldInCopying, StopsInCopying, IsUnbegun};
+ghost use Rattle.store.specs.Offices.{tables_with, HoldsState, IsAt, Wears};
+ghost use Rattle.store.specs.Openings.{IsBlank, IsLeftAt};
+
+use crate::opening::checked_rows;
+use crate::writing::copies::write_whole_office;
+use register::KeyedPaper;
+use rowcheck::Rows;
+use sqlite::{Alter, Connection};
+use std::alloc::Global;
+use tables::Fault;
+use tables::presence::has_some_table;
+
+/// How much an office has, so that it is seen what a copy has.
+#[derive(Clone, Copy)]
+pub struct Holdings {
+    pub wards: usize,
+    pub batches: usize,
+    /// Keyings of a batch by a clerk in a round, those of earlier rounds too.
+    pub keyings: usize,
+    pub receipts: usize,
+}
+
+/// Why nothing was copied.
+#[derive(Clone, Copy)]
+pub enum CopyFault {
+    /// The office tells this when it is opened, or its store is inside a transaction.
+    Office(Fault),
+    /// Where the copy was to be made there is a table with the name of one of ours, or a transaction is under way.
+    Taken,
+    /// The copy couldn't be written, for want of memory, or since its store failed.
+    Copy(Fault),
+}
+
+/// How many keyings papers are of: each keying has one first paper.
+fn keyings_among(papers: &[KeyedPaper]) -> usize
+    ensures { result ≡ length (filter is_first_paper (map keyed_entry papers.now)) }
+{
+    let mut keyings = 0;
+    for keyed in papers {
+        if keyed.paper == 1 {
+            keyings += 1;
+        }
+    }
+    keyings
+}
+
+/// How much the office of these rows has.
+fn holdings_of(rows: &Rows) -> Holdings
+    ensures { result ≡ holdings_of (state_of rows.now) }
+{
+    Holdings {
+        wards: rows.wards.len(),
+        batches: rows.batches.len(),
+        keyings: keyings_among(&rows.keyings),
+        receipts: rows.receipts.len(),
+    }
+}
+
+/// Makes an office of these rows in one transaction.
+fn commit_copy<T: Alter>(
+    alloc: Global,
+    copy: &mut Connection<T>,
+    rows: &Rows,
+) -> Result<(), Fault>
+    requires { copy.old.in_transaction ≡ false }
+    ensures done { HasCleanDisk (state T.Store copy.new) → IsBlank (state T.Store copy.old)
+        → OnOk result (Rests (tables_with (state_of rows.now) (tabulated rows.now)) (state T.Store copy.new)) }
+    ensures survives { IsBlank (state T.Store copy.old)
+        → Survives (state T.Store copy.old) (state T.Store copy.new) (Stores (tables_with (state_of rows.now) (tabulated rows.now))) }
+    ensures wears { Wears (state T.Store copy.old) (state T.Store copy.new) }
+    ensures clean { HasCleanDisk (state T.Store copy.new) → HasCleanDisk (state T.Store copy.old) }
+    ensures outside { copy.new.in_transaction ≡ false }
+    ensures cause { IfErr result (λ f. (f ≡ Fault.Memory) ⊎ (f ≡ Fault.Store)) }
+{
+    let mut tx = copy.transaction();
+    write_whole_office(alloc, &mut tx, rows)?;
+    tx.commit()?;
+    Ok(())
+}
+
+/// Makes a copy of the office that a connection's database holds in that of another, with nothing in it, in one
+/// transaction, and tells how much it has. No office is open afterwards.
+///
+/// The rows are judged first, as `Store::open_from` does, and what it would tell is told as `Office`; the office
+/// is only read, whatever comes of it. `Taken` where there is a table with the name of one of ours already. The
+/// other database is not changed then. After `Copy` it is found as it was, or the whole copy.
+pub fn copy<S: Alter, T: Alter>(
+    alloc: Global,
+    conn: &mut Connection<S>,
+    copy: &mut Connection<T>,
+) -> Result<Holdings, CopyFault>
+    ensures copied { HasCleanDisk (state S.Store conn.new) → (db : Database) → IsOurs db.schema → RestsAt db (state S.Store conn.old)
+        → IfOk result (λ h. (s : OfficeState) × HoldsState db s × (h ≡ holdings_of s) × (HasCleanDisk (state T.Store copy.new) → IsBlank (state T.Store copy.old) → IsAt s (state T.Store copy.new))) }
+    ensures same { HasCleanDisk (state S.Store conn.new) → (db : Database) → RestsAt db (state S.Store conn.old) → (s : OfficeState) → IsLeftAt s db
+        → IfOk result (λ h. (h ≡ holdings_of s) × (HasCleanDisk (state T.Store copy.new) → IsBlank (state T.Store copy.old) → IsAt s (state T.Store copy.new))) }
+    ensures stops { HasCleanDisk (state S.Store conn.new) → HasCleanDisk (state T.Store copy.new) → (db : Database) → RestsAt db (state S.Store conn.old) → (s : OfficeState) → IsLeftAt s db → IsBlank (state T.Store copy.old)
+        → LeavesNoneOrAll s (state T.Store copy.old) (state T.Store copy.new) }
+    ensures told { HasCleanDisk (state S.Store conn.new) → (db : Database) → IsOurs db.schema → RestsAt db (state S.Store conn.old) → IsBlank (state T.Store copy.old)
+        → IfErr result (IsToldInCopying db (state S.Store conn.old) (state S.Store conn.new)) }
+    ensures cause { HasCleanDisk (state S.Store conn.new) → (db : Database) → RestsAt db (state S.Store conn.old) → (s : OfficeState) → IsLeftAt s db → IsBlank (state T.Store copy.old)
+        → IfErr result (StopsInCopying (state S.Store conn.old) (state S.Store conn.new)) }
+    ensures reads { OnlyReads (state S.Store conn.old) (state S.Store conn.new) }
+    ensures untouched { IfErr result (λ e. IsUnbegun e → copy.new ≡ copy.old) }
+    ensures taken { has_some_table (state T.Store copy.old).now.schema ≡ true → conn.old.in_transaction ≡ false → (result ≡ Err CopyFault.Taken) × (copy.new ≡ copy.old) }
+    ensures inside { conn.old.in_transaction ≡ true → (result ≡ Err (CopyFault.Office Fault.Store)) × (conn.new ≡ conn.old) × (copy.new ≡ copy.old) }
+    ensures wears { Wears (state T.Store copy.old) (state T.Store copy.new) }
+    ensures clean { HasCleanDisk (state T.Store copy.new) → HasCleanDisk (state T.Store copy.old) }
+    ensures outside { conn.old.in_transaction ≡ false → conn.new.in_transaction ≡ false }
+    ensures outside_too { copy.old.in_transaction ≡ false → copy.new.in_transaction ≡ false }
+{
+    if !conn.is_autocommit() {
+        return Err(CopyFault::Office(Fault::Store));
+    }
+    if !copy.is_autocommit() || has_some_table(copy) {
+        return Err(CopyFault::Taken);
+    }
+    match checked_rows(alloc, conn) {
+        Ok(rows) => match commit_copy(alloc, copy, &rows) {
+            Ok(()) => Ok(holdings_of(&rows)),
+            Err(fault) => Err(CopyFault::Copy(fault)),
+        },
+        Err(fault) => Err(CopyFault::Office(fault)),
+    }
+}
