@@ -13,4 +13,5 @@ pub mod PerformedLemmas
 pub mod ServedLemmas
 pub mod WordsRefused
 pub mod FaultsRead
+mod LinesRead
 mod OverviewLemmas

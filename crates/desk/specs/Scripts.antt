@@ -1,5 +1,5 @@
 -- The orders of a script: the lines of its text, the words of a line, and the order that these are.
-use Rattle.std.specs.Prelude.{◌≡◌, ◌≢◌, ◌⊎◌, ◌==◌, ◌||◌, ◌++◌, ℕ, suc, Bool, true, false, List, [], ◌∷◌, Option, Some, None, Result, Ok, Err, codes, if◌then◌else◌, map, fold, string_bytes, IsOkAnd}
+use Rattle.std.specs.Prelude.{◌≡◌, ◌≢◌, ◌⊎◌, ◌==◌, ◌&&◌, ◌||◌, ◌++◌, ℕ, suc, Bool, true, false, List, [], ◌∷◌, Option, Some, None, Result, Ok, Err, codes, if◌then◌else◌, map, fold, string_bytes, IsOkAnd}
 use Rattle.std.specs.List.{list_all, list_any}
 use Rattle.std.specs.Str.{is_utf8}
 use Rattle.clap.specs.Words.{Text, subcommand_of}
@@ -25,9 +25,14 @@ abbrev pub lines_from : Text → Text → List Text
 lines_from line [] = line ∷ []
 lines_from line (byte ∷ bytes) = if byte == 10 then line ∷ lines_from [] bytes else lines_from (line ++ byte ∷ []) bytes
 
--- the lines of a text
+-- a text behind its byte order mark, where it begins with one
+abbrev pub behind_byte_order_mark : Text → Text
+behind_byte_order_mark (a ∷ b ∷ c ∷ text) = if a == 239 && (b == 187 && c == 191) then text else a ∷ b ∷ c ∷ text
+behind_byte_order_mark text = text
+
+-- the lines of a text; a byte order mark at its front is passed over
 abbrev pub lines_of : Text → List Text
-lines_of text = lines_from [] text
+lines_of text = lines_from [] (behind_byte_order_mark text)
 
 -- ---- the words of a line
 

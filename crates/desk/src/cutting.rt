@@ -2,7 +2,7 @@
 
 ghost use Rattle.std.specs.Prelude.{◌≡◌, [], IfOk, OnOk, map, option_map};
 ghost use Rattle.desk.specs.Cuttings.{cutting_of};
-ghost use Rattle.desk.specs.Scripts.{cut_byte, cut_open, is_blank, is_quote, lines_of, moved_to, passes_over, with_byte, with_word, words_cut, words_of};
+ghost use Rattle.desk.specs.Scripts.{behind_byte_order_mark, cut_byte, cut_open, is_blank, is_quote, lines_of, moved_to, passes_over, with_byte, with_word, words_cut, words_of};
 
 use std::alloc::{AllocError, Global};
 use std::mem;
@@ -140,13 +140,23 @@ pub(crate) fn passes_over(line: &[u8]) -> bool
     true
 }
 
-/// The lines of a text. A line feed ends one.
+/// A text behind its byte order mark, where it begins with one.
+fn behind_byte_order_mark(text: &[u8]) -> &[u8]
+    ensures { result.now ≡ behind_byte_order_mark text.now }
+{
+    match text {
+        [0xef, 0xbb, 0xbf, rest @ ..] => rest,
+        _ => text,
+    }
+}
+
+/// The lines of a text. A line feed ends one, and a byte order mark at the front is passed over.
 pub(crate) fn lines_of(alloc: Global, text: &[u8]) -> Result<Vec<Vec<u8>>, AllocError>
     ensures { IfOk result (λ lines. map (λ line. line.items) lines.items ≡ lines_of text.now) }
 {
     let mut lines = Vec::new(alloc);
     let mut line = Vec::new(alloc);
-    for byte in text {
+    for byte in behind_byte_order_mark(text) {
         if *byte == b'\n' {
             lines.push(mem::replace(&mut line, Vec::new(alloc)))?;
         } else {

@@ -194,6 +194,11 @@ fn words_are_cut_as_by_a_shell(rt: HostRuntime) -> Result<(), Fail> {
             Step::Script(b"ward 8 2 'a \"b\" c\\' --id w2\nward 9 2 '' --id w3", &[]),
             (1, "ward 8 added\n", "line 2: refused 4: bad name\n"),
         ),
+        // A byte order mark at the front is passed over.
+        (
+            Step::Script(b"\xef\xbb\xbfward 10 2 Pier --id w4\n", &[]),
+            (0, "ward 10 added\n", ""),
+        ),
     ];
     play_acts(&rt, MADE)?.hear(&rt, &cases)?;
     Ok(())
