@@ -9,10 +9,13 @@
 //! ```
 #![tactic(auto)]
 
-ghost use Rattle.std.specs.Prelude.{◌≡◌, ◌+◌, ◌-◌, ◌^◌, ◌<◌, IfSome};
+ghost use Rattle.std.specs.Prelude.{◌≡◌, ◌+◌, ◌-◌, ◌^◌, ◌<◌, IfSome, IsSomeAnd};
+ghost use Rattle.sqlite.specs.Held.{state};
+ghost use Rattle.tables.specs.Reading.{OnlyReads};
 ghost use Rattle.sqlite_wal.specs.Reads.{AreClean};
 ghost use Rattle.sqlite.specs.Closing.{IsCopied};
 
+mod fresh;
 #[cfg(test)]
 mod tests;
 mod traces;
@@ -33,6 +36,7 @@ use std::process::ExitCode;
 use std::{env, io};
 use store::Fault;
 use store::fault::fault_of;
+use fresh::Fresh;
 use traces::Found;
 use votes::{Counted, Sink};
 
@@ -75,9 +79,10 @@ fn wants_progress(rt: &HostRuntime, order: &Order<'_>) -> bool {
     order.file().is_some() && rt.stderr().is_terminal() && !rt.stdout().is_terminal()
 }
 
-/// Does an order over an opened connection, with the file that it names, and those that a script names.
+/// Does an order over an opened connection to the office at a path, with the file that it names, and those that a script names.
 fn perform_on<S: Alter, O: Sink, E: Sink>(
     rt: &HostRuntime,
+    office: &str,
     order: &Order<'_>,
     conn: Connection<S>,
     out: &mut O,
@@ -90,7 +95,7 @@ fn perform_on<S: Alter, O: Sink, E: Sink>(
         Order::Serve { port, connections } => {
             return serve(rt, conn, *port, *connections, err);
         }
-        Order::Copy { path } => return copy(rt, conn, path, out, err),
+        Order::Copy { path } => return copy(rt, conn, office, path, out, err),
         _ => {}
     }
     let paths = Paths { rt };
@@ -133,45 +138,82 @@ fn serve<S: Alter, E: Sink>(
     (status, office.into_connection())
 }
 
-/// Makes a copy of the office at a path where there is nothing yet, and closes it. Where that failed, nothing is left
-/// there. Where its log can't be copied into it behind the reply, that is told, and both files are the copy.
+/// Makes a copy of the office at a path where there is nothing yet. The office is only read.
 fn copy<S: Alter, O: Sink, E: Sink>(
     rt: &HostRuntime,
     mut conn: Connection<S>,
+    office: &str,
     path: &str,
     out: &mut O,
     err: &mut E,
 ) -> (u8, Connection<S>)
     requires out { O.failed out.old < 2 ^ 64 - 1 }
     requires err { E.failed err.old < 2 ^ 64 - 1 }
+    ensures { OnlyReads (state S.Store conn) (state S.Store result.1) }
 {
-    let Ok(found) = Found::at(rt, path) else {
-        return (
-            tell_failure(Failure::Office(Fault::Memory), err),
-            conn,
-        );
+    let fresh = match Fresh::make(rt, office, path) {
+        Ok(fresh) => fresh,
+        Err(failure) => return (tell_failure(failure, err), conn),
     };
-    if !found.is_free() {
-        return (tell_failure(Failure::CopyTaken, err), conn);
-    }
-    let mut made = match Connection::open_from(rt, path, false, Wary) {
-        Ok(made) => made,
+    let status = match Connection::open_from(rt, path, false, Wary) {
+        Ok(made) => {
+            if fresh.is_untouched(rt) {
+                fill(rt, &fresh, &mut conn, made, out, err)
+            } else {
+                tell_failure(Failure::CopyTaken, err)
+            }
+        }
         Err((error, _)) => {
-            found.remove(rt);
-            let failure = match fault_of(error) {
-                Fault::Memory => Failure::Office(Fault::Memory),
-                _ => Failure::CopyFailed,
-            };
-            return (tell_failure(failure, err), conn);
+            fresh.remove_untouched(rt);
+            tell_failure(failure_of(error), err)
         }
     };
-    let status = copy_office(rt.alloc(), &mut conn, &mut made, out, err);
-    if status != 0 {
-        found.remove(rt);
+    (status, conn)
+}
+
+/// Why a copy can't be made: want of memory is told as ever.
+fn failure_of(error: sqlite::Error) -> Failure {
+    match fault_of(error) {
+        Fault::Memory => Failure::Office(Fault::Memory),
+        _ => Failure::CopyFailed,
     }
+}
+
+/// Copies the office over an opened connection to files that were made for the copy, and closes them. Where no copy was
+/// made they are removed while they are held.
+fn fill<S: Alter, D: Disk + Drop, O: Sink, E: Sink>(
+    rt: &HostRuntime,
+    fresh: &Fresh,
+    conn: &mut Connection<S>,
+    mut made: Connection<FileStore<D>>,
+    out: &mut O,
+    err: &mut E,
+) -> u8
+    requires out { O.failed out.old < 2 ^ 64 - 1 }
+    requires err { E.failed err.old < 2 ^ 64 - 1 }
+    ensures { OnlyReads (state S.Store conn.old) (state S.Store conn.new) }
+{
+    let (status, is_made) = copy_office(rt.alloc(), conn, &mut made, out, err);
+    if !is_made {
+        fresh.remove(rt);
+    }
+    let (status, _) = closed_copy(status, made, err);
+    status
+}
+
+/// Closes a copy, so that it stands alone where the status is 0. Where its log can't be copied into it, that is told.
+fn closed_copy<D: Disk + Drop, E: Sink>(
+    status: u8,
+    made: Connection<FileStore<D>>,
+    err: &mut E,
+) -> (u8, Option<Files<D>>)
+    requires { E.failed err.old < 2 ^ 64 - 1 }
+    ensures alone { result.0 ≡ 0 → IsSomeAnd result.1 (λ files. AreClean D.Disk files.log files.db → IsCopied made files) }
+{
     match close(made) {
-        None if status == 0 => (tell_failure(Failure::CopyFailed, err), conn),
-        _ => (status, conn),
+        Some(files) => (status, Some(files)),
+        None if status == 0 => (tell_failure(Failure::CopyFailed, err), None),
+        None => (status, None),
     }
 }
 
@@ -207,7 +249,7 @@ fn perform_in<O: Sink, E: Sink>(
 {
     match Connection::open_from(rt, path, false, Wary) {
         Ok(conn) => {
-            let (status, conn) = perform_on(rt, order, conn, out, err);
+            let (status, conn) = perform_on(rt, path, order, conn, out, err);
             if status != 0 {
                 found.leave(rt);
             }

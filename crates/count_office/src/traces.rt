@@ -1,23 +1,23 @@
 //! What stood at a database's path before an order, and that an order which makes nothing leaves nothing there.
 //!
-//! `sqlite` makes both files as it opens them: DB, and its log beside it. Only `init` is to make any.
+//! `sqlite` makes both files as it opens them: DB, and its log beside it. Only `init` is to make them.
 
 use std::alloc::AllocError;
 use std::fs;
 use std::io::ErrorKind;
 
 /// A log of fewer bytes holds no page: the smallest has 512.
-const MIN_LOG: u64 = 512;
+pub const MIN_LOG: u64 = 512;
 
 /// A database and its log of fewer bytes together hold no office: each of its eleven tables and of their
 /// keys has a page of 4096.
 const MIN_OFFICE: u64 = 22 * 4096;
 
 /// `sqlite` takes a file of up to so many bytes for an empty one.
-const MAX_EMPTY: u64 = 1;
+pub const MAX_EMPTY: u64 = 1;
 
 /// The length of the file at a path: none where none is there, and the greatest where it can't be looked at.
-fn length_at(rt: &HostRuntime, path: &str) -> Option<u64> {
+pub fn length_at(rt: &HostRuntime, path: &str) -> Option<u64> {
     match fs::metadata(rt, path) {
         Ok(found) => Some(found.len()),
         Err(error) if error.kind() == ErrorKind::NotFound => None,
@@ -59,20 +59,6 @@ impl Found {
             None => true,
             Some(length) if length <= MAX_EMPTY => matches!(self.log_length, None | Some(0)),
             Some(_) => false,
-        }
-    }
-
-    /// Nothing at all is there, neither a database nor a log.
-    pub fn is_free(&self) -> bool {
-        self.database_length.is_none() && self.log_length.is_none()
-    }
-
-    /// Removes both files, of which none was there before: a copy that wasn't made. It is to be called while the
-    /// database is held, or once it can't be opened.
-    pub fn remove(&self, rt: &HostRuntime) {
-        if self.is_free() {
-            let _ = fs::remove_file(rt, self.log.as_str());
-            let _ = fs::remove_file(rt, self.database.as_str());
         }
     }
 

@@ -1,5 +1,5 @@
 -- A copy of the office.
-use Rattle.std.proofs.Common.{◌≡◌, ◌⊎◌, inl, inr, refl}
+use Rattle.std.proofs.Common.{◌≡◌, inl, refl}
 use Rattle.sqlite.specs.Effect.{Database}
 use Rattle.sqlite.specs.State.{State}
 use Rattle.tables.specs.declared.fault.Fault.TheVariants as fault
@@ -13,9 +13,8 @@ use Rattle.desk.specs.Errands.{IsForeign}
 use Rattle.desk.specs.Pages.{failed, failure_of}
 
 -- why a copy of an office that is there isn't made
-pub ends_copying : (why : CopyFault) (old new : State) → StopsInCopying old new why → EndsCopying (failure_of why)
-ends_copying (Office f) old new (inl memory) = inl memory
-ends_copying (Office f) old new (inr failed) = inr failed.0
+pub ends_copying : (why : CopyFault) (old new : State) → StopsInCopying old new why → EndsCopying old new (failure_of why)
+ends_copying (Office f) old new stops = stops
 ends_copying Taken old new stops = absurd stops
 ends_copying (Copy fault.Memory) old new stops = inl refl
 ends_copying (Copy fault.Store) old new stops = tt

@@ -9,12 +9,12 @@ use Rattle.register.specs.Offices.{OfficeState, empty_office}
 use Rattle.register.specs.declared.command.Request.{Request}
 use Rattle.tables.specs.Contents.{RestsAt}
 use Rattle.tables.specs.Presence.{IsOurs, has_some_table}
-use Rattle.tables.specs.Reading.{OnlyReads}
+use Rattle.tables.specs.Reading.{FailsBy, OnlyReads}
 use Rattle.store.specs.Copies.{LeavesNoneOrAll, holdings_of}
 use Rattle.store.specs.declared.copying.Holdings.{Holdings}
 use Rattle.store.specs.Offices.{IsAt, LeavesState}
 use Rattle.store.specs.Openings.{HoldsNoState, IsBlank, IsLeftAt}
-use Rattle.desk.specs.Errands.{IsForeign, IsPlain}
+use Rattle.desk.specs.Errands.{IsForeign}
 use Rattle.desk.specs.Pages.{Page, failed, replied}
 use Rattle.desk.specs.declared.lines.Failure.{Failure}
 use Rattle.desk.specs.declared.lines.Failure.TheVariants.{Office, CopyTaken, CopyFailed, Output}
@@ -23,25 +23,26 @@ use Rattle.desk.specs.declared.lines.Failure.TheVariants.{Office, CopyTaken, Cop
 unfoldable pub copied_text : Holdings → Text
 copied_text h = codes "copied " ++ (decimal h.wards ++ (codes " wards, " ++ (decimal h.batches ++ (codes " batches, " ++ (decimal h.keyings ++ (codes " keyings, " ++ (decimal h.receipts ++ codes " receipts")))))))
 
--- the failures that may end the copying of an office that is there: memory was wanting, its store failed, or the copy couldn't be written
-abbrev pub EndsCopying : Failure → Type 0
-EndsCopying (Office fault) = IsPlain fault
-EndsCopying CopyTaken = ⊥
-EndsCopying CopyFailed = ⊤
-EndsCopying Output = ⊥
+-- the failures that may end the copying of an office that is there: memory was wanting, the office's store failed while it was read, or the
+-- copy couldn't be written
+abbrev pub EndsCopying : State → State → Failure → Type 0
+EndsCopying old new (Office fault) = FailsBy old new fault
+EndsCopying old new CopyTaken = ⊥
+EndsCopying old new CopyFailed = ⊤
+EndsCopying old new Output = ⊥
 
 -- An office at a state is copied into a database with nothing in it, and it is told how much the copy has, which keeps that very state; or
 -- a failure is told, and a stop leaves of the copy what it could leave before, or the whole of it. Where the copy's disk isn't as `sqlite`
 -- states it, that is told all the same.
-abbrev pub IsCopiedAt : OfficeState → Page → State → State → Type 0
-IsCopiedAt s page old new =
-    ((page ≡ replied (copied_text (holdings_of s))) × (HasCleanDisk new → IsAt s new))
-    ⊎ ((failure : Failure) × (page ≡ failed failure) × EndsCopying failure × (HasCleanDisk new → LeavesNoneOrAll s old new))
+abbrev pub IsCopiedAt : OfficeState → Page → State → State → State → State → Type 0
+IsCopiedAt s page old new copy_old copy_new =
+    ((page ≡ replied (copied_text (holdings_of s))) × (HasCleanDisk copy_new → IsAt s copy_new))
+    ⊎ ((failure : Failure) × (page ≡ failed failure) × EndsCopying old new failure × (HasCleanDisk copy_new → LeavesNoneOrAll s copy_old copy_new))
 
 -- What comes of the order, by what its own connection rests at and where the copy is to be made: the office is copied; what an opening tells
 -- is told, and nothing is copied; or nothing is copied onto a table of our names. Its own office is only read, and a stop leaves it as it was.
 pub record IsCopied (page : Page) (old new copy_old copy_new : State) : Type 0 where
-  pub in_office : (db : Database) → RestsAt db old → (s : OfficeState) → IsLeftAt s db → IsBlank copy_old → IsCopiedAt s page copy_old copy_new
+  pub in_office : (db : Database) → RestsAt db old → (s : OfficeState) → IsLeftAt s db → IsBlank copy_old → IsCopiedAt s page old new copy_old copy_new
   pub elsewhere : (db : Database) → IsOurs db.schema → RestsAt db old → HoldsNoState db → IsBlank copy_old → IsForeign db page old new × (copy_new ≡ copy_old)
   pub taken : old.in_transaction ≡ false → has_some_table copy_old.now.schema ≡ true → (page ≡ failed CopyTaken) × (copy_new ≡ copy_old)
   pub reads : OnlyReads old new

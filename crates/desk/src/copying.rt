@@ -1,9 +1,12 @@
 //! A copy of the office.
 
-ghost use Rattle.std.specs.Prelude.{◌≡◌, ◌-◌, ◌^◌, ◌<◌, IfOk, string_bytes};
+ghost use Rattle.std.specs.Prelude.{◌≡◌, ◌-◌, ◌^◌, ◌<◌, true, IfOk, string_bytes};
 ghost use Rattle.sqlite.specs.State.{HasCleanDisk};
 ghost use Rattle.sqlite.specs.Held.{state};
+ghost use Rattle.register.specs.Offices.{OfficeState};
 ghost use Rattle.tables.specs.Reading.{OnlyReads};
+ghost use Rattle.store.specs.Offices.{IsAt, Wears};
+ghost use Rattle.store.specs.Openings.{IsBlank};
 ghost use Rattle.desk.specs.Copying.{IsCopied, copied_text};
 ghost use Rattle.desk.specs.Pages.{Tells, outputs_of, page_of};
 
@@ -24,26 +27,30 @@ fn copied_text(alloc: Global, holdings: Holdings) -> Result<String, AllocError>
     format!(in alloc; "copied {wards} wards, {batches} batches, {keyings} keyings, {receipts} receipts")
 }
 
-/// Copies the office, and says what came of it.
+/// Copies the office, and says what came of it, and whether the copy is there.
 fn copied<S: Alter, T: Alter>(
     alloc: Global,
     conn: &mut Connection<S>,
     copy: &mut Connection<T>,
-) -> Outcome
-    ensures copied { HasCleanDisk (state S.Store conn.new) → IsCopied (page_of result) (state S.Store conn.old) (state S.Store conn.new) (state T.Store copy.old) (state T.Store copy.new) }
+) -> (Outcome, bool)
+    ensures copied { HasCleanDisk (state S.Store conn.new) → IsCopied (page_of result.0) (state S.Store conn.old) (state S.Store conn.new) (state T.Store copy.old) (state T.Store copy.new) }
+    ensures made { result.1 ≡ true → HasCleanDisk (state T.Store copy.new) → IsBlank (state T.Store copy.old) → (s : OfficeState) × IsAt s (state T.Store copy.new) }
     ensures reads { OnlyReads (state S.Store conn.old) (state S.Store conn.new) }
+    ensures wears { Wears (state T.Store copy.old) (state T.Store copy.new) }
+    ensures clean { HasCleanDisk (state T.Store copy.new) → HasCleanDisk (state T.Store copy.old) }
 {
     match Office::copy(alloc, conn, copy) {
         Ok(holdings) => match copied_text(alloc, holdings) {
-            Ok(text) => Outcome::Replied(text),
-            Err(_) => Outcome::Failed(Fault::Memory),
+            Ok(text) => (Outcome::Replied(text), true),
+            Err(_) => (Outcome::Failed(Fault::Memory), false),
         },
-        Err(fault) => Outcome::Uncopied(fault),
+        Err(fault) => (Outcome::Uncopied(fault), false),
     }
 }
 
 /// Makes a copy of the office that an opened connection has, over another, to a database with nothing in it, tells how
-/// much the copy has, and gives the status. Neither is closed.
+/// much the copy has, and gives the status, and whether the copy is there: it is where the reply was told, or was to be.
+/// Neither is closed.
 ///
 /// The copy is made whole in one transaction: after its reply it keeps the very state of the office, with every
 /// receipt, and whatever a stop leaves of it before is nothing or the whole of it. The office is only read,
@@ -59,13 +66,16 @@ pub fn copy_office<S: Alter, T: Alter, O: Sink, E: Sink>(
     copy: &mut Connection<T>,
     out: &mut O,
     err: &mut E,
-) -> u8
+) -> (u8, bool)
     requires out { O.failed out.old < 2 ^ 64 - 1 }
     requires err { E.failed err.old < 2 ^ 64 - 1 }
-    ensures copied { let outputs = outputs_of O.taken O.failed E.taken E.failed in Tells (outputs out.old err.old) (outputs out.new err.new) result
+    ensures copied { let outputs = outputs_of O.taken O.failed E.taken E.failed in Tells (outputs out.old err.old) (outputs out.new err.new) result.0
         (λ _ page. HasCleanDisk (state S.Store conn.new) → IsCopied page (state S.Store conn.old) (state S.Store conn.new) (state T.Store copy.old) (state T.Store copy.new)) }
+    ensures made { result.1 ≡ true → HasCleanDisk (state T.Store copy.new) → IsBlank (state T.Store copy.old) → (s : OfficeState) × IsAt s (state T.Store copy.new) }
     ensures reads { OnlyReads (state S.Store conn.old) (state S.Store conn.new) }
+    ensures wears { Wears (state T.Store copy.old) (state T.Store copy.new) }
+    ensures clean { HasCleanDisk (state T.Store copy.new) → HasCleanDisk (state T.Store copy.old) }
 {
-    let outcome = copied(alloc, conn, copy);
-    tell(None, &outcome, out, err)
+    let (outcome, is_made) = copied(alloc, conn, copy);
+    (tell(None, &outcome, out, err), is_made)
 }

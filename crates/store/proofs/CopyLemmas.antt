@@ -14,8 +14,8 @@ use Rattle.tables.specs.declared.table.Table.TheVariants.{Office, Ward, Candidat
 use Rattle.tables.specs.Contents.{Contents, SameContents, added_all, Stores, Rests}
 use Rattle.store.specs.EntryRows.{row_of_ward, row_of_candidate, row_of_batch, row_of_third, row_of_keyed, row_of_judged, row_of_lot, row_of_receipt, row_of_placed, row_of_figure}
 use Rattle.store.specs.Copies.{LeavesNoneOrAll, holdings_of}
-use Rattle.store.specs.Offices.{tables_of, tables_with, HoldsState, IsAt}
-use Rattle.store.specs.Openings.{IsLeftAt}
+use Rattle.store.specs.Offices.{tables_of, tables_with, HoldsState, StoresState, IsAt}
+use Rattle.store.specs.Openings.{IsLeftAt, IsTabulatedAs}
 use Rattle.tables.proofs.ListLemmas.{mapped_twice}
 use Rattle.store.proofs.KeepLemmas.{rests_is_at}
 use Rattle.store.proofs.StateLemmas.{one_state}
@@ -73,15 +73,23 @@ unfolding tables_of
 are_tables s t is = ap (tables_with s) is
 
 -- a copy that rests at them is kept at that state
-pub copy_is_at : (s : OfficeState) (t : TabulationEntries) (db : Database) (st : State) → HoldsState db s → item8 t s → ((trees : Trees) → IsTrue st.is_open → st.may_leave trees → trees ≡ st.committed.trees)
+pub copy_is_at : (s : OfficeState) (t : TabulationEntries) (st : State) → IsTabulatedAs s t → ((trees : Trees) → IsTrue st.is_open → st.may_leave trees → trees ≡ st.committed.trees)
     → Rests (tables_with s t) st → IsAt s st
-copy_is_at s t db st holds is settled rests = rests_is_at s st settled holds.is (subst (λ (c : Contents). Rests c st) (are_tables s t is) rests)
+copy_is_at s t st is settled rests = rests_is_at s st settled is.0 (subst (λ (c : Contents). Rests c st) (are_tables s t is.1) rests)
 
 -- and a stop leaves none of it or all
 pub copy_stops : (s : OfficeState) (t : TabulationEntries) (old new : State) → item8 t s → HasCleanDisk new → Survives old new (Stores (tables_with s t)) → LeavesNoneOrAll s old new
 copy_stops s t old new is clean survives trees may = elim (survives.crash clean trees may) [
   | inl was ↦ inl was
   | inr made ↦ inr (subst (λ (c : Contents). Stores c trees) (are_tables s t is) made)
+]
+
+-- which is that of some state
+pub copy_whole : (s : OfficeState) (t : TabulationEntries) (old new : State) → IsTabulatedAs s t → HasCleanDisk new → Survives old new (Stores (tables_with s t)) → (trees : Trees) → new.may_leave trees
+    → old.may_leave trees ⊎ ((x : OfficeState) × StoresState x trees)
+copy_whole s t old new is clean survives trees may = elim (copy_stops s t old new is.1 clean survives trees may) [
+  | inl was ↦ inl was
+  | inr made ↦ inr (s, record { is = is.0; stores = made })
 ]
 
 -- the state that was read is the one that a stop left

@@ -142,6 +142,7 @@ fn checked_tables<S: Alter>(alloc: Global, conn: &mut Connection<S>) -> Result<R
         → IfErr result (TellsNoState db) }
     ensures fails { HasCleanDisk (state S.Store conn.new) → (db : Database) → IsOfficeSchema db.schema → RestsAt db (state S.Store conn.old)
         → IfErr result (FailsToList db (state S.Store conn.old) (state S.Store conn.new)) }
+    ensures judged { IfOk result (λ rows. IsTabulatedAs (state_of rows) (tabulated rows)) }
     ensures opens { HasCleanDisk (state S.Store conn.new) → OnOk result (IsTrue (state S.Store conn.new).is_open) }
     ensures reads { OnlyReads (state S.Store conn.old) (state S.Store conn.new) }
     ensures outside { conn.new.in_transaction ≡ false }
@@ -166,6 +167,7 @@ pub(crate) fn checked_rows<S: Alter>(alloc: Global, conn: &mut Connection<S>) ->
         → IfErr result (FailsToList db (state S.Store conn.old) (state S.Store conn.new)) }
     ensures older { HasCleanDisk (state S.Store conn.new) → (db : Database) → IsOurs db.schema → RestsAt db (state S.Store conn.old)
         → IfErr result (λ f. f ≡ Fault.OlderSchema → IsTrue (state S.Store conn.new).is_open) }
+    ensures judged { IfOk result (λ rows. IsTabulatedAs (state_of rows) (tabulated rows)) }
     ensures opens { HasCleanDisk (state S.Store conn.new) → OnOk result (IsTrue (state S.Store conn.new).is_open) }
     ensures reads { OnlyReads (state S.Store conn.old) (state S.Store conn.new) }
     ensures outside { conn.new.in_transaction ≡ false }

@@ -38,6 +38,17 @@ fn opened(
     }
 }
 
+fn sorted(alloc: Global, rows: &str) -> Result<Vec<&str>, Fail> {
+    let mut lines: Vec<&str> = rows.lines().collect(alloc)?;
+    lines.sort()?;
+    Ok(lines)
+}
+
+/// These are the same rows, whatever their order.
+pub fn are_same(alloc: Global, rows: &str, others: &str) -> Result<bool, Fail> {
+    Ok(sorted(alloc, rows)?.as_slice() == sorted(alloc, others)?.as_slice())
+}
+
 /// Which of the two files stops.
 #[derive(Clone, Copy)]
 pub enum File {
@@ -211,7 +222,8 @@ impl Disks {
         let (left, office) = office.rows(rt.alloc())?;
         let (again, _, copy) = office.copy_onto(rt.alloc(), copy)?;
         let (made, copy) = copy.rows(rt.alloc())?;
-        assert!(rt; rows.as_str() == left.as_str() && rows.as_str() == made.as_str(), "{told}");
+        assert!(rt; rows.as_str() == left.as_str(), "{told}");
+        assert!(rt; are_same(rt.alloc(), rows.as_str(), made.as_str())?, "{told}");
         assert!(rt; matches!(&said, Some(said) if said.told() == (0, told, "")), "{said:?}");
         assert!(rt; matches!(&again, Some(said) if said.told() == TAKEN), "{again:?}");
         Ok(copy)

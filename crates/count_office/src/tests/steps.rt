@@ -289,7 +289,7 @@ fn contents<S: Alter + Drop>(alloc: Global, conn: &mut Connection<S>) -> Result<
         writeln!(text, "{name}")?;
         let all = format!(in alloc; "SELECT * FROM {name}")?;
         for row in conn.query_all(all.as_str(), &[])? {
-            writeln!(text, "{row:?}")?;
+            writeln!(text, "{name} {row:?}")?;
         }
     }
     Ok(text)
@@ -325,7 +325,7 @@ pub fn copied<S: Alter + Drop, T: Alter + Drop>(
     let status = {
         let mut out = Counted::new(&mut out);
         let mut err = Counted::new(&mut err);
-        copy_office(alloc, conn, copy, &mut out, &mut err)
+        copy_office(alloc, conn, copy, &mut out, &mut err).0
     };
     let (out, err) = (out.text()?, err.text()?);
     Ok(Said { status, out, err })

@@ -1,0 +1,61 @@
+#!/usr/bin/env bash
+# Plays copies of an office, and what isn't copied.
+source "$(dirname "$(readlink -f "${BASH_SOURCE[0]}")")/play.bash"
+
+mkdir "$folder/attic"
+printf 'ward,candidate,name\n7,1,Ann\n7,2,Bob\n7,3,Cy\n' >"$folder/names.csv"
+printf 'paper,1,2,3\n1,1,2,\n2,,1,\n' >"$folder/four.csv"
+
+# The office, where no file may grow past 20480 bytes.
+cramped_office() {
+    (ulimit -f 20 && "$here/../count-office" "$@")
+}
+
+# Tells which files there are.
+list_files() {
+    echo "files: $(ls -x "$folder" --ignore=output --ignore=errors --ignore=played)"
+}
+
+{
+    play town.db init
+    play town.db ward 7 2 Harbour --id w1
+    play town.db import-candidates names.csv --id c1
+    play town.db close 7 --id n1
+    play town.db batch 12 7 2 4 9 --id b1
+    play town.db import-keying 4 12 1 four.csv --id k1
+
+    # onto a file that is there, a folder, the office itself and its log, and into a folder that isn't there
+    play town.db copy names.csv
+    play town.db copy attic
+    play town.db copy town.db
+    play town.db copy town.db-wal
+    play town.db copy missing/evening.db
+    list_files
+
+    # where there is no room, nothing is left
+    office=cramped_office play town.db copy evening.db
+    list_files
+
+    # a copy stands alone, and takes no second one
+    play town.db copy evening.db
+    play town.db copy evening.db
+    rm -f "$folder/evening.db-wal"
+    play evening.db wards
+    play evening.db batches 7
+    play evening.db receipts 4
+    play evening.db import-keying 9 12 1 four.csv --id k1
+    play town.db batches 7
+
+    # a log that was left alone isn't taken for the copy's
+    : >"$folder/attic/noon.db-wal"
+    play town.db copy attic/noon.db
+    rm "$folder/attic/noon.db-wal"
+    play town.db copy attic/noon.db
+
+    # what is no office isn't copied
+    play names.csv copy morning.db
+    play missing.db copy morning.db
+    list_files
+} >"$folder/played"
+
+compare copying
