@@ -70,7 +70,8 @@ impl Fresh {
     pub fn is_untouched(&self, rt: &HostRuntime) -> bool {
         let database = length_at(rt, self.database.as_str());
         let log = length_at(rt, self.log.as_str());
-        database.is_some_and(|length| length <= MAX_EMPTY) && log.is_some_and(|length| length < MIN_LOG)
+        database.is_some_and(|length| length <= MAX_EMPTY)
+            && log.is_some_and(|length| length < MIN_LOG)
     }
 
     /// Removes both. It is to be called while the database is held, so that no other program has opened them.

@@ -25,6 +25,7 @@ use desk::{
     Failure, Folder, Order, Progress, WordsFault, copy_office, order, serve_on, tell_failure,
     tell_words,
 };
+use fresh::Fresh;
 use office::Office;
 use sqlite::{Alter, Connection, FileStore, Files, Wary};
 use sqlite_disk::Disk;
@@ -36,7 +37,6 @@ use std::process::ExitCode;
 use std::{env, io};
 use store::Fault;
 use store::fault::fault_of;
-use fresh::Fresh;
 use traces::Found;
 use votes::{Counted, Sink};
 

@@ -24,7 +24,9 @@ fn copied_text(alloc: Global, holdings: Holdings) -> Result<String, AllocError>
 {
     let (wards, batches) = (holdings.wards, holdings.batches);
     let (keyings, receipts) = (holdings.keyings, holdings.receipts);
-    format!(in alloc; "copied {wards} wards, {batches} batches, {keyings} keyings, {receipts} receipts")
+    format!(in alloc;
+        "copied {wards} wards, {batches} batches, {keyings} keyings, {receipts} receipts"
+    )
 }
 
 /// Copies the office, and says what came of it, and whether the copy is there.

@@ -70,11 +70,7 @@ fn holdings_of(rows: &Rows) -> Holdings
 }
 
 /// Makes an office of these rows in one transaction.
-fn commit_copy<T: Alter>(
-    alloc: Global,
-    copy: &mut Connection<T>,
-    rows: &Rows,
-) -> Result<(), Fault>
+fn commit_copy<T: Alter>(alloc: Global, copy: &mut Connection<T>, rows: &Rows) -> Result<(), Fault>
     requires { copy.old.in_transaction ≡ false }
     ensures done { HasCleanDisk (state T.Store copy.new) → IsBlank (state T.Store copy.old)
         → OnOk result (Rests (tables_with (state_of rows.now) (tabulated rows.now)) (state T.Store copy.new)) }

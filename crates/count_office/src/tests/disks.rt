@@ -223,9 +223,18 @@ impl Disks {
         let (again, _, copy) = office.copy_onto(rt.alloc(), copy)?;
         let (made, copy) = copy.rows(rt.alloc())?;
         assert!(rt; rows.as_str() == left.as_str(), "{told}");
-        assert!(rt; are_same(rt.alloc(), rows.as_str(), made.as_str())?, "{told}");
-        assert!(rt; matches!(&said, Some(said) if said.told() == (0, told, "")), "{said:?}");
-        assert!(rt; matches!(&again, Some(said) if said.told() == TAKEN), "{again:?}");
+        assert!(rt;
+            are_same(rt.alloc(), rows.as_str(), made.as_str())?,
+            "{told}"
+        );
+        assert!(rt;
+            matches!(&said, Some(said) if said.told() == (0, told, "")),
+            "{said:?}"
+        );
+        assert!(rt;
+            matches!(&again, Some(said) if said.told() == TAKEN),
+            "{again:?}"
+        );
         Ok(copy)
     }
 

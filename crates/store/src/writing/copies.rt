@@ -38,8 +38,8 @@ fn write_contests<S: Alter>(
     ensures same_reference { tx.new.conn.ghost_name ≡ tx.old.conn.ghost_name }
     ensures adds { HasCleanDisk (state S.Store tx.new.conn.now) → (c : Contents) → Sees c (state S.Store tx.old.conn.now)
         → OnOk result (Sees (added_all Table.Batch (map (λ b. row_of_batch (batch_entry b)) rows.now.batches.items)
-            (added_all Table.Candidate (map (λ x. row_of_candidate (candidate_entry x)) rows.now.candidates.items)
-            (added_all Table.Ward (map (λ w. row_of_ward (ward_entry w)) rows.now.wards.items) c))) (state S.Store tx.new.conn.now)) }
+        (added_all Table.Candidate (map (λ x. row_of_candidate (candidate_entry x)) rows.now.candidates.items)
+        (added_all Table.Ward (map (λ w. row_of_ward (ward_entry w)) rows.now.wards.items) c))) (state S.Store tx.new.conn.now)) }
     ensures keeps { HasCleanDisk (state S.Store tx.new.conn.now) → KeepsCommit (state S.Store tx.old.conn.now) (state S.Store tx.new.conn.now) }
     ensures survives { Survives (state S.Store tx.old.conn.now) (state S.Store tx.new.conn.now) (λ _. ⊥) }
     ensures cause { IfErr result (λ f. (f ≡ Fault.Memory) ⊎ (f ≡ Fault.Store)) }
@@ -59,8 +59,8 @@ fn write_papers<S: Alter>(
     ensures same_reference { tx.new.conn.ghost_name ≡ tx.old.conn.ghost_name }
     ensures adds { HasCleanDisk (state S.Store tx.new.conn.now) → (c : Contents) → Sees c (state S.Store tx.old.conn.now)
         → OnOk result (Sees (added_all Table.Verdict (map (λ v. row_of_judged (judged_entry v)) rows.now.verdicts.items)
-            (added_all Table.Keying (map (λ k. row_of_keyed (keyed_entry k)) rows.now.keyings.items)
-            (added_all Table.Third (map (λ t. row_of_third (third_entry t)) rows.now.thirds.items) c))) (state S.Store tx.new.conn.now)) }
+        (added_all Table.Keying (map (λ k. row_of_keyed (keyed_entry k)) rows.now.keyings.items)
+        (added_all Table.Third (map (λ t. row_of_third (third_entry t)) rows.now.thirds.items) c))) (state S.Store tx.new.conn.now)) }
     ensures keeps { HasCleanDisk (state S.Store tx.new.conn.now) → KeepsCommit (state S.Store tx.old.conn.now) (state S.Store tx.new.conn.now) }
     ensures survives { Survives (state S.Store tx.old.conn.now) (state S.Store tx.new.conn.now) (λ _. ⊥) }
     ensures cause { IfErr result (λ f. (f ≡ Fault.Memory) ⊎ (f ≡ Fault.Store)) }
@@ -80,9 +80,9 @@ fn write_records<S: Alter>(
     ensures same_reference { tx.new.conn.ghost_name ≡ tx.old.conn.ghost_name }
     ensures adds { HasCleanDisk (state S.Store tx.new.conn.now) → (c : Contents) → Sees c (state S.Store tx.old.conn.now)
         → OnOk result (Sees (added_all Table.Vote (map (λ f. row_of_figure (figure_entry f)) rows.now.figures.items)
-            (added_all Table.Bundle (map (λ b. row_of_placed (placed_entry b)) rows.now.bundles.items)
-            (added_all Table.Receipt (map (λ r. row_of_receipt (receipt_entry r)) rows.now.receipts.items)
-            (added_all Table.Lot (map (λ l. row_of_lot (lot_entry l)) rows.now.lots.items) c)))) (state S.Store tx.new.conn.now)) }
+        (added_all Table.Bundle (map (λ b. row_of_placed (placed_entry b)) rows.now.bundles.items)
+        (added_all Table.Receipt (map (λ r. row_of_receipt (receipt_entry r)) rows.now.receipts.items)
+        (added_all Table.Lot (map (λ l. row_of_lot (lot_entry l)) rows.now.lots.items) c)))) (state S.Store tx.new.conn.now)) }
     ensures keeps { HasCleanDisk (state S.Store tx.new.conn.now) → KeepsCommit (state S.Store tx.old.conn.now) (state S.Store tx.new.conn.now) }
     ensures survives { Survives (state S.Store tx.old.conn.now) (state S.Store tx.new.conn.now) (λ _. ⊥) }
     ensures cause { IfErr result (λ f. (f ≡ Fault.Memory) ⊎ (f ≡ Fault.Store)) }

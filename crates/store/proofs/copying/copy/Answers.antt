@@ -23,8 +23,7 @@ returns-in-Ok-commit_copy-clause-same g c clean db rests s left =
     let t = tabulated c.in-Ok.rows in
     let st = state g.T.Store c.commit_copy.new.copy in
     let found = c.in-Ok.ensures.holds clean db (left_ours s db left) rests in
-    let is : x ≡ s = read_left s x db left found.0 in
-    (
+    let is : x ≡ s = read_left s x db left found.0 in (
       c.holdings_of.ensures ∙ ap holdings_of is,
       λ honest blank. subst (λ (y : OfficeState). IsAt y st) is (copy_is_at x t st c.in-Ok.ensures.judged (λ trees is_open may. g.met.T.Store.settled c.commit_copy.new.copy.store trees is_open may) (c.in-Ok-commit_copy.ensures.done honest blank)),
     )
