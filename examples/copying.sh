@@ -3,12 +3,18 @@
 source "$(dirname "$(readlink -f "${BASH_SOURCE[0]}")")/play.bash"
 
 mkdir "$folder/attic"
+ln -s nothing "$folder/link.db"
 printf 'ward,candidate,name\n7,1,Ann\n7,2,Bob\n7,3,Cy\n' >"$folder/names.csv"
 printf 'paper,1,2,3\n1,1,2,\n2,,1,\n' >"$folder/four.csv"
 
 # The office, where no file may grow past 20480 bytes.
 cramped_office() {
     (ulimit -f 20 && "$here/../count-office" "$@")
+}
+
+# The office, whose output has no room.
+mute_office() {
+    "$here/../count-office" "$@" >/dev/full
 }
 
 # Tells which files there are.
@@ -24,20 +30,30 @@ list_files() {
     play town.db batch 12 7 2 4 9 --id b1
     play town.db import-keying 4 12 1 four.csv --id k1
 
-    # onto a file that is there, a folder, the office itself and its log, and into a folder that isn't there
+    # onto a file that is there, a folder, a link to nothing, the office itself and its log
     play town.db copy names.csv
     play town.db copy attic
+    play town.db copy link.db
     play town.db copy town.db
+    # the name of a log, a folder that isn't there, and a file as a folder
     play town.db copy town.db-wal
+    play town.db copy town.db-journal
     play town.db copy missing/evening.db
+    play town.db copy names.csv/evening.db
     list_files
 
     # where there is no room, nothing is left
     office=cramped_office play town.db copy evening.db
     list_files
 
-    # a copy stands alone, and takes no second one
+    # where the reply can't be told, the copy stands
+    office=mute_office play town.db copy noon.db
+    play noon.db receipts 4
+
+    # a copy stands alone, may be read by whom the office may, and takes no second one
+    chmod 600 "$folder/town.db"
     play town.db copy evening.db
+    echo "rights: $(stat -c %a "$folder/town.db" "$folder/evening.db" | paste -sd ' ')"
     play town.db copy evening.db
     rm -f "$folder/evening.db-wal"
     play evening.db wards
