@@ -1,5 +1,5 @@
 -- What comes of an order to copy the office.
-use Rattle.std.specs.Prelude.{◌≡◌, ◌⊎◌, ◌++◌, true, false, List, codes}
+use Rattle.std.specs.Prelude.{◌≡◌, ◌⊎◌, ◌++◌, ⊤, true, false, List, codes}
 use Rattle.std.specs.Fmt.{decimal}
 use Rattle.clap.specs.Words.{Text}
 use Rattle.sqlite.specs.Effect.{Database}
@@ -43,7 +43,7 @@ IsCopiedAt s page old new copy_old copy_new =
 -- is told, and nothing is copied; or nothing is copied onto a table of our names. Its own office is only read, and a stop leaves it as it was.
 pub record IsCopied (page : Page) (old new copy_old copy_new : State) : Type 0 where
   pub in_office : (db : Database) → RestsAt db old → (s : OfficeState) → IsLeftAt s db → IsBlank copy_old → IsCopiedAt s page old new copy_old copy_new
-  pub elsewhere : (db : Database) → IsOurs db.schema → RestsAt db old → HoldsNoState db → IsBlank copy_old → IsForeign db page old new × (copy_new ≡ copy_old)
-  pub taken : old.in_transaction ≡ false → has_some_table copy_old.now.schema ≡ true → (page ≡ failed CopyTaken) × (copy_new ≡ copy_old)
+  pub elsewhere : (db : Database) → IsOurs db.schema → RestsAt db old → HoldsNoState db → IsBlank copy_old → IsForeign db page old new × OnlyReads copy_old copy_new
+  pub taken : old.in_transaction ≡ false → has_some_table copy_old.now.schema ≡ true → (page ≡ failed CopyTaken) × OnlyReads copy_old copy_new
   pub reads : OnlyReads old new
   pub leaves : (db : Database) → RestsAt db old → (earlier : List Request) → IsLeftAt (after empty_office earlier) db → LeavesState new (λ x. x ≡ after empty_office earlier)

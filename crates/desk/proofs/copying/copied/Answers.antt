@@ -1,9 +1,11 @@
 -- Why `copied` keeps its promise.
-use Rattle.std.proofs.Common.{◌≡◌, inl, inr, Result, Ok, Err, refl, sym, ap, ◌∙◌}
+use Rattle.std.proofs.Common.{◌≡◌, inl, inr, Result, Ok, Err, refl, sym, ap, subst, ◌∙◌}
 use Rattle.sqlite.specs.Held.{state}
 use Rattle.register.specs.Machine.{after}
 use Rattle.register.specs.Offices.{empty_office}
 use Rattle.tables.specs.declared.fault.Fault.TheVariants.{Memory}
+use Rattle.tables.specs.Reading.{OnlyReads}
+use Rattle.tables.proofs.ReadLemmas.{only_reads_itself}
 use Rattle.store.specs.declared.copying.CopyFault.{CopyFault}
 use Rattle.store.specs.declared.copying.CopyFault.TheVariants.{Taken}
 use Rattle.store.specs.declared.copying.Holdings.{Holdings}
@@ -16,11 +18,15 @@ use Rattle.desk.proofs.copying.copied.Goals as goal
 
 -- an answer is not both
 told_one : {holdings : Holdings} {why : CopyFault} (r : Result Holdings CopyFault) → r ≡ Ok holdings → r ≡ Err why → ⊥
-told_one r ok err = let bad : Ok _ ≡ Err _ = sym ok ∙ err in absurd (cc bad)
+told_one {holdings} {why} r ok err = let bad : Ok holdings ≡ Err why = sym ok ∙ err in absurd (cc bad)
 
 -- nor two faults
+abbrev fault_in : Result Holdings CopyFault → CopyFault → CopyFault
+fault_in (Ok holdings) none = none
+fault_in (Err why) none = why
+
 told_fault : (why other : CopyFault) (r : Result Holdings CopyFault) → r ≡ Err why → r ≡ Err other → why ≡ other
-told_fault why other r first second = let same : Err {A = Holdings} why ≡ Err other = sym first ∙ second in cc same
+told_fault why other r first second = ap (λ (x : Result Holdings CopyFault). fault_in x other) (sym first ∙ second)
 
 pub returns-in-Ok-copied_text-clause-copied : goal.returns-in-Ok-copied_text-clause-copied
 returns-in-Ok-copied_text-clause-copied g c clean = record {
@@ -33,8 +39,8 @@ returns-in-Ok-copied_text-clause-copied g c clean = record {
   leaves = λ db rests earlier left. read_leaves (after empty_office earlier) db (state g.S.Store c.args.conn.now) (state g.S.Store c.copy.new.conn) (λ trees is_open may. g.met.S.Store.settled c.args.conn.now.store trees is_open may) c.copy.ensures.reads clean rests left;
 }
 
-pub returns-in-Ok-clause-copied : goal.returns-in-Ok-clause-copied
-returns-in-Ok-clause-copied g c clean = record {
+pub returns-in-Err-copied_text-clause-copied : goal.returns-in-Err-copied_text-clause-copied
+returns-in-Err-copied_text-clause-copied g c clean = record {
   in_office = λ db rests s left blank. inr (Office Memory, refl, inl refl, λ honest. c.copy.ensures.stops clean honest db rests s left blank);
   elsewhere = λ db ours rests none blank. let it = c.in-Ok.ensures.copied clean db ours rests in absurd (none it.0 it.1);
   taken = λ outside there. absurd (told_one c.copy.result c.in-Ok.is (c.copy.ensures.taken there outside).0);
@@ -42,19 +48,20 @@ returns-in-Ok-clause-copied g c clean = record {
   leaves = λ db rests earlier left. read_leaves (after empty_office earlier) db (state g.S.Store c.args.conn.now) (state g.S.Store c.copy.new.conn) (λ trees is_open may. g.met.S.Store.settled c.args.conn.now.store trees is_open may) c.copy.ensures.reads clean rests left;
 }
 
-pub returns-clause-copied : goal.returns-clause-copied
-returns-clause-copied g c clean =
+pub returns-in-Err-clause-copied : goal.returns-in-Err-clause-copied
+returns-in-Err-clause-copied g c clean =
     let old = state g.S.Store c.args.conn.now in
     let new = state g.S.Store c.copy.new.conn in
+    let copy = state g.T.Store c.args.copy.now in
     record {
       in_office = λ db rests s left blank.
           inr (failure_of c.in-Err.fault, refl, ends_copying c.in-Err.fault old new (c.in-Err.ensures.cause clean db rests s left blank), λ honest. c.copy.ensures.stops clean honest db rests s left blank);
       elsewhere = λ db ours rests none blank.
           let it = none_copied db c.in-Err.fault old new none c.copy.ensures.reads (c.in-Err.ensures.told clean db ours rests blank) in
-          (it.0, ap (state g.T.Store) (c.in-Err.ensures.untouched it.1));
+          (it.0, subst (λ conn. OnlyReads copy (state g.T.Store conn)) (sym (c.in-Err.ensures.untouched it.1)) (only_reads_itself copy));
       taken = λ outside there.
           let it = c.copy.ensures.taken there outside in
-          (ap (λ why. failed (failure_of why)) (told_fault c.in-Err.fault Taken c.copy.result c.in-Err.is it.0), ap (state g.T.Store) it.1);
+          (ap (λ why. failed (failure_of why)) (told_fault c.in-Err.fault Taken c.copy.result c.in-Err.is it.0), subst (λ conn. OnlyReads copy (state g.T.Store conn)) (sym it.1) (only_reads_itself copy));
       reads = c.copy.ensures.reads;
       leaves = λ db rests earlier left. read_leaves (after empty_office earlier) db old new (λ trees is_open may. g.met.S.Store.settled c.args.conn.now.store trees is_open may) c.copy.ensures.reads clean rests left;
     }

@@ -6,8 +6,8 @@ pub returns-clause-copied : goal.returns-clause-copied
 returns-clause-copied g c =
     let told = c.tell.ensures in
     record {
-      page = page_of c.copied.result.0;
+      page = page_of c.copied-outcome.result.0;
       cut = told.0;
       shown = told.1;
-      is = λ clean. c.copied.ensures.copied clean;
+      is = λ clean. c.copied-outcome.ensures.copied clean;
     }
