@@ -30,3 +30,9 @@ lines_found items text view s told (Ok w) page closed st read (inl is) stops =
 lines_found items text view s told (Ok w) page closed st read (inr is) stops = inr (Memory, is, inl (record { memory = refl; open_at = read.1 }))
 lines_found items text view s told (Err (Refused why)) page closed st read lines is = inl (is ∙ sym (ap (page_found (λ views. printed (lines_of text views))) read.0), read.1)
 lines_found items text view s told (Err (Fault fault)) page closed st read lines is = inr (fault, is, read)
+
+-- why nothing was found is told
+pub stop_found : {X Y : Type 0} (view : Y → X) (shown : X → Page) (s : OfficeState) (told : Result X Reason) (stop : Stop) (page : Page) (closed : Bool) (st : State) → Read view s told (Err stop) closed st → page ≡ page_stopped stop
+    → IsFound s shown told page closed st
+stop_found view shown s told (Refused why) page closed st read is = inl (is ∙ sym (ap (page_found shown) read.0), read.1)
+stop_found view shown s told (Fault fault) page closed st read is = inr (fault, is, read)

@@ -45,6 +45,7 @@ silent (outcome.Printed text) zero = refl
 silent (outcome.Refused why) zero = absurd (omega arith)
 silent (outcome.Unread fault) zero = absurd (file_ends (is_stop fault.flaw) (page_of (outcome.Unread fault)).status refl zero)
 silent (outcome.Failed fault) zero = absurd (omega arith)
+silent (outcome.Uncopied why) zero = absurd (omega arith)
 
 -- an outcome that was told with status 0 was told whole
 pub whole : (old new : Outputs) (page : Page) (status : ℕ) → status ≡ 0 → Shows old new page status → IsWhole old new page status

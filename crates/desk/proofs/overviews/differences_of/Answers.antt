@@ -1,7 +1,18 @@
--- Why `differences_of` keeps its promise where memory was wanting for the line.
+-- Why `differences_of` keeps its promise where memory was wanting for the line, and where there is none.
 use Rattle.std.proofs.Common.{inl, inr, refl}
+use Rattle.sqlite.specs.Held.{state}
 use Rattle.tables.specs.declared.fault.Fault.TheVariants.{Memory}
+use Rattle.store.specs.Overviews.{differences_view}
+use Rattle.office.specs.Overviews.{differences_told}
+use Rattle.desk.specs.Overviews.{differences_line}
+use Rattle.desk.specs.Pages.{page_of, replied}
+use Rattle.desk.proofs.OverviewLemmas.{stop_found}
 use Rattle.desk.proofs.overviews.differences_of.Goals as goal
 
 pub returns-in-Ok-clause-found : goal.returns-in-Ok-clause-found
 returns-in-Ok-clause-found g c = λ clean is_open s at. inr (Memory, refl, inl (record { memory = refl; open_at = (c.in-Ok.ensures.reads clean is_open s at).1 }))
+
+pub returns-clause-found : goal.returns-clause-found
+returns-clause-found g c = λ clean is_open s at.
+    stop_found differences_view (λ found. replied (differences_line found)) s (differences_told s c.args.batch) c.in-Err.stop (page_of c.stopped.result) c.differences.new.self.closed (state g.S.Store c.differences.new.self.held)
+    (c.in-Err.ensures.reads clean is_open s at) c.stopped.ensures

@@ -75,7 +75,7 @@ returns-in-Serve g c =
         cut = told.0;
         shown = told.1;
         is = λ clean. with_kept told.0 (work_for (g.F.Folder.held c.args.folder.now) c.args.order.now) file _ _ (failed Output) c.tell_failure.result st st told.1
-            (rw c.in-Serve.is (unserved told.0 (serving c.in-Serve.port.now c.in-Serve.connections.now) file st tt (λ trees is_open may. g.met.S.Store.settled c.args.conn.store trees is_open may)));
+            (rw c.in-Serve.is (unserved told.0 (serving c.in-Serve.port c.in-Serve.connections) file st tt (λ trees is_open may. g.met.S.Store.settled c.args.conn.store trees is_open may)));
       };
     }
 
