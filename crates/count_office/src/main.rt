@@ -156,14 +156,9 @@ fn copy<S: Alter, O: Sink, E: Sink>(
         Err(failure) => return (tell_failure(failure, err), conn),
     };
     let status = match Connection::open_from(rt, path, false, Wary) {
-        Ok(made) => {
-            if fresh.is_untouched(rt) {
-                fill(rt, &fresh, &mut conn, made, out, err)
-            } else {
-                tell_failure(Failure::CopyTaken, err)
-            }
-        }
-        Err((error, _)) => {
+        Ok(made) => fill(rt, &fresh, &mut conn, made, out, err),
+        Err((error, left)) => {
+            drop(left);
             fresh.remove_untouched(rt);
             tell_failure(failure_of(error), err)
         }
@@ -180,7 +175,7 @@ fn failure_of(error: sqlite::Error) -> Failure {
 }
 
 /// Copies the office over an opened connection to files that were made for the copy, and closes them. Where no copy was
-/// made they are removed while they are held.
+/// made they are removed while they are held; and where another program wrote to them before, they are its own.
 fn fill<S: Alter, D: Disk + Drop, O: Sink, E: Sink>(
     rt: &HostRuntime,
     fresh: &Fresh,
@@ -193,6 +188,9 @@ fn fill<S: Alter, D: Disk + Drop, O: Sink, E: Sink>(
     requires err { E.failed err.old < 2 ^ 64 - 1 }
     ensures { OnlyReads (state S.Store conn.old) (state S.Store conn.new) }
 {
+    if !fresh.is_untouched(rt) {
+        return tell_failure(Failure::CopyTaken, err);
+    }
     let (status, is_made) = copy_office(rt.alloc(), conn, &mut made, out, err);
     if !is_made {
         fresh.remove(rt);
