@@ -155,15 +155,17 @@ fn copy<S: Alter, O: Sink, E: Sink>(
         Ok(fresh) => fresh,
         Err(failure) => return (tell_failure(failure, err), conn),
     };
-    let status = match Connection::open_from(rt, path, false, Wary) {
-        Ok(made) => fill(rt, &fresh, &mut conn, made, out, err),
+    match Connection::open_from(rt, path, false, Wary) {
+        Ok(made) => {
+            let status = fill(rt, &fresh, &mut conn, made, out, err);
+            (status, conn)
+        }
         Err((error, left)) => {
             drop(left);
             fresh.remove_untouched(rt);
-            tell_failure(failure_of(error), err)
+            (tell_failure(failure_of(error), err), conn)
         }
-    };
-    (status, conn)
+    }
 }
 
 /// Why a copy can't be made: want of memory is told as ever.
@@ -195,13 +197,16 @@ fn fill<S: Alter, D: Disk + Drop, O: Sink, E: Sink>(
     if !is_made {
         fresh.remove(rt);
     }
-    let (status, _) = closed_copy(status, made, err);
-    status
+    if status != 0 {
+        let _ = close(made);
+        return status;
+    }
+    closed_copy(made, err).0
 }
 
-/// Closes a copy, so that it stands alone where the status is 0. Where its log can't be copied into it, that is told.
+/// Closes a copy, so that it stands alone, and gives the status: 0, or 3 where its log can't be copied into it, which is
+/// told.
 fn closed_copy<D: Disk + Drop, E: Sink>(
-    status: u8,
     made: Connection<FileStore<D>>,
     err: &mut E,
 ) -> (u8, Option<Files<D>>)
@@ -209,9 +214,8 @@ fn closed_copy<D: Disk + Drop, E: Sink>(
     ensures alone { result.0 ≡ 0 → IsSomeAnd result.1 (λ files. AreClean D.Disk files.log files.db → IsCopied made files) }
 {
     match close(made) {
-        Some(files) => (status, Some(files)),
-        None if status == 0 => (tell_failure(Failure::CopyFailed, err), None),
-        None => (status, None),
+        Some(files) => (0, Some(files)),
+        None => (tell_failure(Failure::CopyFailed, err), None),
     }
 }
 
