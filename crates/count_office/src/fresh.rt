@@ -1,6 +1,6 @@
 //! The two files of a copy, made where there is nothing yet.
 
-use crate::traces::{MAX_EMPTY, MIN_LOG, length_at};
+use crate::traces::{MIN_OFFICE, length_at};
 use desk::Failure;
 use std::fs::{self, OpenOptions, Permissions};
 use std::io::{self, ErrorKind};
@@ -66,12 +66,11 @@ impl Fresh {
         Ok(Fresh { database, log })
     }
 
-    /// Nothing was written to them yet.
-    pub fn is_untouched(&self, rt: &HostRuntime) -> bool {
-        let database = length_at(rt, self.database.as_str());
-        let log = length_at(rt, self.log.as_str());
-        database.is_some_and(|length| length <= MAX_EMPTY)
-            && log.is_some_and(|length| length < MIN_LOG)
+    /// They are too short for an office, as `sqlite` makes them where it opens them: no other program has made one in them.
+    pub fn hold_none(&self, rt: &HostRuntime) -> bool {
+        let database = length_at(rt, self.database.as_str()).unwrap_or(0);
+        let log = length_at(rt, self.log.as_str()).unwrap_or(0);
+        database.saturating_add(log) < MIN_OFFICE
     }
 
     /// Removes both. It is to be called while the database is held, so that no other program has opened them.
@@ -80,9 +79,9 @@ impl Fresh {
         let _ = fs::remove_file(rt, self.database.as_str());
     }
 
-    /// Removes both where nothing was written to them.
-    pub fn remove_untouched(&self, rt: &HostRuntime) {
-        if self.is_untouched(rt) {
+    /// Removes both where there is no office in them.
+    pub fn remove_empty(&self, rt: &HostRuntime) {
+        if self.hold_none(rt) {
             self.remove(rt);
         }
     }

@@ -162,7 +162,7 @@ fn copy<S: Alter, O: Sink, E: Sink>(
         }
         Err((error, left)) => {
             drop(left);
-            fresh.remove_untouched(rt);
+            fresh.remove_empty(rt);
             (tell_failure(failure_of(error), err), conn)
         }
     }
@@ -190,7 +190,7 @@ fn fill<S: Alter, D: Disk + Drop, O: Sink, E: Sink>(
     requires err { E.failed err.old < 2 ^ 64 - 1 }
     ensures { OnlyReads (state S.Store conn.old) (state S.Store conn.new) }
 {
-    if !fresh.is_untouched(rt) {
+    if !fresh.hold_none(rt) {
         return tell_failure(Failure::CopyTaken, err);
     }
     let (status, is_made) = copy_office(rt.alloc(), conn, &mut made, out, err);

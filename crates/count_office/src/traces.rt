@@ -7,14 +7,14 @@ use std::fs;
 use std::io::ErrorKind;
 
 /// A log of fewer bytes holds no page: the smallest has 512.
-pub const MIN_LOG: u64 = 512;
+const MIN_LOG: u64 = 512;
 
 /// A database and its log of fewer bytes together hold no office: each of its eleven tables and of their
 /// keys has a page of 4096.
-const MIN_OFFICE: u64 = 22 * 4096;
+pub const MIN_OFFICE: u64 = 22 * 4096;
 
 /// `sqlite` takes a file of up to so many bytes for an empty one.
-pub const MAX_EMPTY: u64 = 1;
+const MAX_EMPTY: u64 = 1;
 
 /// The length of the file at a path: none where none is there, and the greatest where it can't be looked at.
 pub fn length_at(rt: &HostRuntime, path: &str) -> Option<u64> {
