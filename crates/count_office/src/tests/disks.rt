@@ -5,7 +5,7 @@ ghost use Rattle.std.specs.Prelude.{⊤};
 
 use super::steps::{Case, Said, Step, Told, copied, play};
 use super::transcripts::{Typed, read};
-use sqlite::{Connection, Error, ErrorCode, FileStore, Files, Options};
+use sqlite::{Alter, Connection, Error, ErrorCode, FileStore, Files, Options};
 use sqlite_disk::{Crash, Disk, Fuse, Memory};
 use std::alloc::Global;
 use std::marker::Model;
@@ -35,6 +35,26 @@ fn opened(
     match Connection::open_files(alloc, files, Options::new(1)) {
         Ok(conn) => Ok(conn),
         Err((error, left)) => Err((Some(error), left.into_files())),
+    }
+}
+
+/// Copies the office of a connection onto files, and leaves them as they are.
+fn copy_over<S: Alter + Drop>(
+    alloc: Global,
+    office: &mut Connection<S>,
+    onto: Disks,
+) -> Result<(Option<Said>, Disks), Fail> {
+    let Disks { files } = onto;
+    match opened(alloc, files) {
+        Ok(mut made) => {
+            let said = copied(alloc, office, &mut made)?;
+            let files = made.into_store().close();
+            Ok((Some(said), Disks { files }))
+        }
+        Err((Some(Error::SqliteFailure(ErrorCode::OutOfMemory)), _)) => {
+            Err(Fail::from("memory was wanting"))
+        }
+        Err((_, files)) => Ok((None, Disks { files })),
     }
 }
 
@@ -196,22 +216,15 @@ impl Disks {
         alloc: Global,
         onto: Disks,
     ) -> Result<(Option<Said>, Disks, Disks), Fail> {
-        let Ok(mut conn) = opened(alloc, self.files) else {
-            return Err(Fail::from("the office isn't opened"));
-        };
-        let mut made = match opened(alloc, onto.files) {
-            Ok(made) => made,
-            Err((Some(Error::SqliteFailure(ErrorCode::OutOfMemory)), _)) => {
-                return Err(Fail::from("memory was wanting"));
+        let Disks { files } = self;
+        match opened(alloc, files) {
+            Ok(mut conn) => {
+                let (said, copy) = copy_over(alloc, &mut conn, onto)?;
+                let files = conn.into_store().close();
+                Ok((said, Disks { files }, copy))
             }
-            Err((_, files)) => {
-                let office = conn.into_store().close();
-                return Ok((None, Disks { files: office }, Disks { files }));
-            }
-        };
-        let said = copied(alloc, &mut conn, &mut made)?;
-        let (office, copy) = (conn.into_store().close(), made.into_store().close());
-        Ok((Some(said), Disks { files: office }, Disks { files: copy }))
+            Err(_) => Err(Fail::from("the office isn't opened")),
+        }
     }
 
     /// Copies the office onto new files, of which this must be told: both hold the same rows then. It isn't copied onto
