@@ -9,7 +9,6 @@ mod disks;
 // Clients over HTTP.
 mod clients;
 // The tests.
-mod copies;
 mod counts;
 mod help;
 mod http;
