@@ -92,6 +92,7 @@ orders =
     ∷ takes (codes "receipts") (number_or_none (codes "ACTOR") ∷ [])
     ∷ takes (codes "replay") (text (codes "FILE") ∷ [])
     ∷ takes (codes "copy") (text (codes "NEW") ∷ [])
+    ∷ takes (codes "ballots") (number (codes "WARD") ∷ [])
     ∷ []
 
 -- a value of an order; a number that may be left out is none then, and a verdict is none where its word says none
@@ -137,6 +138,7 @@ told (order.Run (errand.ImportKeying k)) = (codes "import-keying", numbered k.cl
 told (order.Run (errand.TellStatus ward)) = (codes "status", numbered ward ∷ [])
 told (order.Run (errand.Print ward ward_text.Sheet)) = (codes "sheet", numbered ward ∷ [])
 told (order.Run (errand.Print ward ward_text.Declaration)) = (codes "result", numbered ward ∷ [])
+told (order.Run (errand.Print ward ward_text.Ballots)) = (codes "ballots", numbered ward ∷ [])
 told (order.Run (errand.Ask question.Wards)) = (codes "wards", [])
 told (order.Run (errand.Ask (question.Batches ward))) = (codes "batches", numbered ward ∷ [])
 told (order.Run (errand.Ask (question.Doubtful ward))) = (codes "doubtful", numbered ward ∷ [])

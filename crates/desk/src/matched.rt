@@ -268,6 +268,15 @@ fn result<'a>(matches: &ArgMatches<'a>) -> Order<'a>
     })
 }
 
+fn ballots<'a>(matches: &ArgMatches<'a>) -> Order<'a>
+    ensures { meaning_of (codes "ballots") (rows_of (found_of matches.now)) ≡ Some (told result) }
+{
+    Order::Run(Errand::Print {
+        ward: number_in(matches, WARD),
+        text: Text::Ballots,
+    })
+}
+
 fn batches<'a>(matches: &ArgMatches<'a>) -> Order<'a>
     ensures { meaning_of (codes "batches") (rows_of (found_of matches.now)) ≡ Some (told result) }
 {
@@ -363,6 +372,7 @@ fn order_named<'a>(
         "receipts" => Ok(receipts(matches)),
         "replay" => Ok(replay(matches)),
         "copy" => Ok(copy(matches)),
+        "ballots" => Ok(ballots(matches)),
         _ => Err(NoOrder::Unknown),
     }
 }

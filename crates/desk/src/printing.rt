@@ -1,4 +1,4 @@
-//! The stage sheet and the declaration of a ward, printed.
+//! The stage sheet, the declaration and the ballots of a ward, printed.
 
 ghost use Rattle.sqlite.specs.Held.{state};
 ghost use Rattle.office.specs.Sheets.{text_told};
@@ -19,6 +19,7 @@ pub(crate) fn text_of<S: Alter>(office: &mut Office<S>, ward: u32, text: Text) -
     let told = match text {
         Text::Sheet => office.sheet(ward),
         Text::Declaration => office.result(ward),
+        Text::Ballots => office.ballots(ward),
     };
     match told {
         Ok(text) => Outcome::Printed(text),

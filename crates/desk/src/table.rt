@@ -42,6 +42,8 @@ pub(crate) enum Heading {
     Election,
     /// Among those for the office alone, whose heading the end of the help has.
     Office,
+    /// Among those by which everyone can check a result, whose heading stands there too.
+    Everyone,
 }
 
 /// An order's name and words, and its help, which ends with an example as it is typed.
@@ -181,7 +183,7 @@ pub(crate) const ID: Word = Word {
 
 /// All orders, in the sequence of an election; then the one that brings an older office over, and those for the office
 /// alone.
-const ORDERS: [Entry; 27] = [
+const ORDERS: [Entry; 28] = [
     Entry {
         name: "init",
         words: &[],
@@ -343,6 +345,12 @@ const ORDERS: [Entry; 27] = [
         words: &[NEW],
         help: "Makes a copy of the office, in a file that isn't there yet:\ncount-office town.db copy evening.db",
         heading: Heading::Office,
+    },
+    Entry {
+        name: "ballots",
+        words: &[WARD],
+        help: "Prints the ballots of a sealed ward, in a form that counting programs read:\ncount-office town.db ballots 7",
+        heading: Heading::Everyone,
     },
 ];
 

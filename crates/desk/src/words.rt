@@ -24,7 +24,7 @@ candidates, their batches of papers as the clerks keyed them, and a receipt of e
 that it accepted: the same request, sent again under the same id, prints the same reply and
 changes nothing.";
 
-/// The end of the help: the orders of [`Heading::Office`], and what comes of orders.
+/// The end of the help: the orders of [`Heading::Office`] and of [`Heading::Everyone`], and what comes of orders.
 const END_OF_HELP: &str =
     "For the office alone. The first five change nothing, and no clerk is to see what they tell:
   wards              How each ward stands, and what is left to do
@@ -35,6 +35,9 @@ const END_OF_HELP: &str =
   receipts [ACTOR]   What was kept, under which id: of an actor, 0 for the office, or of all
   replay FILE        Sends the orders of a text file, a line each, up to a refusal
   copy NEW           Makes a copy of the office, in a file that isn't there yet
+
+For everyone who wants to check a count, once the ward is sealed:
+  ballots WARD       Its ballots, in a form that counting programs read (BLT)
 
 An example stands under each order. Its words, with their ranges, are shown by
   count-office DB ORDER --help
@@ -154,7 +157,7 @@ fn order_command<'a>(alloc: Global, entry: Entry) -> Result<Command<'a>, AllocEr
 {
     let mut command = Command::new(alloc, entry.name)
         .about(entry.help)
-        .hide(matches!(entry.heading, Heading::Office));
+        .hide(!matches!(entry.heading, Heading::Election));
     for word in entry.words {
         command = with_word(alloc, command, *word)?;
     }

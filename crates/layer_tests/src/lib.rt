@@ -8,6 +8,8 @@
 #[cfg(test)]
 mod asked;
 #[cfg(test)]
+mod ballots;
+#[cfg(test)]
 mod counts;
 #[cfg(test)]
 mod imports;

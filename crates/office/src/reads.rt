@@ -14,7 +14,7 @@ ghost use Rattle.office.specs.Sheets.{is_told_in, text_shown, text_told, StopsTe
 
 use crate::answers::Stop;
 use crate::offices::Office;
-use crate::sheets::{Text, declaration, stage_sheet, texts_are_there};
+use crate::sheets::{Text, ballots, declaration, stage_sheet, texts_are_there};
 use paper::Columns;
 use register::ranges::{is_batch_number, is_clerk, is_ward_number};
 use register::{CountedWard, Reason, Refusal, Status, WardSheet, Work};
@@ -139,10 +139,37 @@ impl<S: Alter> Office<S> {
     ///
     /// Refused where the number is outside 1 to 99, no ward has it, or the ward isn't sealed yet. Nothing is
     /// changed. `Memory` leaves the office open; any other fault closes it. A closed office tells `Closed`.
-    #[tactic(auto, using(crate::proofs::StopLemmas::stops_of_memory))]
     pub fn sheet(&mut self, ward: u32) -> Result<String, Stop>
         ensures reads { WhenOpenAt (state S.Store) self.old self.new
             (λ s. Read string_bytes s (text_told Text.Sheet s ward) result self.new.closed (state S.Store self.new.held)) }
+        ensures same { OnlyReads (state S.Store self.old.held) (state S.Store self.new.held) }
+        ensures closes { IfErr result (ClosesAt self.new.closed) }
+        ensures cause { WhenOpenAt (state S.Store) self.old self.new (λ s. IfErr result (StopsBy (state S.Store self.old.held) (state S.Store self.new.held))) }
+        ensures closed { self.old.closed ≡ true → (result ≡ Err (Stop.Fault Fault.Closed)) × (self.new ≡ self.old) }
+    {
+        self.text_at(ward, Text::Sheet)
+    }
+
+    /// The ballots of a ward, as a file that counting programs share: its bundles of equal valid papers, its
+    /// rejected papers by code, and its lots. Of an uncontested ward its seats and candidates.
+    ///
+    /// Refused, and stopped, as the stage sheet is.
+    pub fn ballots(&mut self, ward: u32) -> Result<String, Stop>
+        ensures reads { WhenOpenAt (state S.Store) self.old self.new
+            (λ s. Read string_bytes s (text_told Text.Ballots s ward) result self.new.closed (state S.Store self.new.held)) }
+        ensures same { OnlyReads (state S.Store self.old.held) (state S.Store self.new.held) }
+        ensures closes { IfErr result (ClosesAt self.new.closed) }
+        ensures cause { WhenOpenAt (state S.Store) self.old self.new (λ s. IfErr result (StopsBy (state S.Store self.old.held) (state S.Store self.new.held))) }
+        ensures closed { self.old.closed ≡ true → (result ≡ Err (Stop.Fault Fault.Closed)) × (self.new ≡ self.old) }
+    {
+        self.text_at(ward, Text::Ballots)
+    }
+
+    /// A text of a ward, from what its stage sheet is written from.
+    #[tactic(auto, using(crate::proofs::StopLemmas::stops_of_memory))]
+    fn text_at(&mut self, ward: u32, text: Text) -> Result<String, Stop>
+        ensures reads { WhenOpenAt (state S.Store) self.old self.new
+            (λ s. Read string_bytes s (text_told text s ward) result self.new.closed (state S.Store self.new.held)) }
         ensures same { OnlyReads (state S.Store self.old.held) (state S.Store self.new.held) }
         ensures closes { IfErr result (ClosesAt self.new.closed) }
         ensures cause { WhenOpenAt (state S.Store) self.old self.new (λ s. IfErr result (StopsBy (state S.Store self.old.held) (state S.Store self.new.held))) }
@@ -153,7 +180,7 @@ impl<S: Alter> Office<S> {
         }
         texts_are_there();
         match self.store.load_sheet(ward) {
-            Ok(Some(sheet)) => self.sheet_of(&sheet),
+            Ok(Some(sheet)) => self.text_of(&sheet, text),
             Ok(None) => Err(refused(self.alloc, Reason::NoSuchWard)),
             Err(fault) => Err(self.stopped_by(fault)),
         }
@@ -200,20 +227,24 @@ impl<S: Alter> Office<S> {
         }
     }
 
-    /// The stage sheet of a ward that was read. Only want of memory fails it where the ward's texts can be
-    /// written, as those of each ward of an office can.
-    fn sheet_of(&mut self, sheet: &WardSheet) -> Result<String, Stop>
-        ensures told { IfOk result (λ text. (is_told_in Text.Sheet sheet.now.counted.ward.phase ≡ true) × ((e : ElectionEntry) → IsSheetOf e sheet.now → string_bytes text ≡ text_shown Text.Sheet e)) }
-        ensures stopped { self.old.closed ≡ false → IfErr result (λ stop. StopsText Text.Sheet sheet.now.counted.ward.phase self.new.closed stop) }
+    /// A text of a ward that was read. Only want of memory fails it where the ward's texts can be written, as
+    /// those of each ward of an office can.
+    fn text_of(&mut self, sheet: &WardSheet, text: Text) -> Result<String, Stop>
+        ensures told { IfOk result (λ told. (is_told_in text sheet.now.counted.ward.phase ≡ true) × ((e : ElectionEntry) → IsSheetOf e sheet.now → string_bytes told ≡ text_shown text e)) }
+        ensures stopped { self.old.closed ≡ false → IfErr result (λ stop. StopsText text sheet.now.counted.ward.phase self.new.closed stop) }
         ensures closes { IfErr result (ClosesAt self.new.closed) }
         ensures cause { (e : ElectionEntry) → IsSheetOf e sheet.now → IsTextual e → IfErr result IsOfMemory }
         ensures held { self.new.held ≡ self.old.held }
         ensures open_still { OnOk result (self.new.closed ≡ self.old.closed) }
     {
-        if !Text::Sheet.is_told_in(sheet.counted.ward.phase) {
+        if !text.is_told_in(sheet.counted.ward.phase) {
             return Err(refused(self.alloc, Reason::WrongPhase));
         }
-        let written = stage_sheet(self.alloc, sheet);
+        let written = match text {
+            Text::Sheet => stage_sheet(self.alloc, sheet),
+            Text::Declaration => declaration(self.alloc, &sheet.counted),
+            Text::Ballots => ballots(self.alloc, sheet),
+        };
         self.told(written)
     }
 

@@ -1,6 +1,6 @@
-//! The stage sheet and the declaration of a ward, written from its election.
+//! The stage sheet, the declaration and the ballots of a ward, written from its election.
 
-ghost use Rattle.std.specs.Prelude.{◌≡◌, true, map, reverse, Some, IfOk, IfSome, IsSome, string_bytes};
+ghost use Rattle.std.specs.Prelude.{◌≡◌, [], true, map, reverse, Some, IfOk, IfSome, IsSome, string_bytes};
 ghost use Rattle.std.specs.List.{list_all};
 ghost use Rattle.register.specs.Ranges.{is_candidate_number};
 ghost use Rattle.register.specs.Offices.{WardEntry, OfficeState, ward_at, candidate_entry};
@@ -9,12 +9,12 @@ ghost use Rattle.register.specs.Elections.{ElectionEntry, election_of, has_count
 ghost use Rattle.register.specs.Tabulated.{IsCountedWard, IsSheetOf};
 ghost use Rattle.sheet.specs.Entries.{shown};
 ghost use Rattle.sheet.specs.Wards.{HasFewPapers, CanBePrinted};
-ghost use Rattle.office.specs.Sheets.{is_numbered, IsTextual, candidate_shown, poll_shown, shown_with, sheet_of, declaration_of, is_told_in};
+ghost use Rattle.office.specs.Sheets.{is_numbered, IsTextual, candidate_shown, poll_shown, shown_with, sheet_of, declaration_of, ballots_of, bundles_shown, lots_shown, is_told_in};
 
-use count::Stage;
+use count::{Bundles, Stage};
 use register::marks::columns_of;
 use register::{Candidate, CountedWard, Phase, WardSheet};
-use sheet::{Poll, Ward, can_be_printed, declaration_text, sheet_text};
+use sheet::{Poll, Ward, ballots_text, can_be_printed, declaration_text, sheet_text};
 use std::alloc::{AllocError, Global};
 use store::elected_in;
 
@@ -33,6 +33,8 @@ pub enum Text {
     Sheet,
     /// The declaration, once it is declared.
     Declaration,
+    /// The ballots as a file that counting programs share, once the ward is sealed.
+    Ballots,
 }
 
 impl Text {
@@ -43,6 +45,7 @@ impl Text {
         match self {
             Text::Sheet => matches!(phase, Phase::Sealed | Phase::Declared),
             Text::Declaration => matches!(phase, Phase::Declared),
+            Text::Ballots => matches!(phase, Phase::Sealed | Phase::Declared),
         }
     }
 }
@@ -130,6 +133,49 @@ fn stages_of(counted: &CountedWard) -> &[Stage]
         Some(count) => count.kept.stages(),
         None => &[],
     }
+}
+
+/// The bundles of equal valid papers of a ward in count; else these, which are none.
+fn bundles_of<'a>(counted: &'a CountedWard, none: &'a Bundles) -> &'a Bundles
+    requires { none.now ≡ [] }
+    ensures { (e : ElectionEntry) → IsCountedWard e counted.now → is_counted e.ward.phase ≡ true → result.now ≡ bundles_shown e }
+{
+    match &counted.count {
+        Some(count) => count.kept.bundles(),
+        None => none,
+    }
+}
+
+/// The lots that are recorded in a ward's count; of an uncontested ward none.
+fn lots_of(counted: &CountedWard) -> &[(u8, u8)]
+    ensures { (e : ElectionEntry) → IsCountedWard e counted.now → is_counted e.ward.phase ≡ true → result.now ≡ lots_shown e }
+{
+    match &counted.count {
+        Some(count) => &count.lots,
+        None => &[],
+    }
+}
+
+/// The ballots of a ward as a file that counting programs share; none of rows that no office has. An error is
+/// want of memory.
+pub(crate) fn ballots(alloc: Global, sheet: &WardSheet) -> Result<Option<String>, AllocError>
+    ensures is { IfOk result (λ found. IfSome found (λ text. (e : ElectionEntry) → IsSheetOf e sheet.now → is_counted e.ward.phase ≡ true → string_bytes text ≡ ballots_of e)) }
+    ensures some { IfOk result (λ found. (e : ElectionEntry) → IsSheetOf e sheet.now → is_counted e.ward.phase ≡ true → IsTextual e → IsSome found) }
+{
+    let counted = &sheet.counted;
+    let Some(candidates) = candidate_lines(alloc, &counted.candidates)? else {
+        return Ok(None);
+    };
+    let Some(ward) = ward_of(counted, &candidates, poll_of(sheet)) else {
+        return Ok(None);
+    };
+    let none = Bundles::new(alloc);
+    Ok(Some(ballots_text(
+        alloc,
+        &ward,
+        bundles_of(counted, &none),
+        lots_of(counted),
+    )?))
 }
 
 /// The stage sheet of a ward, of the stages that are done; none of rows that no office has. An error is want

@@ -4,3 +4,6 @@ pub mod Texts
 pub mod Writing
 pub mod StageTexts
 pub mod Utf8
+pub mod Quoted
+pub mod Withdrawn
+pub mod Bundles

@@ -8,7 +8,7 @@ use Rattle.std.proofs.KnownBytes.{Appends-nil, Appends-trans}
 use Rattle.std.proofs.lemmas.Str.{IsUtf8-nil, IsUtf8-append}
 use Rattle.votes.specs.Streams.{AppendsBeginning}
 use Rattle.votes.proofs.Beginnings.{AppendsBeginning-front, AppendsBeginning-behind}
-use Rattle.sheet.specs.Writing.{Writes}
+use Rattle.sheet.specs.Writing.{Puts, Writes}
 use Rattle.sheet.proofs.Texts.{flat_map-take_more, flat_map-parted}
 
 module _ {W : Type 0} {taken : W → Option (List ℕ)} {failed : W → ℕ} {X E : Type 0} where
@@ -66,3 +66,40 @@ module _ {W : Type 0} {taken : W → Option (List ℕ)} {failed : W → ℕ} {X 
   Writes-item_cut {old = old} {new = new} {e = e} f items i item r within is front next failure =
       let cut = Writes-failed r failure (Writes-item {F = E} f items i item (Err e) within is front next) in
       subst (λ text. Writes taken failed old new text r) (flat_map-parted f items (i + 1)) (Writes-front (flat_map f (drop (i + 1) items)) r failure cut)
+
+  -- ---- bytes that are a part of a text alone
+
+  -- no byte was put yet
+  pub Puts-none : (s : W) (x : X) → Puts {E = E} taken failed s s [] (Ok x)
+  Puts-none s x = record { all = Appends-nil (taken s); ok = refl; cut_off = tt; err = tt }
+
+  -- bytes and those behind them
+  pub Puts-then : {Y F : Type 0} {old mid new : W} {xs ys : List ℕ} {x : X} (r : Result Y F) →
+      Puts {E = E} taken failed old mid xs (Ok x) → Puts taken failed mid new ys r → Puts taken failed old new (xs ++ ys) r
+  Puts-then (Ok y) one two = record { all = Appends-trans _ _ _ _ _ one.all two.all; ok = two.ok ∙ one.ok; cut_off = tt; err = tt }
+  Puts-then (Err f) one two = record { all = tt; ok = tt; cut_off = AppendsBeginning-behind _ _ _ _ _ one.all two.cut_off; err = two.err ∙ ap (λ n. n + 1) one.ok }
+
+  -- a failure that is passed on, after which nothing comes behind
+  pub Puts-failed : {Y F : Type 0} {old new : W} {xs : List ℕ} {e : E} (ys : List ℕ) (r : Result Y F) → IsErr r → Puts {X = X} taken failed old new xs (Err e) → Puts taken failed old new (xs ++ ys) r
+  Puts-failed ys (Ok y) is cut = absurd (cc is)
+  Puts-failed ys (Err f) is cut = record { all = tt; ok = tt; cut_off = AppendsBeginning-front _ _ _ ys cut.cut_off; err = cut.err }
+
+  -- the bytes of some elements and those of the next
+  pub Puts-item : {A Y F : Type 0} {old mid new : W} {x : X} (f : A → List ℕ) (items : List A) (i : ℕ) (item : A) (r : Result Y F) → i < length items →
+      item ≡ get_or items i item → Puts {E = E} taken failed old mid (flat_map f (take i items)) (Ok x) → Puts taken failed mid new (f item) r →
+      Puts taken failed old new (flat_map f (take (i + 1) items)) r
+  Puts-item {old = old} {mid = mid} {new = new} f items i item r within is front next =
+      let there = subst (λ a. Puts taken failed mid new (f a) r) is next in
+      subst (λ bytes. Puts taken failed old new bytes r) (sym (flat_map-take_more f items i item within)) (Puts-then r front there)
+
+  -- the same where the next one fails, which is passed on
+  pub Puts-item_cut : {A : Type 0} {old mid new : W} {x : X} {e : E} (f : A → List ℕ) (items : List A) (i : ℕ) (item : A) (r : Result X E) → i < length items →
+      item ≡ get_or items i item → Puts {E = E} taken failed old mid (flat_map f (take i items)) (Ok x) → Puts {X = X} taken failed mid new (f item) (Err e) →
+      IsErr r → Puts taken failed old new (flat_map f items) r
+  Puts-item_cut {old = old} {new = new} {e = e} f items i item r within is front next failure =
+      let cut = Puts-item {F = E} f items i item (Err e) within is front next in
+      subst (λ bytes. Puts taken failed old new bytes r) (flat_map-parted f items (i + 1)) (Puts-failed (flat_map f (drop (i + 1) items)) r failure cut)
+
+  -- bytes that are a text
+  pub Writes-puts : {old new : W} {bytes : List ℕ} (r : Result X E) → IsUtf8 bytes → Puts taken failed old new bytes r → Writes taken failed old new bytes r
+  Writes-puts r utf8 put = Writes-put _ _ _ _ r refl utf8 put.all put.ok put.cut_off put.err

@@ -6,3 +6,4 @@ pub mod Wards
 pub mod Entries
 pub mod Stages
 pub mod Sheet
+pub mod Ballots

@@ -11,3 +11,10 @@ pub record Writes {W X E : Type 0} (taken : W → Option (List ℕ)) (failed : W
   pub ok : OnOk result (failed new ≡ failed old)
   pub cut_off : OnErr result (AppendsBeginning (taken old) (taken new) text)
   pub err : OnErr result (failed new ≡ failed old + 1)
+
+-- bytes were put whole, and no failure more is counted; or, on an error, a beginning of them was, and one failure more is counted
+pub record Puts {W X E : Type 0} (taken : W → Option (List ℕ)) (failed : W → ℕ) (old new : W) (bytes : List ℕ) (result : Result X E) : Type 0 where
+  pub all : OnOk result (Appends (taken old) (taken new) bytes)
+  pub ok : OnOk result (failed new ≡ failed old)
+  pub cut_off : OnErr result (AppendsBeginning (taken old) (taken new) bytes)
+  pub err : OnErr result (failed new ≡ failed old + 1)

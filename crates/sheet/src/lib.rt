@@ -13,6 +13,7 @@
 //! ```
 #![tactic(auto)]
 
+mod ballots;
 mod declaration;
 mod fitness;
 mod line;
@@ -22,8 +23,9 @@ mod sheets;
 mod stage;
 mod ward;
 
+pub use ballots::write_ballots;
 pub use declaration::write_declaration;
 pub use fitness::can_be_printed;
-pub use page::{declaration_text, sheet_text};
+pub use page::{ballots_text, declaration_text, sheet_text};
 pub use sheets::write_sheet;
 pub use ward::{Poll, Ward};

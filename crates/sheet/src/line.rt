@@ -1,11 +1,12 @@
 //! Lines, piece by piece.
 
-ghost use Rattle.std.specs.Prelude.{◌≡◌, ◌-◌, ◌^◌, ◌<◌, ◌≤◌, length, map, replicate};
+ghost use Rattle.std.specs.Prelude.{◌≡◌, ◌-◌, ◌^◌, ◌<◌, ◌≤◌, decimal, length, map, replicate};
 ghost use Rattle.std.specs.Str.{IsUtf8};
 ghost use Rattle.votes.specs.Text.{votes_text};
-ghost use Rattle.sheet.specs.Lines.{line, number_column, right_in};
+ghost use Rattle.std.specs.List.{flat_map};
+ghost use Rattle.sheet.specs.Lines.{line, number_column, right_in, preference, preferences, escaped, quoted};
 ghost use Rattle.sheet.specs.Pieces.{piece_text};
-ghost use Rattle.sheet.specs.Writing.{Writes};
+ghost use Rattle.sheet.specs.Writing.{Puts, Writes};
 
 use itoa::Buffer;
 use votes::{Broken, Sink, Votes, put_all};
@@ -21,10 +22,14 @@ pub enum Piece<'a> {
     NumberColumn(u8),
     /// The text of a value, right in 13 places.
     ValueColumn(Votes),
+    /// The numbers of some candidates, each behind a space.
+    Preferences(&'a [u8]),
+    /// A text in quotation marks.
+    Quoted(&'a str),
 }
 
 /// Writes a text.
-fn write_text<W: Sink>(sink: &mut W, text: &str) -> Result<(), Broken>
+pub fn write_text<W: Sink>(sink: &mut W, text: &str) -> Result<(), Broken>
     requires { W.failed sink.old < 2 ^ 64 - 1 }
     ensures { Writes W.taken W.failed sink.old sink.new text.now result }
 {
@@ -70,6 +75,66 @@ fn write_value<W: Sink>(sink: &mut W, places: usize, value: Votes) -> Result<(),
     value.write(sink)
 }
 
+/// Writes the number of a candidate.
+pub fn write_number<W: Sink>(sink: &mut W, c: u8) -> Result<(), Broken>
+    requires { W.failed sink.old < 2 ^ 64 - 1 }
+    ensures { Writes W.taken W.failed sink.old sink.new (decimal c) result }
+{
+    write_text(sink, Buffer::new().format(c))
+}
+
+/// Writes the number of a candidate behind a space.
+fn write_preference<W: Sink>(sink: &mut W, c: u8) -> Result<(), Broken>
+    requires { W.failed sink.old < 2 ^ 64 - 1 }
+    ensures { Writes W.taken W.failed sink.old sink.new (preference c) result }
+{
+    write_text(sink, " ")?;
+    write_number(sink, c)
+}
+
+/// Writes the numbers of some candidates, each behind a space.
+fn write_preferences<W: Sink>(sink: &mut W, list: &[u8]) -> Result<(), Broken>
+    requires { W.failed sink.old < 2 ^ 64 - 1 }
+    ensures { Writes W.taken W.failed sink.old sink.new (preferences list.now) result }
+{
+    for c in list {
+        write_preference(sink, *c)?;
+    }
+    Ok(())
+}
+
+/// Puts a byte of a text in quotation marks.
+fn put_escaped_byte<W: Sink>(sink: &mut W, byte: u8) -> Result<(), Broken>
+    requires { W.failed sink.old < 2 ^ 64 - 1 }
+    ensures { Puts W.taken W.failed sink.old sink.new (escaped byte) result }
+{
+    if byte == b'"' || byte == b'\\' {
+        return put_all(sink, &[b'\\', byte]);
+    }
+    put_all(sink, &[byte])
+}
+
+/// Puts the bytes of a text in quotation marks.
+fn put_escaped<W: Sink>(sink: &mut W, bytes: &[u8]) -> Result<(), Broken>
+    requires { W.failed sink.old < 2 ^ 64 - 1 }
+    ensures { Puts W.taken W.failed sink.old sink.new (flat_map escaped bytes.now) result }
+{
+    for byte in bytes {
+        put_escaped_byte(sink, *byte)?;
+    }
+    Ok(())
+}
+
+/// Writes a text in quotation marks.
+fn write_quoted<W: Sink>(sink: &mut W, text: &str) -> Result<(), Broken>
+    requires { W.failed sink.old < 2 ^ 64 - 1 }
+    ensures { Writes W.taken W.failed sink.old sink.new (quoted text.now) result }
+{
+    write_text(sink, "\"")?;
+    put_escaped(sink, text.as_bytes())?;
+    write_text(sink, "\"")
+}
+
 /// Writes a piece of a line.
 fn write_piece<W: Sink>(sink: &mut W, piece: &Piece) -> Result<(), Broken>
     requires { W.failed sink.old < 2 ^ 64 - 1 }
@@ -81,6 +146,8 @@ fn write_piece<W: Sink>(sink: &mut W, piece: &Piece) -> Result<(), Broken>
         Piece::Value(value) => write_value(sink, 0, *value),
         Piece::NumberColumn(c) => write_number_column(sink, *c),
         Piece::ValueColumn(value) => write_value(sink, 13, *value),
+        Piece::Preferences(list) => write_preferences(sink, list),
+        Piece::Quoted(text) => write_quoted(sink, text),
     }
 }
 

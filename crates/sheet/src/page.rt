@@ -1,14 +1,16 @@
-//! The stage sheet and the declaration as texts in memory.
+//! The stage sheet, the declaration and the ballots as texts in memory.
 
 ghost use Rattle.std.specs.Prelude.{◌≡◌, Some, IfOk, string_bytes};
 ghost use Rattle.sheet.specs.Entries.{shown};
+ghost use Rattle.sheet.specs.Ballots.{ballots};
 ghost use Rattle.sheet.specs.Sheet.{sheet, declaration};
 ghost use Rattle.sheet.specs.Wards.{CanBePrinted};
 
+use crate::ballots::write_ballots;
 use crate::declaration::write_declaration;
 use crate::sheets::write_sheet;
 use crate::ward::Ward;
-use count::Stage;
+use count::{Bundles, Stage};
 use paper::Columns;
 use std::alloc::{AllocError, Global};
 use votes::{Broken, Sink};
@@ -69,6 +71,28 @@ pub fn declaration_text(alloc: Global, ward: &Ward, elected: Columns) -> Result<
         failed: 0,
     };
     if write_declaration(&mut page, ward, elected).is_err() {
+        return Err(AllocError);
+    }
+    Ok(String::from_utf8(page.text).unwrap())
+}
+
+/// The ballots of a ward, as [`write_ballots`] writes them.
+///
+/// The only error is want of memory.
+pub fn ballots_text(
+    alloc: Global,
+    ward: &Ward,
+    bundles: &Bundles,
+    lots: &[(u8, u8)],
+) -> Result<String, AllocError>
+    requires { CanBePrinted ward.now }
+    ensures { IfOk result (λ text. string_bytes text ≡ ballots (shown ward.now) bundles.now lots.now) }
+{
+    let mut page = Page {
+        text: Vec::new(alloc),
+        failed: 0,
+    };
+    if write_ballots(&mut page, ward, bundles, lots).is_err() {
         return Err(AllocError);
     }
     Ok(String::from_utf8(page.text).unwrap())

@@ -71,6 +71,9 @@ For the office alone. The first five change nothing, and no clerk is to see what
   replay FILE        Sends the orders of a text file, a line each, up to a refusal
   copy NEW           Makes a copy of the office, in a file that isn't there yet
 
+For everyone who wants to check a count, once the ward is sealed:
+  ballots WARD       Its ballots, in a form that counting programs read (BLT)
+
 An example stands under each order. Its words, with their ranges, are shown by
   count-office DB ORDER --help
 
@@ -225,6 +228,11 @@ Usage: count-office DB copy <NEW>
 
 Arguments:
   <NEW>  The path of the copy; there must be nothing at it yet
+$ ballots --help
+Usage: count-office DB ballots <WARD>
+
+Arguments:
+  <WARD>  The ward's number, 1 to 99
 $ declare --help
       --id <ID>  An id that you choose for this order, 1 to 40 of a-z, 0-9 and -;
                  sent again under the same id, it does nothing twice

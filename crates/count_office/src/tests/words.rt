@@ -74,6 +74,8 @@ $ replay evening.txt
 Replay { file: "evening.txt" }
 $ copy evening.db
 Copy { path: "evening.db" }
+$ ballots 7
+Run(Print { ward: 7, text: Ballots })
 "#;
 
 /// Words with spaces, and without a letter.

@@ -1,0 +1,5 @@
+-- Why `write_size_line` keeps its promise.
+use Rattle.sheet.proofs.ballots.write_size_line.Goals as goal
+
+pub returns : goal.returns
+returns g c = rw (c.from.ensures, c.from-2.ensures, c.highest_number.ensures) at c.write_line.ensures
