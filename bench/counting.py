@@ -109,6 +109,7 @@ def measure(folder, count):
     stages = 3 + advance(town, None, 3)
     timed(f"ward 8 2 Quay, all {stages} stages done", *idle)
     timed("sheet, all stages", "sheet", "7")
+    timed("ballots, all stages", "ballots", "7")
     timed("declare", "declare", "7", "--id", "x")
     play(folder, town, "declare", "7", "--id", "declare")
     timed("result", "result", "7")

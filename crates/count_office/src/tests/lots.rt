@@ -54,6 +54,12 @@ $ sheet 9
 1| refused 5: no such ward
 $ sheet 0
 1| refused 3: number out of range
+$ ballots 7
+1| refused 9: wrong phase
+$ ballots 9
+1| refused 5: no such ward
+$ ballots 0
+1| refused 3: number out of range
 $ result 7
 1| refused 9: wrong phase
 ",
@@ -276,6 +282,19 @@ $ result 7
 Ward 7 Harbour
 Elected
  1 Ann
+$ ballots 7
+3 1
+4 1 0
+2 2 0
+2 3 0
+0
+\"Ann\"
+\"Bob\"
+\"Cy\"
+\"Harbour\"
+# Ward 7
+# Rejected 1: 0, 2: 0, 3: 0, 4: 0, 5: 0
+# Lot at stage 2: 3
 $ status 7
 ward 7 declared: 3 candidates, 1 batches, 1 taken, 0 differing, 0 doubtful open, 3 stages
 ",
@@ -450,6 +469,13 @@ Ward 8 Quay
 Elected
  1 Dee
  2 Eve
+$ ballots 8
+2 2
+0
+\"Dee\"
+\"Eve\"
+\"Quay\"
+# Ward 8
 ",
 )];
 
