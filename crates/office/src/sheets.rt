@@ -170,12 +170,7 @@ pub(crate) fn ballots(alloc: Global, sheet: &WardSheet) -> Result<Option<String>
         return Ok(None);
     };
     let none = Bundles::new(alloc);
-    Ok(Some(ballots_text(
-        alloc,
-        &ward,
-        bundles_of(counted, &none),
-        lots_of(counted),
-    )?))
+    Ok(Some(ballots_text(alloc, &ward, bundles_of(counted, &none), lots_of(counted))?))
 }
 
 /// The stage sheet of a ward, of the stages that are done; none of rows that no office has. An error is want
