@@ -11,6 +11,7 @@ use votes::{Counted, MAX_PAPERS, Sink};
 /// Nobody stands at the numbers 2, 4 and 5, and names have what stands in quotation marks with a backslash.
 const GAPS: &str = r#"6 2
 -2 -4 -5
+2 1 0
 3 1 3 6 0
 2 1 6 0
 1 6 0
@@ -77,11 +78,11 @@ fn ballots(rt: HostRuntime) -> Result<(), Fail> {
         seats: 2,
         candidates: &candidates,
         poll: Some(Poll {
-            valid: 6,
+            valid: 8,
             rejected: [1, 20, 300, 4000, 50000],
         }),
     };
-    let papers: [(u32, &[u8]); 3] = [(1, &[6]), (2, &[1, 6]), (3, &[1, 3, 6])];
+    let papers: [(u32, &[u8]); 4] = [(1, &[6]), (2, &[1, 6]), (3, &[1, 3, 6]), (2, &[1])];
     let bundles = bundles_of(rt.alloc(), &papers)?;
     prints(&rt, &ward, &bundles, &[(2, 3), (4, 6)], GAPS)?;
     ward.candidates = &[];

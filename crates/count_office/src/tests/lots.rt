@@ -383,6 +383,17 @@ Stage 1: first preferences
  3       0.00000 - Cy
          0.00000 non-transferable
          0.00000 lost by fractions
+$ ballots 7
+3 1
+1 1 2 0
+1 1 3 0
+0
+\"Ann\"
+\"Bob\"
+\"Cy\"
+\"Harbour\"
+# Ward 7
+# Rejected 1: 1, 2: 1, 3: 1, 4: 1, 5: 1
 $ declare 7 --id d1
 ward 7 declared: 1
 ",
@@ -431,10 +442,19 @@ $ result 7
 Ward 7 Harbour
 Elected
  2 Bob
+$ ballots 7
+2 1
+0
+\"Ann\"
+\"Bob\"
+\"Harbour\"
+# Ward 7
+# Rejected 1: 0, 2: 0, 3: 0, 4: 0, 5: 0
+# Lot at stage 2: 1
 ",
 )];
 
-/// A ward with as many candidates as seats: nothing is counted.
+/// A ward with as many candidates as seats, since one withdrew: nothing is counted.
 const UNCONTESTED: &[Act] = &[Act::Typed(
     "$ init
 office ready
@@ -444,6 +464,10 @@ $ candidate 8 1 Dee --id c1
 candidate 1 of ward 8 added
 $ candidate 8 2 Eve --id c2
 candidate 2 of ward 8 added
+$ candidate 8 3 Fay --id c3
+candidate 3 of ward 8 added
+$ withdraw 8 2 --id x2
+candidate 2 of ward 8 withdrawn
 $ sheet 8
 1| refused 9: wrong phase
 $ close 8 --id n1
@@ -460,7 +484,7 @@ $ sheet 8
 Ward 8 Quay
 Seats 2, uncontested
 $ declare 8 --id d1
-ward 8 declared: 1, 2
+ward 8 declared: 1, 3
 $ sheet 8
 Ward 8 Quay
 Seats 2, uncontested
@@ -468,12 +492,14 @@ $ result 8
 Ward 8 Quay
 Elected
  1 Dee
- 2 Eve
+ 3 Fay
 $ ballots 8
-2 2
+3 2
+-2
 0
 \"Dee\"
-\"Eve\"
+\"withdrawn\"
+\"Fay\"
 \"Quay\"
 # Ward 8
 ",
