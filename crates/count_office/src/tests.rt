@@ -9,6 +9,7 @@ mod disks;
 // Clients over HTTP.
 mod clients;
 // The tests.
+mod copies;
 mod counts;
 mod help;
 mod http;

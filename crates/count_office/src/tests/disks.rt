@@ -3,9 +3,9 @@
 
 ghost use Rattle.std.specs.Prelude.{⊤};
 
-use super::steps::{Case, Said, Step, Told, play};
+use super::steps::{Case, Said, Step, Told, copied, play};
 use super::transcripts::{Typed, read};
-use sqlite::{Connection, Error, ErrorCode, FileStore, Files, Options};
+use sqlite::{Alter, Connection, Error, ErrorCode, FileStore, Files, Options};
 use sqlite_disk::{Crash, Disk, Fuse, Memory};
 use std::alloc::Global;
 use std::marker::Model;
@@ -36,6 +36,37 @@ fn opened(
         Ok(conn) => Ok(conn),
         Err((error, left)) => Err((Some(error), left.into_files())),
     }
+}
+
+/// Copies the office of a connection onto files, and leaves them as they are.
+fn copy_over<S: Alter + Drop>(
+    alloc: Global,
+    office: &mut Connection<S>,
+    onto: Disks,
+) -> Result<(Option<Said>, Disks), Fail> {
+    let Disks { files } = onto;
+    match opened(alloc, files) {
+        Ok(mut made) => {
+            let said = copied(alloc, office, &mut made)?;
+            let files = made.into_store().close();
+            Ok((Some(said), Disks { files }))
+        }
+        Err((Some(Error::SqliteFailure(ErrorCode::OutOfMemory)), _)) => {
+            Err(Fail::from("memory was wanting"))
+        }
+        Err((_, files)) => Ok((None, Disks { files })),
+    }
+}
+
+fn sorted(alloc: Global, rows: &str) -> Result<Vec<&str>, Fail> {
+    let mut lines: Vec<&str> = rows.lines().collect(alloc)?;
+    lines.sort()?;
+    Ok(lines)
+}
+
+/// These are the same rows, whatever their order.
+pub fn are_same(alloc: Global, rows: &str, others: &str) -> Result<bool, Fail> {
+    Ok(sorted(alloc, rows)?.as_slice() == sorted(alloc, others)?.as_slice())
 }
 
 /// Which of the two files stops.
@@ -179,6 +210,47 @@ impl Disks {
         Ok(disks)
     }
 
+    /// Copies the office onto other files, and leaves both as they are. Where those stop as they are opened, nothing is said.
+    pub fn copy_onto(
+        self,
+        alloc: Global,
+        onto: Disks,
+    ) -> Result<(Option<Said>, Disks, Disks), Fail> {
+        let Disks { files } = self;
+        match opened(alloc, files) {
+            Ok(mut conn) => {
+                let (said, copy) = copy_over(alloc, &mut conn, onto)?;
+                let files = conn.into_store().close();
+                Ok((said, Disks { files }, copy))
+            }
+            Err(_) => Err(Fail::from("the office isn't opened")),
+        }
+    }
+
+    /// Copies the office onto new files, of which this must be told: both hold the same rows then. It isn't copied onto
+    /// them again. Gives the copy.
+    fn copy(self, rt: &(impl Abort + AllocGlobal), told: &str) -> Result<Disks, Fail> {
+        let (rows, office) = self.rows(rt.alloc())?;
+        let (said, office, copy) = office.copy_onto(rt.alloc(), Disks::lasting(rt.alloc()))?;
+        let (left, office) = office.rows(rt.alloc())?;
+        let (again, _, copy) = office.copy_onto(rt.alloc(), copy)?;
+        let (made, copy) = copy.rows(rt.alloc())?;
+        assert!(rt; rows.as_str() == left.as_str(), "{told}");
+        assert!(rt;
+            are_same(rt.alloc(), rows.as_str(), made.as_str())?,
+            "{told}"
+        );
+        assert!(rt;
+            matches!(&said, Some(said) if said.told() == (0, told, "")),
+            "{said:?}"
+        );
+        assert!(rt;
+            matches!(&again, Some(said) if said.told() == TAKEN),
+            "{again:?}"
+        );
+        Ok(copy)
+    }
+
     /// Makes a change in a copy, where the office must then tell this of another ward; a fault leaves each row.
     fn damage(&self, rt: &(impl Abort + AllocGlobal), typed: &Typed<'_>) -> Result<(), Fail> {
         let (change, told) = typed.case();
@@ -198,6 +270,7 @@ impl Disks {
             Act::Typed(transcript) => self.follow(rt, transcript),
             Act::Unchanged(transcript) => self.follow_unchanged(rt, transcript),
             Act::Keyed(papers) => self.key(rt, papers),
+            Act::Copied(told) => self.copy(rt, told),
             Act::Damage(changes) => {
                 for typed in &read(rt.alloc(), changes)? {
                     self.damage(rt, typed)?;
@@ -217,9 +290,14 @@ pub enum Act {
     Unchanged(&'static str),
     /// Both clerks of batch 12 key these papers alike.
     Keyed(&'static str),
+    /// The office is copied onto new files, which this is told of, and gone on with there.
+    Copied(&'static str),
     /// Changes, each made alone, and what the office then tells when ward 8 is to be added.
     Damage(&'static str),
 }
+
+/// What is told of a copy where there is one already.
+const TAKEN: Told<'static> = (3, "", "fault 109: copy is there already\n");
 
 const CHANGED: Told<'static> = (0, "", "");
 

@@ -57,6 +57,7 @@ const BROUGHT_OVER: &[Act] = &[
     Act::Typed(OLDER_ROWS),
     Act::Unchanged(NOT_OPENED),
     Act::Typed(MIGRATED),
+    Act::Copied("copied 10 wards, 12 batches, 24 keyings, 117 receipts\n"),
     Act::Unchanged(AT_THIS_VERSION),
     Act::Unchanged(TOLD),
     Act::Unchanged(SENT_AGAIN),

@@ -358,6 +358,7 @@ const ELECTION: &[Act] = &[
     Act::Typed(COUNTED),
     Act::Unchanged(ONE_DECLARED),
     Act::Typed(DECLARED),
+    Act::Copied("copied 3 wards, 6 batches, 15 keyings, 46 receipts\n"),
     Act::Unchanged(BOTH_DECLARED),
 ];
 

@@ -1,7 +1,10 @@
 //! Scripts: orders in a text, sent in turn.
 
-use super::disks::{Act, play_acts};
-use super::steps::{Shelf, Step};
+use super::disks::{Act, Disks, File, play_acts};
+use super::steps::{Case, STOPPED, Shelf, Step};
+use super::stops::CALLS;
+use super::transcripts::read;
+use std::process::Abort;
 use std::test::Fail;
 
 /// A small election, with its lines as people write them.
@@ -202,4 +205,156 @@ fn words_are_cut_as_by_a_shell(rt: HostRuntime) -> Result<(), Fail> {
     ];
     play_acts(&rt, MADE)?.hear(&rt, &cases)?;
     Ok(())
+}
+
+/// The requests of a script that is stopped. Each order has one more than those before it.
+const REQUESTS: &str = "$ ward 7 1 Harbour --id w1
+ward 7 added
+$ import-candidates FILE --id c
+< ward,candidate,name
+< 7,1,Ann
+candidate 1 of ward 7 added
+$ import-candidates FILE --id c
+< ward,candidate,name
+< 7,1,Ann
+< 7,2,Bob
+candidate 1 of ward 7 added
+candidate 2 of ward 7 added
+$ close 7 --id n1
+ward 7 polled
+$ batch 12 7 1 4 9 --id b1
+batch 12 added
+$ import-keying 4 12 1 FILE --id k1
+< paper,1,2
+< 1,1,2
+batch 12 round 1 keyed
+";
+
+/// The files that it names.
+const STOPPED_SHELF: Shelf<'static> = &[
+    ("names.csv", b"ward,candidate,name\n7,1,Ann\n7,2,Bob\n"),
+    ("clerk.csv", b"paper,1,2\n1,1,2\n"),
+];
+
+/// The script, and the same with a line in it that is refused.
+const STOPPED_SCRIPTS: [Case<'static>; 2] = [
+    (
+        Step::Script(
+            b"ward 7 1 Harbour --id w1
+import-candidates names.csv --id c
+close 7 --id n1
+batch 12 7 1 4 9 --id b1
+import-keying 4 12 1 clerk.csv --id k1
+",
+            STOPPED_SHELF,
+        ),
+        (
+            0,
+            "ward 7 added
+candidate 1 of ward 7 added
+candidate 2 of ward 7 added
+ward 7 polled
+batch 12 added
+batch 12 round 1 keyed
+",
+            "",
+        ),
+    ),
+    (
+        Step::Script(
+            b"ward 7 1 Harbour --id w1
+import-candidates names.csv --id c
+seal 7 --id s1
+close 7 --id n1
+",
+            STOPPED_SHELF,
+        ),
+        (
+            1,
+            "ward 7 added
+candidate 1 of ward 7 added
+candidate 2 of ward 7 added
+",
+            "line 3: refused 9: wrong phase\n",
+        ),
+    ),
+];
+
+/// The rows behind each beginning of so many requests, the first of none.
+fn beginnings(
+    rt: &(impl Abort + AllocGlobal),
+    disks: Disks,
+    requests: usize,
+) -> Result<Vec<String>, Fail> {
+    let (none, mut disks) = disks.rows(rt.alloc())?;
+    let mut all = vec![in rt.alloc(); none]?;
+    for typed in read(rt.alloc(), REQUESTS)?.iter().take(requests) {
+        let (rows, behind) = disks.hear(rt, &[typed.case()])?.rows(rt.alloc())?;
+        all.push(rows)?;
+        disks = behind;
+    }
+    Ok(all)
+}
+
+/// Sends a script over disks of which one stops after so many calls, restarts them, and judges what is found: the rows
+/// behind the requests that got replies, or behind one more. Sent again, it is told whole, and ends as without the
+/// stop. Tells whether it met no stop.
+fn stop_script(
+    rt: &(impl Abort + AllocGlobal),
+    disks: Disks,
+    case: Case<'_>,
+    beginnings: &[String],
+) -> Result<bool, Fail> {
+    let (script, whole) = case;
+    let (said, left) = disks.play(rt.alloc(), &[script])?;
+    let told = match said.as_slice() {
+        [] => STOPPED,
+        [said] => said.told(),
+        _ => return Err(Fail::from("more was said than was asked")),
+    };
+    let (status, out, err) = told;
+    assert!(rt;
+        told == whole
+            || (status == STOPPED.0 && whole.1.starts_with(out) && err.ends_with(STOPPED.2)),
+        "{told:?}"
+    );
+    let replies = out.lines().count();
+    let (found, left) = left.restarted().rows(rt.alloc())?;
+    let mut may_stand = beginnings.iter().skip(replies).take(2);
+    assert!(rt;
+        may_stand.any(|rows| *rows == found),
+        "{told:?} left other rows"
+    );
+    let (end, _) = left.hear(rt, &[case])?.rows(rt.alloc())?;
+    assert!(rt; beginnings.last() == Some(&end), "{told:?} sent again");
+    Ok(told == whole)
+}
+
+/// Stops each of the scripts at each call of one file.
+fn stop_scripts(rt: &(impl Abort + AllocGlobal), file: File) -> Result<(), Fail> {
+    for case in STOPPED_SCRIPTS {
+        let disks = play_acts(rt, MADE)?;
+        let copy = disks.copied(rt.alloc(), file, u64::MAX)?;
+        let beginnings = beginnings(rt, copy, case.1.1.lines().count())?;
+        let mut ended = false;
+        for calls in 0..CALLS {
+            let stopping = disks.copied(rt.alloc(), file, calls)?;
+            if stop_script(rt, stopping, case, &beginnings)? {
+                ended = true;
+                break;
+            }
+        }
+        assert!(rt; ended, "no run was long enough");
+    }
+    Ok(())
+}
+
+#[test]
+fn a_script_stops_between_requests_at_its_log(rt: HostRuntime) -> Result<(), Fail> {
+    stop_scripts(&rt, File::Log)
+}
+
+#[test]
+fn a_script_stops_between_requests_at_its_database(rt: HostRuntime) -> Result<(), Fail> {
+    stop_scripts(&rt, File::Database)
 }

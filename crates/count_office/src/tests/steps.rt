@@ -6,7 +6,7 @@ use super::clients::{Client, Coming, Jumping, Taking};
 use super::loads::loads;
 use desk::perform::perform;
 use desk::serving::serve_all;
-use desk::{Folder, order, serve_on, tell_words};
+use desk::{Folder, copy_office, order, serve_on, tell_words};
 use office::{Answer, Office, Run, Stop, Work};
 use register::Request;
 use sqlite::{Alter, Connection};
@@ -289,7 +289,7 @@ fn contents<S: Alter + Drop>(alloc: Global, conn: &mut Connection<S>) -> Result<
         writeln!(text, "{name}")?;
         let all = format!(in alloc; "SELECT * FROM {name}")?;
         for row in conn.query_all(all.as_str(), &[])? {
-            writeln!(text, "{row:?}")?;
+            writeln!(text, "{name} {row:?}")?;
         }
     }
     Ok(text)
@@ -312,6 +312,23 @@ fn ordered<S: Alter + Drop>(
     };
     let (out, err) = (out.text()?, err.text()?);
     Ok((Said { status, out, err }, conn))
+}
+
+/// Copies the office of a connection over another.
+pub fn copied<S: Alter + Drop, T: Alter + Drop>(
+    alloc: Global,
+    conn: &mut Connection<S>,
+    copy: &mut Connection<T>,
+) -> Result<Said, Fail> {
+    let mut out = Taking::new(alloc, usize::MAX);
+    let mut err = Taking::new(alloc, usize::MAX);
+    let status = {
+        let mut out = Counted::new(&mut out);
+        let mut err = Counted::new(&mut err);
+        copy_office(alloc, conn, copy, &mut out, &mut err).0
+    };
+    let (out, err) = (out.text()?, err.text()?);
+    Ok(Said { status, out, err })
 }
 
 fn done<S: Alter + Drop>(

@@ -17,7 +17,7 @@ use std::process::Abort;
 use std::test::Fail;
 
 /// More calls than an order makes of either file.
-const CALLS: u64 = 2000;
+pub const CALLS: u64 = 2000;
 
 /// How many papers the largest batch has.
 const PAPERS: u32 = 500;
