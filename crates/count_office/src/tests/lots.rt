@@ -282,19 +282,6 @@ $ result 7
 Ward 7 Harbour
 Elected
  1 Ann
-$ ballots 7
-3 1
-4 1 0
-2 2 0
-2 3 0
-0
-\"Ann\"
-\"Bob\"
-\"Cy\"
-\"Harbour\"
-# Ward 7
-# Rejected 1: 0, 2: 0, 3: 0, 4: 0, 5: 0
-# Lot at stage 2: 3
 $ status 7
 ward 7 declared: 3 candidates, 1 batches, 1 taken, 0 differing, 0 doubtful open, 3 stages
 ",
@@ -383,17 +370,6 @@ Stage 1: first preferences
  3       0.00000 - Cy
          0.00000 non-transferable
          0.00000 lost by fractions
-$ ballots 7
-3 1
-1 1 2 0
-1 1 3 0
-0
-\"Ann\"
-\"Bob\"
-\"Cy\"
-\"Harbour\"
-# Ward 7
-# Rejected 1: 1, 2: 1, 3: 1, 4: 1, 5: 1
 $ declare 7 --id d1
 ward 7 declared: 1
 ",
@@ -442,19 +418,10 @@ $ result 7
 Ward 7 Harbour
 Elected
  2 Bob
-$ ballots 7
-2 1
-0
-\"Ann\"
-\"Bob\"
-\"Harbour\"
-# Ward 7
-# Rejected 1: 0, 2: 0, 3: 0, 4: 0, 5: 0
-# Lot at stage 2: 1
 ",
 )];
 
-/// A ward with as many candidates as seats, since one withdrew: nothing is counted.
+/// A ward with as many candidates as seats: nothing is counted.
 const UNCONTESTED: &[Act] = &[Act::Typed(
     "$ init
 office ready
@@ -464,10 +431,6 @@ $ candidate 8 1 Dee --id c1
 candidate 1 of ward 8 added
 $ candidate 8 2 Eve --id c2
 candidate 2 of ward 8 added
-$ candidate 8 3 Fay --id c3
-candidate 3 of ward 8 added
-$ withdraw 8 2 --id x2
-candidate 2 of ward 8 withdrawn
 $ sheet 8
 1| refused 9: wrong phase
 $ close 8 --id n1
@@ -484,7 +447,7 @@ $ sheet 8
 Ward 8 Quay
 Seats 2, uncontested
 $ declare 8 --id d1
-ward 8 declared: 1, 3
+ward 8 declared: 1, 2
 $ sheet 8
 Ward 8 Quay
 Seats 2, uncontested
@@ -492,16 +455,7 @@ $ result 8
 Ward 8 Quay
 Elected
  1 Dee
- 3 Fay
-$ ballots 8
-3 2
--2
-0
-\"Dee\"
-\"withdrawn\"
-\"Fay\"
-\"Quay\"
-# Ward 8
+ 2 Eve
 ",
 )];
 
