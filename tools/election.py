@@ -16,9 +16,11 @@ import older_office
 from refusing import ROOT
 
 TOWN, LOG, FILE = "town.db", "town.db-wal", "rows.csv"
+COPY, COPY_LOG, SCRIPT = "copy.db", "copy.db-wal", "orders.txt"
+NO_OFFICE, NOT_WRITTEN = "fault 105: wrong database\n", "fault 110: copy not written"
 SECONDS = 60
 # What an order is told that is given again, where what it makes was found and it has no receipt.
-MADE = {"init": (3, "", "fault 105: wrong database\n"), "migrate": (0, "office is at version 2\n", "")}
+MADE = {"init": (3, "", NO_OFFICE), "migrate": (0, "office is at version 2\n", "")}
 
 CANDIDATES = ["ward,candidate,name"] + [f"7,{c},Candidate {c}" for c in range(1, 5)]
 # Nine valid papers of two seats, and a doubtful one: the first candidate has the quota, the fourth is excluded, and a lot is drawn
@@ -55,6 +57,9 @@ ELECTION = [
     (["advance", "7", "--id", "a3"], None),
     (["declare", "7", "--id", "d1"], None),
 ]
+# A script of some of them, behind a line that is passed over; it is sent to the office before the first.
+SCRIPTED = range(4, 8)
+REPLAY = (["replay", SCRIPT], ["# the last candidate, a batch, and the first keying"] + [" ".join(ELECTION[number][0]) for number in SCRIPTED])
 # Orders that change nothing: each is tried over the office before the order of this number.
 READS = [
     (len(ELECTION), ["status", "7"]), (len(ELECTION), ["sheet", "7"]), (len(ELECTION), ["result", "7"]),
@@ -94,14 +99,14 @@ class Wrong(Exception):
     """A condition that isn't met."""
 
 
-def copied(source, folder):
-    """The office of one folder, in another."""
+def copied(source, folder, town=TOWN):
+    """The office of one folder, or the copy of it that has this name, in another."""
     shutil.rmtree(folder, ignore_errors=True)
     os.makedirs(folder)
-    for name in (TOWN, LOG):
-        path = os.path.join(source, name)
+    for ending in ("", "-wal"):
+        path = os.path.join(source, town + ending)
         if os.path.exists(path):
-            shutil.copyfile(path, os.path.join(folder, name))
+            shutil.copyfile(path, os.path.join(folder, TOWN + ending))
     return folder
 
 
@@ -112,14 +117,14 @@ def older(folder):
     return folder
 
 
-def rows(source):
+def rows(source, town=TOWN):
     """Every row of every table, by the stock sqlite, of a copy; nothing where no office is there.
 
     An `init` that was stopped may leave a file without the first byte of a database's.
     """
-    folder = copied(source, source + ".rows")
-    if not os.path.exists(os.path.join(folder, TOWN)):
+    if not os.path.exists(os.path.join(source, town)):
         return None
+    folder = copied(source, source + ".rows", town)
     base = sqlite3.connect(os.path.join(folder, TOWN))
     try:
         whole = base.execute("PRAGMA integrity_check").fetchall()
@@ -133,6 +138,14 @@ def rows(source):
         raise Wrong(f"the stock sqlite: {error}") from error
     finally:
         base.close()
+
+
+def left(folder, status=0):
+    """The rows of the office, and those of the copy beside it; with status 0 its file alone is the copy, so its log is taken away."""
+    log = os.path.join(folder, COPY_LOG)
+    if not status and os.path.exists(log):
+        os.remove(log)
+    return rows(folder), rows(folder, COPY)
 
 
 def free_ports(first):
@@ -173,17 +186,20 @@ def answer(line, sends):
 class Order:
     """An order of the program, or a request to `serve`."""
 
-    def __init__(self, words, lines=None, sends=None, port=None):
-        self.words, self.lines, self.sends, self.port = words, lines, sends, port
+    def __init__(self, words, lines=None, sends=None, port=None, town=TOWN):
+        self.words, self.lines, self.sends, self.port, self.town = words, lines, sends, port, town
 
     def name(self):
         return self.words if self.sends else " ".join(self.words)
 
-    def put_file(self, folder):
-        """Puts the file that the order names where it is looked for."""
-        for name in [word for word in self.words if self.lines and word.endswith(".csv")]:
+    def put_files(self, folder):
+        """Puts the file that the order names where it is looked for, and the keying that the script names."""
+        files = {word: self.lines for word in self.words if self.lines and word.endswith((".csv", ".txt"))}
+        if SCRIPT in files:
+            files[FILE] = keying(MARKS)
+        for name, lines in files.items():
             with open(os.path.join(folder, name), "w", encoding="ascii") as file:
-                file.write("".join(f"{line}\n" for line in self.lines))
+                file.write("".join(f"{line}\n" for line in lines))
 
     def done(self, folder, refusal=None):
         """((status, output, error output), whether something was refused); the output of `serve` is its answer."""
@@ -191,9 +207,9 @@ class Order:
         if os.path.exists(note):
             os.remove(note)
         around = {**os.environ, **refusal, "REFUSING_TOLD": note} if refusal else None
-        self.put_file(folder)
+        self.put_files(folder)
         words = ["serve", str(next(self.port)), "1"] if self.sends else self.words
-        process = subprocess.Popen([PROGRAM, TOWN, *words], cwd=folder, env=around, stdout=subprocess.PIPE, stderr=subprocess.PIPE)
+        process = subprocess.Popen([PROGRAM, self.town, *words], cwd=folder, env=around, stdout=subprocess.PIPE, stderr=subprocess.PIPE)
         try:
             line = let_in(process, int(words[1])) if self.sends else None
             text = answer(line, self.sends) if line else b""
@@ -217,18 +233,29 @@ class Trial:
         os.makedirs(self.folder)
         self.after = copied(office, os.path.join(self.folder, "after"))
         self.told, _ = self.ready().done(self.after)
-        self.states = [rows(office)]
-        if order.words[0] == "import-candidates":
+        self.is_copy, self.is_script = order.words[0] == "copy", order.words[0] == "replay"
+        self.states = [left(office)]
+        if self.is_script or order.words[0] == "import-candidates":
             for count in range(2, len(order.lines)):
                 part = copied(office, os.path.join(self.folder, "part"))
                 Order(order.words, order.lines[:count]).done(part)
-                self.states.append(rows(part))
-        if rows(self.after) != self.states[0]:
-            self.states.append(rows(self.after))
+                self.states.append(left(part))
+        end = self.states[0][:1] * 2 if self.is_copy else left(self.after)
+        if end != self.states[0]:
+            self.states.append(end)
 
     def ready(self):
         """The order, with ports of its own."""
         return Order(self.order.words, self.order.lines, self.order.sends, free_ports(20000 + 2000 * (self.number % 6)))
+
+    def allowed(self, out, faults):
+        """Those of some faults that may be told behind an output: of a script with the line that was under way."""
+        if self.is_copy and out:
+            return [fault for fault in faults if fault == NOT_WRITTEN]
+        if self.is_script:
+            line = f"line {2 + self.order.answered(out)}: "
+            return [line + fault for fault in faults] + ([] if out else faults)
+        return faults
 
     def is_fault(self, told, faults):
         """Whether what was told is one of some faults."""
@@ -236,8 +263,9 @@ class Trial:
         if self.order.sends and not status:
             answered = re.fullmatch(r'HTTP/1\.1 503 Service Unavailable\r\n.*\r\n\r\n\{"fault":(\d+)\}', out, re.DOTALL)
             return not err and bool(answered) and any(fault.startswith(f"fault {answered.group(1)}: ") for fault in faults)
-        whole_lines = out == "" or (len(self.states) > 2 and out.endswith("\n") and self.told[1].startswith(out))
-        return status == 3 and whole_lines and any(re.fullmatch(fault + "\n", err) for fault in faults)
+        goes_on = len(self.states) > 2 or self.is_copy
+        whole_lines = out == "" or (goes_on and out.endswith("\n") and self.told[1].startswith(out))
+        return status == 3 and whole_lines and any(re.fullmatch(fault + "\n", err) for fault in self.allowed(out, faults))
 
     def judged(self, told, found, faults):
         """('told' or 'answered', the number of the state that was found)."""
@@ -254,18 +282,30 @@ class Trial:
             raise Wrong(f"{place} of {last} records found: {told}")
         return "told", place
 
+    def check_beside(self, folder, told, refusal):
+        """Nothing stands beside the office but a copy that was told of, or what a disk that is gone keeps of one: all of it, or no office."""
+        there = set(os.listdir(folder)) - {TOWN, LOG, FILE, SCRIPT}
+        if beside := there - ({COPY, COPY_LOG} if told[1] or refusal.get("REFUSING_WAY") == "gone" else set()):
+            raise Wrong(f"left behind: {beside}: {told}")
+        if COPY in there:
+            opened, _ = Order(["wards"]).done(copied(folder, folder + ".copy", COPY))
+            is_right = opened[0] == 0 if rows(folder, COPY) else opened == (3, "", NO_OFFICE)
+            if not is_right:
+                raise Wrong(f"what is left of a copy tells {opened}: {told}")
+
     def tried(self, order, refusal, faults):
         """Refuses, judges, and gives the order again. Nothing where it met no refusal."""
         here = copied(self.office, os.path.join(self.folder, "run"))
         told, is_refused = order.done(here, refusal)
         if not is_refused and told != self.told:
             raise Wrong(f"nothing was refused: {told}")
-        if beside := set(os.listdir(here)) - {TOWN, LOG, FILE}:
-            raise Wrong(f"left behind: {beside}")
-        what = self.judged(told, rows(here), faults)
+        self.check_beside(here, told, refusal)
+        what = self.judged(told, left(here, told[0]), faults)
+        for name in {COPY, COPY_LOG} & set(os.listdir(here)):
+            os.remove(os.path.join(here, name))
         wanted = MADE.get(self.order.words[0], self.told) if what[1] else self.told
         again, _ = order.done(here)
-        if again != wanted or rows(here) != self.states[-1]:
+        if again != wanted or left(here) != self.states[-1]:
             raise Wrong(f"{told}, and given again {again}")
         return what if is_refused else None
 
@@ -309,4 +349,8 @@ def trials(folder, only=lambda trial: True):
         found.append(Trial(len(found), folder, offices[before], Order(words)))
     for before, name, sends in REQUESTS:
         found.append(Trial(len(found), folder, offices[before], Order(name, None, sends)))
+    found.append(Trial(len(found), folder, offices[-1], Order(["copy", COPY])))
+    found.append(Trial(len(found), folder, offices[SCRIPTED[0]], Order(*REPLAY)))
+    if found[-1].states[-1] != left(offices[SCRIPTED[-1] + 1]):
+        raise Wrong("a script leaves other rows than its orders, each given alone")
     return [trial for trial in found if only(trial)]
