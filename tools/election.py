@@ -240,9 +240,8 @@ class Trial:
                 part = copied(office, os.path.join(self.folder, "part"))
                 Order(order.words, order.lines[:count]).done(part)
                 self.states.append(left(part))
-        end = self.states[0][:1] * 2 if self.is_copy else left(self.after)
-        if end != self.states[0]:
-            self.states.append(end)
+        if left(self.after) != self.states[0]:
+            self.states.append(left(self.after))
 
     def ready(self):
         """The order, with ports of its own."""
@@ -350,6 +349,8 @@ def trials(folder, only=lambda trial: True):
     for before, name, sends in REQUESTS:
         found.append(Trial(len(found), folder, offices[before], Order(name, None, sends)))
     found.append(Trial(len(found), folder, offices[-1], Order(["copy", COPY])))
+    if found[-1].states[-1] != (rows(offices[-1]),) * 2:
+        raise Wrong("a copy has other rows than its office")
     found.append(Trial(len(found), folder, offices[SCRIPTED[0]], Order(*REPLAY)))
     if found[-1].states[-1] != left(offices[SCRIPTED[-1] + 1]):
         raise Wrong("a script leaves other rows than its orders, each given alone")
