@@ -18,14 +18,14 @@ mod declaration;
 mod fitness;
 mod line;
 mod opening;
-mod page;
 mod sheets;
 mod stage;
+mod texts;
 mod ward;
 
 pub use ballots::write_ballots;
 pub use declaration::write_declaration;
 pub use fitness::can_be_printed;
-pub use page::{ballots_text, declaration_text, sheet_text};
 pub use sheets::write_sheet;
+pub use texts::{ballots_text, declaration_text, sheet_text};
 pub use ward::{Poll, Ward};

@@ -17,12 +17,12 @@ use votes::{Broken, Sink};
 
 /// A sink in memory, which fails where its growth is refused.
 #[derive(Drop)]
-struct Page {
+struct InMemory {
     text: Vec<u8>,
     failed: u64,
 }
 
-impl Sink for Page {
+impl Sink for InMemory {
     ghost taken = { λ s. Some s.text.items };
 
     ghost failed = { λ s. s.failed };
@@ -49,7 +49,7 @@ pub fn sheet_text(alloc: Global, ward: &Ward, stages: &[Stage]) -> Result<String
     requires { CanBePrinted ward.now }
     ensures { IfOk result (λ text. string_bytes text ≡ sheet (shown ward.now) stages.now) }
 {
-    let mut page = Page {
+    let mut page = InMemory {
         text: Vec::new(alloc),
         failed: 0,
     };
@@ -66,7 +66,7 @@ pub fn declaration_text(alloc: Global, ward: &Ward, elected: Columns) -> Result<
     requires { CanBePrinted ward.now }
     ensures { IfOk result (λ text. string_bytes text ≡ declaration (shown ward.now) elected) }
 {
-    let mut page = Page {
+    let mut page = InMemory {
         text: Vec::new(alloc),
         failed: 0,
     };
@@ -88,7 +88,7 @@ pub fn ballots_text(
     requires { CanBePrinted ward.now }
     ensures { IfOk result (λ text. string_bytes text ≡ ballots (shown ward.now) bundles.now lots.now) }
 {
-    let mut page = Page {
+    let mut page = InMemory {
         text: Vec::new(alloc),
         failed: 0,
     };
