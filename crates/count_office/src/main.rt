@@ -162,7 +162,7 @@ fn copy<S: Alter, O: Sink, E: Sink>(
         }
         Err((error, left)) => {
             drop(left);
-            fresh.remove_empty(rt);
+            fresh.clear(rt);
             (tell_failure(failure_of(error), err), conn)
         }
     }
@@ -177,7 +177,7 @@ fn failure_of(error: sqlite::Error) -> Failure {
 }
 
 /// Copies the office over an opened connection to files that were made for the copy, and closes them. Where no copy was
-/// made they are removed while they are held; and where another program wrote to them before, they are its own.
+/// made they are removed while they are held; and where another program has made an office there before, it is left.
 fn fill<S: Alter, D: Disk + Drop, O: Sink, E: Sink>(
     rt: &HostRuntime,
     fresh: &Fresh,
@@ -190,8 +190,14 @@ fn fill<S: Alter, D: Disk + Drop, O: Sink, E: Sink>(
     requires err { E.failed err.old < 2 ^ 64 - 1 }
     ensures { OnlyReads (state S.Store conn.old) (state S.Store conn.new) }
 {
-    if !fresh.hold_none(rt) {
-        return tell_failure(Failure::CopyTaken, err);
+    match fresh.hold_none(rt) {
+        Ok(true) => {}
+        Ok(false) => return tell_failure(Failure::CopyTaken, err),
+        Err(_) => {
+            drop(made);
+            fresh.clear(rt);
+            return tell_failure(Failure::CopyFailed, err);
+        }
     }
     let (status, is_made) = copy_office(rt.alloc(), conn, &mut made, out, err);
     if !is_made {
