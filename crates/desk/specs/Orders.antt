@@ -93,6 +93,8 @@ orders =
     ∷ takes (codes "replay") (text (codes "FILE") ∷ [])
     ∷ takes (codes "copy") (text (codes "NEW") ∷ [])
     ∷ takes (codes "ballots") (number (codes "WARD") ∷ [])
+    ∷ takes (codes "page") (number (codes "WARD") ∷ [])
+    ∷ takes (codes "table") (number (codes "WARD") ∷ [])
     ∷ []
 
 -- a value of an order; a number that may be left out is none then, and a verdict is none where its word says none
@@ -139,6 +141,8 @@ told (order.Run (errand.TellStatus ward)) = (codes "status", numbered ward ∷ [
 told (order.Run (errand.Print ward ward_text.Sheet)) = (codes "sheet", numbered ward ∷ [])
 told (order.Run (errand.Print ward ward_text.Declaration)) = (codes "result", numbered ward ∷ [])
 told (order.Run (errand.Print ward ward_text.Ballots)) = (codes "ballots", numbered ward ∷ [])
+told (order.Run (errand.Print ward ward_text.Page)) = (codes "page", numbered ward ∷ [])
+told (order.Run (errand.Print ward ward_text.Table)) = (codes "table", numbered ward ∷ [])
 told (order.Run (errand.Ask question.Wards)) = (codes "wards", [])
 told (order.Run (errand.Ask (question.Batches ward))) = (codes "batches", numbered ward ∷ [])
 told (order.Run (errand.Ask (question.Doubtful ward))) = (codes "doubtful", numbered ward ∷ [])

@@ -277,6 +277,24 @@ fn ballots<'a>(matches: &ArgMatches<'a>) -> Order<'a>
     })
 }
 
+fn page<'a>(matches: &ArgMatches<'a>) -> Order<'a>
+    ensures { meaning_of (codes "page") (rows_of (found_of matches.now)) ≡ Some (told result) }
+{
+    Order::Run(Errand::Print {
+        ward: number_in(matches, WARD),
+        text: Text::Page,
+    })
+}
+
+fn table<'a>(matches: &ArgMatches<'a>) -> Order<'a>
+    ensures { meaning_of (codes "table") (rows_of (found_of matches.now)) ≡ Some (told result) }
+{
+    Order::Run(Errand::Print {
+        ward: number_in(matches, WARD),
+        text: Text::Table,
+    })
+}
+
 fn batches<'a>(matches: &ArgMatches<'a>) -> Order<'a>
     ensures { meaning_of (codes "batches") (rows_of (found_of matches.now)) ≡ Some (told result) }
 {
@@ -373,6 +391,8 @@ fn order_named<'a>(
         "replay" => Ok(replay(matches)),
         "copy" => Ok(copy(matches)),
         "ballots" => Ok(ballots(matches)),
+        "page" => Ok(page(matches)),
+        "table" => Ok(table(matches)),
         _ => Err(NoOrder::Unknown),
     }
 }

@@ -44,7 +44,7 @@ pub enum Errand<'a> {
     ImportKeying(KeyingFile<'a>),
     /// Tell how a ward stands.
     TellStatus { ward: u32 },
-    /// Print the stage sheet or the declaration of a ward.
+    /// Print a text of a ward.
     Print { ward: u32, text: Text },
     /// Tell how all stands.
     Ask(Question),

@@ -1,4 +1,4 @@
-//! The stage sheet, the declaration and the ballots of a ward, printed.
+//! The texts of a ward that people hold in their hands, printed.
 
 ghost use Rattle.sqlite.specs.Held.{state};
 ghost use Rattle.office.specs.Sheets.{text_told};
@@ -17,9 +17,9 @@ pub(crate) fn text_of<S: Alter>(office: &mut Office<S>, ward: u32, text: Text) -
     ensures same { OnlyReads (state S.Store office.old.held) (state S.Store office.new.held) }
 {
     let told = match text {
-        Text::Sheet => office.sheet(ward),
+        // it needs less than the others of what is kept
         Text::Declaration => office.result(ward),
-        Text::Ballots => office.ballots(ward),
+        _ => office.text(ward, text),
     };
     match told {
         Ok(text) => Outcome::Printed(text),

@@ -181,9 +181,9 @@ pub(crate) const ID: Word = Word {
     help: "An id that you choose for this order, 1 to 40 of a-z, 0-9 and -;\nsent again under the same id, it does nothing twice",
 };
 
-/// All orders, in the sequence of an election; then the one that brings an older office over, and those for the office
-/// alone.
-const ORDERS: [Entry; 28] = [
+/// All orders, in the sequence of an election; then the one that brings an older office over, those for the office
+/// alone, and those for everyone.
+const ORDERS: [Entry; 30] = [
     Entry {
         name: "init",
         words: &[],
@@ -350,6 +350,18 @@ const ORDERS: [Entry; 28] = [
         name: "ballots",
         words: &[WARD],
         help: "Prints the ballots of a sealed ward, in a form that counting programs read:\ncount-office town.db ballots 7",
+        heading: Heading::Everyone,
+    },
+    Entry {
+        name: "page",
+        words: &[WARD],
+        help: "Prints the result of a sealed ward as a page for a browser, to print and sign:\ncount-office town.db page 7",
+        heading: Heading::Everyone,
+    },
+    Entry {
+        name: "table",
+        words: &[WARD],
+        help: "Prints the stages of a sealed ward as a table for a spreadsheet:\ncount-office town.db table 7",
         heading: Heading::Everyone,
     },
 ];

@@ -36,8 +36,10 @@ const END_OF_HELP: &str =
   replay FILE        Sends the orders of a text file, a line each, up to a refusal
   copy NEW           Makes a copy of the office, in a file that isn't there yet
 
-For everyone who wants to check a count, once the ward is sealed:
+For everyone who wants to see or check a count, once the ward is sealed:
   ballots WARD       Its ballots, in a form that counting programs read (BLT)
+  page WARD          Its result as a page for a browser, to print and sign (HTML)
+  table WARD         Its stages as a table for a spreadsheet (CSV)
 
 An example stands under each order. Its words, with their ranges, are shown by
   count-office DB ORDER --help

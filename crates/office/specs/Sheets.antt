@@ -1,4 +1,4 @@
--- The stage sheet, the declaration and the ballots of a ward, as the state has them.
+-- The texts of a ward that people hold in their hands, as the state has them.
 use Rattle.std.specs.Prelude.{◌≡◌, ◌≤◌, ◌⊎◌, ⊤, ℕ, Bool, false, true, if◌then◌else◌, List, [], map, length, reverse, Option, Some, None, Result, Ok, Err}
 use Rattle.std.specs.List.{list_all}
 use Rattle.votes.specs.Units.{max_seats, max_papers}
@@ -7,8 +7,11 @@ use Rattle.count.specs.Law.Contest.{IsContest}
 use Rattle.sheet.specs.declared.ward.Poll.{Poll}
 use Rattle.sheet.specs.Entries.{SheetEntry}
 use Rattle.count.specs.Bundles.{Bundle, bundled}
+use Rattle.count.specs.declared.stages.Stage.{Stage}
 use Rattle.sheet.specs.Sheet.{sheet, declaration}
 use Rattle.sheet.specs.Ballots.{ballots}
+use Rattle.sheet.specs.Page.{page}
+use Rattle.sheet.specs.Spreadsheet.{spreadsheet}
 use Rattle.register.specs.declared.phase.Phase.{Phase}
 use Rattle.register.specs.declared.refusal.Reason.{Reason}
 use Rattle.register.specs.declared.refusal.Reason.TheVariants.{NumberOutOfRange, NoSuchWard, WrongPhase}
@@ -16,7 +19,7 @@ use Rattle.tables.specs.declared.fault.Fault.TheVariants.{Memory, Store}
 use Rattle.office.specs.declared.answers.Stop.{Stop}
 use Rattle.office.specs.declared.answers.Stop.TheVariants.{Refused, Fault as Failed}
 use Rattle.office.specs.declared.sheets.Text.{Text}
-use Rattle.office.specs.declared.sheets.Text.TheVariants.{Sheet, Declaration, Ballots}
+use Rattle.office.specs.declared.sheets.Text.TheVariants.{Sheet, Declaration, Ballots, Page, Table}
 use Rattle.register.specs.Ranges.{last_ward, is_ward_number, is_candidate_number}
 use Rattle.register.specs.Offices.{WardEntry, CandidateEntry, OfficeState, ward_at}
 use Rattle.register.specs.Elections.{ElectionEntry, election_of, has_count, contest_of, stages_of, elected_of, is_counted, is_declared}
@@ -65,10 +68,15 @@ sheet_of e = sheet (election_shown e) (reverse (stages_of e))
 abbrev pub declaration_of : ElectionEntry → List ℕ
 declaration_of e = declaration (election_shown e) (elected_of e)
 
--- the bundles of equal valid papers of a contested ward, and the lots that are recorded in its count
+-- the stages of a contested ward that are done, from the first on
+abbrev pub stages_shown : ElectionEntry → List Stage
+stages_shown e = if has_count e then reverse (stages_of e) else []
+
+-- the bundles of its equal valid papers
 abbrev pub bundles_shown : ElectionEntry → List Bundle
 bundles_shown e = if has_count e then bundled e.ballots.papers else []
 
+-- the lots that are recorded in its count
 abbrev pub lots_shown : ElectionEntry → List (ℕ × ℕ)
 lots_shown e = if has_count e then e.lots else []
 
@@ -76,24 +84,36 @@ lots_shown e = if has_count e then e.lots else []
 abbrev pub ballots_of : ElectionEntry → List ℕ
 ballots_of e = ballots (election_shown e) (bundles_shown e) (lots_shown e)
 
+-- the result as a page to print and sign, where declared; before, how far the count is
+abbrev pub result_page_of : ElectionEntry → List ℕ
+result_page_of e = page (election_shown e) (is_declared e.ward.phase) (stages_shown e) (lots_shown e)
+
+-- the stages as a table for a spreadsheet
+abbrev pub table_of : ElectionEntry → List ℕ
+table_of e = spreadsheet (election_shown e) (stages_shown e)
+
 -- which text is told once the ward is in which phase
 abbrev pub is_told_in : Text → Phase → Bool
 is_told_in Sheet phase = is_counted phase
 is_told_in Declaration phase = is_declared phase
 is_told_in Ballots phase = is_counted phase
+is_told_in Page phase = is_counted phase
+is_told_in Table phase = is_counted phase
 
 -- the text of an election
 abbrev pub text_shown : Text → ElectionEntry → List ℕ
 text_shown Sheet e = sheet_of e
 text_shown Declaration e = declaration_of e
 text_shown Ballots e = ballots_of e
+text_shown Page e = result_page_of e
+text_shown Table e = table_of e
 
 -- the text of the ward that was found
 abbrev pub text_found : Text → OfficeState → Option WardEntry → Result (List ℕ) Reason
 text_found text s None = Err NoSuchWard
 text_found text s (Some w) = if is_told_in text w.phase then Ok (text_shown text (election_of s w)) else Err WrongPhase
 
--- what is told where a text of the ward of a number is asked for: the stage sheet and the ballots once it is sealed, the declaration once it is declared
+-- what is told where a text of the ward of a number is asked for: the declaration once it is declared, each other once it is sealed
 abbrev pub text_told : Text → OfficeState → ℕ → Result (List ℕ) Reason
 text_told text s ward = if is_ward_number ward then text_found text s (ward_at s ward) else Err NumberOutOfRange
 

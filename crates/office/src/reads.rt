@@ -14,7 +14,7 @@ ghost use Rattle.office.specs.Sheets.{is_told_in, text_shown, text_told, StopsTe
 
 use crate::answers::Stop;
 use crate::offices::Office;
-use crate::sheets::{Text, ballots, declaration, stage_sheet, texts_are_there};
+use crate::sheets::{Text, declaration, text_of, texts_are_there};
 use paper::Columns;
 use register::ranges::{is_batch_number, is_clerk, is_ward_number};
 use register::{CountedWard, Reason, Refusal, Status, WardSheet, Work};
@@ -147,27 +147,17 @@ impl<S: Alter> Office<S> {
         ensures cause { WhenOpenAt (state S.Store) self.old self.new (λ s. IfErr result (StopsBy (state S.Store self.old.held) (state S.Store self.new.held))) }
         ensures closed { self.old.closed ≡ true → (result ≡ Err (Stop.Fault Fault.Closed)) × (self.new ≡ self.old) }
     {
-        self.text_at(ward, Text::Sheet)
+        self.text(ward, Text::Sheet)
     }
 
-    /// The ballots of a ward, as a file that counting programs share: its bundles of equal valid papers, its
-    /// rejected papers by code, and its lots. Of an uncontested ward its seats and candidates.
+    /// A text of a ward, from what its stage sheet is written from: of its papers and of the stages that are done, no
+    /// more. The ballots of an uncontested ward tell its seats and candidates.
     ///
-    /// Refused, and stopped, as the stage sheet is.
-    pub fn ballots(&mut self, ward: u32) -> Result<String, Stop>
-        ensures reads { WhenOpenAt (state S.Store) self.old self.new
-            (λ s. Read string_bytes s (text_told Text.Ballots s ward) result self.new.closed (state S.Store self.new.held)) }
-        ensures same { OnlyReads (state S.Store self.old.held) (state S.Store self.new.held) }
-        ensures closes { IfErr result (ClosesAt self.new.closed) }
-        ensures cause { WhenOpenAt (state S.Store) self.old self.new (λ s. IfErr result (StopsBy (state S.Store self.old.held) (state S.Store self.new.held))) }
-        ensures closed { self.old.closed ≡ true → (result ≡ Err (Stop.Fault Fault.Closed)) × (self.new ≡ self.old) }
-    {
-        self.text_at(ward, Text::Ballots)
-    }
-
-    /// A text of a ward, from what its stage sheet is written from.
+    /// Refused where the number is outside 1 to 99, no ward has it, or the text isn't told yet: the declaration before
+    /// the ward is declared, any other before it is sealed. Nothing is changed. `Memory` leaves the office open; any
+    /// other fault closes it. A closed office tells `Closed`.
     #[tactic(auto, using(crate::proofs::StopLemmas::stops_of_memory))]
-    fn text_at(&mut self, ward: u32, text: Text) -> Result<String, Stop>
+    pub fn text(&mut self, ward: u32, text: Text) -> Result<String, Stop>
         ensures reads { WhenOpenAt (state S.Store) self.old self.new
             (λ s. Read string_bytes s (text_told text s ward) result self.new.closed (state S.Store self.new.held)) }
         ensures same { OnlyReads (state S.Store self.old.held) (state S.Store self.new.held) }
@@ -180,7 +170,7 @@ impl<S: Alter> Office<S> {
         }
         texts_are_there();
         match self.store.load_sheet(ward) {
-            Ok(Some(sheet)) => self.text_of(&sheet, text),
+            Ok(Some(sheet)) => self.read_text(&sheet, text),
             Ok(None) => Err(refused(self.alloc, Reason::NoSuchWard)),
             Err(fault) => Err(self.stopped_by(fault)),
         }
@@ -229,7 +219,7 @@ impl<S: Alter> Office<S> {
 
     /// A text of a ward that was read. Only want of memory fails it where the ward's texts can be written, as
     /// those of each ward of an office can.
-    fn text_of(&mut self, sheet: &WardSheet, text: Text) -> Result<String, Stop>
+    fn read_text(&mut self, sheet: &WardSheet, text: Text) -> Result<String, Stop>
         ensures told { IfOk result (λ told. (is_told_in text sheet.now.counted.ward.phase ≡ true) × ((e : ElectionEntry) → IsSheetOf e sheet.now → string_bytes told ≡ text_shown text e)) }
         ensures stopped { self.old.closed ≡ false → IfErr result (λ stop. StopsText text sheet.now.counted.ward.phase self.new.closed stop) }
         ensures closes { IfErr result (ClosesAt self.new.closed) }
@@ -240,11 +230,7 @@ impl<S: Alter> Office<S> {
         if !text.is_told_in(sheet.counted.ward.phase) {
             return Err(refused(self.alloc, Reason::WrongPhase));
         }
-        let written = match text {
-            Text::Sheet => stage_sheet(self.alloc, sheet),
-            Text::Declaration => declaration(self.alloc, &sheet.counted),
-            Text::Ballots => ballots(self.alloc, sheet),
-        };
+        let written = text_of(self.alloc, sheet, text);
         self.told(written)
     }
 

@@ -1,20 +1,23 @@
-//! The stage sheet, the declaration and the ballots of a ward, written from its election.
+//! The texts of a ward that people hold in their hands, written from its election.
 
-ghost use Rattle.std.specs.Prelude.{◌≡◌, [], true, map, reverse, Some, IfOk, IfSome, IsSome, string_bytes};
+ghost use Rattle.std.specs.Prelude.{◌≡◌, [], true, map, Some, IfOk, IfSome, IsSome, string_bytes};
 ghost use Rattle.std.specs.List.{list_all};
 ghost use Rattle.register.specs.Ranges.{is_candidate_number};
 ghost use Rattle.register.specs.Offices.{WardEntry, OfficeState, ward_at, candidate_entry};
 ghost use Rattle.register.specs.Items.{IsState};
-ghost use Rattle.register.specs.Elections.{ElectionEntry, election_of, has_count, is_counted, stages_of as stages_done};
+ghost use Rattle.register.specs.Elections.{ElectionEntry, election_of, is_counted};
 ghost use Rattle.register.specs.Tabulated.{IsCountedWard, IsSheetOf};
 ghost use Rattle.sheet.specs.Entries.{shown};
 ghost use Rattle.sheet.specs.Wards.{HasFewPapers, CanBePrinted};
-ghost use Rattle.office.specs.Sheets.{is_numbered, IsTextual, candidate_shown, poll_shown, shown_with, sheet_of, declaration_of, ballots_of, bundles_shown, lots_shown, is_told_in};
+ghost use Rattle.office.specs.Sheets.{is_numbered, IsTextual, candidate_shown, poll_shown, shown_with, election_shown, declaration_of, stages_shown, bundles_shown, lots_shown, text_shown, is_told_in};
 
 use count::{Bundles, Stage};
 use register::marks::columns_of;
 use register::{Candidate, CountedWard, Phase, WardSheet};
-use sheet::{Poll, Ward, ballots_text, can_be_printed, declaration_text, sheet_text};
+use sheet::{
+    Poll, Ward, ballots_text, can_be_printed, declaration_text, page_text, sheet_text,
+    spreadsheet_text,
+};
 use std::alloc::{AllocError, Global};
 use store::elected_in;
 
@@ -35,17 +38,23 @@ pub enum Text {
     Declaration,
     /// The ballots as a file that counting programs share, once the ward is sealed.
     Ballots,
+    /// The result as a page to print and sign, once the ward is sealed.
+    Page,
+    /// The stages as a table for a spreadsheet, once the ward is sealed.
+    Table,
 }
 
 impl Text {
     /// Whether the text is told in a phase.
     pub(crate) fn is_told_in(self, phase: Phase) -> bool
-        ensures { result ≡ is_told_in self phase }
+        ensures is { result ≡ is_told_in self phase }
+        ensures counted { result ≡ true → is_counted phase ≡ true }
     {
         match self {
-            Text::Sheet => matches!(phase, Phase::Sealed | Phase::Declared),
             Text::Declaration => matches!(phase, Phase::Declared),
-            Text::Ballots => matches!(phase, Phase::Sealed | Phase::Declared),
+            Text::Sheet | Text::Ballots | Text::Page | Text::Table => {
+                matches!(phase, Phase::Sealed | Phase::Declared)
+            }
         }
     }
 }
@@ -127,7 +136,7 @@ fn ward_of<'a>(
 
 /// The stages of a ward's count that are done; of an uncontested ward none.
 fn stages_of(counted: &CountedWard) -> &[Stage]
-    ensures { (e : ElectionEntry) → IsCountedWard e counted.now → has_count e ≡ true → is_counted e.ward.phase ≡ true → result.now ≡ reverse (stages_done e) }
+    ensures { (e : ElectionEntry) → IsCountedWard e counted.now → is_counted e.ward.phase ≡ true → result.now ≡ stages_shown e }
 {
     match &counted.count {
         Some(count) => count.kept.stages(),
@@ -156,27 +165,38 @@ fn lots_of(counted: &CountedWard) -> &[(u8, u8)]
     }
 }
 
-/// The ballots of a ward as a file that counting programs share; none of rows that no office has. An error is
-/// want of memory.
-pub(crate) fn ballots(alloc: Global, sheet: &WardSheet) -> Result<Option<String>, AllocError>
-    ensures is { IfOk result (λ found. IfSome found (λ text. (e : ElectionEntry) → IsSheetOf e sheet.now → is_counted e.ward.phase ≡ true → string_bytes text ≡ ballots_of e)) }
-    ensures some { IfOk result (λ found. (e : ElectionEntry) → IsSheetOf e sheet.now → is_counted e.ward.phase ≡ true → IsTextual e → IsSome found) }
+/// A text of a ward that was read, as it is shown.
+fn written(
+    alloc: Global,
+    counted: &CountedWard,
+    ward: &Ward,
+    text: Text,
+) -> Result<String, AllocError>
+    requires { CanBePrinted ward.now }
+    ensures { IfOk result (λ told. (e : ElectionEntry) → IsCountedWard e counted.now → is_counted e.ward.phase ≡ true → shown ward.now ≡ election_shown e → string_bytes told ≡ text_shown text e) }
 {
-    let counted = &sheet.counted;
-    let Some(candidates) = candidate_lines(alloc, &counted.candidates)? else {
-        return Ok(None);
-    };
-    let Some(ward) = ward_of(counted, &candidates, poll_of(sheet)) else {
-        return Ok(None);
-    };
-    let none = Bundles::new(alloc);
-    Ok(Some(ballots_text(alloc, &ward, bundles_of(counted, &none), lots_of(counted))?))
+    match text {
+        Text::Sheet => sheet_text(alloc, ward, stages_of(counted)),
+        Text::Declaration => declaration_text(alloc, ward, elected_in(counted)),
+        Text::Ballots => {
+            let none = Bundles::new(alloc);
+            ballots_text(alloc, ward, bundles_of(counted, &none), lots_of(counted))
+        }
+        Text::Page => {
+            let is_declared = Text::Declaration.is_told_in(counted.ward.phase);
+            page_text(alloc, ward, is_declared, stages_of(counted), lots_of(counted))
+        }
+        Text::Table => spreadsheet_text(alloc, ward, stages_of(counted)),
+    }
 }
 
-/// The stage sheet of a ward, of the stages that are done; none of rows that no office has. An error is want
-/// of memory.
-pub(crate) fn stage_sheet(alloc: Global, sheet: &WardSheet) -> Result<Option<String>, AllocError>
-    ensures is { IfOk result (λ found. IfSome found (λ text. (e : ElectionEntry) → IsSheetOf e sheet.now → is_counted e.ward.phase ≡ true → string_bytes text ≡ sheet_of e)) }
+/// A text of a ward, of the stages that are done; none of rows that no office has. An error is want of memory.
+pub(crate) fn text_of(
+    alloc: Global,
+    sheet: &WardSheet,
+    text: Text,
+) -> Result<Option<String>, AllocError>
+    ensures is { IfOk result (λ found. IfSome found (λ told. (e : ElectionEntry) → IsSheetOf e sheet.now → is_counted e.ward.phase ≡ true → string_bytes told ≡ text_shown text e)) }
     ensures some { IfOk result (λ found. (e : ElectionEntry) → IsSheetOf e sheet.now → is_counted e.ward.phase ≡ true → IsTextual e → IsSome found) }
 {
     let counted = &sheet.counted;
@@ -186,7 +206,7 @@ pub(crate) fn stage_sheet(alloc: Global, sheet: &WardSheet) -> Result<Option<Str
     let Some(ward) = ward_of(counted, &candidates, poll_of(sheet)) else {
         return Ok(None);
     };
-    Ok(Some(sheet_text(alloc, &ward, stages_of(counted))?))
+    Ok(Some(written(alloc, counted, &ward, text)?))
 }
 
 /// The declaration of a ward, by who is elected; none of rows that no office has. An error is want of memory.

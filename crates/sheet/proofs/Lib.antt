@@ -1,9 +1,11 @@
 -- What the proofs of the writers share.
 pub mod Candidates
-pub mod Texts
+pub mod Joined
 pub mod Writing
 pub mod StageTexts
 pub mod Utf8
+pub mod Escaping
 pub mod Quoted
+pub mod Rows
 pub mod Withdrawn
 pub mod Bundles

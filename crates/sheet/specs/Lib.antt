@@ -7,3 +7,5 @@ pub mod Entries
 pub mod Stages
 pub mod Sheet
 pub mod Ballots
+pub mod Page
+pub mod Spreadsheet

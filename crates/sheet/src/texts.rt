@@ -3,6 +3,7 @@
 ghost use Rattle.std.specs.Prelude.{◌≡◌, Some, IfOk, string_bytes};
 ghost use Rattle.sheet.specs.Entries.{shown};
 ghost use Rattle.sheet.specs.Ballots.{ballots};
+ghost use Rattle.sheet.specs.Page.{page as page_of};
 ghost use Rattle.sheet.specs.Sheet.{sheet, declaration};
 ghost use Rattle.sheet.specs.Wards.{CanBePrinted};
 
@@ -96,4 +97,18 @@ pub fn ballots_text(
         return Err(AllocError);
     }
     Ok(String::from_utf8(page.text).unwrap())
+}
+
+/// The page of a ward (stub).
+pub fn page_text(
+    alloc: Global,
+    ward: &Ward,
+    is_declared: bool,
+    stages: &[Stage],
+    lots: &[(u8, u8)],
+) -> Result<String, AllocError>
+    requires { CanBePrinted ward.now }
+    ensures { IfOk result (λ text. string_bytes text ≡ page_of (shown ward.now) is_declared stages.now lots.now) }
+{
+    sheet_text(alloc, ward, stages)
 }

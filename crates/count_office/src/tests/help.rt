@@ -71,8 +71,10 @@ For the office alone. The first five change nothing, and no clerk is to see what
   replay FILE        Sends the orders of a text file, a line each, up to a refusal
   copy NEW           Makes a copy of the office, in a file that isn't there yet
 
-For everyone who wants to check a count, once the ward is sealed:
+For everyone who wants to see or check a count, once the ward is sealed:
   ballots WARD       Its ballots, in a form that counting programs read (BLT)
+  page WARD          Its result as a page for a browser, to print and sign (HTML)
+  table WARD         Its stages as a table for a spreadsheet (CSV)
 
 An example stands under each order. Its words, with their ranges, are shown by
   count-office DB ORDER --help
@@ -230,6 +232,16 @@ Arguments:
   <NEW>  The path of the copy; there must be nothing at it yet
 $ ballots --help
 Usage: count-office DB ballots <WARD>
+
+Arguments:
+  <WARD>  The ward's number, 1 to 99
+$ page --help
+Usage: count-office DB page <WARD>
+
+Arguments:
+  <WARD>  The ward's number, 1 to 99
+$ table --help
+Usage: count-office DB table <WARD>
 
 Arguments:
   <WARD>  The ward's number, 1 to 99

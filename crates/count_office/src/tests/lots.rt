@@ -56,6 +56,10 @@ $ sheet 0
 1| refused 3: number out of range
 $ ballots 7
 1| refused 9: wrong phase
+$ page 7
+1| refused 9: wrong phase
+$ table 7
+1| refused 9: wrong phase
 $ ballots 9
 1| refused 5: no such ward
 $ ballots 0

@@ -76,6 +76,10 @@ $ copy evening.db
 Copy { path: "evening.db" }
 $ ballots 7
 Run(Print { ward: 7, text: Ballots })
+$ page 7
+Run(Print { ward: 7, text: Page })
+$ table 7
+Run(Print { ward: 7, text: Table })
 "#;
 
 /// Words with spaces, and without a letter.

@@ -1,0 +1,111 @@
+-- The stages of a ward as a table for a spreadsheet (CSV): a row a candidate, and four columns a stage.
+use Rattle.std.specs.Prelude.{ℕ, ◌+◌, ◌-◌, Bool, ◌||◌, ◌==◌, if◌then◌else◌, nat_eq, List, [], ◌∷◌, ◌++◌, length, map, slice_get, codes, decimal, Option, Some, None, ⊤}
+use Rattle.std.specs.List.{flat_map, list_any}
+use Rattle.csv.specs.Writing.{default_writer, row_text}
+use Rattle.csv.specs.declared.writer.QuoteStyle.TheVariants as style
+use Rattle.csv.specs.declared.writer.WriterBuilder.{WriterBuilder}
+use Rattle.paper.specs.Columns.{IsColumn}
+use Rattle.votes.specs.Text.{votes_text}
+use Rattle.count.specs.Law.Contest.{votes_at}
+use Rattle.count.specs.declared.stages.Stage.{Stage}
+use Rattle.count.specs.declared.stages.Action.{Action}
+use Rattle.count.specs.declared.stages.Action.TheVariants.{First, Surplus, Exclude, ExcludeLast}
+use Rattle.sheet.specs.declared.spreadsheet.Line.{Line}
+use Rattle.sheet.specs.declared.spreadsheet.Line.TheVariants.{Candidate, NonTransferable, Lost}
+use Rattle.sheet.specs.Entries.{SheetEntry}
+use Rattle.sheet.specs.Stages.{is_elected_at, is_excluded_at}
+
+-- each cell stands in quotes, so that a cell is one whatever a spreadsheet takes for the end of a cell
+abbrev pub writer : WriterBuilder
+writer = record default_writer { style = style.Always }
+
+-- a byte with which a cell begins that a spreadsheet takes for a formula: `=`, `+`, `-`, `@`, and the first byte of the wide forms of these
+abbrev pub begins_formula : ℕ → Bool
+begins_formula byte = (byte == 61) || ((byte == 43) || ((byte == 45) || ((byte == 64) || (byte == 239))))
+
+-- a name as a cell that isn't taken for a formula: an apostrophe stands before such a byte
+abbrev pub name_cell : List ℕ → List ℕ
+name_cell [] = []
+name_cell (byte ∷ rest) = if begins_formula byte then codes "'" ++ byte ∷ rest else byte ∷ rest
+
+-- what is done at a stage
+abbrev pub action_text : Action → List ℕ
+action_text First = codes "first preferences"
+action_text (Surplus c) = codes "surplus of " ++ decimal c
+action_text (Exclude c) = codes "exclusion of " ++ decimal c
+action_text (ExcludeLast c) = codes "exclusion of " ++ (decimal c ++ codes ", last vacancies")
+
+-- the heads of the columns of the stage of a number: `Stage 2: surplus of 1`, `Stage 2 gained`, `Stage 2 lost`, `Stage 2 standing`
+abbrev pub heads_at : ℕ → Stage → List (List ℕ)
+heads_at k stage =
+    (codes "Stage " ++ (decimal k ++ (codes ": " ++ action_text stage.action))) ∷
+    (codes "Stage " ++ (decimal k ++ codes " gained")) ∷
+    (codes "Stage " ++ (decimal k ++ codes " lost")) ∷
+    (codes "Stage " ++ (decimal k ++ codes " standing")) ∷ []
+
+-- those of a stage after earlier ones
+abbrev pub stage_heads : List Stage → Stage → List (List ℕ)
+stage_heads earlier stage = heads_at (length earlier + 1) stage
+
+-- a line that is for a candidate has a number that a candidate may have
+abbrev pub IsForCandidate : Line → Type 0
+IsForCandidate (Candidate c) = IsColumn c
+IsForCandidate NonTransferable = ⊤
+IsForCandidate Lost = ⊤
+
+-- the value of a line at a stage, in units
+abbrev pub value_in : Line → Stage → ℕ
+value_in (Candidate c) stage = votes_at stage c
+value_in NonTransferable stage = stage.non_transferable
+value_in Lost stage = stage.lost
+
+-- its value at the last of some stages, none before the first
+abbrev pub value_after : Line → Option Stage → ℕ
+value_after line None = 0
+value_after line (Some stage) = value_in line stage
+
+abbrev pub value_before : Line → List Stage → ℕ
+value_before line earlier = value_after line (slice_get earlier (length earlier - 1))
+
+-- how a candidate stands once a stage is done
+abbrev pub standing : Line → List Stage → Stage → List ℕ
+standing (Candidate c) earlier stage =
+    if is_elected_at (stage ∷ earlier) c then codes "elected" else (
+    if is_excluded_at (stage ∷ earlier) c then codes "excluded" else codes "continuing")
+standing NonTransferable earlier stage = []
+standing Lost earlier stage = []
+
+-- the cells of a line at a stage: its value, what it gained and what it lost at that stage, and its standing
+abbrev pub stage_cells : Line → List Stage → Stage → List (List ℕ)
+stage_cells line earlier stage =
+    votes_text (value_in line stage) ∷
+    votes_text (value_in line stage - value_before line earlier) ∷
+    votes_text (value_before line earlier - value_in line stage) ∷
+    standing line earlier stage ∷ []
+
+-- cells stage by stage, after earlier ones
+abbrev pub of_stages : (List Stage → Stage → List (List ℕ)) → List Stage → List Stage → List (List ℕ)
+of_stages cells earlier [] = []
+of_stages cells earlier (stage ∷ later) = cells earlier stage ++ of_stages cells (earlier ++ stage ∷ []) later
+
+-- the row of heads
+abbrev pub head_row : List Stage → List (List ℕ)
+head_row stages = codes "candidate" ∷ codes "name" ∷ of_stages stage_heads [] stages
+
+-- a row: a candidate's number, his name, and his cells
+abbrev pub candidate_row : List Stage → (ℕ × List ℕ) → List (List ℕ)
+candidate_row stages candidate = decimal candidate.0 ∷ name_cell candidate.1 ∷ of_stages (stage_cells (Candidate candidate.0)) [] stages
+
+-- the row of a running sum
+abbrev pub sum_row : List Stage → Line → List ℕ → List (List ℕ)
+sum_row stages line what = [] ∷ what ∷ of_stages (stage_cells line) [] stages
+
+-- the rows, one below the other
+abbrev pub rows : SheetEntry → List Stage → List (List (List ℕ))
+rows ward stages =
+    head_row stages ∷ map (candidate_row stages) ward.candidates ++
+    sum_row stages NonTransferable (codes "non-transferable") ∷ sum_row stages Lost (codes "lost by fractions") ∷ []
+
+-- the table
+abbrev pub spreadsheet : SheetEntry → List Stage → List ℕ
+spreadsheet ward stages = flat_map (row_text writer) (rows ward stages)

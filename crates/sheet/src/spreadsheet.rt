@@ -1,0 +1,305 @@
+//! The stages of a ward as a table for a spreadsheet.
+
+ghost use Rattle.std.specs.Prelude.{◌≡◌, ◌+◌, ◌-◌, ◌++◌, [], ◌∷◌, map, string_bytes, IfOk, OnOk};
+ghost use Rattle.csv.specs.Writing.{row_text};
+ghost use Rattle.paper.specs.Columns.{IsColumn, IsColumnSet};
+ghost use Rattle.votes.specs.Text.{votes_text};
+ghost use Rattle.std.specs.List.{flat_map};
+ghost use Rattle.sheet.specs.Entries.{shown};
+ghost use Rattle.sheet.specs.Spreadsheet.{IsForCandidate, action_text as action_text_of, begins_formula as begins_formula_of, candidate_row as candidate_row_of, head_row as head_row_of, name_cell as name_cell_of, of_stages, stage_cells, stage_heads, standing as standing_of, sum_row as sum_row_of, spreadsheet, value_before as value_before_of, value_in as value_in_of, writer};
+ghost use Rattle.sheet.specs.Wards.{CanBePrinted};
+
+use crate::stage::{excludes, is_elected_at, is_excluded_at};
+use crate::ward::Ward;
+use count::{Action, Stage};
+use csv::{QuoteStyle, WriterBuilder};
+use std::alloc::{AllocError, Global};
+use votes::Votes;
+
+/// What a row of the table tells.
+#[derive(Clone, Copy)]
+enum Line {
+    /// The votes of the candidate of a number.
+    Candidate(u8),
+    /// The running sum of what is not transferable.
+    NonTransferable,
+    /// The running sum of what is lost by fractions.
+    Lost,
+}
+
+impl Line {
+    /// The value of the line at a stage.
+    fn value_in(self, stage: &Stage) -> Votes
+        requires { IsForCandidate self }
+        ensures { result ≡ value_in_of self stage.now }
+    {
+        match self {
+            Line::Candidate(c) => stage.votes[usize::from(c - 1)],
+            Line::NonTransferable => stage.non_transferable,
+            Line::Lost => stage.lost,
+        }
+    }
+
+    /// Its value at the last of some stages, none before the first.
+    fn value_before(self, earlier: &[Stage]) -> Votes
+        requires { IsForCandidate self }
+        ensures { result ≡ value_before_of self earlier.now }
+    {
+        match earlier.last() {
+            None => Votes::from_units(0),
+            Some(stage) => self.value_in(stage),
+        }
+    }
+
+    /// How a candidate stands once a stage is done.
+    fn standing(self, earlier: &[Stage], stage: &Stage) -> &'static str
+        ensures { result.now ≡ standing_of self earlier.now stage.now }
+    {
+        let Line::Candidate(c) = self else {
+            return "";
+        };
+        if stage.elected.has(c) || is_elected_at(earlier, c) {
+            return "elected";
+        }
+        if excludes(&stage.action, c) || is_excluded_at(earlier, c) {
+            return "excluded";
+        }
+        "continuing"
+    }
+}
+
+/// One value less another, and none where that is more.
+fn less(value: Votes, other: Votes) -> Votes
+    ensures { result ≡ value - other }
+{
+    Votes::from_units(value.units().saturating_sub(other.units()))
+}
+
+/// Adds a cell.
+fn push_text(alloc: Global, row: &mut Vec<String>, text: &str) -> Result<(), AllocError>
+    ensures { OnOk result (map string_bytes row.new.items ≡ map string_bytes row.old.items ++ text.now ∷ []) }
+{
+    row.push(String::from_str(alloc, text)?)?;
+    Ok(())
+}
+
+/// Adds the cell of a value.
+fn push_value(alloc: Global, row: &mut Vec<String>, value: Votes) -> Result<(), AllocError>
+    ensures { OnOk result (map string_bytes row.new.items ≡ map string_bytes row.old.items ++ votes_text value ∷ []) }
+{
+    row.push(format!(in alloc; "{value}")?)?;
+    Ok(())
+}
+
+/// Adds the cells of a line at a stage.
+fn push_cells(
+    alloc: Global,
+    row: &mut Vec<String>,
+    line: Line,
+    earlier: &[Stage],
+    stage: &Stage,
+) -> Result<(), AllocError>
+    requires { IsForCandidate line }
+    ensures { OnOk result (map string_bytes row.new.items ≡ map string_bytes row.old.items ++ stage_cells line earlier.now stage.now) }
+{
+    let value = line.value_in(stage);
+    let before = line.value_before(earlier);
+    push_value(alloc, row, value)?;
+    push_value(alloc, row, less(value, before))?;
+    push_value(alloc, row, less(before, value))?;
+    push_text(alloc, row, line.standing(earlier, stage))
+}
+
+/// Adds the cells of a line at all stages.
+fn push_all_cells(
+    alloc: Global,
+    row: &mut Vec<String>,
+    line: Line,
+    stages: &[Stage],
+) -> Result<(), AllocError>
+    requires { IsForCandidate line }
+    ensures { OnOk result (map string_bytes row.new.items ≡ map string_bytes row.old.items ++ of_stages (stage_cells line) [] stages.now) }
+{
+    for k in 0..stages.len() {
+        push_cells(alloc, row, line, &stages[..k], &stages[k])?;
+    }
+    Ok(())
+}
+
+/// What is done at a stage.
+fn action_text(alloc: Global, action: Action) -> Result<String, AllocError>
+    ensures { IfOk result (λ text. string_bytes text ≡ action_text_of action) }
+{
+    match action {
+        Action::First => String::from_str(alloc, "first preferences"),
+        Action::Surplus(c) => format!(in alloc; "surplus of {c}"),
+        Action::Exclude(c) => format!(in alloc; "exclusion of {c}"),
+        Action::ExcludeLast(c) => format!(in alloc; "exclusion of {c}, last vacancies"),
+    }
+}
+
+/// Adds the heads of a stage's columns.
+fn push_heads(
+    alloc: Global,
+    row: &mut Vec<String>,
+    earlier: &[Stage],
+    stage: &Stage,
+) -> Result<(), AllocError>
+    ensures { OnOk result (map string_bytes row.new.items ≡ map string_bytes row.old.items ++ stage_heads earlier.now stage.now) }
+{
+    let k = earlier.len() as u64 + 1;
+    let action = action_text(alloc, stage.action)?;
+    row.push(format!(in alloc; "Stage {k}: {action}")?)?;
+    row.push(format!(in alloc; "Stage {k} gained")?)?;
+    row.push(format!(in alloc; "Stage {k} lost")?)?;
+    row.push(format!(in alloc; "Stage {k} standing")?)?;
+    Ok(())
+}
+
+/// Adds the heads of all stages' columns.
+fn push_all_heads(
+    alloc: Global,
+    row: &mut Vec<String>,
+    stages: &[Stage],
+) -> Result<(), AllocError>
+    ensures { OnOk result (map string_bytes row.new.items ≡ map string_bytes row.old.items ++ of_stages stage_heads [] stages.now) }
+{
+    for k in 0..stages.len() {
+        push_heads(alloc, row, &stages[..k], &stages[k])?;
+    }
+    Ok(())
+}
+
+/// The row of heads.
+fn head_row(alloc: Global, stages: &[Stage]) -> Result<Vec<String>, AllocError>
+    ensures { IfOk result (λ row. map string_bytes row.items ≡ head_row_of stages.now) }
+{
+    let mut row = Vec::new(alloc);
+    push_text(alloc, &mut row, "candidate")?;
+    push_text(alloc, &mut row, "name")?;
+    push_all_heads(alloc, &mut row, stages)?;
+    Ok(row)
+}
+
+/// Whether a spreadsheet takes a cell for a formula that begins with a byte.
+fn begins_formula(byte: u8) -> bool
+    ensures { result ≡ begins_formula_of byte }
+{
+    byte == b'=' || byte == b'+' || byte == b'-' || byte == b'@' || byte == 0xEF
+}
+
+/// A name as a cell that isn't taken for a formula.
+fn name_cell(alloc: Global, name: &str) -> Result<String, AllocError>
+    ensures { IfOk result (λ cell. string_bytes cell ≡ name_cell_of name.now) }
+{
+    match name.as_bytes().first() {
+        Some(byte) if begins_formula(*byte) => format!(in alloc; "'{name}"),
+        _ => String::from_str(alloc, name),
+    }
+}
+
+/// The row of a candidate, by his number and his name.
+fn candidate_row(
+    alloc: Global,
+    stages: &[Stage],
+    candidate: &(u8, String),
+) -> Result<Vec<String>, AllocError>
+    requires { IsColumn candidate.now.0 }
+    ensures { IfOk result (λ row. map string_bytes row.items ≡ candidate_row_of stages.now (candidate.now.0, string_bytes candidate.now.1)) }
+{
+    let (c, name) = candidate;
+    let mut row = Vec::new(alloc);
+    row.push(format!(in alloc; "{c}")?)?;
+    row.push(name_cell(alloc, name.as_str())?)?;
+    push_all_cells(alloc, &mut row, Line::Candidate(*c), stages)?;
+    Ok(row)
+}
+
+/// The row of a running sum.
+fn sum_row(
+    alloc: Global,
+    stages: &[Stage],
+    line: Line,
+    what: &str,
+) -> Result<Vec<String>, AllocError>
+    requires { IsForCandidate line }
+    ensures { IfOk result (λ row. map string_bytes row.items ≡ sum_row_of stages.now line what.now) }
+{
+    let mut row = Vec::new(alloc);
+    push_text(alloc, &mut row, "")?;
+    push_text(alloc, &mut row, what)?;
+    push_all_cells(alloc, &mut row, line, stages)?;
+    Ok(row)
+}
+
+/// The cells of a row as bytes.
+fn fields_of<'a>(alloc: Global, row: &'a [String]) -> Result<Vec<&'a [u8]>, AllocError>
+    ensures { IfOk result (λ fields. map (λ field. field.now) fields.items ≡ map string_bytes row.now) }
+{
+    let mut fields = Vec::new(alloc);
+    for cell in row {
+        fields.push(cell.as_bytes())?;
+    }
+    Ok(fields)
+}
+
+/// The line of a row.
+fn line_of(alloc: Global, fields: &[&[u8]]) -> Result<Vec<u8>, csv::Error>
+    ensures { IfOk result (λ line. line.items ≡ row_text writer (map (λ field. field.now) fields.now)) }
+{
+    let mut line = WriterBuilder::new()
+        .quote_style(QuoteStyle::Always)
+        .from_writer(Vec::new(alloc));
+    line.write_fields(fields)?;
+    match line.into_inner() {
+        Ok(bytes) => Ok(bytes),
+        Err(error) => Err(error.into_error()),
+    }
+}
+
+/// Adds the line of a row. A writer in memory fails for want of it alone.
+#[tactic(auto, using(crate::proofs::Rows::rows))]
+fn push_row(alloc: Global, text: &mut String, row: &[String]) -> Result<(), AllocError>
+    ensures { OnOk result (string_bytes text.new ≡ string_bytes text.old ++ row_text writer (map string_bytes row.now)) }
+{
+    let fields = fields_of(alloc, row)?;
+    match line_of(alloc, &fields) {
+        Ok(line) => text.push_str(String::from_utf8(line).unwrap().as_str()),
+        Err(_) => Err(AllocError),
+    }
+}
+
+/// Adds the rows of all candidates.
+fn push_candidate_rows(
+    alloc: Global,
+    text: &mut String,
+    ward: &Ward,
+    stages: &[Stage],
+) -> Result<(), AllocError>
+    requires { IsColumnSet (map (λ candidate. candidate.0) ward.now.candidates.now) }
+    ensures { OnOk result (string_bytes text.new ≡ string_bytes text.old ++ flat_map (row_text writer) (map (candidate_row_of stages.now) (shown ward.now).candidates)) }
+{
+    for candidate in ward.candidates {
+        push_row(alloc, text, &candidate_row(alloc, stages, candidate)?)?;
+    }
+    Ok(())
+}
+
+/// The stages of a ward as a table for a spreadsheet, in comma-separated values: a row a candidate, each with his
+/// votes at each stage, what he gained and lost at it, and how he then stood; and below them the running sums. Of an
+/// uncontested ward no stage is told.
+///
+/// The only error is want of memory.
+pub fn spreadsheet_text(alloc: Global, ward: &Ward, stages: &[Stage]) -> Result<String, AllocError>
+    requires { CanBePrinted ward.now }
+    ensures { IfOk result (λ text. string_bytes text ≡ spreadsheet (shown ward.now) stages.now) }
+{
+    let mut text = String::new(alloc);
+    push_row(alloc, &mut text, &head_row(alloc, stages)?)?;
+    push_candidate_rows(alloc, &mut text, ward, stages)?;
+    let non_transferable = sum_row(alloc, stages, Line::NonTransferable, "non-transferable")?;
+    push_row(alloc, &mut text, &non_transferable)?;
+    let lost = sum_row(alloc, stages, Line::Lost, "lost by fractions")?;
+    push_row(alloc, &mut text, &lost)?;
+    Ok(text)
+}
