@@ -18,4 +18,6 @@ mod papers;
 #[cfg(test)]
 mod sheets;
 #[cfg(test)]
+mod tables;
+#[cfg(test)]
 mod values;

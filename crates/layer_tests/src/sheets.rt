@@ -39,7 +39,10 @@ Rejected 1: 1, 2: 20, 3: 300, 4: 4000, 5: 50000
 ";
 
 /// The candidates 1, 2, .. of these names.
-fn candidates_of(alloc: Global, names: &[&str]) -> Result<Vec<(u8, String)>, AllocError> {
+pub(crate) fn candidates_of(
+    alloc: Global,
+    names: &[&str],
+) -> Result<Vec<(u8, String)>, AllocError> {
     let mut candidates = Vec::new(alloc);
     for (c, name) in (1u8..).zip(names) {
         candidates.push((c, String::from_str(alloc, name)?))?;
@@ -48,7 +51,7 @@ fn candidates_of(alloc: Global, names: &[&str]) -> Result<Vec<(u8, String)>, All
 }
 
 /// A stage at which candidates 1, 2 and 3 have so many units.
-fn stage_of(action: Action, units: [u64; 3], elected: Columns, lost: u64) -> Stage {
+pub(crate) fn stage_of(action: Action, units: [u64; 3], elected: Columns, lost: u64) -> Stage {
     let mut votes = [Votes::from_units(0); 30];
     votes[0] = Votes::from_units(units[0]);
     votes[1] = Votes::from_units(units[1]);
