@@ -30,11 +30,14 @@ file thirteen.csv paper,1,2,3,4,5 1,,1,,2, 2,,1,,2, 3,,1,,2, 4,,1,,2, 5,,1,,2, 6
     play town.db judge 13 7 accept:,,,,1 --id j1
     play town.db advance 7 --id a1
     play town.db ballots 7
+    play town.db page 7
+    play town.db table 7
     play town.db seal 7 --id s1
 
     # the count, in which two surpluses are equal
     play town.db sheet 7
     play town.db ballots 7
+    play town.db table 7
     play town.db advance 7 --id a1
     play town.db advance 7 --id a1
     play town.db sheet 7
@@ -55,6 +58,8 @@ file thirteen.csv paper,1,2,3,4,5 1,,1,,2, 2,,1,,2, 3,,1,,2, 4,,1,,2, 5,,1,,2, 6
     play town.db declare 7 --id d1
     play town.db result 7
     play town.db ballots 7
+    play town.db table 7
+    play town.db page 7
     play town.db status 7
 
     # a ward with as many candidates as seats
@@ -63,6 +68,8 @@ file thirteen.csv paper,1,2,3,4,5 1,,1,,2, 2,,1,,2, 3,,1,,2, 4,,1,,2, 5,,1,,2, 6
     play town.db advance 8 --id a7
     play town.db sheet 8
     play town.db ballots 8
+    play town.db table 8
+    play town.db page 8
     play town.db declare 8 --id d2
     play town.db result 8
 } >"$folder/played"
