@@ -110,6 +110,8 @@ def measure(folder, count):
     timed(f"ward 8 2 Quay, all {stages} stages done", *idle)
     timed("sheet, all stages", "sheet", "7")
     timed("ballots, all stages", "ballots", "7")
+    timed("page, all stages", "page", "7")
+    timed("table, all stages", "table", "7")
     timed("declare", "declare", "7", "--id", "x")
     play(folder, town, "declare", "7", "--id", "declare")
     timed("result", "result", "7")

@@ -60,6 +60,19 @@ pub const SURPLUS_CUT_BY_FRACTIONS: &[Act] = &[
 Ward 7 Harbour
 Seats 2, valid 9, quota 4.00000
 Rejected 1: 0, 2: 0, 3: 0, 4: 0, 5: 0
+$ ballots 7
+3 2
+4 1 2 0
+2 1 3 0
+1 2 0
+2 3 0
+0
+\"Ann\"
+\"Bob\"
+\"Cy\"
+\"Harbour\"
+0| # Ward 7
+0| # Rejected 1: 0, 2: 0, 3: 0, 4: 0, 5: 0
 $ advance 7 --id n1
 ward 7 stage 1 first preferences
 $ sheet 7

@@ -286,6 +286,26 @@ $ result 7
 Ward 7 Harbour
 Elected
  1 Ann
+$ ballots 7
+3 1
+4 1 0
+2 2 0
+2 3 0
+0
+\"Ann\"
+\"Bob\"
+\"Cy\"
+\"Harbour\"
+0| # Ward 7
+0| # Rejected 1: 0, 2: 0, 3: 0, 4: 0, 5: 0
+0| # Lot at stage 2: 3
+$ table 7
+\"candidate\",\"name\",\"Stage 1: first preferences\",\"Stage 1 gained\",\"Stage 1 lost\",\"Stage 1 standing\",\"Stage 2: exclusion of 3\",\"Stage 2 gained\",\"Stage 2 lost\",\"Stage 2 standing\",\"Stage 3: exclusion of 2, last vacancies\",\"Stage 3 gained\",\"Stage 3 lost\",\"Stage 3 standing\"
+\"1\",\"Ann\",\"4.00000\",\"4.00000\",\"0.00000\",\"continuing\",\"4.00000\",\"0.00000\",\"0.00000\",\"continuing\",\"4.00000\",\"0.00000\",\"0.00000\",\"elected\"
+\"2\",\"Bob\",\"2.00000\",\"2.00000\",\"0.00000\",\"continuing\",\"2.00000\",\"0.00000\",\"0.00000\",\"continuing\",\"2.00000\",\"0.00000\",\"0.00000\",\"excluded\"
+\"3\",\"Cy\",\"2.00000\",\"2.00000\",\"0.00000\",\"continuing\",\"0.00000\",\"0.00000\",\"2.00000\",\"excluded\",\"0.00000\",\"0.00000\",\"0.00000\",\"excluded\"
+\"\",\"non-transferable\",\"0.00000\",\"0.00000\",\"0.00000\",\"\",\"2.00000\",\"2.00000\",\"0.00000\",\"\",\"2.00000\",\"0.00000\",\"0.00000\",\"\"
+\"\",\"lost by fractions\",\"0.00000\",\"0.00000\",\"0.00000\",\"\",\"0.00000\",\"0.00000\",\"0.00000\",\"\",\"0.00000\",\"0.00000\",\"0.00000\",\"\"
 $ status 7
 ward 7 declared: 3 candidates, 1 batches, 1 taken, 0 differing, 0 doubtful open, 3 stages
 ",
@@ -374,6 +394,17 @@ Stage 1: first preferences
  3       0.00000 - Cy
          0.00000 non-transferable
          0.00000 lost by fractions
+$ ballots 7
+3 1
+1 1 2 0
+1 1 3 0
+0
+\"Ann\"
+\"Bob\"
+\"Cy\"
+\"Harbour\"
+0| # Ward 7
+0| # Rejected 1: 1, 2: 1, 3: 1, 4: 1, 5: 1
 $ declare 7 --id d1
 ward 7 declared: 1
 ",
@@ -422,10 +453,19 @@ $ result 7
 Ward 7 Harbour
 Elected
  2 Bob
+$ ballots 7
+2 1
+0
+\"Ann\"
+\"Bob\"
+\"Harbour\"
+0| # Ward 7
+0| # Rejected 1: 0, 2: 0, 3: 0, 4: 0, 5: 0
+0| # Lot at stage 2: 1
 ",
 )];
 
-/// A ward with as many candidates as seats: nothing is counted.
+/// A ward with as many candidates as seats, since one withdrew: nothing is counted.
 const UNCONTESTED: &[Act] = &[Act::Typed(
     "$ init
 office ready
@@ -435,6 +475,10 @@ $ candidate 8 1 Dee --id c1
 candidate 1 of ward 8 added
 $ candidate 8 2 Eve --id c2
 candidate 2 of ward 8 added
+$ candidate 8 3 Fay --id c3
+candidate 3 of ward 8 added
+$ withdraw 8 2 --id x2
+candidate 2 of ward 8 withdrawn
 $ sheet 8
 1| refused 9: wrong phase
 $ close 8 --id n1
@@ -451,7 +495,7 @@ $ sheet 8
 Ward 8 Quay
 Seats 2, uncontested
 $ declare 8 --id d1
-ward 8 declared: 1, 2
+ward 8 declared: 1, 3
 $ sheet 8
 Ward 8 Quay
 Seats 2, uncontested
@@ -459,7 +503,16 @@ $ result 8
 Ward 8 Quay
 Elected
  1 Dee
- 2 Eve
+ 3 Fay
+$ ballots 8
+3 2
+-2
+0
+\"Dee\"
+\"withdrawn\"
+\"Fay\"
+\"Quay\"
+0| # Ward 8
 ",
 )];
 

@@ -20,8 +20,9 @@
 //! A line `$ ..` has the words behind DB, each parted from the next by one space; `# ..` statements, whatever is
 //! in the database; `@ ..` the clerk whose work is asked for. Lines `> ..` are what a client sends over HTTP, parted
 //! by line ends of its kind. Below stand the lines of the file that the words name (behind `<<` without the line's
-//! end, and `~` for a byte that is no UTF-8), those that go to the output, and, behind the status, those that go to
-//! the error output; of an answer over HTTP its status and its body alone.
+//! end, and `~` for a byte that is no UTF-8), those that go to the output (behind the status 0, where one begins as
+//! those above), and, behind another status, those that go to the error output; of an answer over HTTP its status
+//! and its body alone.
 
 use super::steps::{Case, Step};
 use std::alloc::{AllocError, Global};
@@ -90,6 +91,8 @@ impl<'a> Typed<'a> {
             self.add_bytes(alloc, piece.trim_start(), "")?;
         } else if let Some(row) = line.strip_prefix("< ") {
             self.add_bytes(alloc, row, "\n")?;
+        } else if let Some(told) = line.strip_prefix("0| ") {
+            add_line(&mut self.out, told)?;
         } else if let Some((status, told)) = line.split_once("| ") {
             self.status = status.parse()?;
             add_line(&mut self.err, told)?;
