@@ -1,6 +1,6 @@
 -- What the proofs of the writers share.
 pub mod Candidates
-pub mod Texts
+pub mod Joined
 pub mod Writing
 pub mod StageTexts
 pub mod Utf8

@@ -9,7 +9,7 @@ use Rattle.std.proofs.lemmas.Str.{IsUtf8-nil, IsUtf8-append}
 use Rattle.votes.specs.Streams.{AppendsBeginning}
 use Rattle.votes.proofs.Beginnings.{AppendsBeginning-front, AppendsBeginning-behind}
 use Rattle.sheet.specs.Writing.{Puts, Writes}
-use Rattle.sheet.proofs.Texts.{flat_map-take_more, flat_map-parted}
+use Rattle.sheet.proofs.Joined.{flat_map-take_more, flat_map-parted}
 
 module _ {W : Type 0} {taken : W → Option (List ℕ)} {failed : W → ℕ} {X E : Type 0} where
   -- bytes that were put, where they are a text

@@ -2,7 +2,7 @@
 use Rattle.std.proofs.Common.{codes}
 use Rattle.std.proofs.lemmas.List.{take_all}
 use Rattle.sheet.specs.Pieces.{piece_text}
-use Rattle.sheet.proofs.Texts.{line-map}
+use Rattle.sheet.proofs.Joined.{line-map}
 use Rattle.sheet.proofs.Writing.{Writes-none, Writes-then, Writes-front, Writes-item, Writes-item_cut}
 use Rattle.sheet.proofs.line.write_line.Goals as goal
 

@@ -1,5 +1,5 @@
 -- Why `write_piece` keeps its promise.
-use Rattle.sheet.proofs.Texts.{right_in_none}
+use Rattle.sheet.proofs.Joined.{right_in_none}
 use Rattle.sheet.proofs.line.write_piece.Goals as goal
 
 pub returns-in-Value : goal.returns-in-Value
