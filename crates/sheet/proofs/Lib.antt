@@ -7,3 +7,5 @@ pub mod Utf8
 pub mod Quoted
 pub mod Withdrawn
 pub mod Bundles
+pub mod EachAfter
+pub mod Places

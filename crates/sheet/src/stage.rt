@@ -42,14 +42,14 @@ fn write_heading<W: Sink>(sink: &mut W, k: u64, action: Action) -> Result<(), Br
 }
 
 /// Whether a candidate is newly elected at one of some stages.
-fn is_elected_at(stages: &[Stage], c: u8) -> bool
+pub fn is_elected_at(stages: &[Stage], c: u8) -> bool
     ensures { result ≡ is_elected_of stages.now c }
 {
     stages.iter().any(|stage| stage.elected.has(c))
 }
 
 /// Whether an action excludes a candidate.
-fn excludes(action: &Action, c: u8) -> bool
+pub fn excludes(action: &Action, c: u8) -> bool
     ensures { result ≡ excludes_of action.now c }
 {
     match action {
@@ -59,7 +59,7 @@ fn excludes(action: &Action, c: u8) -> bool
 }
 
 /// Whether a candidate is excluded at one of some stages.
-fn is_excluded_at(stages: &[Stage], c: u8) -> bool
+pub fn is_excluded_at(stages: &[Stage], c: u8) -> bool
     ensures { result ≡ is_excluded_of stages.now c }
 {
     stages.iter().any(|stage| excludes(&stage.action, c))
