@@ -4,8 +4,10 @@ pub mod Joined
 pub mod Writing
 pub mod StageTexts
 pub mod Utf8
-pub mod Escaping
+pub mod Bytewise
 pub mod Quoted
 pub mod Rows
 pub mod Withdrawn
 pub mod Bundles
+pub mod EachAfter
+pub mod Places

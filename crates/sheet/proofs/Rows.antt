@@ -7,7 +7,7 @@ use Rattle.std.proofs.lemmas.Str.{IsUtf8-append, IsUtf8-had, IsUtf8-nil}
 use Rattle.std.specs.declared.alloc.Global.{Global}
 use Rattle.csv.specs.Writing.{escaped, fields_text, field_text, is_blank, quoted, row_text}
 use Rattle.sheet.specs.Spreadsheet.{writer}
-use Rattle.sheet.proofs.Escaping.{ascii_then, IsUtf8-by_bytes}
+use Rattle.sheet.proofs.Bytewise.{ascii_then, IsUtf8-by_bytes}
 
 -- a quotation mark is written twice
 abbrev doubled : ℕ → List ℕ

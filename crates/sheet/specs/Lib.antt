@@ -1,4 +1,4 @@
--- What sheets and declarations are.
+-- What sheets, declarations, ballots and pages are.
 pub mod Lines
 pub mod Pieces
 pub mod Writing
@@ -7,5 +7,8 @@ pub mod Entries
 pub mod Stages
 pub mod Sheet
 pub mod Ballots
+pub mod Cells
+pub mod Picture
+pub mod Table
 pub mod Page
 pub mod Spreadsheet

@@ -34,3 +34,16 @@ escaped byte = if (byte == 34) || (byte == 92) then 92 ∷ byte ∷ [] else byte
 -- a text in quotation marks
 abbrev pub quoted : List ℕ → List ℕ
 quoted text = codes "\"" ++ flat_map escaped text ++ codes "\""
+
+-- a byte of a text on a page: the five bytes that could be markup (`&`, `<`, `>`, `"`, `'`) by their names, every other one as it is
+abbrev pub plain_byte : ℕ → List ℕ
+plain_byte byte =
+    if byte == 38 then codes "&amp;" else (
+    if byte == 60 then codes "&lt;" else (
+    if byte == 62 then codes "&gt;" else (
+    if byte == 34 then codes "&quot;" else (
+    if byte == 39 then codes "&#39;" else byte ∷ []))))
+
+-- a text on a page, never markup, whatever bytes it has
+abbrev pub plain : List ℕ → List ℕ
+plain text = flat_map plain_byte text

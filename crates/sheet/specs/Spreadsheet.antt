@@ -12,6 +12,7 @@ use Rattle.count.specs.declared.stages.Action.{Action}
 use Rattle.count.specs.declared.stages.Action.TheVariants.{First, Surplus, Exclude, ExcludeLast}
 use Rattle.sheet.specs.declared.spreadsheet.Line.{Line}
 use Rattle.sheet.specs.declared.spreadsheet.Line.TheVariants.{Candidate, NonTransferable, Lost}
+use Rattle.sheet.specs.Cells.{each_after}
 use Rattle.sheet.specs.Entries.{SheetEntry}
 use Rattle.sheet.specs.Stages.{is_elected_at, is_excluded_at}
 
@@ -83,22 +84,17 @@ stage_cells line earlier stage =
     votes_text (value_before line earlier - value_in line stage) ∷
     standing line earlier stage ∷ []
 
--- cells stage by stage, after earlier ones
-abbrev pub of_stages : (List Stage → Stage → List (List ℕ)) → List Stage → List Stage → List (List ℕ)
-of_stages cells earlier [] = []
-of_stages cells earlier (stage ∷ later) = cells earlier stage ++ of_stages cells (earlier ++ stage ∷ []) later
-
 -- the row of heads
 abbrev pub head_row : List Stage → List (List ℕ)
-head_row stages = codes "candidate" ∷ codes "name" ∷ of_stages stage_heads [] stages
+head_row stages = codes "candidate" ∷ codes "name" ∷ each_after stage_heads [] stages
 
 -- a row: a candidate's number, his name, and his cells
 abbrev pub candidate_row : List Stage → (ℕ × List ℕ) → List (List ℕ)
-candidate_row stages candidate = decimal candidate.0 ∷ name_cell candidate.1 ∷ of_stages (stage_cells (Candidate candidate.0)) [] stages
+candidate_row stages candidate = decimal candidate.0 ∷ name_cell candidate.1 ∷ each_after (stage_cells (Candidate candidate.0)) [] stages
 
 -- the row of a running sum
 abbrev pub sum_row : List Stage → Line → List ℕ → List (List ℕ)
-sum_row stages line what = [] ∷ what ∷ of_stages (stage_cells line) [] stages
+sum_row stages line what = [] ∷ what ∷ each_after (stage_cells line) [] stages
 
 -- the rows, one below the other
 abbrev pub rows : SheetEntry → List Stage → List (List (List ℕ))

@@ -3,7 +3,7 @@
 ghost use Rattle.std.specs.Prelude.{◌≡◌, ◌-◌, ◌^◌, ◌<◌, is_none, option_map};
 ghost use Rattle.count.specs.Bundles.{Bundle};
 ghost use Rattle.sheet.specs.Ballots.{ballots, bundle_line, comments, highest_number as highest_number_of, lot_comment, minus as minus_of, name_at as name_at_of, name_line, name_lines, papers_text, rejected_comment, size_line, ward_comment, withdrawn, withdrawn_line, withdrawn_number};
-ghost use Rattle.sheet.specs.Ballots.{numbers_of, end_line};
+ghost use Rattle.sheet.specs.Ballots.{numbers_of, end_line, name_or_withdrawn as name_or_withdrawn_of};
 ghost use Rattle.sheet.specs.Entries.{shown};
 ghost use Rattle.sheet.specs.Wards.{CanBePrinted};
 ghost use Rattle.sheet.specs.Writing.{Writes};
@@ -36,6 +36,16 @@ fn name_at<'a>(ward: &Ward<'a>, c: u8) -> Option<&'a str>
         }
     }
     None
+}
+
+/// The name of the candidate of a number, or that no candidate stands.
+pub fn name_or_withdrawn<'a>(ward: &Ward<'a>, c: u8) -> &'a str
+    ensures { result.now ≡ name_or_withdrawn_of (name_at_of (shown ward.now).candidates c) }
+{
+    match name_at(ward, c) {
+        None => "withdrawn",
+        Some(name) => name,
+    }
 }
 
 /// Whether no candidate has a number.
@@ -122,11 +132,7 @@ fn write_name_line<W: Sink>(sink: &mut W, ward: &Ward, c: u8) -> Result<(), Brok
     requires { W.failed sink.old < 2 ^ 64 - 1 }
     ensures { Writes W.taken W.failed sink.old sink.new (name_line (shown ward.now).candidates c) result }
 {
-    let name = match name_at(ward, c) {
-        None => "withdrawn",
-        Some(name) => name,
-    };
-    write_line(sink, &[Piece::Quoted(name)])
+    write_line(sink, &[Piece::Quoted(name_or_withdrawn(ward, c))])
 }
 
 /// Writes the names of all numbers.

@@ -14,19 +14,27 @@
 #![tactic(auto)]
 
 mod ballots;
+mod cells;
 mod declaration;
+mod elected;
+mod escaping;
 mod fitness;
 mod line;
+mod look;
 mod opening;
+mod page;
+mod picture;
 mod sheets;
 mod spreadsheet;
 mod stage;
+mod table;
 mod texts;
 mod ward;
 
 pub use ballots::write_ballots;
 pub use declaration::write_declaration;
 pub use fitness::can_be_printed;
+pub use page::write_page;
 pub use sheets::write_sheet;
 pub use spreadsheet::spreadsheet_text;
 pub use texts::{ballots_text, declaration_text, page_text, sheet_text};

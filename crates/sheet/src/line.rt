@@ -8,6 +8,7 @@ ghost use Rattle.sheet.specs.Lines.{line, number_column, right_in, preference, p
 ghost use Rattle.sheet.specs.Pieces.{piece_text};
 ghost use Rattle.sheet.specs.Writing.{Puts, Writes};
 
+use crate::escaping::write_plain;
 use itoa::Buffer;
 use votes::{Broken, Sink, Votes, put_all};
 
@@ -26,6 +27,8 @@ pub enum Piece<'a> {
     Preferences(&'a [u8]),
     /// A text in quotation marks.
     Quoted(&'a str),
+    /// A text on a page, never markup.
+    Escaped(&'a str),
 }
 
 /// Writes a text.
@@ -148,6 +151,7 @@ fn write_piece<W: Sink>(sink: &mut W, piece: &Piece) -> Result<(), Broken>
         Piece::ValueColumn(value) => write_value(sink, 13, *value),
         Piece::Preferences(list) => write_preferences(sink, list),
         Piece::Quoted(text) => write_quoted(sink, text),
+        Piece::Escaped(text) => write_plain(sink, text),
     }
 }
 

@@ -5,8 +5,9 @@ ghost use Rattle.csv.specs.Writing.{row_text};
 ghost use Rattle.paper.specs.Columns.{IsColumn, IsColumnSet};
 ghost use Rattle.votes.specs.Text.{votes_text};
 ghost use Rattle.std.specs.List.{flat_map};
+ghost use Rattle.sheet.specs.Cells.{each_after};
 ghost use Rattle.sheet.specs.Entries.{shown};
-ghost use Rattle.sheet.specs.Spreadsheet.{IsForCandidate, action_text as action_text_of, begins_formula as begins_formula_of, candidate_row as candidate_row_of, head_row as head_row_of, name_cell as name_cell_of, of_stages, stage_cells, stage_heads, standing as standing_of, sum_row as sum_row_of, spreadsheet, value_before as value_before_of, value_in as value_in_of, writer};
+ghost use Rattle.sheet.specs.Spreadsheet.{IsForCandidate, action_text as action_text_of, begins_formula as begins_formula_of, candidate_row as candidate_row_of, head_row as head_row_of, name_cell as name_cell_of, stage_cells, stage_heads, standing as standing_of, sum_row as sum_row_of, spreadsheet, value_before as value_before_of, value_in as value_in_of, writer};
 ghost use Rattle.sheet.specs.Wards.{CanBePrinted};
 
 use crate::stage::{excludes, is_elected_at, is_excluded_at};
@@ -118,7 +119,7 @@ fn push_all_cells(
     stages: &[Stage],
 ) -> Result<(), AllocError>
     requires { IsForCandidate line }
-    ensures { OnOk result (map string_bytes row.new.items ≡ map string_bytes row.old.items ++ of_stages (stage_cells line) [] stages.now) }
+    ensures { OnOk result (map string_bytes row.new.items ≡ map string_bytes row.old.items ++ each_after (stage_cells line) [] stages.now) }
 {
     for k in 0..stages.len() {
         push_cells(alloc, row, line, &stages[..k], &stages[k])?;
@@ -162,7 +163,7 @@ fn push_all_heads(
     row: &mut Vec<String>,
     stages: &[Stage],
 ) -> Result<(), AllocError>
-    ensures { OnOk result (map string_bytes row.new.items ≡ map string_bytes row.old.items ++ of_stages stage_heads [] stages.now) }
+    ensures { OnOk result (map string_bytes row.new.items ≡ map string_bytes row.old.items ++ each_after stage_heads [] stages.now) }
 {
     for k in 0..stages.len() {
         push_heads(alloc, row, &stages[..k], &stages[k])?;

@@ -1,14 +1,15 @@
-//! The stage sheet, the declaration and the ballots as texts in memory.
+//! The stage sheet, the declaration, the ballots and the page as texts in memory.
 
 ghost use Rattle.std.specs.Prelude.{◌≡◌, Some, IfOk, string_bytes};
 ghost use Rattle.sheet.specs.Entries.{shown};
 ghost use Rattle.sheet.specs.Ballots.{ballots};
-ghost use Rattle.sheet.specs.Page.{page as page_of};
+ghost use Rattle.sheet.specs.Page.{page};
 ghost use Rattle.sheet.specs.Sheet.{sheet, declaration};
 ghost use Rattle.sheet.specs.Wards.{CanBePrinted};
 
 use crate::ballots::write_ballots;
 use crate::declaration::write_declaration;
+use crate::page::write_page;
 use crate::sheets::write_sheet;
 use crate::ward::Ward;
 use count::{Bundles, Stage};
@@ -99,7 +100,9 @@ pub fn ballots_text(
     Ok(String::from_utf8(page.text).unwrap())
 }
 
-/// The page of a ward (stub).
+/// The page of a ward, as [`write_page`] writes it.
+///
+/// The only error is want of memory.
 pub fn page_text(
     alloc: Global,
     ward: &Ward,
@@ -108,7 +111,14 @@ pub fn page_text(
     lots: &[(u8, u8)],
 ) -> Result<String, AllocError>
     requires { CanBePrinted ward.now }
-    ensures { IfOk result (λ text. string_bytes text ≡ page_of (shown ward.now) is_declared stages.now lots.now) }
+    ensures { IfOk result (λ text. string_bytes text ≡ page (shown ward.now) is_declared stages.now lots.now) }
 {
-    sheet_text(alloc, ward, stages)
+    let mut page = InMemory {
+        text: Vec::new(alloc),
+        failed: 0,
+    };
+    if write_page(&mut page, ward, is_declared, stages, lots).is_err() {
+        return Err(AllocError);
+    }
+    Ok(String::from_utf8(page.text).unwrap())
 }

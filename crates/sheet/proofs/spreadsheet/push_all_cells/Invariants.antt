@@ -1,7 +1,8 @@
 -- What the loop of `push_all_cells` keeps.
 use Rattle.std.proofs.Common.{◌≡◌, ◌++◌, [], map, take, drop, string_bytes}
-use Rattle.sheet.specs.Spreadsheet.{of_stages, stage_cells}
+use Rattle.sheet.specs.Cells.{each_after}
+use Rattle.sheet.specs.Spreadsheet.{stage_cells}
 use Rattle.sheet.proofs.spreadsheet.push_all_cells.Given as goal
 
 abbrev pub invariant-loop-k : goal.invariant-loop-k
-invariant-loop-k l = map string_bytes l.row.items ++ of_stages (stage_cells l.line) (take l.k l.stages) (drop l.k l.stages) ≡ map string_bytes l.fn.row.items ++ of_stages (stage_cells l.line) [] l.stages
+invariant-loop-k l = map string_bytes l.row.items ++ each_after (stage_cells l.line) (take l.k l.stages) (drop l.k l.stages) ≡ map string_bytes l.fn.row.items ++ each_after (stage_cells l.line) [] l.stages

@@ -1,0 +1,11 @@
+-- What holds each time round the loop of `write_unopposed_items`.
+use Rattle.std.proofs.Common.{take, Ok, string_bytes}
+use Rattle.std.specs.List.{flat_map}
+use Rattle.votes.specs.declared.streams.Broken.{Broken}
+use Rattle.sheet.specs.Page.{unopposed_item}
+use Rattle.sheet.specs.Writing.{Writes}
+use Rattle.sheet.proofs.elected.write_unopposed_items.Given as goal
+
+abbrev pub invariant-loop-candidate : goal.invariant-loop-candidate
+invariant-loop-candidate g l =
+    Writes {E = Broken} g.W.Sink.taken g.W.Sink.failed l.fn.sink l.sink (flat_map (λ candidate. unopposed_item candidate.0 (string_bytes candidate.1)) (take l.candidate-index l.candidate-items)) (Ok (tt {0}))

@@ -1,0 +1,18 @@
+-- Why `write_page` keeps its promise.
+use Rattle.sheet.proofs.Writing.{Writes-then, Writes-failed, Writes-front}
+use Rattle.sheet.proofs.page.write_page.Goals as goal
+
+pub returns-in_err-write_page_head : goal.returns-in_err-write_page_head
+returns-in_err-write_page_head g c =
+    let r = c.from_residual.result in
+    let failure = c.from_residual.ensures.0 in
+    Writes-front _ r failure (Writes-front _ r failure (Writes-failed r failure c.in_err-write_page_head.ensures))
+
+pub returns-in_err-write_result : goal.returns-in_err-write_result
+returns-in_err-write_result g c =
+    let r = c.from_residual-in_err-write_result.result in
+    let failure = c.from_residual-in_err-write_result.ensures.0 in
+    Writes-front _ r failure (Writes-failed r failure (Writes-then _ c.in_ok-write_page_head.ensures c.in_err-write_result.ensures))
+
+pub returns : goal.returns
+returns g c = Writes-then _ (Writes-then _ c.in_ok-write_page_head.ensures c.in_ok-write_result.ensures) (rw c.foot.ensures at c.write_text.ensures)

@@ -1,0 +1,21 @@
+-- Why `write_stages_part` keeps its promise.
+use Rattle.std.proofs.Common.{◌≡◌, ◌==◌, true, false, length, sym, ◌∙◌}
+use Rattle.sheet.proofs.Writing.{Writes-then, Writes-failed, Writes-front}
+use Rattle.sheet.proofs.page.write_stages_part.Goals as goal
+
+pub returns-then-is_empty : goal.returns-then-is_empty
+returns-then-is_empty g c =
+    let e : (length c.args.stages.now == 0) ≡ true = sym c.is_empty.ensures ∙ c.if-is_empty.true in
+    rw e c.write_line.ensures
+
+pub returns-in_err-write_line : goal.returns-in_err-write_line
+returns-in_err-write_line g c =
+    let e : (length c.args.stages.now == 0) ≡ false = sym c.is_empty.ensures ∙ c.if-is_empty.false in
+    let r = c.from_residual.result in
+    let failure = c.from_residual.ensures.0 in
+    rw e (Writes-front _ r failure (Writes-failed r failure c.in_err-write_line.ensures))
+
+pub returns : goal.returns
+returns g c =
+    let e : (length c.args.stages.now == 0) ≡ false = sym c.is_empty.ensures ∙ c.if-is_empty.false in
+    rw e (Writes-then _ c.in_ok-write_line.ensures (rw c.scale_of.ensures at c.write_blocks.ensures))

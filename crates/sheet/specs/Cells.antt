@@ -1,0 +1,76 @@
+-- What a table or a picture on a page tells of a stage.
+use Rattle.std.specs.Prelude.{ℕ, ◌+◌, ◌-◌, ◌==◌, nat_lt, if◌then◌else◌, List, [], ◌∷◌, ◌++◌, length, take, drop, slice_get, codes, decimal, Option, Some, None}
+use Rattle.votes.specs.Text.{votes_text}
+use Rattle.count.specs.Law.Contest.{votes_at}
+use Rattle.count.specs.declared.stages.Stage.{Stage}
+use Rattle.count.specs.declared.stages.Action.{Action}
+use Rattle.count.specs.declared.stages.Action.TheVariants.{First, Surplus, Exclude, ExcludeLast}
+use Rattle.sheet.specs.Lines.{line}
+use Rattle.sheet.specs.Stages.{is_elected_at, is_excluded_at}
+use Rattle.sheet.specs.Picture.{bar, stage_name}
+use Rattle.sheet.specs.declared.cells.Cell.{Cell}
+use Rattle.sheet.specs.declared.cells.Cell.TheVariants.{Head, Candidate, NonTransferable, Lost, Above, Bar}
+
+-- the head of a column: the stage, and what is done at it
+abbrev pub column_head : ℕ → Action → List ℕ
+column_head k First = line (codes "<th scope=\"col\">Stage " ∷ decimal k ∷ codes "<br>first preferences</th>" ∷ [])
+column_head k (Surplus c) = line (codes "<th scope=\"col\">Stage " ∷ decimal k ∷ codes "<br>surplus of " ∷ decimal c ∷ codes "</th>" ∷ [])
+column_head k (Exclude c) = line (codes "<th scope=\"col\">Stage " ∷ decimal k ∷ codes "<br>exclusion of " ∷ decimal c ∷ codes "</th>" ∷ [])
+column_head k (ExcludeLast c) = line (codes "<th scope=\"col\">Stage " ∷ decimal k ∷ codes "<br>exclusion of " ∷ decimal c ∷ codes ", last vacancies</th>" ∷ [])
+
+-- a candidate's votes at a stage or, where there is none, others
+abbrev pub votes_or : ℕ → Option Stage → ℕ → ℕ
+votes_or others None c = others
+votes_or others (Some stage) c = votes_at stage c
+
+-- a candidate's votes before a stage; at the first one, those that he has at it
+abbrev pub votes_before : List Stage → Stage → ℕ → ℕ
+votes_before earlier stage c = votes_or (votes_at stage c) (slice_get earlier (length earlier - 1)) c
+
+-- where a candidate stands at a stage: in bold where that is new at it, small where it was so before
+abbrev pub standing : List Stage → Stage → ℕ → List ℕ
+standing earlier stage c =
+    if is_elected_at (stage ∷ []) c then codes " <b>elected</b>" else (
+    if is_elected_at earlier c then codes " <small>elected</small>" else (
+    if is_excluded_at (stage ∷ []) c then codes " <b>excluded</b>" else (
+    if is_excluded_at earlier c then codes " <small>excluded</small>" else [])))
+
+-- the sign of what was gained or lost
+abbrev pub sign : ℕ → ℕ → List ℕ
+sign before now = if nat_lt before now then codes " <i>+" else codes " <i>&minus;"
+
+-- how far two values are apart
+abbrev pub apart : ℕ → ℕ → ℕ
+apart before now = if nat_lt before now then now - before else before - now
+
+-- a candidate's votes, what he gained or lost where they changed, and where he stands
+abbrev pub votes_cell : ℕ → ℕ → List ℕ → List ℕ
+votes_cell before now stands =
+    if now == before then line (codes "<td>" ∷ votes_text now ∷ stands ∷ codes "</td>" ∷ [])
+    else line (codes "<td>" ∷ votes_text now ∷ sign before now ∷ votes_text (apart before now) ∷ codes "</i>" ∷ stands ∷ codes "</td>" ∷ [])
+
+-- a running sum
+abbrev pub sum_cell : ℕ → List ℕ
+sum_cell units = line (codes "<td>" ∷ votes_text units ∷ codes "</td>" ∷ [])
+
+-- what a cell tells of a stage after earlier ones
+abbrev pub cell_text : Cell → List Stage → Stage → List ℕ
+cell_text Head earlier stage = column_head (length earlier + 1) stage.action
+cell_text (Candidate c) earlier stage = votes_cell (votes_before earlier stage c) (votes_at stage c) (standing earlier stage c)
+cell_text NonTransferable earlier stage = sum_cell stage.non_transferable
+cell_text Lost earlier stage = sum_cell stage.lost
+cell_text Above earlier stage = stage_name (length earlier)
+cell_text (Bar c scale) earlier stage = bar scale (length earlier) (votes_before earlier stage c) (votes_at stage c)
+
+-- what there is of some stages, each after those before it
+abbrev pub each_after : {X : Type 0} → (List Stage → Stage → List X) → List Stage → List Stage → List X
+each_after text earlier [] = []
+each_after text earlier (stage ∷ later) = text earlier stage ++ each_after text (earlier ++ stage ∷ []) later
+
+-- the texts of the stages from a place on
+abbrev pub from_place : (List Stage → Stage → List ℕ) → ℕ → List Stage → List ℕ
+from_place text place stages = each_after text (take place stages) (drop place stages)
+
+-- a row: what stands at its beginning, a cell a stage from a place on, and its end
+abbrev pub row : List (List ℕ) → Cell → List ℕ → ℕ → List Stage → List ℕ
+row opening cell end place stages = line opening ++ from_place (cell_text cell) place stages ++ line (end ∷ [])

@@ -1,0 +1,215 @@
+//! What a table or a picture on a page tells of a stage.
+
+ghost use Rattle.std.specs.Prelude.{◌≡◌, ◌-◌, ◌^◌, ◌<◌, length, map};
+ghost use Rattle.count.specs.Law.Contest.{votes_at};
+ghost use Rattle.sheet.specs.Cells.{apart as apart_of, cell_text, column_head, from_place, row, sign as sign_of, standing as standing_of, sum_cell, votes_before as before_of, votes_cell};
+ghost use Rattle.sheet.specs.Pieces.{piece_text};
+ghost use Rattle.sheet.specs.Writing.{Writes};
+
+use crate::line::{Piece, write_line};
+use crate::picture::{Scale, write_bar, write_stage_name};
+use crate::stage::{excludes, is_elected_at, is_excluded_at};
+use count::{Action, Stage};
+use votes::{Broken, Sink, Votes};
+
+/// A cell of a row, which tells something of a stage.
+#[derive(Clone, Copy)]
+pub enum Cell {
+    /// The head of a table's column: the stage, and what is done at it.
+    Head,
+    /// A candidate's votes, what he gained or lost, and where he stands.
+    Candidate(u8),
+    /// The running sum of what isn't transferable.
+    NonTransferable,
+    /// The running sum of what fractions lost.
+    Lost,
+    /// The name of the stage, above its column in a picture.
+    Above,
+    /// A candidate's bar in a picture.
+    Bar(u8, Scale),
+}
+
+/// The votes of a candidate at a stage.
+fn votes_of(stage: &Stage, c: u8) -> Votes
+    ensures { result ≡ votes_at stage.now c }
+{
+    match stage.votes.get(usize::from(c.saturating_sub(1))) {
+        None => Votes::from_units(0),
+        Some(votes) => *votes,
+    }
+}
+
+/// The votes of a candidate before a stage; at the first one, those that he has at it.
+fn votes_before(earlier: &[Stage], stage: &Stage, c: u8) -> Votes
+    ensures { result ≡ before_of earlier.now stage.now c }
+{
+    match earlier.last() {
+        None => votes_of(stage, c),
+        Some(before) => votes_of(before, c),
+    }
+}
+
+/// Where a candidate stands at a stage, in words.
+fn standing(earlier: &[Stage], stage: &Stage, c: u8) -> &'static str
+    ensures { result.now ≡ standing_of earlier.now stage.now c }
+{
+    if stage.elected.has(c) {
+        return " <b>elected</b>";
+    }
+    if is_elected_at(earlier, c) {
+        return " <small>elected</small>";
+    }
+    if excludes(&stage.action, c) {
+        return " <b>excluded</b>";
+    }
+    if is_excluded_at(earlier, c) {
+        return " <small>excluded</small>";
+    }
+    ""
+}
+
+/// The sign of what was gained or lost.
+fn sign(before: Votes, now: Votes) -> &'static str
+    ensures { result.now ≡ sign_of before now }
+{
+    if before.units() < now.units() {
+        " <i>+"
+    } else {
+        " <i>&minus;"
+    }
+}
+
+/// How far two values are apart.
+fn apart(before: Votes, now: Votes) -> Votes
+    ensures { result ≡ apart_of before now }
+{
+    let (before, now) = (before.units(), now.units());
+    if before < now {
+        Votes::from_units(now - before)
+    } else {
+        Votes::from_units(before - now)
+    }
+}
+
+/// Writes a candidate's votes, what he gained or lost where they changed, and where he stands.
+fn write_votes_cell<W: Sink>(
+    sink: &mut W,
+    before: Votes,
+    now: Votes,
+    stands: &str,
+) -> Result<(), Broken>
+    requires { W.failed sink.old < 2 ^ 64 - 1 }
+    ensures { Writes W.taken W.failed sink.old sink.new (votes_cell before now stands.now) result }
+{
+    let (opening, closing) = (Piece::Text("<td>"), Piece::Text("</td>"));
+    let (votes, stands) = (Piece::Value(now), Piece::Text(stands));
+    if now.units() == before.units() {
+        return write_line(sink, &[opening, votes, stands, closing]);
+    }
+    let (sign, apart) = (
+        Piece::Text(sign(before, now)),
+        Piece::Value(apart(before, now)),
+    );
+    let end = Piece::Text("</i>");
+    write_line(sink, &[opening, votes, sign, apart, end, stands, closing])
+}
+
+/// Writes the head of a column.
+fn write_column_head<W: Sink>(sink: &mut W, k: u64, action: Action) -> Result<(), Broken>
+    requires { W.failed sink.old < 2 ^ 64 - 1 }
+    ensures { Writes W.taken W.failed sink.old sink.new (column_head k action) result }
+{
+    let stage = Piece::Text("<th scope=\"col\">Stage ");
+    let k = Piece::Number(k);
+    match action {
+        Action::First => {
+            let first = Piece::Text("<br>first preferences</th>");
+            write_line(sink, &[stage, k, first])
+        }
+        Action::Surplus(c) => {
+            let candidate = Piece::Number(u64::from(c));
+            let (what, end) = (Piece::Text("<br>surplus of "), Piece::Text("</th>"));
+            write_line(sink, &[stage, k, what, candidate, end])
+        }
+        Action::Exclude(c) => {
+            let candidate = Piece::Number(u64::from(c));
+            let (what, end) = (Piece::Text("<br>exclusion of "), Piece::Text("</th>"));
+            write_line(sink, &[stage, k, what, candidate, end])
+        }
+        Action::ExcludeLast(c) => {
+            let candidate = Piece::Number(u64::from(c));
+            let what = Piece::Text("<br>exclusion of ");
+            let last = Piece::Text(", last vacancies</th>");
+            write_line(sink, &[stage, k, what, candidate, last])
+        }
+    }
+}
+
+/// Writes a running sum.
+fn write_sum_cell<W: Sink>(sink: &mut W, sum: Votes) -> Result<(), Broken>
+    requires { W.failed sink.old < 2 ^ 64 - 1 }
+    ensures { Writes W.taken W.failed sink.old sink.new (sum_cell sum) result }
+{
+    let pieces = [Piece::Text("<td>"), Piece::Value(sum), Piece::Text("</td>")];
+    write_line(sink, &pieces)
+}
+
+/// Writes what a cell tells of a stage after earlier ones.
+fn write_cell<W: Sink>(
+    sink: &mut W,
+    cell: Cell,
+    earlier: &[Stage],
+    stage: &Stage,
+) -> Result<(), Broken>
+    requires { W.failed sink.old < 2 ^ 64 - 1 }
+    ensures { Writes W.taken W.failed sink.old sink.new (cell_text cell earlier.now stage.now) result }
+{
+    match cell {
+        Cell::Head => write_column_head(sink, earlier.len() as u64 + 1, stage.action),
+        Cell::Candidate(c) => {
+            let before = votes_before(earlier, stage, c);
+            let stands = standing(earlier, stage, c);
+            write_votes_cell(sink, before, votes_of(stage, c), stands)
+        }
+        Cell::NonTransferable => write_sum_cell(sink, stage.non_transferable),
+        Cell::Lost => write_sum_cell(sink, stage.lost),
+        Cell::Above => write_stage_name(sink, earlier.len()),
+        Cell::Bar(c, scale) => {
+            let before = votes_before(earlier, stage, c);
+            write_bar(sink, scale, earlier.len(), before, votes_of(stage, c))
+        }
+    }
+}
+
+/// Writes a cell for each stage from a place on.
+fn write_cells<W: Sink>(
+    sink: &mut W,
+    cell: Cell,
+    place: usize,
+    stages: &[Stage],
+) -> Result<(), Broken>
+    requires { W.failed sink.old < 2 ^ 64 - 1 }
+    ensures { Writes W.taken W.failed sink.old sink.new (from_place (cell_text cell) place stages.now) result }
+{
+    for k in place..stages.len() {
+        write_cell(sink, cell, &stages[..k], &stages[k])?;
+    }
+    Ok(())
+}
+
+/// Writes a row: what stands at its beginning, a cell for each stage from a place on, and its end.
+pub fn write_row<W: Sink>(
+    sink: &mut W,
+    opening: &[Piece],
+    cell: Cell,
+    end: &str,
+    place: usize,
+    stages: &[Stage],
+) -> Result<(), Broken>
+    requires { W.failed sink.old < 2 ^ 64 - 1 }
+    ensures { Writes W.taken W.failed sink.old sink.new (row (map piece_text opening.now) cell end.now place stages.now) result }
+{
+    write_line(sink, opening)?;
+    write_cells(sink, cell, place, stages)?;
+    write_line(sink, &[Piece::Text(end)])
+}

@@ -1,0 +1,50 @@
+//! Texts on a page, never markup.
+
+ghost use Rattle.std.specs.Prelude.{◌≡◌, ◌-◌, ◌^◌, ◌<◌, codes};
+ghost use Rattle.std.specs.List.{flat_map};
+ghost use Rattle.sheet.specs.Lines.{plain, plain_byte};
+ghost use Rattle.sheet.specs.Writing.{Puts, Writes};
+
+use votes::{Broken, Sink, put_all};
+
+/// Puts a byte of a text on a page: one that could be markup by its name.
+fn put_plain_byte<W: Sink>(sink: &mut W, byte: u8) -> Result<(), Broken>
+    requires { W.failed sink.old < 2 ^ 64 - 1 }
+    ensures { Puts W.taken W.failed sink.old sink.new (plain_byte byte) result }
+{
+    if byte == b'&' {
+        return put_all(sink, b"&amp;");
+    }
+    if byte == b'<' {
+        return put_all(sink, b"&lt;");
+    }
+    if byte == b'>' {
+        return put_all(sink, b"&gt;");
+    }
+    if byte == b'"' {
+        return put_all(sink, b"&quot;");
+    }
+    if byte == b'\'' {
+        return put_all(sink, b"&#39;");
+    }
+    put_all(sink, &[byte])
+}
+
+/// Puts the bytes of a text on a page.
+fn put_plain<W: Sink>(sink: &mut W, bytes: &[u8]) -> Result<(), Broken>
+    requires { W.failed sink.old < 2 ^ 64 - 1 }
+    ensures { Puts W.taken W.failed sink.old sink.new (plain bytes.now) result }
+{
+    for byte in bytes {
+        put_plain_byte(sink, *byte)?;
+    }
+    Ok(())
+}
+
+/// Writes a text on a page, never markup, whatever bytes it has.
+pub fn write_plain<W: Sink>(sink: &mut W, text: &str) -> Result<(), Broken>
+    requires { W.failed sink.old < 2 ^ 64 - 1 }
+    ensures { Writes W.taken W.failed sink.old sink.new (plain text.now) result }
+{
+    put_plain(sink, text.as_bytes())
+}

@@ -1,0 +1,248 @@
+//! The table of a block of stages, and its picture.
+
+ghost use Rattle.std.specs.Prelude.{◌≡◌, ◌-◌, ◌+◌, ◌^◌, ◌<◌, length, string_bytes, take};
+ghost use Rattle.sheet.specs.Entries.{shown};
+ghost use Rattle.sheet.specs.Table.{bar_row, bar_rows, block, block_at, blocks, candidate_row, candidate_rows, head_row, picture, picture_end, picture_head, sum_rows, table};
+ghost use Rattle.sheet.specs.Writing.{Writes};
+
+use crate::cells::{Cell, write_row};
+use crate::line::{Piece, write_text};
+use crate::look::LEGEND;
+use crate::picture::Scale;
+use crate::ward::Ward;
+use count::Stage;
+use votes::{Broken, Sink};
+
+/// Writes the heads of a table's columns, with its caption.
+fn write_head_row<W: Sink>(sink: &mut W, place: usize, stages: &[Stage]) -> Result<(), Broken>
+    requires within { place < length stages.now }
+    requires failures { W.failed sink.old < 2 ^ 64 - 1 }
+    ensures { Writes W.taken W.failed sink.old sink.new (head_row place stages.now) result }
+{
+    let opening = [
+        Piece::Text("<div class=\"wide\">\n<table class=\"stages\">\n<caption>Stages "),
+        Piece::Number(place as u64 + 1),
+        Piece::Text(" to "),
+        Piece::Number(stages.len() as u64),
+        Piece::Text("</caption>\n<thead>\n<tr><th scope=\"col\">Candidate</th>"),
+    ];
+    write_row(
+        sink,
+        &opening,
+        Cell::Head,
+        "</tr>\n</thead>\n<tbody>",
+        place,
+        stages,
+    )
+}
+
+/// Writes the row of a candidate, by his number and his name.
+fn write_candidate_row<W: Sink>(
+    sink: &mut W,
+    place: usize,
+    stages: &[Stage],
+    candidate: &(u8, String),
+) -> Result<(), Broken>
+    requires { W.failed sink.old < 2 ^ 64 - 1 }
+    ensures { Writes W.taken W.failed sink.old sink.new (candidate_row place stages.now candidate.now.0 (string_bytes candidate.now.1)) result }
+{
+    let (c, name) = candidate;
+    let opening = [
+        Piece::Text("<tr><th scope=\"row\">"),
+        Piece::Number(u64::from(*c)),
+        Piece::Text(" <bdi>"),
+        Piece::Escaped(name.as_str()),
+        Piece::Text("</bdi></th>"),
+    ];
+    write_row(sink, &opening, Cell::Candidate(*c), "</tr>", place, stages)
+}
+
+/// Writes the rows of all candidates.
+fn write_candidate_rows<W: Sink>(
+    sink: &mut W,
+    ward: &Ward,
+    place: usize,
+    stages: &[Stage],
+) -> Result<(), Broken>
+    requires { W.failed sink.old < 2 ^ 64 - 1 }
+    ensures { Writes W.taken W.failed sink.old sink.new (candidate_rows (shown ward.now) place stages.now) result }
+{
+    for candidate in ward.candidates {
+        write_candidate_row(sink, place, stages, candidate)?;
+    }
+    Ok(())
+}
+
+/// Writes the rows of the running sums, and the table's end.
+fn write_sum_rows<W: Sink>(sink: &mut W, place: usize, stages: &[Stage]) -> Result<(), Broken>
+    requires { W.failed sink.old < 2 ^ 64 - 1 }
+    ensures { Writes W.taken W.failed sink.old sink.new (sum_rows place stages.now) result }
+{
+    let rest = [Piece::Text("<tr class=\"sum\"><th scope=\"row\">non-transferable</th>")];
+    write_row(sink, &rest, Cell::NonTransferable, "</tr>", place, stages)?;
+    let lost = [Piece::Text("<tr class=\"sum\"><th scope=\"row\">lost by fractions</th>")];
+    let end = "</tr>\n</tbody>\n</table>\n</div>";
+    write_row(sink, &lost, Cell::Lost, end, place, stages)
+}
+
+/// Writes the table of the stages from a place on.
+fn write_table<W: Sink>(
+    sink: &mut W,
+    ward: &Ward,
+    place: usize,
+    stages: &[Stage],
+) -> Result<(), Broken>
+    requires within { place < length stages.now }
+    requires failures { W.failed sink.old < 2 ^ 64 - 1 }
+    ensures { Writes W.taken W.failed sink.old sink.new (table (shown ward.now) place stages.now) result }
+{
+    write_head_row(sink, place, stages)?;
+    write_candidate_rows(sink, ward, place, stages)?;
+    write_sum_rows(sink, place, stages)
+}
+
+/// Writes the head of a picture: what it shows, what its bars mean, and the names of the stages.
+fn write_picture_head<W: Sink>(
+    sink: &mut W,
+    ward: &Ward,
+    place: usize,
+    stages: &[Stage],
+) -> Result<(), Broken>
+    requires within { place < length stages.now }
+    requires failures { W.failed sink.old < 2 ^ 64 - 1 }
+    ensures { Writes W.taken W.failed sink.old sink.new (picture_head (shown ward.now) place stages.now) result }
+{
+    let height = 50 + 30 * ward.candidates.len().min(30) as u64;
+    let opening = [
+        Piece::Text("<div class=\"wide\">\n<svg class=\"moves\" role=\"img\" viewBox=\"-2 0 900 "),
+        Piece::Number(height),
+        Piece::Text("\">\n<title>How votes moved, stages "),
+        Piece::Number(place as u64 + 1),
+        Piece::Text(" to "),
+        Piece::Number(stages.len() as u64),
+        Piece::Text("</title>\n"),
+        Piece::Text(LEGEND),
+    ];
+    write_row(
+        sink,
+        &opening,
+        Cell::Above,
+        "<g transform=\"translate(0 15)\">",
+        place,
+        stages,
+    )
+}
+
+/// Writes the row of a candidate in a picture.
+fn write_bar_row<W: Sink>(
+    sink: &mut W,
+    scale: Scale,
+    place: usize,
+    stages: &[Stage],
+    candidate: &(u8, String),
+) -> Result<(), Broken>
+    requires { W.failed sink.old < 2 ^ 64 - 1 }
+    ensures { Writes W.taken W.failed sink.old sink.new (bar_row scale place stages.now candidate.now.0 (string_bytes candidate.now.1)) result }
+{
+    let (c, name) = candidate;
+    let opening = [
+        Piece::Text("<g transform=\"translate(0 30)\"><text y=\"11\">"),
+        Piece::Number(u64::from(*c)),
+        Piece::Text(" <tspan>"),
+        Piece::Escaped(name.as_str()),
+        Piece::Text("</tspan></text>"),
+    ];
+    write_row(sink, &opening, Cell::Bar(*c, scale), "", place, stages)
+}
+
+/// Writes the rows of all candidates in a picture.
+fn write_bar_rows<W: Sink>(
+    sink: &mut W,
+    ward: &Ward,
+    scale: Scale,
+    place: usize,
+    stages: &[Stage],
+) -> Result<(), Broken>
+    requires { W.failed sink.old < 2 ^ 64 - 1 }
+    ensures { Writes W.taken W.failed sink.old sink.new (bar_rows (shown ward.now) scale place stages.now) result }
+{
+    for candidate in ward.candidates {
+        write_bar_row(sink, scale, place, stages, candidate)?;
+    }
+    Ok(())
+}
+
+/// Writes the end of a group for each candidate, and of the picture.
+fn write_picture_end<W: Sink>(sink: &mut W, ward: &Ward) -> Result<(), Broken>
+    requires { W.failed sink.old < 2 ^ 64 - 1 }
+    ensures { Writes W.taken W.failed sink.old sink.new (picture_end (shown ward.now)) result }
+{
+    for _place in 0..ward.candidates.len() {
+        write_text(sink, "</g>")?;
+    }
+    write_text(sink, "</g>\n</svg>\n</div>\n")
+}
+
+/// Writes the picture of the stages from a place on.
+fn write_picture<W: Sink>(
+    sink: &mut W,
+    ward: &Ward,
+    scale: Scale,
+    place: usize,
+    stages: &[Stage],
+) -> Result<(), Broken>
+    requires within { place < length stages.now }
+    requires failures { W.failed sink.old < 2 ^ 64 - 1 }
+    ensures { Writes W.taken W.failed sink.old sink.new (picture (shown ward.now) scale place stages.now) result }
+{
+    write_picture_head(sink, ward, place, stages)?;
+    write_bar_rows(sink, ward, scale, place, stages)?;
+    write_picture_end(sink, ward)
+}
+
+/// The stages up to the eighth from a place on, or all where fewer are left.
+fn up_to_eighth(stages: &[Stage], place: usize) -> &[Stage]
+    ensures { result.now ≡ take (place + 8) stages.now }
+{
+    if stages.len().saturating_sub(place) > 8 {
+        &stages[..place + 8]
+    } else {
+        stages
+    }
+}
+
+/// Writes a block at each eighth place.
+fn write_block_at<W: Sink>(
+    sink: &mut W,
+    ward: &Ward,
+    scale: Scale,
+    stages: &[Stage],
+    place: usize,
+) -> Result<(), Broken>
+    requires within { place < length stages.now }
+    requires failures { W.failed sink.old < 2 ^ 64 - 1 }
+    ensures { Writes W.taken W.failed sink.old sink.new (block_at (shown ward.now) scale stages.now place) result }
+{
+    if place % 8 != 0 {
+        return Ok(());
+    }
+    let upto = up_to_eighth(stages, place);
+    write_table(sink, ward, place, upto)?;
+    write_picture(sink, ward, scale, place, upto)
+}
+
+/// Writes the blocks of all stages, eight in each.
+pub fn write_blocks<W: Sink>(
+    sink: &mut W,
+    ward: &Ward,
+    scale: Scale,
+    stages: &[Stage],
+) -> Result<(), Broken>
+    requires { W.failed sink.old < 2 ^ 64 - 1 }
+    ensures { Writes W.taken W.failed sink.old sink.new (blocks (shown ward.now) scale stages.now) result }
+{
+    for place in 0..stages.len() {
+        write_block_at(sink, ward, scale, stages, place)?;
+    }
+    Ok(())
+}
