@@ -87,7 +87,7 @@ const DECLARED: &str = r##"
 </div>
 <div class="wide">
 <svg class="moves" role="img" viewBox="-2 0 900 140">
-<title>How votes moved, stages 1 to 3</title>
+<title>Stages 1 to 3: how votes moved</title>
 <rect class="kept" y="6" width="24" height="12"/><text x="28" y="16">votes kept</text><rect class="gained" x="112" y="6" width="24" height="12"/><text x="140" y="16">gained at the stage</text><rect class="lost" x="264" y="6" width="24" height="12"/><text x="292" y="16">lost at the stage</text><path class="quota" d="M412 3v18"/><text x="420" y="16">quota</text>
 <text x="0" y="40">Stage 1</text>
 <text x="112" y="40">Stage 2</text>
@@ -236,6 +236,25 @@ fn prints(
     Ok(())
 }
 
+/// Nine stages stand in two blocks, of eight and of one.
+fn prints_blocks(
+    rt: &(impl Abort + AllocGlobal),
+    ward: &Ward,
+    stages: &[Stage; 9],
+) -> Result<(), Fail> {
+    assert!(rt; can_be_printed(ward));
+    let text = page_text(rt.alloc(), ward, false, stages, &[])?;
+    for words in [
+        "<caption>Stages 1 to 8</caption>",
+        "<title>Stages 1 to 8: how votes moved</title>",
+        "<caption>Stage 9</caption>",
+        "<title>Stage 9: how votes moved</title>",
+    ] {
+        assert!(rt; text.as_str().find(words).is_some());
+    }
+    Ok(())
+}
+
 /// The candidates 1, 2 and 3, whose names look like markup or are written from right to left.
 fn candidates_of(alloc: Global) -> Result<Vec<(u8, String)>, Fail> {
     let mut candidates = Vec::new(alloc);
@@ -270,6 +289,7 @@ fn pages(rt: HostRuntime) -> Result<(), Fail> {
         }),
     };
     prints(&rt, &ward, true, &stages, &[(3, 2)], DECLARED)?;
+    prints_blocks(&rt, &ward, &[stages[1]; 9])?;
     ward.poll = Some(Poll {
         valid: 9,
         rejected: [0; 5],
