@@ -14,6 +14,8 @@ mod counts;
 #[cfg(test)]
 mod imports;
 #[cfg(test)]
+mod pages;
+#[cfg(test)]
 mod papers;
 #[cfg(test)]
 mod sheets;

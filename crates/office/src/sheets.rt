@@ -184,7 +184,13 @@ fn written(
         }
         Text::Page => {
             let is_declared = Text::Declaration.is_told_in(counted.ward.phase);
-            page_text(alloc, ward, is_declared, stages_of(counted), lots_of(counted))
+            page_text(
+                alloc,
+                ward,
+                is_declared,
+                stages_of(counted),
+                lots_of(counted),
+            )
         }
         Text::Table => spreadsheet_text(alloc, ward, stages_of(counted)),
     }

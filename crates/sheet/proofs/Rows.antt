@@ -67,7 +67,7 @@ rows_whole first last_but_one last middle none one two three four is_none is_one
     ∙ append_assoc (f first ++ flat_map f middle) (f last_but_one) (f last)
     ∙ append_assoc (f first) (flat_map f middle) (f last_but_one ++ f last)
     ∙ ap (λ l. f first ++ l) (
-        ap (λ l. flat_map f middle ++ (f last_but_one ++ l)) (sym (append-nil (f last)))
-        ∙ sym (flat_map-append f middle (last_but_one ∷ last ∷ [])))
+    ap (λ l. flat_map f middle ++ (f last_but_one ++ l)) (sym (append-nil (f last)))
+    ∙ sym (flat_map-append f middle (last_but_one ∷ last ∷ [])))
 
 pub ruleset rows = (IsUtf8-row)

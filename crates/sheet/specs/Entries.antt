@@ -1,4 +1,4 @@
--- What a sheet and a declaration tell of a ward.
+-- What its texts tell of a ward.
 use Rattle.std.specs.Prelude.{ℕ, List, map, string_bytes, Option}
 use Rattle.sheet.specs.declared.ward.Ward.{Ward}
 use Rattle.sheet.specs.declared.ward.Poll.{Poll}

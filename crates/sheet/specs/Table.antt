@@ -9,11 +9,15 @@ use Rattle.sheet.specs.declared.look.TheConstants.{LEGEND}
 use Rattle.sheet.specs.declared.cells.Cell.TheVariants.{Head, Candidate, NonTransferable, Lost, Above, Bar}
 use Rattle.sheet.specs.declared.picture.Scale.{Scale}
 
+-- `Stages 1 to 8`, `Stage 9`: some stages by their numbers
+abbrev pub span : ℕ → ℕ → List (List ℕ)
+span first last = if first == last then codes "Stage " ∷ decimal first ∷ [] else codes "Stages " ∷ decimal first ∷ codes " to " ∷ decimal last ∷ []
+
 -- the heads of a table's columns, with its caption
 abbrev pub head_row : ℕ → List Stage → List ℕ
 head_row place stages = row (
-    codes "<div class=\"wide\">\n<table class=\"stages\">\n<caption>Stages " ∷ decimal (place + 1) ∷ codes " to " ∷ decimal (length stages) ∷
-    codes "</caption>\n<thead>\n<tr><th scope=\"col\">Candidate</th>" ∷ []) Head (codes "</tr>\n</thead>\n<tbody>") place stages
+    (codes "<div class=\"wide\">\n<table class=\"stages\">\n<caption>" ∷ []) ++ span (place + 1) (length stages) ++
+    (codes "</caption>\n<thead>\n<tr><th scope=\"col\">Candidate</th>" ∷ [])) Head (codes "</tr>\n</thead>\n<tbody>") place stages
 
 -- a candidate's row
 abbrev pub candidate_row : ℕ → List Stage → ℕ → List ℕ → List ℕ
@@ -37,9 +41,8 @@ table ward place stages = head_row place stages ++ candidate_rows ward place sta
 -- the head of a picture: what it shows, what its bars mean, and the names of the stages. It has room for each candidate, of whom there are 30 at most
 abbrev pub picture_head : SheetEntry → ℕ → List Stage → List ℕ
 picture_head ward place stages = row (
-    codes "<div class=\"wide\">\n<svg class=\"moves\" role=\"img\" viewBox=\"-2 0 900 " ∷ decimal (50 + 30 * min (length ward.candidates) 30) ∷
-    codes "\">\n<title>How votes moved, stages " ∷ decimal (place + 1) ∷ codes " to " ∷ decimal (length stages) ∷
-    codes "</title>\n" ∷ LEGEND.now ∷ []) Above (codes "<g transform=\"translate(0 15)\">") place stages
+    (codes "<div class=\"wide\">\n<svg class=\"moves\" role=\"img\" viewBox=\"-2 0 900 " ∷ decimal (50 + 30 * min (length ward.candidates) 30) ∷ codes "\">\n<title>" ∷ [])
+    ++ span (place + 1) (length stages) ++ (codes ": how votes moved</title>\n" ∷ LEGEND.now ∷ [])) Above (codes "<g transform=\"translate(0 15)\">") place stages
 
 -- a candidate's row in a picture, which opens a group 30 below the one before
 abbrev pub bar_row : Scale → ℕ → List Stage → ℕ → List ℕ → List ℕ

@@ -1,4 +1,4 @@
--- The wards of which a sheet and a declaration can be printed.
+-- The wards whose texts can be printed.
 use Rattle.std.specs.Prelude.{ℕ, ◌<◌, ◌≤◌, List, [], ◌∷◌, map, Option, IfSome, ⊤}
 use Rattle.paper.specs.Columns.{max_candidates, IsColumnSet}
 use Rattle.votes.specs.Units.{max_papers, max_seats}

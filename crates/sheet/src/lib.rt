@@ -1,9 +1,9 @@
-//! Stage sheets and declarations: the two texts of a ward that people hold in their hands.
+//! The texts of a ward that people hold in their hands: stage sheets, declarations, ballots, pages and tables.
 //!
-//! A [`Ward`] has what they tell of it, with its [`Poll`] if it is contested. [`write_sheet`] and
-//! [`write_declaration`] write them to a sink, line by line, and take no memory; [`sheet_text`]
-//! and [`declaration_text`] give them as texts. [`can_be_printed`] is the test of what all four ask of
-//! a ward.
+//! A [`Ward`] has what they tell of it, with its [`Poll`] if it is contested. [`write_sheet`],
+//! [`write_declaration`], [`write_ballots`] and [`write_page`] write them to a sink, and take no memory;
+//! [`sheet_text`] and the like give them as texts, [`spreadsheet_text`] the table. [`can_be_printed`] is the
+//! test of what all ask of a ward.
 //!
 //! ```text
 //! let ward = Ward { number: 7, name: "Harbour", seats: 2, candidates: &candidates, poll: Some(poll) };

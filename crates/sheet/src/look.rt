@@ -6,7 +6,7 @@ body { color: #000; background: #fff; font: 1rem/1.4 sans-serif; max-width: 68re
 h1, h2, caption, .sign { break-after: avoid; }
 h1 { font-size: 1.6rem; margin: 0 0 .5rem; }
 h2 { font-size: 1.2rem; margin: 1.2rem 0 .4rem; }
-h1, p, li, th { overflow-wrap: anywhere; }
+h1, p, li, th[scope=row] { overflow-wrap: anywhere; }
 .open { border: 2px solid #000; padding: .4rem .6rem; }
 ul { list-style: none; margin: 0; padding: 0; }
 table { border-collapse: collapse; }
@@ -19,9 +19,9 @@ th[scope=row], th[scope=col]:first-child { text-align: left; font-weight: normal
 td i, td b, td small { display: block; font-size: inherit; white-space: nowrap; }
 td small { color: #444; }
 .wide { overflow-x: auto; }
-.moves { display: block; width: 100%; min-width: 40rem; margin: .6rem 0; }
+.moves { display: block; width: 100%; min-width: 56rem; margin: .6rem 0; }
 .moves text { font: 11px sans-serif; }
-.moves tspan { unicode-bidi: isolate; }
+.moves tspan { unicode-bidi: plaintext; }
 .moves path { fill: none; stroke: #666; }
 .moves .kept { fill: #999; }
 .moves .gained { fill: url(#gained); stroke: #000; stroke-width: .5; }
@@ -35,6 +35,7 @@ body { font-size: 10pt; max-width: none; margin: 0; padding: 0; }
 .wide { overflow: visible; }
 .stages { font-size: 6.5pt; table-layout: fixed; }
 .stages th[scope=row] { min-width: 0; }
+.stages th:first-child { width: 20%; }
 .stages th, .stages td { padding: 1pt 2pt; overflow-wrap: anywhere; }
 .moves { min-width: 0; max-height: 250mm; }
 tr, .moves, .sign { break-inside: avoid; }

@@ -124,7 +124,7 @@ pub fn write_bar<W: Sink>(
         Piece::Number(all.saturating_sub(kept)),
         Piece::Text("\" height=\"12\"/><path class=\"quota\" d=\"M"),
         Piece::Number(bar_length(scale, scale.quota)),
-        Piece::Text(" -3v18\"/></g>"),
+        Piece::Text(" -1v14\"/></g>"),
     ];
     write_line(sink, &pieces)
 }

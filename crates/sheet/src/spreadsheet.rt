@@ -158,11 +158,7 @@ fn push_heads(
 }
 
 /// Adds the heads of all stages' columns.
-fn push_all_heads(
-    alloc: Global,
-    row: &mut Vec<String>,
-    stages: &[Stage],
-) -> Result<(), AllocError>
+fn push_all_heads(alloc: Global, row: &mut Vec<String>, stages: &[Stage]) -> Result<(), AllocError>
     ensures { OnOk result (map string_bytes row.new.items ≡ map string_bytes row.old.items ++ each_after stage_heads [] stages.now) }
 {
     for k in 0..stages.len() {

@@ -19,21 +19,18 @@ fn write_head_row<W: Sink>(sink: &mut W, place: usize, stages: &[Stage]) -> Resu
     requires failures { W.failed sink.old < 2 ^ 64 - 1 }
     ensures { Writes W.taken W.failed sink.old sink.new (head_row place stages.now) result }
 {
-    let opening = [
-        Piece::Text("<div class=\"wide\">\n<table class=\"stages\">\n<caption>Stages "),
-        Piece::Number(place as u64 + 1),
-        Piece::Text(" to "),
-        Piece::Number(stages.len() as u64),
-        Piece::Text("</caption>\n<thead>\n<tr><th scope=\"col\">Candidate</th>"),
-    ];
-    write_row(
-        sink,
-        &opening,
-        Cell::Head,
-        "</tr>\n</thead>\n<tbody>",
-        place,
-        stages,
-    )
+    let start = Piece::Text("<div class=\"wide\">\n<table class=\"stages\">\n<caption>");
+    let heads = Piece::Text("</caption>\n<thead>\n<tr><th scope=\"col\">Candidate</th>");
+    let end = "</tr>\n</thead>\n<tbody>";
+    let first = Piece::Number(place as u64 + 1);
+    if place + 1 == stages.len() {
+        let opening = [start, Piece::Text("Stage "), first, heads];
+        return write_row(sink, &opening, Cell::Head, end, place, stages);
+    }
+    let last = Piece::Number(stages.len() as u64);
+    let (all, to) = (Piece::Text("Stages "), Piece::Text(" to "));
+    let opening = [start, all, first, to, last, heads];
+    write_row(sink, &opening, Cell::Head, end, place, stages)
 }
 
 /// Writes the row of a candidate, by his number and his name.
@@ -112,25 +109,26 @@ fn write_picture_head<W: Sink>(
     requires failures { W.failed sink.old < 2 ^ 64 - 1 }
     ensures { Writes W.taken W.failed sink.old sink.new (picture_head (shown ward.now) place stages.now) result }
 {
-    let height = 50 + 30 * ward.candidates.len().min(30) as u64;
-    let opening = [
-        Piece::Text("<div class=\"wide\">\n<svg class=\"moves\" role=\"img\" viewBox=\"-2 0 900 "),
-        Piece::Number(height),
-        Piece::Text("\">\n<title>How votes moved, stages "),
-        Piece::Number(place as u64 + 1),
-        Piece::Text(" to "),
-        Piece::Number(stages.len() as u64),
-        Piece::Text("</title>\n"),
+    let start = Piece::Text(
+        "<div class=\"wide\">\n<svg class=\"moves\" role=\"img\" viewBox=\"-2 0 900 ",
+    );
+    let height = Piece::Number(50 + 30 * ward.candidates.len().min(30) as u64);
+    let title = Piece::Text("\">\n<title>");
+    let (moved, legend) = (
+        Piece::Text(": how votes moved</title>\n"),
         Piece::Text(LEGEND),
-    ];
-    write_row(
-        sink,
-        &opening,
-        Cell::Above,
-        "<g transform=\"translate(0 15)\">",
-        place,
-        stages,
-    )
+    );
+    let end = "<g transform=\"translate(0 15)\">";
+    let first = Piece::Number(place as u64 + 1);
+    if place + 1 == stages.len() {
+        let stage = Piece::Text("Stage ");
+        let opening = [start, height, title, stage, first, moved, legend];
+        return write_row(sink, &opening, Cell::Above, end, place, stages);
+    }
+    let last = Piece::Number(stages.len() as u64);
+    let (all, to) = (Piece::Text("Stages "), Piece::Text(" to "));
+    let opening = [start, height, title, all, first, to, last, moved, legend];
+    write_row(sink, &opening, Cell::Above, end, place, stages)
 }
 
 /// Writes the row of a candidate in a picture.

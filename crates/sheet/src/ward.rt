@@ -1,4 +1,4 @@
-//! A ward as a sheet and a declaration tell it.
+//! A ward as its texts tell it.
 
 /// The papers of a contested ward.
 #[derive(Clone, Copy, PartialEq, Eq)]
