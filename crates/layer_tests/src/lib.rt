@@ -20,6 +20,6 @@ mod papers;
 #[cfg(test)]
 mod sheets;
 #[cfg(test)]
-mod tables;
+mod spreadsheets;
 #[cfg(test)]
 mod values;

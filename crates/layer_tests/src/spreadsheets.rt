@@ -28,7 +28,7 @@ const NAMES: &str = r#""candidate","name"
 "#;
 
 #[test]
-fn tables(rt: HostRuntime) -> Result<(), Fail> {
+fn spreadsheets(rt: HostRuntime) -> Result<(), Fail> {
     let nobody = Columns::empty();
     let stages = [
         stage_of(Action::First, [600000, 100000, 200000], nobody.with(1), 0),
