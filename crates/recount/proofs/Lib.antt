@@ -1,0 +1,2 @@
+-- What the proofs of the readers share.
+pub mod PieceLemmas

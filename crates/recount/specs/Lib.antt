@@ -1,0 +1,3 @@
+-- How ballots are read, and what a text is checked against.
+pub mod Pieces
+pub mod Numbers
