@@ -1,2 +1,3 @@
 -- What the proofs of the readers share.
 pub mod PieceLemmas
+pub mod RankLemmas

@@ -1,3 +1,6 @@
 -- How ballots are read, and what a text is checked against.
+pub mod Outcomes
 pub mod Pieces
 pub mod Numbers
+pub mod Ranks
+pub mod Views

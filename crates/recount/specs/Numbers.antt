@@ -1,14 +1,10 @@
 -- Words that are numbers.
 use Rattle.std.specs.Prelude.{ℕ, ◌+◌, ◌-◌, ◌*◌, ◌==◌, ◌||◌, nat_le, nat_lt, if◌then◌else◌, List, [], ◌∷◌, Result, Ok, Err}
 use Rattle.std.specs.Char.{is_ascii_digit}
+use Rattle.recount.specs.Outcomes.{and_then}
 use Rattle.recount.specs.Pieces.{Text}
 use Rattle.recount.specs.declared.problem.Flaw.{Flaw}
 use Rattle.recount.specs.declared.problem.Flaw.TheVariants.{NotNumber, TooLarge, NoSuchCandidate}
-
--- what follows from a part that is understood
-abbrev pub and_then : {X Y : Type 0} → Result X Flaw → (X → Result Y Flaw) → Result Y Flaw
-and_then (Ok x) f = f x
-and_then (Err flaw) f = Err flaw
 
 -- a number, where it is in its range
 abbrev pub in_range : ℕ → ℕ → Result ℕ Flaw

@@ -18,4 +18,6 @@ mod problem;
 // a text in lines, a line in words, and words that are numbers
 mod numbers;
 mod pieces;
+// what each line adds
+mod ranks;
 pub use problem::{Flaw, Problem};
