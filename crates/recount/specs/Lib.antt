@@ -3,4 +3,5 @@ pub mod Outcomes
 pub mod Pieces
 pub mod Numbers
 pub mod Ranks
+pub mod Papers
 pub mod Views

@@ -19,5 +19,7 @@ mod problem;
 mod numbers;
 mod pieces;
 // what each line adds
+mod papers;
 mod ranks;
+mod state;
 pub use problem::{Flaw, Problem};
