@@ -1,3 +1,4 @@
 -- What the proofs of the readers share.
 pub mod PieceLemmas
 pub mod RankLemmas
+pub mod NameLemmas

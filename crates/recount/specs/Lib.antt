@@ -4,4 +4,7 @@ pub mod Pieces
 pub mod Numbers
 pub mod Ranks
 pub mod Papers
+pub mod Names
+pub mod Comments
+pub mod Reading
 pub mod Views

@@ -19,7 +19,10 @@ mod problem;
 mod numbers;
 mod pieces;
 // what each line adds
+mod comments;
+mod names;
 mod papers;
 mod ranks;
+mod reading;
 mod state;
 pub use problem::{Flaw, Problem};
