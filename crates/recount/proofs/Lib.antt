@@ -2,3 +2,4 @@
 pub mod PieceLemmas
 pub mod RankLemmas
 pub mod NameLemmas
+pub mod DifferenceLemmas

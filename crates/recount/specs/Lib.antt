@@ -7,4 +7,5 @@ pub mod Papers
 pub mod Names
 pub mod Comments
 pub mod Reading
+pub mod Differences
 pub mod Views

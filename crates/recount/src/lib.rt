@@ -14,15 +14,18 @@
 #![tactic(auto)]
 
 // what is told
+mod differences;
 mod problem;
 // a text in lines, a line in words, and words that are numbers
 mod numbers;
 mod pieces;
-// what each line adds
+// what a file has told so far, and what each of its lines adds
 mod comments;
 mod names;
 mod papers;
 mod ranks;
 mod reading;
 mod state;
+
+pub use differences::Checked;
 pub use problem::{Flaw, Problem};
