@@ -3,3 +3,5 @@ pub mod PieceLemmas
 pub mod RankLemmas
 pub mod NameLemmas
 pub mod DifferenceLemmas
+pub mod WardLemmas
+pub mod CheckLemmas

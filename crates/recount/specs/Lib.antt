@@ -8,4 +8,6 @@ pub mod Names
 pub mod Comments
 pub mod Reading
 pub mod Differences
+pub mod Wards
+pub mod Checks
 pub mod Views

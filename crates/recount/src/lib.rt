@@ -26,6 +26,10 @@ mod papers;
 mod ranks;
 mod reading;
 mod state;
+// the ward that it tells, and a text beside it
+mod checking;
+mod wards;
 
+pub use checking::check;
 pub use differences::Checked;
 pub use problem::{Flaw, Problem};
