@@ -16,6 +16,8 @@ mod imports;
 #[cfg(test)]
 mod papers;
 #[cfg(test)]
+mod recounts;
+#[cfg(test)]
 mod sheets;
 #[cfg(test)]
 mod values;

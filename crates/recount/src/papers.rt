@@ -55,11 +55,7 @@ fn withdrawn_in(highest: u8, word: &[u8]) -> Result<u8, Flaw>
 }
 
 /// Some numbers, and those of the withdrawn candidates whom some words name.
-fn withdrawn_from(
-    highest: u8,
-    withdrawn: Columns,
-    words: &[&[u8]],
-) -> Result<Columns, Flaw>
+fn withdrawn_from(highest: u8, withdrawn: Columns, words: &[&[u8]]) -> Result<Columns, Flaw>
     requires { highest ≤ max_candidates }
     ensures { result ≡ withdrawn_from highest withdrawn (map (λ w. w.now) words.now) }
 {

@@ -107,7 +107,11 @@ pub(crate) fn kind_of(line: &[u8]) -> Kind
 {
     for byte in line {
         if !is_blank(*byte) {
-            return if *byte == b'#' { Kind::Comment } else { Kind::Content };
+            return if *byte == b'#' {
+                Kind::Comment
+            } else {
+                Kind::Content
+            };
         }
     }
     Kind::Empty

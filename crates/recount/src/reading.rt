@@ -116,11 +116,7 @@ impl Reader {
     }
 
     /// A name.
-    fn take_name_line(
-        &mut self,
-        alloc: Global,
-        line: &[u8],
-    ) -> Result<Result<(), Flaw>, AllocError>
+    fn take_name_line(&mut self, alloc: Global, line: &[u8]) -> Result<Result<(), Flaw>, AllocError>
         requires { self.old.place ≡ Place.Names }
         ensures { IfOk result (λ told. outcome told (reading_of self.new) ≡ with_name_line (reading_of self.old) line.now) }
     {

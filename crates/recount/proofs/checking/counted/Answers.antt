@@ -17,4 +17,4 @@ returns-in-Ok-compared-clause-ok c =
     let elected : c.elected.result ≡ elected_after c.in-Ok.book.contest c.run_count.new.book.history =
     c.elected.ensures ∙ ap (λ held. elected_after held c.run_count.new.book.history) c.in-Ok-run_count.ensures.same in
     counted_so (shown ward) bundles c.args.lots.now c.args.text.now c.in-Ok-compared.checked c.in-Ok.book.contest c.stages.result.now c.run_count.new.book.history c.in-Ok-run_count.end c.elected.result
-      contest c.stages.ensures.is c.in-Ok-run_count.ensures.whole c.in-Ok-run_count.ensures.end (c.in-None.ensures) elected c.in-Ok-compared.ensures
+    contest c.stages.ensures.is c.in-Ok-run_count.ensures.whole c.in-Ok-run_count.ensures.end (c.in-None.ensures) elected c.in-Ok-compared.ensures
