@@ -287,6 +287,11 @@ fn problems(rt: HostRuntime) -> Result<(), Fail> {
             "line 11 of the ballots: not the number of a ward",
         ),
         (
+            "# Ward 7",
+            "# Ward 7\n# Ward 7",
+            "line 12 of the ballots: told a second time",
+        ),
+        (
             "5: 0",
             "6: 0",
             "line 12 of the ballots: not the rejected papers of each code",
@@ -326,30 +331,31 @@ fn problems(rt: HostRuntime) -> Result<(), Fail> {
 
 #[test]
 fn lots(rt: HostRuntime) -> Result<(), Fail> {
-    tells(
-        &rt,
-        TIED,
-        "\"Ann\"",
-        "\"Ann\"",
-        "",
-        "no lot is recorded for stage 2",
-    )?;
-    tells(
-        &rt,
-        TIED,
-        "\"Ann\"",
-        "# Lot at stage 2: 1\n\"Ann\"",
-        "",
-        "the lot for stage 2 names none of the tied",
-    )?;
-    tells(
-        &rt,
-        TIED,
-        "\"Ann\"",
-        "# Lot at stage 2: 3\n\"Ann\"",
-        "Ward 1 Harbour\nElected\n 1 Ann\n",
-        "same",
-    )?;
+    let elected = "Ward 1 Harbour\nElected\n 1 Ann\n";
+    let files = [
+        ("", "no lot is recorded for stage 2"),
+        (
+            "# Lot at stage 2: 1\n",
+            "the lot for stage 2 names none of the tied",
+        ),
+        ("# Lot at stage 2: 3\n", "same"),
+        (
+            "# Lot at stage 2: 3\n# Lot at stage 1: 3\n",
+            "a lot is recorded for stage 1, and none is drawn there",
+        ),
+        (
+            "# Lot at stage 255: 3\n# Lot at stage 2: 3\n",
+            "a lot is recorded for stage 255, and none is drawn there",
+        ),
+        (
+            "# Lot at stage 2: 3\n# Lot at stage 2: 2\n",
+            "line 7 of the ballots: told a second time",
+        ),
+    ];
+    for (comments, words) in files {
+        let names = format!(in rt.alloc(); "{comments}\"Ann\"")?;
+        tells(&rt, TIED, "\"Ann\"", names.as_str(), elected, words)?;
+    }
     Ok(())
 }
 

@@ -12,7 +12,7 @@ use Rattle.count.specs.declared.run.CountEnd.TheVariants as end
 use Rattle.count.specs.declared.stages.Stage.{Stage}
 use Rattle.sheet.specs.Entries.{SheetEntry}
 use Rattle.sheet.specs.Sheet.{declaration, sheet}
-use Rattle.recount.specs.Checks.{EndsAt, IsCountProblem, IsCountedCheck, problem_of}
+use Rattle.recount.specs.Checks.{EndsAt, IsCountProblem, IsCountedCheck, problem_of, undrawn}
 use Rattle.recount.specs.Differences.{IsComparison}
 use Rattle.recount.specs.Wards.{contest_in}
 use Rattle.recount.specs.declared.differences.Checked.{Checked}
@@ -43,11 +43,12 @@ finished (end.LotNotAmong stage) is = absurd (cc is)
 
 -- what comes of a text where it is
 pub counted_so : (ward : SheetEntry) (bundles : List Bundle) (lots : List (ℕ × ℕ)) (text : List ℕ) (checked : Checked) (contest : Contest) (stages : List Stage) (history : History) (why : CountEnd) (elected : List ℕ)
-    → contest ≡ contest_in ward bundles → reverse stages ≡ history → IsWholeCount contest lots history → end_after contest lots history ≡ Some why → None ≡ problem_of why → elected ≡ elected_after contest history
+    → contest ≡ contest_in ward bundles → reverse stages ≡ history → IsWholeCount contest lots history → end_after contest lots history ≡ Some why → None ≡ problem_of why → elected ≡ elected_after contest history → None ≡ undrawn contest lots
     → IsComparison text (sheet ward stages) (declaration ward elected) checked → IsCountedCheck ward bundles lots text checked
-counted_so ward bundles lots text checked contest stages history why elected same is whole ended none chosen compared = record {
+counted_so ward bundles lots text checked contest stages history why elected same is whole ended none chosen drawn compared = record {
   stages = stages;
   counted = subst (λ c. EndsAt c lots stages end.Finished) same (ends_at contest lots stages history end.Finished is whole (ended ∙ ap Some (finished why none)));
+  drawn = ap (λ c. undrawn c lots) (sym same) ∙ sym drawn;
   compared =
       let by : elected ≡ elected_after (contest_in ward bundles) (reverse stages) = chosen ∙ (ap (elected_after contest) (sym is) ∙ ap (λ c. elected_after c (reverse stages)) same) in
       subst (λ es. IsComparison text (sheet ward stages) (declaration ward es) checked) by compared;

@@ -1,16 +1,17 @@
 -- Our own comments in a file of ballots: the number of the ward, the rejected papers of each code, and the lots.
-use Rattle.std.specs.Prelude.{ℕ, Bool, true, false, ◌&&◌, nat_eq, if◌then◌else◌, List, [], ◌∷◌, ◌++◌, codes, Option, Some, None, Result, Ok, Err}
+use Rattle.std.specs.Prelude.{ℕ, Bool, true, false, ◌&&◌, ◌==◌, nat_eq, if◌then◌else◌, List, [], ◌∷◌, ◌++◌, codes, Option, Some, None, is_some, Result, Ok, Err}
+use Rattle.std.specs.List.{list_any}
 use Rattle.std.specs.Option.{option_and_then}
 use Rattle.std.specs.Cmp.Lexicographic.{pointwise}
 use Rattle.recount.specs.Numbers.{number_in}
 use Rattle.recount.specs.Pieces.{Text, pieces_of}
 use Rattle.recount.specs.declared.pieces.Separator.TheVariants.{Mark}
 use Rattle.recount.specs.declared.problem.Flaw.{Flaw}
-use Rattle.recount.specs.declared.problem.Flaw.TheVariants.{Lot, Rejected, Ward}
+use Rattle.recount.specs.declared.problem.Flaw.TheVariants.{Lot, Rejected, Twice, Ward}
 
 -- what they tell: the number of the ward, the rejected papers by their code, and each lot's stage and candidate
 pub record Remarks : Type 0 where
-  pub ward : ℕ
+  pub ward : Option ℕ
   pub rejected : Option (List ℕ)
   pub lots : List (ℕ × ℕ)
 
@@ -66,18 +67,25 @@ lot_in (at ∷ stage ∷ k ∷ c ∷ []) =
     if is_word (codes "at") at && is_word (codes "stage") stage then option_and_then (λ number. option_and_then (λ candidate. Some (number, candidate)) (small_in c)) (small_in k) else None
 lot_in (at ∷ stage ∷ k ∷ c ∷ other ∷ words) = None
 
+-- what is told, where the same wasn't told before
+abbrev pub once : Bool → Remarks → Result Remarks Flaw
+once before remarks = if before then Err Twice else Ok remarks
+
 -- what is told, with what a comment tells, where it is understood
 abbrev pub with_ward : Remarks → Option ℕ → Result Remarks Flaw
 with_ward remarks None = Err Ward
-with_ward remarks (Some ward) = Ok (record { ward = ward; rejected = remarks.rejected; lots = remarks.lots })
+with_ward remarks (Some ward) = once (is_some remarks.ward) (record { ward = Some ward; rejected = remarks.rejected; lots = remarks.lots })
 
 abbrev pub with_rejected : Remarks → Option (List ℕ) → Result Remarks Flaw
 with_rejected remarks None = Err Rejected
-with_rejected remarks (Some rejected) = Ok (record { ward = remarks.ward; rejected = Some rejected; lots = remarks.lots })
+with_rejected remarks (Some rejected) = once (is_some remarks.rejected) (record { ward = remarks.ward; rejected = Some rejected; lots = remarks.lots })
+
+abbrev pub is_drawn : ℕ → List (ℕ × ℕ) → Bool
+is_drawn stage lots = list_any (λ lot. lot.0 == stage) lots
 
 abbrev pub with_lot : Remarks → Option (ℕ × ℕ) → Result Remarks Flaw
 with_lot remarks None = Err Lot
-with_lot remarks (Some lot) = Ok (record { ward = remarks.ward; rejected = remarks.rejected; lots = remarks.lots ++ lot ∷ [] })
+with_lot remarks (Some lot) = once (is_drawn lot.0 remarks.lots) (record { ward = remarks.ward; rejected = remarks.rejected; lots = remarks.lots ++ lot ∷ [] })
 
 -- a comment of this kind; any other is passed over
 abbrev pub with_kind : Remarks → Text → List Text → Result Remarks Flaw

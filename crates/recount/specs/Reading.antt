@@ -1,9 +1,5 @@
 -- How a file of ballots is read, line by line.
-use Rattle.std.specs.Prelude.{ℕ, ◌+◌, ◌==◌, nat_lt, nat_le, nat_eq, suc, Bool, true, false, if◌then◌else◌, List, [], ◌∷◌, ◌++◌, length, map, codes, Option, Some, None, Result, Ok, Err}
-use Rattle.std.specs.List.{list_any}
-use Rattle.count.specs.Bundles.{Bundle, papers_of}
-use Rattle.sheet.specs.Entries.{SheetEntry}
-use Rattle.sheet.specs.declared.ward.Poll.{Poll}
+use Rattle.std.specs.Prelude.{ℕ, ◌+◌, ◌==◌, nat_lt, Bool, false, if◌then◌else◌, List, [], ◌∷◌, ◌++◌, length, None, Result, Ok, Err}
 use Rattle.recount.specs.Outcomes.{and_then}
 use Rattle.recount.specs.Pieces.{Text, kind_of, lines_of, words_of}
 use Rattle.recount.specs.Ranks.{is_zero}
@@ -126,13 +122,13 @@ abbrev pub read_from : ℕ → Reading → List Text → Result Reading (ℕ × 
 read_from k reading [] = on_line k (at_end reading.place reading) (λ read. Ok read)
 read_from k reading (line ∷ lines) = on_line (k + 1) (with_line reading line) (λ more. read_from (k + 1) more lines)
 
--- before the first line: nothing is told, and a ward whose number isn't told is ward 1
+-- before the first line nothing is told
 abbrev pub nothing_told : Reading
 nothing_told = record {
   place = place.Size;
   papers = record { highest = 0; seats = 1; withdrawn = []; bundles = [] };
   names = record { names = []; ward = [] };
-  remarks = record { ward = 1; rejected = None; lots = [] };
+  remarks = record { ward = None; rejected = None; lots = [] };
 }
 
 -- what a file tells

@@ -46,3 +46,4 @@ IsFlawOf told problem.Memory = ⊤
 IsFlawOf told problem.NoContest = ⊥
 IsFlawOf told (problem.LotNeeded stage among) = ⊥
 IsFlawOf told (problem.LotNotAmong stage) = ⊥
+IsFlawOf told (problem.LotNotNeeded stage) = ⊥

@@ -1,6 +1,7 @@
 -- The ward and the contest that a file of ballots tells.
 use Rattle.std.specs.Prelude.{ℕ, ◌+◌, nat_eq, nat_le, if◌then◌else◌, List, [], ◌∷◌, length, map, Option, Some, None}
 use Rattle.std.specs.List.{list_any}
+use Rattle.std.specs.Option.{unwrap_or}
 use Rattle.count.specs.Bundles.{Bundle, papers_of}
 use Rattle.count.specs.Law.Contest.{Contest, contest_for}
 use Rattle.sheet.specs.Entries.{SheetEntry}
@@ -28,7 +29,7 @@ poll_by (Some rejected) bundles candidates seats = Some (poll_of bundles rejecte
 poll_by None (bundle ∷ bundles) candidates seats = Some (poll_of (bundle ∷ bundles) (0 ∷ 0 ∷ 0 ∷ 0 ∷ 0 ∷ []))
 poll_by None [] candidates seats = if nat_le candidates seats then None else Some (poll_of [] (0 ∷ 0 ∷ 0 ∷ 0 ∷ 0 ∷ []))
 
--- the ward that a file tells
+-- the ward that a file tells; where its number isn't told it is ward 1
 abbrev pub candidates_told : Reading → List (ℕ × Text)
 candidates_told reading = candidates_of reading.papers.withdrawn reading.names.names
 
@@ -37,7 +38,7 @@ poll_told reading = poll_by reading.remarks.rejected reading.papers.bundles (len
 
 abbrev pub ward_told : Reading → SheetEntry
 ward_told reading = record {
-  number = reading.remarks.ward;
+  number = unwrap_or reading.remarks.ward 1;
   name = reading.names.ward;
   seats = reading.papers.seats;
   candidates = candidates_told reading;

@@ -11,6 +11,7 @@ ghost use Rattle.recount.specs.Views.{reading_of};
 ghost use Rattle.recount.specs.Wards.{candidates_told, contest_in, numbers_of, ward_told};
 
 use crate::differences::{Checked, comparison};
+use crate::lots::undrawn;
 use crate::problem::Problem;
 use crate::reading::read;
 use crate::state::Reader;
@@ -73,6 +74,11 @@ fn counted(
         Some(problem) => return Err(problem),
         None => {}
     }
+    match undrawn(alloc, numbers, ward.seats, bundles, lots) {
+        Ok(None) => {}
+        Ok(Some(stage)) => return Err(Problem::LotNotNeeded { stage }),
+        Err(_) => return Err(Problem::Memory),
+    }
     match compared(alloc, ward, book.stages(), book.elected(), text) {
         Ok(checked) => Ok(checked),
         Err(_) => Err(Problem::Memory),
@@ -115,7 +121,7 @@ fn checked_with(
     let bundles = &told.papers.bundles;
     let seats = told.papers.seats;
     let ward = Ward {
-        number: told.comments.ward,
+        number: told.comments.ward.unwrap_or(1),
         name: told.names.ward.as_str(),
         seats,
         candidates,

@@ -1,7 +1,7 @@
 //! Our own comments: the number of the ward, the rejected papers of each code, and the lots.
 
 ghost use Rattle.std.specs.Prelude.{◌≡◌, ◌∷◌, [], map, option_map, IfOk, OnOk, codes};
-ghost use Rattle.recount.specs.Comments.{code_in, codes_in, count_in, is_end, is_word, lot_in, rejected_in, small_in, ward_in, with_comment, with_kind, with_lot, with_rejected, with_ward, with_words};
+ghost use Rattle.recount.specs.Comments.{code_in, codes_in, count_in, is_drawn, is_end, is_word, lot_in, rejected_in, small_in, ward_in, with_comment, with_kind, with_lot, with_rejected, with_ward, with_words};
 ghost use Rattle.recount.specs.Outcomes.{outcome};
 ghost use Rattle.recount.specs.Views.{remarks_of};
 
@@ -99,44 +99,59 @@ fn lot_in(words: &[&[u8]]) -> Option<(u8, u8)>
     Some((small_in(k)?, small_in(c)?))
 }
 
+/// Whether a lot is recorded for a stage.
+fn is_drawn(stage: u8, lots: &[(u8, u8)]) -> bool
+    ensures { result ≡ is_drawn stage lots.now }
+{
+    for lot in lots {
+        if lot.0 == stage {
+            return true;
+        }
+    }
+    false
+}
+
 impl Comments {
     /// The number of the ward, where it is told.
     fn take_ward(&mut self, ward: Option<u8>) -> Result<(), Flaw>
         ensures { outcome result (remarks_of self.new) ≡ with_ward (remarks_of self.old) ward }
     {
-        match ward {
-            None => Err(Flaw::Ward),
-            Some(ward) => {
-                self.ward = ward;
-                Ok(())
-            }
+        let Some(ward) = ward else {
+            return Err(Flaw::Ward);
+        };
+        if self.ward.is_some() {
+            return Err(Flaw::Twice);
         }
+        self.ward = Some(ward);
+        Ok(())
     }
 
     /// The rejected papers, where they are told.
     fn take_rejected(&mut self, rejected: Option<[u32; 5]>) -> Result<(), Flaw>
         ensures { outcome result (remarks_of self.new) ≡ with_rejected (remarks_of self.old) rejected }
     {
-        match rejected {
-            None => Err(Flaw::Rejected),
-            Some(rejected) => {
-                self.rejected = Some(rejected);
-                Ok(())
-            }
+        let Some(rejected) = rejected else {
+            return Err(Flaw::Rejected);
+        };
+        if self.rejected.is_some() {
+            return Err(Flaw::Twice);
         }
+        self.rejected = Some(rejected);
+        Ok(())
     }
 
     /// A lot, where it is told.
     fn take_lot(&mut self, lot: Option<(u8, u8)>) -> Result<Result<(), Flaw>, AllocError>
         ensures { IfOk result (λ told. outcome told (remarks_of self.new) ≡ with_lot (remarks_of self.old) lot) }
     {
-        match lot {
-            None => Ok(Err(Flaw::Lot)),
-            Some(lot) => {
-                self.lots.push(lot)?;
-                Ok(Ok(()))
-            }
+        let Some((stage, candidate)) = lot else {
+            return Ok(Err(Flaw::Lot));
+        };
+        if is_drawn(stage, &self.lots) {
+            return Ok(Err(Flaw::Twice));
         }
+        self.lots.push((stage, candidate))?;
+        Ok(Ok(()))
     }
 
     /// A comment of a kind.

@@ -28,6 +28,7 @@ mod reading;
 mod state;
 // the ward that it tells, and a text beside it
 mod checking;
+mod lots;
 mod wards;
 
 pub use checking::check;

@@ -57,6 +57,9 @@ pub enum Flaw {
     /// The comment doesn't tell a stage and a candidate.
     #[error("not the lot of a stage")]
     Lot,
+    /// The comment tells what was told before.
+    #[error("told a second time")]
+    Twice,
     /// The file ends before its first line of numbers.
     #[error("the file ends before the candidates and seats")]
     NoSize,
@@ -83,6 +86,9 @@ pub enum Problem {
     /// At this stage the recorded lot names none of the tied.
     #[error("the lot for stage {stage} names none of the tied")]
     LotNotAmong { stage: u8 },
+    /// A lot is recorded for this stage, at which none is drawn.
+    #[error("a lot is recorded for stage {stage}, and none is drawn there")]
+    LotNotNeeded { stage: u8 },
     /// Memory was wanting.
     #[error("memory")]
     Memory,

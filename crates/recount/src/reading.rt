@@ -3,7 +3,8 @@
 ghost use Rattle.std.specs.Prelude.{◌≡◌, ◌<◌, ◌≤◌, map, length, IfOk, IfErr, Ok};
 ghost use Rattle.paper.specs.Columns.{max_candidates};
 ghost use Rattle.recount.specs.Outcomes.{outcome};
-ghost use Rattle.recount.specs.Reading.{at_end, before_comment, is_end_line, is_withdrawn_line, nothing_told, read, read_from, with_content_at, with_line, with_name_line, with_papers_line, with_size_line, with_withdrawn_line};
+ghost use Rattle.recount.specs.Reading.{at_end, before_comment, is_end_line, is_withdrawn_line, nothing_told, read, read_from};
+ghost use Rattle.recount.specs.Reading.{with_content_at, with_line, with_name_line, with_papers_line, with_size_line, with_withdrawn_line};
 ghost use Rattle.recount.specs.Views.{IsFlawOf, reading_of};
 
 use crate::names::name_in;
@@ -65,7 +66,7 @@ impl Reader {
                 ward: String::new(alloc),
             },
             comments: Comments {
-                ward: 1,
+                ward: None,
                 rejected: None,
                 lots: Vec::new(alloc),
             },

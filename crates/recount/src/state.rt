@@ -32,7 +32,7 @@ pub(crate) struct Names {
 #[derive(Drop)]
 pub(crate) struct Comments {
     /// The number of the ward.
-    pub(crate) ward: u8,
+    pub(crate) ward: Option<u8>,
     /// The rejected papers, by code 1 to 5.
     pub(crate) rejected: Option<[u32; 5]>,
     /// Stages, counted from 1, each with the candidate whom its lot named.
