@@ -5,3 +5,4 @@ pub mod NameLemmas
 pub mod DifferenceLemmas
 pub mod WardLemmas
 pub mod CheckLemmas
+pub mod LineLaws
