@@ -18,6 +18,8 @@ mod pages;
 #[cfg(test)]
 mod papers;
 #[cfg(test)]
+mod recounts;
+#[cfg(test)]
 mod sheets;
 #[cfg(test)]
 mod spreadsheets;

@@ -1,0 +1,8 @@
+-- What the proofs of the readers share.
+pub mod PieceLemmas
+pub mod RankLemmas
+pub mod NameLemmas
+pub mod DifferenceLemmas
+pub mod WardLemmas
+pub mod CheckLemmas
+pub mod LineLaws

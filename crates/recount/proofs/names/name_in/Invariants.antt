@@ -1,0 +1,10 @@
+-- What holds each time round the loop of `name_in`: the bytes that are left, behind those so far, give the line's name.
+use Rattle.std.proofs.Common.{◌≡◌, [], drop}
+use Rattle.std.specs.Prelude.{fold}
+use Rattle.recount.specs.Names.{with_byte}
+use Rattle.recount.specs.Views.{quoting_of}
+use Rattle.recount.specs.declared.names.Within.TheVariants.{Before}
+use Rattle.recount.proofs.names.name_in.Given as goal
+
+abbrev pub invariant-loop-byte : goal.invariant-loop-byte
+invariant-loop-byte l = fold with_byte (quoting_of l.quoted) (drop l.byte-index l.line) ≡ fold with_byte (record { name = []; within = Before }) l.line

@@ -1,0 +1,21 @@
+-- Why `numbers_of` keeps its promise.
+use Rattle.std.proofs.Common.{◌≡◌, ◌∙◌, ◌+◌, ◌++◌, [], ◌∷◌, String, Global, ℕ, get_or, length, map, take, sym, ap, subst, arith}
+use Rattle.std.proofs.lemmas.List.{length-map, map_more, take-map, take_all}
+use Rattle.paper.specs.Columns.{IsColumn, IsColumnSet}
+use Rattle.count.proofs.ColumnLemmas.{columns-take}
+use Rattle.sheet.proofs.Candidates.{IsColumn-candidate}
+use Rattle.recount.proofs.WardLemmas.{number_more, number_is, numbers_done}
+use Rattle.recount.proofs.wards.numbers_of.Goals as goal
+
+pub with-columns-requires-clause-some : goal.with-columns-requires-clause-some
+with-columns-requires-clause-some c = (number_is c.args.ward.now.candidates.now c.loop-candidate.candidate-index c.candidate-item.result c.requires.candidate_set c.loop-candidate-test.true c.candidate-item.is).0
+
+pub with-columns-requires-clause-few : goal.with-columns-requires-clause-few
+with-columns-requires-clause-few c = (number_is c.args.ward.now.candidates.now c.loop-candidate.candidate-index c.candidate-item.result c.requires.candidate_set c.loop-candidate-test.true c.candidate-item.is).1
+
+pub loop-candidate-preserved : goal.loop-candidate-preserved
+loop-candidate-preserved c =
+    number_more c.args.ward.now.candidates.now c.loop-candidate.candidate-index c.candidate-item.result c.loop-candidate.columns c.with-columns.result c.requires.candidate_set c.loop-candidate-test.true c.candidate-item.is c.loop-candidate.invariant c.with-columns.ensures.last
+
+pub returns : goal.returns
+returns c = numbers_done c.args.ward.now.candidates.now c.loop-candidate.candidate-index c.loop-candidate.columns c.loop-candidate.invariant c.loop-candidate-test.false

@@ -1,0 +1,56 @@
+-- The names of a file of ballots: a line each, in quotation marks.
+use Rattle.std.specs.Prelude.{ℕ, suc, ◌==◌, ◌||◌, nat_eq, nat_lt, if◌then◌else◌, List, [], ◌∷◌, ◌++◌, fold, length, Result, Ok, Err}
+use Rattle.std.specs.List.{list_any}
+use Rattle.std.specs.Str.{is_utf8}
+use Rattle.recount.specs.Pieces.{Text, is_blank}
+use Rattle.recount.specs.declared.names.Within.{Within}
+use Rattle.recount.specs.declared.names.Within.TheVariants.{Before, Inside, Escaped, Behind, Remark, Astray}
+use Rattle.recount.specs.declared.problem.Flaw.{Flaw}
+use Rattle.recount.specs.declared.problem.Flaw.TheVariants.{NoName, NotUtf8, OpenQuote}
+
+-- a name that is read so far, and where the next byte of its line stands
+pub record Quoting : Type 0 where
+  pub name : Text
+  pub within : Within
+
+-- the next byte stands elsewhere
+abbrev pub moved_to : Within → Quoting → Quoting
+moved_to within quoting = record { name = quoting.name; within = within }
+
+-- some bytes more of the name
+abbrev pub with_bytes : Quoting → Text → Quoting
+with_bytes quoting bytes = record { name = quoting.name ++ bytes; within = Inside }
+
+-- one byte more: a quotation mark opens the name and closes it; within it a backslash stands before a quotation mark and before a
+-- backslash, and before another byte for itself; behind it a `#` begins a remark
+abbrev pub quoting_at : Within → Quoting → ℕ → Quoting
+quoting_at Before quoting byte = if byte == 34 then moved_to Inside quoting else (if is_blank byte then quoting else moved_to Astray quoting)
+quoting_at Inside quoting byte =
+    if byte == 34 then moved_to Behind quoting else (if byte == 92 then moved_to Escaped quoting else with_bytes quoting (byte ∷ []))
+quoting_at Escaped quoting byte = if byte == 34 || byte == 92 then with_bytes quoting (byte ∷ []) else with_bytes quoting (92 ∷ byte ∷ [])
+quoting_at Behind quoting byte = if byte == 35 then moved_to Remark quoting else (if is_blank byte then quoting else moved_to Astray quoting)
+quoting_at Remark quoting byte = quoting
+quoting_at Astray quoting byte = quoting
+
+abbrev pub with_byte : Quoting → ℕ → Quoting
+with_byte quoting byte = quoting_at quoting.within quoting byte
+
+-- a name that is text
+abbrev pub as_text : Text → Result Text Flaw
+as_text name = if is_utf8 name then Ok name else Err NotUtf8
+
+-- the name of a line that was read to its end
+abbrev pub name_at : Within → Text → Result Text Flaw
+name_at Before name = Err NoName
+name_at Inside name = Err OpenQuote
+name_at Escaped name = Err OpenQuote
+name_at Behind name = as_text name
+name_at Remark name = as_text name
+name_at Astray name = Err NoName
+
+abbrev pub name_of : Quoting → Result Text Flaw
+name_of quoting = name_at quoting.within quoting.name
+
+-- `"Ann"`: the name of a line
+abbrev pub name_in : Text → Result Text Flaw
+name_in line = name_of (fold with_byte (record { name = []; within = Before }) line)

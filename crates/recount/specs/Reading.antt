@@ -1,0 +1,136 @@
+-- How a file of ballots is read, line by line.
+use Rattle.std.specs.Prelude.{ℕ, ◌+◌, ◌==◌, nat_lt, Bool, false, if◌then◌else◌, List, [], ◌∷◌, ◌++◌, length, None, Result, Ok, Err}
+use Rattle.recount.specs.Outcomes.{and_then}
+use Rattle.recount.specs.Pieces.{Text, kind_of, lines_of, words_of}
+use Rattle.recount.specs.Ranks.{is_zero}
+use Rattle.recount.specs.Papers.{Told, with_bundle, with_size, with_withdrawn}
+use Rattle.recount.specs.Names.{name_in}
+use Rattle.recount.specs.Comments.{Remarks, with_comment}
+use Rattle.recount.specs.declared.pieces.Kind.{Kind}
+use Rattle.recount.specs.declared.pieces.Kind.TheVariants.{Empty, Comment, Content}
+use Rattle.recount.specs.declared.problem.Flaw.{Flaw}
+use Rattle.recount.specs.declared.problem.Flaw.TheVariants.{BehindName, NamesWanting, NoEnd, NoSize}
+use Rattle.recount.specs.declared.state.Place.{Place}
+use Rattle.recount.specs.declared.state.Place.TheVariants as place
+
+-- the names of the numbers from 1 on, and the name of the ward
+pub record Named : Type 0 where
+  pub names : List Text
+  pub ward : Text
+
+-- what a file has told so far, and where its next line stands
+pub record Reading : Type 0 where
+  pub place : Place
+  pub papers : Told
+  pub names : Named
+  pub remarks : Remarks
+
+-- the same, with other papers, other names or other remarks
+abbrev pub with_papers_at : Reading → Place → Told → Reading
+with_papers_at reading place papers = record { place = place; papers = papers; names = reading.names; remarks = reading.remarks }
+
+abbrev pub with_names_at : Reading → Place → Named → Reading
+with_names_at reading place names = record { place = place; papers = reading.papers; names = names; remarks = reading.remarks }
+
+abbrev pub with_remarks : Reading → Remarks → Reading
+with_remarks reading remarks = record { place = reading.place; papers = reading.papers; names = reading.names; remarks = remarks }
+
+-- the bytes of a line of numbers before a `#`, which begins a comment
+abbrev pub before_comment : Text → Text
+before_comment [] = []
+before_comment (byte ∷ bytes) = if byte == 35 then [] else byte ∷ before_comment bytes
+
+-- the words of a line of numbers
+abbrev pub numbers_of : Text → List Text
+numbers_of line = words_of (before_comment line)
+
+-- whether a line of numbers is `0`, which ends the papers
+abbrev pub is_end_line : List Text → Bool
+is_end_line [] = false
+is_end_line (word ∷ []) = is_zero word
+is_end_line (word ∷ other ∷ words) = false
+
+-- whether a line of numbers begins with a minus, as one of withdrawn candidates does
+abbrev pub begins_with_minus : Text → Bool
+begins_with_minus [] = false
+begins_with_minus (byte ∷ bytes) = byte == 45
+
+abbrev pub is_withdrawn_line : List Text → Bool
+is_withdrawn_line [] = false
+is_withdrawn_line (word ∷ words) = begins_with_minus word
+
+-- a line of papers, or the one that ends them
+abbrev pub with_papers_line : Reading → List Text → Result Reading Flaw
+with_papers_line reading words =
+    if is_end_line words
+    then Ok (with_papers_at reading place.Names reading.papers)
+    else and_then (with_bundle reading.papers words) (λ papers. Ok (with_papers_at reading place.Papers papers))
+
+-- a line of withdrawn candidates, which stand before all papers; or one of papers
+abbrev pub with_withdrawn_line : Reading → List Text → Result Reading Flaw
+with_withdrawn_line reading words =
+    if is_withdrawn_line words
+    then and_then (with_withdrawn reading.papers words) (λ papers. Ok (with_papers_at reading place.Withdrawn papers))
+    else with_papers_line reading words
+
+-- the first line of numbers
+abbrev pub with_size_line : Reading → List Text → Result Reading Flaw
+with_size_line reading words = and_then (with_size reading.papers words) (λ papers. Ok (with_papers_at reading place.Withdrawn papers))
+
+-- a name: each number up to the highest has one, and the ward's stands behind them
+abbrev pub with_name : Reading → Text → Reading
+with_name reading name =
+    if nat_lt (length reading.names.names) reading.papers.highest
+    then with_names_at reading place.Names (record { names = reading.names.names ++ name ∷ []; ward = reading.names.ward })
+    else with_names_at reading place.End (record { names = reading.names.names; ward = name })
+
+abbrev pub with_name_line : Reading → Text → Result Reading Flaw
+with_name_line reading line = and_then (name_in line) (λ name. Ok (with_name reading name))
+
+-- a line that tells something, by where it stands
+abbrev pub with_content_at : Place → Reading → Text → Result Reading Flaw
+with_content_at place.Size reading line = with_size_line reading (numbers_of line)
+with_content_at place.Withdrawn reading line = with_withdrawn_line reading (numbers_of line)
+with_content_at place.Papers reading line = with_papers_line reading (numbers_of line)
+with_content_at place.Names reading line = with_name_line reading line
+with_content_at place.End reading line = Err BehindName
+
+-- a line: an empty one is passed over, and of the comments our own alone are read, wherever they stand
+abbrev pub with_line_of : Kind → Reading → Text → Result Reading Flaw
+with_line_of Empty reading line = Ok reading
+with_line_of Comment reading line = and_then (with_comment reading.remarks line) (λ remarks. Ok (with_remarks reading remarks))
+with_line_of Content reading line = with_content_at reading.place reading line
+
+abbrev pub with_line : Reading → Text → Result Reading Flaw
+with_line reading line = with_line_of (kind_of line) reading line
+
+-- what is wrong with a file that ends where a line of this kind should stand
+abbrev pub at_end : Place → Reading → Result Reading Flaw
+at_end place.Size reading = Err NoSize
+at_end place.Withdrawn reading = Err NoEnd
+at_end place.Papers reading = Err NoEnd
+at_end place.Names reading = Err NamesWanting
+at_end place.End reading = Ok reading
+
+-- what is wrong, with the number of its line
+abbrev pub on_line : {X Y : Type 0} → ℕ → Result X Flaw → (X → Result Y (ℕ × Flaw)) → Result Y (ℕ × Flaw)
+on_line k (Ok x) f = f x
+on_line k (Err flaw) f = Err (k, flaw)
+
+-- what is told by some lines behind others, so many in all; or what is wrong with the first that isn't understood, or with the end
+abbrev pub read_from : ℕ → Reading → List Text → Result Reading (ℕ × Flaw)
+read_from k reading [] = on_line k (at_end reading.place reading) (λ read. Ok read)
+read_from k reading (line ∷ lines) = on_line (k + 1) (with_line reading line) (λ more. read_from (k + 1) more lines)
+
+-- before the first line nothing is told
+abbrev pub nothing_told : Reading
+nothing_told = record {
+  place = place.Size;
+  papers = record { highest = 0; seats = 1; withdrawn = []; bundles = [] };
+  names = record { names = []; ward = [] };
+  remarks = record { ward = None; rejected = None; lots = [] };
+}
+
+-- what a file tells
+abbrev pub read : Text → Result Reading (ℕ × Flaw)
+read bytes = read_from 0 nothing_told (lines_of bytes)

@@ -1,0 +1,49 @@
+-- What the program's values stand for.
+use Rattle.std.specs.Prelude.{◌≡◌, ℕ, map, string_bytes, Result, Err, ⊤}
+use Rattle.recount.specs.Reading.{Named, Reading}
+use Rattle.recount.specs.Comments.{Remarks}
+use Rattle.recount.specs.Names.{Quoting}
+use Rattle.recount.specs.Papers.{Told}
+use Rattle.recount.specs.Ranks.{Ranked}
+use Rattle.recount.specs.declared.names.Quoted.{Quoted}
+use Rattle.recount.specs.declared.problem.Flaw.{Flaw}
+use Rattle.recount.specs.declared.problem.Problem.{Problem}
+use Rattle.recount.specs.declared.problem.Problem.TheVariants as problem
+use Rattle.recount.specs.declared.ranks.Ranks.{Ranks}
+use Rattle.recount.specs.declared.state.Comments.{Comments}
+use Rattle.recount.specs.declared.state.Names.{Names}
+use Rattle.recount.specs.declared.state.Papers.{Papers}
+use Rattle.recount.specs.declared.state.Reader.{Reader}
+
+-- whom a line names so far
+abbrev pub ranks_of : Ranks → Ranked
+ranks_of ranks = record { named = ranks.named.items; rank = ranks.rank }
+
+-- what a file tells of candidates, seats and papers
+abbrev pub told_of : Papers → Told
+told_of papers = record { highest = papers.highest; seats = papers.seats; withdrawn = papers.withdrawn; bundles = papers.bundles }
+
+-- a name that is read so far
+abbrev pub quoting_of : Quoted → Quoting
+quoting_of quoted = record { name = quoted.name.items; within = quoted.within }
+
+-- what our own comments tell
+abbrev pub remarks_of : Comments → Remarks
+remarks_of comments = record { ward = comments.ward; rejected = comments.rejected; lots = comments.lots.items }
+
+-- the names of a file
+abbrev pub named_of : Names → Named
+named_of names = record { names = map string_bytes names.names.items; ward = string_bytes names.ward }
+
+-- what a file has told so far
+abbrev pub reading_of : Reader → Reading
+reading_of reader = record { place = reader.place; papers = told_of reader.papers; names = named_of reader.names; remarks = remarks_of reader.comments }
+
+-- what is wrong with a line, where something is; or memory was wanting
+abbrev pub IsFlawOf : Result Reading (ℕ × Flaw) → Problem → Type 0
+IsFlawOf told (problem.Line line flaw) = told ≡ Err (line, flaw)
+IsFlawOf told problem.Memory = ⊤
+IsFlawOf told problem.NoContest = ⊥
+IsFlawOf told (problem.LotNeeded stage among) = ⊥
+IsFlawOf told (problem.LotNotAmong stage) = ⊥
+IsFlawOf told (problem.LotNotNeeded stage) = ⊥

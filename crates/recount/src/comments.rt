@@ -1,0 +1,197 @@
+//! Our own comments: the number of the ward, the rejected papers of each code, and the lots.
+
+ghost use Rattle.std.specs.Prelude.{◌≡◌, ◌∷◌, [], map, option_map, IfOk, OnOk, codes};
+ghost use Rattle.recount.specs.Comments.{code_in, codes_in, count_in, is_drawn, is_end, is_word, lot_in, rejected_in, small_in, ward_in, with_comment, with_kind, with_lot, with_rejected, with_ward, with_words};
+ghost use Rattle.recount.specs.Outcomes.{outcome};
+ghost use Rattle.recount.specs.Views.{remarks_of};
+
+use crate::numbers::number_in;
+use crate::pieces::{Separator, pieces_of};
+use crate::problem::Flaw;
+use crate::state::Comments;
+use std::alloc::{AllocError, Global};
+
+/// Whether a word is this one.
+fn is_word(text: &str, word: &[u8]) -> bool
+    ensures { result ≡ is_word text.now word.now }
+{
+    word == text.as_bytes()
+}
+
+/// A number that fits one byte.
+fn small_in(word: &[u8]) -> Option<u8>
+    ensures { result ≡ small_in word.now }
+{
+    match number_in(255, word) {
+        Ok(number) => Some(number as u8),
+        Err(_) => None,
+    }
+}
+
+/// A number that fits four bytes.
+fn count_in(word: &[u8]) -> Option<u32>
+    ensures { result ≡ count_in word.now }
+{
+    match number_in(u32::MAX, word) {
+        Ok(number) => Some(number),
+        Err(_) => None,
+    }
+}
+
+/// The number of a ward.
+fn ward_in(words: &[&[u8]]) -> Option<u8>
+    ensures { result ≡ ward_in (map (λ w. w.now) words.now) }
+{
+    match words {
+        [number] => small_in(number),
+        _ => None,
+    }
+}
+
+/// Whether there are no words.
+fn is_end(words: &[&[u8]]) -> bool
+    ensures { result ≡ is_end (map (λ w. w.now) words.now) }
+{
+    match words {
+        [] => true,
+        _ => false,
+    }
+}
+
+/// The rejected papers of a code, and the words behind them.
+fn code_in<'a, 'b>(code: &str, words: &'b [&'a [u8]]) -> Option<(u32, &'b [&'a [u8]])>
+    ensures { option_map (λ told. (told.0, map (λ w. w.now) told.1.now)) result ≡ code_in code.now (map (λ w. w.now) words.now) }
+{
+    let [told, papers, others @ ..] = words else {
+        return None;
+    };
+    if !is_word(code, told) {
+        return None;
+    }
+    Some((count_in(papers)?, others))
+}
+
+/// The rejected papers of each code.
+fn rejected_in(words: &[&[u8]]) -> Option<[u32; 5]>
+    ensures { result ≡ rejected_in (map (λ w. w.now) words.now) }
+{
+    let (first, words) = code_in("1", words)?;
+    let (second, words) = code_in("2", words)?;
+    let (third, words) = code_in("3", words)?;
+    let (fourth, words) = code_in("4", words)?;
+    let (fifth, words) = code_in("5", words)?;
+    if !is_end(words) {
+        return None;
+    }
+    Some([first, second, third, fourth, fifth])
+}
+
+/// The candidate whom a lot named, behind its stage.
+fn lot_in(words: &[&[u8]]) -> Option<(u8, u8)>
+    ensures { result ≡ lot_in (map (λ w. w.now) words.now) }
+{
+    let [at, stage, k, c] = words else {
+        return None;
+    };
+    if !(is_word("at", at) && is_word("stage", stage)) {
+        return None;
+    }
+    Some((small_in(k)?, small_in(c)?))
+}
+
+/// Whether a lot is recorded for a stage.
+fn is_drawn(stage: u8, lots: &[(u8, u8)]) -> bool
+    ensures { result ≡ is_drawn stage lots.now }
+{
+    for lot in lots {
+        if lot.0 == stage {
+            return true;
+        }
+    }
+    false
+}
+
+impl Comments {
+    /// The number of the ward, where it is told.
+    fn take_ward(&mut self, ward: Option<u8>) -> Result<(), Flaw>
+        ensures { outcome result (remarks_of self.new) ≡ with_ward (remarks_of self.old) ward }
+    {
+        let Some(ward) = ward else {
+            return Err(Flaw::Ward);
+        };
+        if self.ward.is_some() {
+            return Err(Flaw::Twice);
+        }
+        self.ward = Some(ward);
+        Ok(())
+    }
+
+    /// The rejected papers, where they are told.
+    fn take_rejected(&mut self, rejected: Option<[u32; 5]>) -> Result<(), Flaw>
+        ensures { outcome result (remarks_of self.new) ≡ with_rejected (remarks_of self.old) rejected }
+    {
+        let Some(rejected) = rejected else {
+            return Err(Flaw::Rejected);
+        };
+        if self.rejected.is_some() {
+            return Err(Flaw::Twice);
+        }
+        self.rejected = Some(rejected);
+        Ok(())
+    }
+
+    /// A lot, where it is told.
+    fn take_lot(&mut self, lot: Option<(u8, u8)>) -> Result<Result<(), Flaw>, AllocError>
+        ensures { IfOk result (λ told. outcome told (remarks_of self.new) ≡ with_lot (remarks_of self.old) lot) }
+    {
+        let Some((stage, candidate)) = lot else {
+            return Ok(Err(Flaw::Lot));
+        };
+        if is_drawn(stage, &self.lots) {
+            return Ok(Err(Flaw::Twice));
+        }
+        self.lots.push((stage, candidate))?;
+        Ok(Ok(()))
+    }
+
+    /// A comment of a kind.
+    fn take_kind(&mut self, kind: &[u8], words: &[&[u8]]) -> Result<Result<(), Flaw>, AllocError>
+        ensures { IfOk result (λ told. outcome told (remarks_of self.new) ≡ with_kind (remarks_of self.old) kind.now (map (λ w. w.now) words.now)) }
+    {
+        if is_word("Ward", kind) {
+            return Ok(self.take_ward(ward_in(words)));
+        }
+        if is_word("Rejected", kind) {
+            return Ok(self.take_rejected(rejected_in(words)));
+        }
+        if is_word("Lot", kind) {
+            return self.take_lot(lot_in(words));
+        }
+        Ok(Ok(()))
+    }
+
+    /// The words of a comment.
+    fn take_words(&mut self, words: &[&[u8]]) -> Result<Result<(), Flaw>, AllocError>
+        ensures { IfOk result (λ told. outcome told (remarks_of self.new) ≡ with_words (remarks_of self.old) (map (λ w. w.now) words.now)) }
+    {
+        let [sign, kind, others @ ..] = words else {
+            return Ok(Ok(()));
+        };
+        if !is_word("#", sign) {
+            return Ok(Ok(()));
+        }
+        self.take_kind(kind, others)
+    }
+
+    /// A comment.
+    pub(crate) fn take(
+        &mut self,
+        alloc: Global,
+        line: &[u8],
+    ) -> Result<Result<(), Flaw>, AllocError>
+        ensures { IfOk result (λ told. outcome told (remarks_of self.new) ≡ with_comment (remarks_of self.old) line.now) }
+    {
+        let words = pieces_of(alloc, Separator::Mark, line)?;
+        self.take_words(&words)
+    }
+}

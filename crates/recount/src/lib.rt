@@ -1,0 +1,36 @@
+//! Checks a stage sheet or a declaration against the ballots of its ward: whether the text is exactly the one
+//! that these ballots, rejected papers and lots give. Nothing of an office is needed.
+//!
+//! [`check`] reads the ballots, as `ballots` prints them or as other counting programs write them (BLT), counts
+//! them to the end by the recorded lots, and compares. A [`Problem`] tells what of the ballots isn't understood, or
+//! which lot is wanting.
+//!
+//! ```text
+//! match check(alloc, ballots, text)? {
+//!     Checked::Same => ..,                          // these ballots give this very text
+//!     Checked::Differs { line, should_be } => ..,   // the first line that differs, and what it should be
+//! }
+//! ```
+#![tactic(auto)]
+
+// what is told
+mod differences;
+mod problem;
+// a text in lines, a line in words, and words that are numbers
+mod numbers;
+mod pieces;
+// what a file has told so far, and what each of its lines adds
+mod comments;
+mod names;
+mod papers;
+mod ranks;
+mod reading;
+mod state;
+// the ward that it tells, and a text beside it
+mod checking;
+mod lots;
+mod wards;
+
+pub use checking::check;
+pub use differences::Checked;
+pub use problem::{Flaw, Problem};

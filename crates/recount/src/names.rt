@@ -1,0 +1,124 @@
+//! Names, a line each, in quotation marks.
+
+ghost use Rattle.std.specs.Prelude.{◌≡◌, [], ◌∷◌, IfOk, OnOk, string_bytes};
+ghost use Rattle.recount.specs.Names.{as_text, name_in, name_of, with_byte, with_bytes};
+ghost use Rattle.recount.specs.Outcomes.{told_as};
+ghost use Rattle.recount.specs.Views.{quoting_of};
+
+use crate::pieces::is_blank;
+use crate::problem::Flaw;
+use std::alloc::{AllocError, Global};
+use std::str;
+
+/// Where the next byte of a line with a name stands.
+#[derive(Clone, Copy)]
+pub(crate) enum Within {
+    /// Before the quotation mark that opens the name.
+    Before,
+    /// In the name.
+    Inside,
+    /// In the name, behind a backslash.
+    Escaped,
+    /// Behind the quotation mark that closes it.
+    Behind,
+    /// Behind a `#` there.
+    Remark,
+    /// Behind what stands beside a name.
+    Astray,
+}
+
+/// A name that is read so far, and where the next byte of its line stands.
+#[derive(Drop)]
+pub(crate) struct Quoted {
+    name: Vec<u8>,
+    within: Within,
+}
+
+/// A name that is text.
+fn as_text(name: Vec<u8>) -> Result<String, Flaw>
+    ensures { told_as (λ text. string_bytes text) result ≡ as_text name.items }
+{
+    match str::from_utf8(&name) {
+        Ok(_) => {}
+        Err(_) => return Err(Flaw::NotUtf8),
+    }
+    Ok(String::from_utf8(name).unwrap())
+}
+
+impl Quoted {
+    /// Some bytes more of the name.
+    fn add(&mut self, bytes: &[u8]) -> Result<(), AllocError>
+        ensures { OnOk result (quoting_of self.new ≡ with_bytes (quoting_of self.old) bytes.now) }
+    {
+        self.name.extend_from_slice(bytes)?;
+        self.within = Within::Inside;
+        Ok(())
+    }
+
+    /// One byte more.
+    fn take(&mut self, byte: u8) -> Result<(), AllocError>
+        ensures { OnOk result (quoting_of self.new ≡ with_byte (quoting_of self.old) byte) }
+    {
+        match self.within {
+            Within::Before => {
+                if byte == b'"' {
+                    self.within = Within::Inside;
+                } else if !is_blank(byte) {
+                    self.within = Within::Astray;
+                }
+                Ok(())
+            }
+            Within::Inside => {
+                if byte == b'"' {
+                    self.within = Within::Behind;
+                    return Ok(());
+                }
+                if byte == b'\\' {
+                    self.within = Within::Escaped;
+                    return Ok(());
+                }
+                self.add(&[byte])
+            }
+            Within::Escaped => {
+                if byte == b'"' || byte == b'\\' {
+                    return self.add(&[byte]);
+                }
+                self.add(&[b'\\', byte])
+            }
+            Within::Behind => {
+                if byte == b'#' {
+                    self.within = Within::Remark;
+                } else if !is_blank(byte) {
+                    self.within = Within::Astray;
+                }
+                Ok(())
+            }
+            Within::Remark | Within::Astray => Ok(()),
+        }
+    }
+
+    /// The name of a line that was read to its end.
+    fn into_name(self) -> Result<String, Flaw>
+        ensures { told_as (λ text. string_bytes text) result ≡ name_of (quoting_of self) }
+    {
+        match self.within {
+            Within::Before | Within::Astray => Err(Flaw::NoName),
+            Within::Inside | Within::Escaped => Err(Flaw::OpenQuote),
+            Within::Behind | Within::Remark => as_text(self.name),
+        }
+    }
+}
+
+/// The name of a line.
+pub(crate) fn name_in(alloc: Global, line: &[u8]) -> Result<Result<String, Flaw>, AllocError>
+    ensures { IfOk result (λ told. told_as (λ text. string_bytes text) told ≡ name_in line.now) }
+{
+    let mut quoted = Quoted {
+        name: Vec::new(alloc),
+        within: Within::Before,
+    };
+    for byte in line {
+        quoted.take(*byte)?;
+    }
+    Ok(quoted.into_name())
+}

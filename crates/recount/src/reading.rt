@@ -1,0 +1,214 @@
+//! Ballots, read line by line.
+
+ghost use Rattle.std.specs.Prelude.{◌≡◌, ◌<◌, ◌≤◌, map, length, IfOk, IfErr, Ok};
+ghost use Rattle.paper.specs.Columns.{max_candidates};
+ghost use Rattle.recount.specs.Outcomes.{outcome};
+ghost use Rattle.recount.specs.Reading.{at_end, before_comment, is_end_line, is_withdrawn_line, nothing_told, read, read_from};
+ghost use Rattle.recount.specs.Reading.{with_content_at, with_line, with_name_line, with_papers_line, with_size_line, with_withdrawn_line};
+ghost use Rattle.recount.specs.Views.{IsFlawOf, reading_of};
+
+use crate::names::name_in;
+use crate::pieces::{Kind, Separator, kind_of, lines_of, pieces_of};
+use crate::problem::{Flaw, Problem};
+use crate::ranks::is_zero;
+use crate::state::{Comments, Names, Papers, Place, Reader};
+use count::Bundles;
+use paper::Columns;
+use std::alloc::{AllocError, Global};
+
+/// The bytes of a line of numbers before a `#`, which begins a comment.
+fn before_comment(line: &[u8]) -> &[u8]
+    ensures { result.now ≡ before_comment line.now }
+{
+    for i in 0..line.len() {
+        if line[i] == b'#' {
+            return &line[..i];
+        }
+    }
+    line
+}
+
+/// Whether a line of numbers is `0`, which ends the papers.
+fn is_end_line(words: &[&[u8]]) -> bool
+    ensures { result ≡ is_end_line (map (λ w. w.now) words.now) }
+{
+    match words {
+        [word] => is_zero(word),
+        _ => false,
+    }
+}
+
+/// Whether a line of numbers begins with a minus.
+fn is_withdrawn_line(words: &[&[u8]]) -> bool
+    ensures { result ≡ is_withdrawn_line (map (λ w. w.now) words.now) }
+{
+    match words {
+        [[byte, ..], ..] => *byte == b'-',
+        _ => false,
+    }
+}
+
+impl Reader {
+    /// Nothing is told.
+    fn new(alloc: Global) -> Reader
+        ensures { reading_of result ≡ nothing_told }
+    {
+        Reader {
+            place: Place::Size,
+            papers: Papers {
+                highest: 0,
+                seats: 1,
+                withdrawn: Columns::empty(),
+                bundles: Bundles::new(alloc),
+            },
+            names: Names {
+                names: Vec::new(alloc),
+                ward: String::new(alloc),
+            },
+            comments: Comments {
+                ward: None,
+                rejected: None,
+                lots: Vec::new(alloc),
+            },
+        }
+    }
+
+    /// The first line of numbers.
+    fn take_size_line(&mut self, words: &[&[u8]]) -> Result<(), Flaw>
+        ensures { outcome result (reading_of self.new) ≡ with_size_line (reading_of self.old) (map (λ w. w.now) words.now) }
+    {
+        self.papers.take_size(words)?;
+        self.place = Place::Withdrawn;
+        Ok(())
+    }
+
+    /// A line of papers, or the one that ends them.
+    fn take_papers_line(
+        &mut self,
+        alloc: Global,
+        words: &[&[u8]],
+    ) -> Result<Result<(), Flaw>, AllocError>
+        ensures { IfOk result (λ told. outcome told (reading_of self.new) ≡ with_papers_line (reading_of self.old) (map (λ w. w.now) words.now)) }
+    {
+        if is_end_line(words) {
+            self.place = Place::Names;
+            return Ok(Ok(()));
+        }
+        if let Err(flaw) = self.papers.take_bundle(alloc, words)? {
+            return Ok(Err(flaw));
+        }
+        self.place = Place::Papers;
+        Ok(Ok(()))
+    }
+
+    /// A line of withdrawn candidates, or one of papers.
+    fn take_withdrawn_line(
+        &mut self,
+        alloc: Global,
+        words: &[&[u8]],
+    ) -> Result<Result<(), Flaw>, AllocError>
+        requires { self.old.place ≡ Place.Withdrawn }
+        ensures { IfOk result (λ told. outcome told (reading_of self.new) ≡ with_withdrawn_line (reading_of self.old) (map (λ w. w.now) words.now)) }
+    {
+        if is_withdrawn_line(words) {
+            return Ok(self.papers.take_withdrawn(words));
+        }
+        self.take_papers_line(alloc, words)
+    }
+
+    /// A name.
+    fn take_name_line(&mut self, alloc: Global, line: &[u8]) -> Result<Result<(), Flaw>, AllocError>
+        requires { self.old.place ≡ Place.Names }
+        ensures { IfOk result (λ told. outcome told (reading_of self.new) ≡ with_name_line (reading_of self.old) line.now) }
+    {
+        let name = match name_in(alloc, line)? {
+            Ok(name) => name,
+            Err(flaw) => return Ok(Err(flaw)),
+        };
+        if self.names.names.len() < usize::from(self.papers.highest) {
+            self.names.names.push(name)?;
+        } else {
+            self.names.ward = name;
+            self.place = Place::End;
+        }
+        Ok(Ok(()))
+    }
+
+    /// A line that tells something.
+    fn take_content(&mut self, alloc: Global, line: &[u8]) -> Result<Result<(), Flaw>, AllocError>
+        ensures { IfOk result (λ told. outcome told (reading_of self.new) ≡ with_content_at self.old.place (reading_of self.old) line.now) }
+    {
+        match self.place {
+            Place::Names => return self.take_name_line(alloc, line),
+            Place::End => return Ok(Err(Flaw::BehindName)),
+            Place::Size | Place::Withdrawn | Place::Papers => {}
+        }
+        let words = pieces_of(alloc, Separator::Blank, before_comment(line))?;
+        match self.place {
+            Place::Size => Ok(self.take_size_line(&words)),
+            Place::Withdrawn => self.take_withdrawn_line(alloc, &words),
+            _ => self.take_papers_line(alloc, &words),
+        }
+    }
+
+    /// A line.
+    fn take(&mut self, alloc: Global, line: &[u8]) -> Result<Result<(), Flaw>, AllocError>
+        ensures { IfOk result (λ told. outcome told (reading_of self.new) ≡ with_line (reading_of self.old) line.now) }
+    {
+        match kind_of(line) {
+            Kind::Empty => Ok(Ok(())),
+            Kind::Comment => self.comments.take(alloc, line),
+            Kind::Content => self.take_content(alloc, line),
+        }
+    }
+
+    /// Whether the file may end here.
+    fn at_end(&self) -> Result<(), Flaw>
+        ensures { outcome result (reading_of self.now) ≡ at_end self.now.place (reading_of self.now) }
+    {
+        match self.place {
+            Place::Size => Err(Flaw::NoSize),
+            Place::Withdrawn | Place::Papers => Err(Flaw::NoEnd),
+            Place::Names => Err(Flaw::NamesWanting),
+            Place::End => Ok(()),
+        }
+    }
+}
+
+/// What some lines tell, or the first of them that isn't understood.
+fn read_lines(alloc: Global, lines: &[&[u8]]) -> Result<Reader, Problem>
+    ensures ok { IfOk result (λ reader. read_from 0 nothing_told (map (λ line. line.now) lines.now) ≡ Ok (reading_of reader)) }
+    ensures err { IfErr result (λ problem. IsFlawOf (read_from 0 nothing_told (map (λ line. line.now) lines.now)) problem) }
+{
+    let mut reader = Reader::new(alloc);
+    for (i, line) in lines.iter().enumerate() {
+        match reader.take(alloc, line) {
+            Ok(Ok(())) => {}
+            Ok(Err(flaw)) => {
+                return Err(Problem::Line {
+                    line: i as u64 + 1,
+                    flaw,
+                });
+            }
+            Err(_) => return Err(Problem::Memory),
+        }
+    }
+    match reader.at_end() {
+        Ok(()) => Ok(reader),
+        Err(flaw) => Err(Problem::Line {
+            line: lines.len() as u64,
+            flaw,
+        }),
+    }
+}
+
+/// What a file tells, or the first line of it that isn't understood.
+pub(crate) fn read(alloc: Global, bytes: &[u8]) -> Result<Reader, Problem>
+    ensures ok { IfOk result (λ reader. read bytes.now ≡ Ok (reading_of reader)) }
+    ensures err { IfErr result (λ problem. IsFlawOf (read bytes.now) problem) }
+{
+    match lines_of(alloc, bytes) {
+        Ok(lines) => read_lines(alloc, &lines),
+        Err(_) => Err(Problem::Memory),
+    }
+}
