@@ -1,0 +1,67 @@
+#!/usr/bin/env bash
+# Plays the check of sheets and declarations against ballots, by the program that needs no office.
+source "$(dirname "$(readlink -f "${BASH_SOURCE[0]}")")/play.bash"
+
+data=$here/../crates/check_count/data
+cp "$data/ballots.txt" "$data/sheet.txt" "$folder"
+
+# Plays the check of the sheet, changed by `sed`.
+play_changed() {
+    echo "changed: $*"
+    sed "$@" "$folder/sheet.txt" >"$folder/changed.txt"
+    play - check ballots.txt changed.txt
+}
+
+# Plays the check of the sheet against the ballots, changed by `sed`.
+play_ballots() {
+    echo "changed ballots: $*"
+    sed "$@" "$folder/ballots.txt" >"$folder/changed.txt"
+    play - check changed.txt sheet.txt
+}
+
+# The checker is built before the first order, so that only orders are played.
+"$office" - check --help >/dev/null
+
+{
+    play - check --help
+    play - check ballots.txt sheet.txt
+    printf 'Ward 7 Harbour\nElected\n 1 Ann\n 3 Cy\n' >"$folder/result.txt"
+    play - check ballots.txt result.txt
+    printf 'Ward 7 Harbour\nElected\n 1 Ann\n 2 Bob\n' >"$folder/result.txt"
+    play - check ballots.txt result.txt
+
+    # one figure by one unit, a line moved, a name, a line left out, a line more, no line end
+    play_changed '12s/2.33332/2.33331/'
+    play_changed -e '5{h;d}' -e '6G'
+    play_changed '7s/Cy/Cyd/'
+    play_changed '21d'
+    play_changed '$a\ 9       0.00000 - Zoe'
+    play_changed -z '$s/\n$//'
+    play_changed -n '1,3p'
+
+    # other ballots, rejected papers, and lots
+    play_ballots '2s/4/5/'
+    play_ballots 's/Rejected 1: 0/Rejected 1: 1/'
+    play_ballots '$a# Lot at stage 2: 1'
+
+    # ballots as other programs write them, and what isn't understood
+    play_ballots -e 's/$/\r/' -e '1s/^/\xef\xbb\xbf/'
+    play_ballots -e '2s/.*/4 1 2 0 # a bundle\n/' -e '3s/0$/2=3 0/'
+    play_ballots '3s/1 3/1 9/'
+    play_ballots '3s/1 3/1 1/'
+    play_ballots '4s/ 0$//'
+    play_ballots '6d'
+    play_ballots '7s/"$//'
+    printf '3 1\n2 1 0\n1 2 0\n1 3 0\n0\n"Ann"\n"Bob"\n"Cy"\n"Harbour"\n' >"$folder/tied.txt"
+    play - check tied.txt sheet.txt
+
+    # words and files
+    play - check
+    play - check ballots.txt
+    play - check ballots.txt sheet.txt more.txt
+    play - check missing.txt sheet.txt
+    play - check ballots.txt "$folder"
+} >"$folder/played"
+sed -i "s|$folder|FOLDER|" "$folder/played"
+
+compare checking
