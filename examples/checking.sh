@@ -1,5 +1,6 @@
 #!/usr/bin/env bash
 # Plays the check of sheets and declarations against ballots, by the program that needs no office.
+asks_for='- check'
 source "$(dirname "$(readlink -f "${BASH_SOURCE[0]}")")/play.bash"
 
 data=$here/../crates/check_count/data
@@ -18,9 +19,6 @@ play_ballots() {
     sed "$@" "$folder/ballots.txt" >"$folder/changed.txt"
     play - check changed.txt sheet.txt
 }
-
-# The checker is built before the first order, so that only orders are played.
-"$office" - check --help >/dev/null
 
 {
     play - check --help

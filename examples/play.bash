@@ -7,8 +7,9 @@ office=$here/../count-office
 folder=$(mktemp -d)
 trap 'rm -rf "$folder"' EXIT
 
-# The program is built before the first order, so that only orders are played.
-"$office" --help >/dev/null
+# The program is built before the first order, so that only orders are played; it is the checker where an example says so.
+read -ra program <<<"${asks_for:-}"
+"$office" "${program[@]}" --help >/dev/null
 
 play() {
     local status=0
