@@ -35,6 +35,7 @@ play_ballots() {
     play_changed '21d'
     play_changed '$a\ 9       0.00000 - Zoe'
     play_changed -z '$s/\n$//'
+    play_changed 's/$/\r/'
     play_changed -n '1,3p'
 
     # other ballots, rejected papers, and lots

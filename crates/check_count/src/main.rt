@@ -67,8 +67,21 @@ fn shown(line: &mut [u8]) {
     }
 }
 
+/// Tells what can't be seen of the ends of a text's lines, where they are other than those of a sheet.
+fn tell_line_ends(rt: &HostRuntime, text: &[u8]) -> io::Result<()> {
+    if text.contains(&b'\r') {
+        return eprintln!(rt;
+            "(its lines end with carriage returns, as another system writes them; a sheet's don't)"
+        );
+    }
+    if text.last() != Some(&b'\n') {
+        return eprintln!(rt; "(its last line has no line end)");
+    }
+    Ok(())
+}
+
 /// Tells the first line that differs, and what it should be.
-fn tell_difference(rt: &HostRuntime, line: u64, mut should_be: Vec<u8>) -> io::Result<()> {
+fn tell_line(rt: &HostRuntime, line: u64, mut should_be: Vec<u8>) -> io::Result<()> {
     if should_be.is_empty() {
         return eprintln!(rt; "line {line} differs: the text should end before it");
     }
@@ -80,6 +93,12 @@ fn tell_difference(rt: &HostRuntime, line: u64, mut should_be: Vec<u8>) -> io::R
     let mut err = rt.stderr();
     err.write_all(&should_be)?;
     err.write_all(b"\n")
+}
+
+/// Tells where a text differs.
+fn tell_difference(rt: &HostRuntime, line: u64, should_be: Vec<u8>, text: &[u8]) -> io::Result<()> {
+    tell_line(rt, line, should_be)?;
+    tell_line_ends(rt, text)
 }
 
 /// Tells who is tied where a lot is wanting.
@@ -112,7 +131,7 @@ fn checked(rt: &HostRuntime, ballots: &[u8], text: &[u8]) -> u8
             status_of(told, SAME)
         }
         Ok(Checked::Differs { line, should_be }) => {
-            status_of(tell_difference(rt, line, should_be), DIFFERS)
+            status_of(tell_difference(rt, line, should_be, text), DIFFERS)
         }
         Err(Problem::Memory) => status_of(eprintln!(rt; "error: memory is wanting"), FAILED),
         Err(problem) => status_of(tell_problem(rt, &problem), NOT_CHECKED),
