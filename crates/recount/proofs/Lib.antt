@@ -6,3 +6,4 @@ pub mod DifferenceLemmas
 pub mod WardLemmas
 pub mod CheckLemmas
 pub mod LineLaws
+pub mod NumberLaws
