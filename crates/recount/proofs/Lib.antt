@@ -7,3 +7,4 @@ pub mod WardLemmas
 pub mod CheckLemmas
 pub mod LineLaws
 pub mod NumberLaws
+pub mod PaperLaws

@@ -10,7 +10,7 @@ use Rattle.recount.specs.declared.pieces.Kind.TheVariants.{Content}
 use Rattle.recount.specs.declared.pieces.Separator.{Separator}
 use Rattle.recount.specs.declared.pieces.Separator.TheVariants.{Blank, LineFeed}
 
-or_none : (a b : Bool) → (a || b) ≡ false → (a ≡ false) × (b ≡ false)
+pub or_none : (a b : Bool) → (a || b) ≡ false → (a ≡ false) × (b ≡ false)
 or_none false b h = (refl, h)
 or_none true b h = absurd (false≢true (sym h))
 
@@ -21,7 +21,7 @@ and_parts false b h = absurd (false≢true h)
 pub and_both : (a b : Bool) → a ≡ true → b ≡ true → (a && b) ≡ true
 and_both a b h k = rw (h, k) refl
 
-or_both : (a b : Bool) → a ≡ false → b ≡ false → (a || b) ≡ false
+pub or_both : (a b : Bool) → a ≡ false → b ≡ false → (a || b) ≡ false
 or_both a b h k = rw (h, k) refl
 
 -- ---- pieces
