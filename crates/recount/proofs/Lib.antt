@@ -8,3 +8,4 @@ pub mod CheckLemmas
 pub mod LineLaws
 pub mod NumberLaws
 pub mod PaperLaws
+pub mod FrontLaws
