@@ -9,3 +9,5 @@ pub mod LineLaws
 pub mod NumberLaws
 pub mod PaperLaws
 pub mod FrontLaws
+pub mod QuoteLaws
+pub mod CandidateLaws
