@@ -11,3 +11,4 @@ pub mod PaperLaws
 pub mod FrontLaws
 pub mod QuoteLaws
 pub mod CandidateLaws
+pub mod CommentLaws
