@@ -51,7 +51,7 @@ unnamed low end (x ∷ xs) c rise below =
 
 -- those of a ward from a number on, whose names stand in their place
 module _ (candidates : List (ℕ × Text)) (withdrawn : List ℕ) where
-  rebuilt : (n k end : ℕ) (left : List (ℕ × Text)) → end ≡ k + n → Rise k end left → ((c : ℕ) → k ≤ c → name_at candidates c ≡ name_at left c)
+  pub rebuilt : (n k end : ℕ) (left : List (ℕ × Text)) → end ≡ k + n → Rise k end left → ((c : ℕ) → k ≤ c → name_at candidates c ≡ name_at left c)
       → ((c : ℕ) → k ≤ c → c < end → list_any (nat_eq c) withdrawn ≡ is_none (name_at candidates c)) → candidates_from withdrawn k (map (name_of candidates) (range_with_len k n)) ≡ left
   rebuilt zero k end [] is rise same missing = refl
   rebuilt zero k end (x ∷ left) is rise same missing = absurd (omega (arith, is, rise.0, rise.1))

@@ -12,6 +12,7 @@ use Rattle.sheet.specs.Sheet.{rejected_line}
 use Rattle.recount.specs.Comments.{Remarks, count_in, is_drawn, rejected_in, small_in, with_comment, with_words}
 use Rattle.recount.specs.Papers.{Told}
 use Rattle.recount.specs.Pieces.{Text, kind_of, parts, piece, pieces_of}
+use Rattle.recount.specs.ReadingBack.{AreOnce, AreSmall}
 use Rattle.recount.specs.Reading.{Named, Reading, with_line}
 use Rattle.recount.specs.declared.pieces.Kind.TheVariants.{Comment}
 use Rattle.recount.specs.declared.pieces.Separator.TheVariants.{Mark}
@@ -131,14 +132,6 @@ lot_reads papers names remarks k c low small first =
     let more : Remarks = record { ward = remarks.ward; rejected = remarks.rejected; lots = remarks.lots ++ (k, c) ∷ [] } in
     let read : with_comment remarks (lot_text k c) ≡ Ok more = ap (with_words remarks) (lot_pieces k c low small) ∙ rw (small_back k low, small_back c small, first) refl in
     comment_reads papers names remarks more (lot_text k c) refl (part_unended k _ (omega arith) (part_unended c [] (omega arith) refl)) read
-
--- lots that a file can tell, none of them for one stage with another
-abbrev pub AreOnce : List (ℕ × ℕ) → Type 0
-AreOnce [] = Unit {0}
-AreOnce (lot ∷ lots) = (is_drawn lot.0 lots ≡ false) × AreOnce lots
-
-abbrev pub AreSmall : List (ℕ × ℕ) → Type 0
-AreSmall lots = AllByRecursion (λ (lot : ℕ × ℕ). (lot.0 ≤ 255) × (lot.1 ≤ 255)) lots
 
 abbrev Undrawn : List (ℕ × ℕ) → List (ℕ × ℕ) → Type 0
 Undrawn before lots = AllByRecursion (λ (lot : ℕ × ℕ). is_drawn lot.0 before ≡ false) lots

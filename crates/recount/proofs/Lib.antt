@@ -12,3 +12,4 @@ pub mod FrontLaws
 pub mod QuoteLaws
 pub mod CandidateLaws
 pub mod CommentLaws
+pub mod ReadBackLaws

@@ -13,16 +13,12 @@ use Rattle.recount.specs.Comments.{Remarks}
 use Rattle.recount.specs.Names.{Quoting, as_text, name_in, with_byte}
 use Rattle.recount.specs.Papers.{Told}
 use Rattle.recount.specs.Pieces.{Text}
+use Rattle.recount.specs.ReadingBack.{IsName}
 use Rattle.recount.specs.Reading.{Named, Reading, with_name, with_name_line}
 use Rattle.recount.specs.declared.names.Within.TheVariants.{Before, Inside, Behind}
 use Rattle.recount.specs.declared.state.Place.TheVariants as place
 use Rattle.recount.proofs.LineLaws.{Reads, or_both, or_none, reads-line, reads-nothing, reads-then}
 use Rattle.recount.proofs.PaperLaws.{state}
-
--- a name that a file can tell: it is text, and has no line feed
-pub record IsName (name : Text) : Type 0 where
-  pub text : is_utf8 name ≡ true
-  pub unended : list_any (λ b. b == 10) name ≡ false
 
 -- ---- quotation marks
 
