@@ -1,14 +1,11 @@
 -- The candidates of a ward are read back from the names of all numbers, and the numbers at which nobody stands.
-use Rattle.std.proofs.Common.{◌≡◌, ◌∙◌, ℕ, zero, suc, ◌+◌, ◌-◌, ◌<◌, ◌≤◌, ◌||◌, nat_eq, List, [], ◌∷◌, ◌++◌, Bool, true, false, length, map, refl, sym, ap, subst, arith, Some, None, is_none}
-use Rattle.std.specs.Prelude.{◌==◌, if◌then◌else◌, Option, option_map, slice_get}
-use Rattle.std.specs.List.{AllByRecursion, filter, find, list_any, range_with_len}
-use Rattle.std.proofs.lemmas.Bool.{eq-eqb, eqb-true, eqb-false, false≢true, ne_eqb}
-use Rattle.paper.specs.Columns.{IsColumnSet, max_candidates}
-use Rattle.paper.proofs.ColumnSets.{Ascends, ascends_from_columns, columns_from_ascends}
-use Rattle.sheet.specs.Ballots.{highest_number, name_at, name_or_withdrawn}
+use Rattle.std.proofs.Common.{◌≡◌, ◌∙◌, ℕ, zero, suc, ◌+◌, ◌<◌, ◌≤◌, ◌||◌, nat_eq, List, [], ◌∷◌, Bool, true, false, map, refl, sym, ap, subst, arith, Some, None, is_none}
+use Rattle.std.specs.Prelude.{◌==◌, if◌then◌else◌}
+use Rattle.std.specs.List.{filter, list_any, range_with_len}
+use Rattle.std.proofs.lemmas.Bool.{eq-eqb, eqb-true, eqb-false, ne_eqb}
+use Rattle.sheet.specs.Ballots.{name_at}
 use Rattle.recount.specs.Pieces.{Text}
 use Rattle.recount.specs.Wards.{candidates_from}
-use Rattle.recount.proofs.LineLaws.{or_both, or_none}
 use Rattle.recount.proofs.QuoteLaws.{name_of}
 
 -- ---- numbers in a range
@@ -65,9 +62,9 @@ module _ (candidates : List (ℕ × Text)) (withdrawn : List ℕ) where
     where
       by : (b : Bool) → (x.0 == k) ≡ b
           → (Rise (k + 1) end left → ((c : ℕ) → k + 1 ≤ c → name_at candidates c ≡ name_at left c) → ((c : ℕ) → k + 1 ≤ c → c < end → list_any (nat_eq c) withdrawn ≡ is_none (name_at candidates c))
-            → candidates_from withdrawn (k + 1) (map (name_of candidates) (range_with_len (k + 1) n)) ≡ left)
+          → candidates_from withdrawn (k + 1) (map (name_of candidates) (range_with_len (k + 1) n)) ≡ left)
           → (Rise (k + 1) end (x ∷ left) → ((c : ℕ) → k + 1 ≤ c → name_at candidates c ≡ name_at (x ∷ left) c) → ((c : ℕ) → k + 1 ≤ c → c < end → list_any (nat_eq c) withdrawn ≡ is_none (name_at candidates c))
-            → candidates_from withdrawn (k + 1) (map (name_of candidates) (range_with_len (k + 1) n)) ≡ x ∷ left)
+          → candidates_from withdrawn (k + 1) (map (name_of candidates) (range_with_len (k + 1) n)) ≡ x ∷ left)
           → candidates_from withdrawn k (map (name_of candidates) (range_with_len k (suc n))) ≡ x ∷ left
       by true e taken passed =
           let number = eqb-true x.0 k e in

@@ -1,11 +1,11 @@
 -- Our own comments are read back.
-use Rattle.std.proofs.Common.{◌≡◌, ◌∙◌, ℕ, ◌+◌, ◌^◌, ◌<◌, ◌≤◌, ◌||◌, List, [], ◌∷◌, ◌++◌, Bool, true, false, length, map, refl, sym, ap, subst, arith, append_assoc, append-nil, Ok, Some, None}
+use Rattle.std.proofs.Common.{◌≡◌, ◌∙◌, ℕ, ◌^◌, ◌<◌, ◌≤◌, List, [], ◌∷◌, ◌++◌, true, false, length, refl, sym, ap, subst, arith, append_assoc, append-nil, Ok, Some, None}
 use Rattle.std.specs.Prelude.{◌==◌, codes, Option}
 use Rattle.std.specs.Fmt.{decimal}
 use Rattle.std.specs.List.{AllByRecursion, flat_map, list_any}
 use Rattle.std.proofs.lemmas.Bool.{eq-eqb, false≢true, ne_eqb}
 use Rattle.std.proofs.lemmas.List.Folds.{list_any-append}
-use Rattle.sheet.specs.Ballots.{lot_comment, rejected_comment, ward_comment}
+use Rattle.sheet.specs.Ballots.{lot_comment, ward_comment}
 use Rattle.sheet.specs.Entries.{SheetEntry}
 use Rattle.sheet.specs.Lines.{line}
 use Rattle.sheet.specs.Sheet.{rejected_line}
@@ -13,11 +13,11 @@ use Rattle.recount.specs.Comments.{Remarks, count_in, is_drawn, rejected_in, sma
 use Rattle.recount.specs.Papers.{Told}
 use Rattle.recount.specs.Pieces.{Text, kind_of, parts, piece, pieces_of}
 use Rattle.recount.specs.ReadingBack.{AreOnce, AreSmall}
-use Rattle.recount.specs.Reading.{Named, Reading, with_line}
+use Rattle.recount.specs.Reading.{Named}
 use Rattle.recount.specs.declared.pieces.Kind.TheVariants.{Comment}
 use Rattle.recount.specs.declared.pieces.Separator.TheVariants.{Mark}
 use Rattle.recount.specs.declared.state.Place.TheVariants as place
-use Rattle.recount.proofs.LineLaws.{IsFigures, Reads, cut_piece, figure_other, figure_unblank, is_figure, last_piece, none_of, or_both, or_none, reads-line, reads-nothing, reads-then}
+use Rattle.recount.proofs.LineLaws.{Reads, cut_piece, figure_other, figure_unblank, is_figure, last_piece, none_of, or_both, or_none, reads-line, reads-nothing, reads-then}
 use Rattle.recount.proofs.NumberLaws.{decimal_figures, number_back}
 use Rattle.recount.proofs.PaperLaws.{state}
 
@@ -65,7 +65,7 @@ ward_reads papers names remarks ward few first =
     let more : Remarks = record { ward = Some n; rejected = remarks.rejected; lots = remarks.lots } in
     let read : with_comment remarks (codes "# Ward " ++ decimal n) ≡ Ok more = ap (with_words remarks) (ward_words n few) ∙ rw (small_back n few, first) refl in
     subst (λ t. Reads (state place.End papers names remarks) ((codes "# Ward " ++ t) ++ 10 ∷ []) (state place.End papers names more)) (sym (append-nil (decimal n)))
-      (comment_reads papers names remarks more (codes "# Ward " ++ decimal n) refl (unended n (omega arith)) read)
+    (comment_reads papers names remarks more (codes "# Ward " ++ decimal n) refl (unended n (omega arith)) read)
 
 -- ---- the rejected papers
 
@@ -91,11 +91,11 @@ pub record AreCounts (a b c d e : ℕ) : Type 0 where
 rejected_pieces : (a b c d e : ℕ) → AreCounts a b c d e → pieces_of Mark [] (rejected_text a b c d e) ≡ codes "#" ∷ codes "Rejected" ∷ rejected_words a b c d e
 rejected_pieces a b c d e few =
     ap (λ ps. codes "#" ∷ codes "Rejected" ∷ codes "1" ∷ ps)
-      (next_code a 50 _ few.first refl ∙ ap (λ ps. decimal a ∷ codes "2" ∷ ps)
-      (next_code b 51 _ few.second refl ∙ ap (λ ps. decimal b ∷ codes "3" ∷ ps)
-      (next_code c 52 _ few.third refl ∙ ap (λ ps. decimal c ∷ codes "4" ∷ ps)
-      (next_code d 53 _ few.fourth refl ∙ ap (λ ps. decimal d ∷ codes "5" ∷ ps)
-      (ap (pieces_of Mark []) (append-nil (decimal e)) ∙ number_ends e (omega (arith, few.fifth)))))))
+    (next_code a 50 _ few.first refl ∙ ap (λ ps. decimal a ∷ codes "2" ∷ ps)
+    (next_code b 51 _ few.second refl ∙ ap (λ ps. decimal b ∷ codes "3" ∷ ps)
+    (next_code c 52 _ few.third refl ∙ ap (λ ps. decimal c ∷ codes "4" ∷ ps)
+    (next_code d 53 _ few.fourth refl ∙ ap (λ ps. decimal d ∷ codes "5" ∷ ps)
+    (ap (pieces_of Mark []) (append-nil (decimal e)) ∙ number_ends e (omega (arith, few.fifth)))))))
 
 rejected_back : (a b c d e : ℕ) → AreCounts a b c d e → rejected_in (rejected_words a b c d e) ≡ Some (a ∷ b ∷ c ∷ d ∷ e ∷ [])
 rejected_back a b c d e few = rw (count_back a few.first, count_back b few.second, count_back c few.third, count_back d few.fourth, count_back e few.fifth) refl
@@ -123,7 +123,7 @@ lot_text k c = codes "# Lot at stage " ++ (decimal k ++ (codes ": " ++ (decimal 
 lot_pieces : (k c : ℕ) → k ≤ 255 → c ≤ 255 → pieces_of Mark [] (lot_text k c) ≡ codes "#" ∷ codes "Lot" ∷ codes "at" ∷ codes "stage" ∷ decimal k ∷ decimal c ∷ []
 lot_pieces k c low small =
     ap (λ ps. codes "#" ∷ codes "Lot" ∷ codes "at" ∷ codes "stage" ∷ ps)
-      (number_then k 58 (32 ∷ (decimal c ++ [])) (omega arith) refl ∙ ap (λ ps. decimal k ∷ ps) (ap (pieces_of Mark []) (append-nil (decimal c)) ∙ number_ends c (omega arith)))
+    (number_then k 58 (32 ∷ (decimal c ++ [])) (omega arith) refl ∙ ap (λ ps. decimal k ∷ ps) (ap (pieces_of Mark []) (append-nil (decimal c)) ∙ number_ends c (omega arith)))
 
 lot_reads : (papers : Told) (names : Named) (remarks : Remarks) (k c : ℕ) → k ≤ 255 → c ≤ 255 → is_drawn k remarks.lots ≡ false
     → Reads (state place.End papers names remarks) (lot_comment (k, c)) (state place.End papers names (record { ward = remarks.ward; rejected = remarks.rejected; lots = remarks.lots ++ (k, c) ∷ [] }))
@@ -139,9 +139,10 @@ Undrawn before lots = AllByRecursion (λ (lot : ℕ × ℕ). is_drawn lot.0 befo
 undrawn_more : (before : List (ℕ × ℕ)) (x : ℕ × ℕ) (lots : List (ℕ × ℕ)) → Undrawn before lots → is_drawn x.0 lots ≡ false → Undrawn (before ++ x ∷ []) lots
 undrawn_more before x [] all none = tt
 undrawn_more before x (lot ∷ lots) all none =
-    let parts = or_none (lot.0 == x.0) (is_drawn x.0 lots) none in
-    (list_any-append (λ (l : ℕ × ℕ). l.0 == lot.0) before (x ∷ []) ∙ or_both _ _ all.0 (or_both _ _ (ne_eqb x.0 lot.0 (λ e. absurd (false≢true (sym parts.0 ∙ eq-eqb lot.0 x.0 (sym e))))) refl),
-      undrawn_more before x lots all.1 parts.1)
+    let parts = or_none (lot.0 == x.0) (is_drawn x.0 lots) none in (
+      list_any-append (λ (l : ℕ × ℕ). l.0 == lot.0) before (x ∷ []) ∙ or_both _ _ all.0 (or_both _ _ (ne_eqb x.0 lot.0 (λ e. absurd (false≢true (sym parts.0 ∙ eq-eqb lot.0 x.0 (sym e))))) refl),
+      undrawn_more before x lots all.1 parts.1,
+    )
 
 none_drawn : (lots : List (ℕ × ℕ)) → Undrawn [] lots
 none_drawn [] = tt
@@ -151,7 +152,7 @@ lots_after : (papers : Told) (names : Named) (number : Option ℕ) (rejected : O
     → Reads (state place.End papers names (record { ward = number; rejected = rejected; lots = before })) (flat_map lot_comment lots) (state place.End papers names (record { ward = number; rejected = rejected; lots = before ++ lots }))
 lots_after papers names number rejected before [] small once all =
     subst (λ l. Reads (state place.End papers names (record { ward = number; rejected = rejected; lots = before })) [] (state place.End papers names (record { ward = number; rejected = rejected; lots = l }))) (sym (append-nil before))
-      (reads-nothing (state place.End papers names (record { ward = number; rejected = rejected; lots = before })))
+    (reads-nothing (state place.End papers names (record { ward = number; rejected = rejected; lots = before })))
 lots_after papers names number rejected before (lot ∷ lots) small once all =
     let here = state place.End papers names (record { ward = number; rejected = rejected; lots = before }) in
     let mid = state place.End papers names (record { ward = number; rejected = rejected; lots = before ++ lot ∷ [] }) in
@@ -159,7 +160,7 @@ lots_after papers names number rejected before (lot ∷ lots) small once all =
     let one = lot_reads papers names (record { ward = number; rejected = rejected; lots = before }) lot.0 lot.1 small.0.0 small.0.1 all.0 in
     let others = lots_after papers names number rejected (before ++ lot ∷ []) lots small.1 once.1 (undrawn_more before lot lots all.1 once.0) in
     subst (λ l. Reads here (lot_comment lot ++ flat_map lot_comment lots) (state place.End papers names (record { ward = number; rejected = rejected; lots = l }))) (append_assoc before (lot ∷ []) lots)
-      (reads-then here (lot_comment lot) mid (flat_map lot_comment lots) end one others)
+    (reads-then here (lot_comment lot) mid (flat_map lot_comment lots) end one others)
 
 pub lots_read : (papers : Told) (names : Named) (number : Option ℕ) (rejected : Option (List ℕ)) (lots : List (ℕ × ℕ)) → AreSmall lots → AreOnce lots
     → Reads (state place.End papers names (record { ward = number; rejected = rejected; lots = [] })) (flat_map lot_comment lots) (state place.End papers names (record { ward = number; rejected = rejected; lots = lots }))

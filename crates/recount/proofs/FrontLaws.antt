@@ -1,11 +1,10 @@
 -- What stands above the names is read back: the sizes, the withdrawn candidates, and the papers.
-use Rattle.std.proofs.Common.{◌≡◌, ◌∙◌, ℕ, ◌+◌, ◌^◌, ◌<◌, ◌≤◌, List, [], ◌∷◌, ◌++◌, Bool, true, false, length, map, take, refl, sym, ap, subst, arith, append_assoc, append-nil, length-append, Ok, None}
+use Rattle.std.proofs.Common.{◌≡◌, ◌∙◌, ℕ, ◌+◌, ◌≤◌, List, [], ◌∷◌, ◌++◌, Bool, false, length, map, refl, sym, ap, subst, arith, append_assoc, append-nil, length-append, Ok}
 use Rattle.std.specs.Prelude.{codes, replicate}
 use Rattle.std.specs.Fmt.{decimal}
 use Rattle.std.specs.List.{AllByRecursion, flat_map}
 use Rattle.std.specs.List.Sorted.{IsStrictlySortedBy}
-use Rattle.std.specs.Ordering.{match_ordering, ordering_reverse}
-use Rattle.std.specs.declared.cmp.Ordering.{Ordering}
+use Rattle.std.specs.Ordering.{ordering_reverse}
 use Rattle.std.specs.declared.cmp.Ordering.TheVariants.{Less, Greater}
 use Rattle.std.specs.Cmp.Lexicographic.{nat_list_cmp_total}
 use Rattle.std.proofs.lemmas.Bool.{ne_eqb}
@@ -21,7 +20,7 @@ use Rattle.sheet.specs.Lines.{line}
 use Rattle.recount.specs.Comments.{Remarks}
 use Rattle.recount.specs.Papers.{with_size, with_withdrawn, withdrawn_from}
 use Rattle.recount.specs.Pieces.{Text}
-use Rattle.recount.specs.Reading.{Named, Reading, nothing_told, numbers_of, with_size_line, with_withdrawn_line}
+use Rattle.recount.specs.Reading.{Named, nothing_told, with_size_line, with_withdrawn_line}
 use Rattle.recount.specs.declared.state.Place.TheVariants as place
 use Rattle.recount.proofs.LineLaws.{AreFigures, IsFigures, Reads, and_both, is_figure, line_numbers, reads-nothing, reads-then, spaced}
 use Rattle.recount.proofs.NumberLaws.{candidate_back, decimal_figures, number_back}
@@ -31,7 +30,6 @@ use Rattle.recount.proofs.PaperLaws.{CanStand, among_papers, bundle_reads, numbe
 
 abbrev lists_of : List Bundle → List (List ℕ)
 lists_of bundles = map (λ (b : Bundle). b.0) bundles
-
 
 there : (P : List ℕ → Type 0) (before : List Bundle) (b : Bundle) (bs : List Bundle) → AllByRecursion P (lists_of (before ++ b ∷ bs)) → P b.0
 there P [] b bs all = all.0
@@ -81,7 +79,7 @@ bundles_read first h s w before (b ∷ bs) names remarks bound rise can few =
     let others = bundles_read false h s w (before ++ b ∷ []) bs names remarks bound (subst (λ l. IsStrictlySortedBy list_cmp (lists_of l)) (sym joined) rise) can.1 more in
     let all = reads-then here (bundle_line b) (state place.Papers (told h s w (before ++ b ∷ [])) names remarks) (flat_map bundle_line bs ++ end_line) (state place.Names (told h s w ((before ++ b ∷ []) ++ bs)) names remarks) one others in
     subst (λ l. Reads here ((bundle_line b ++ flat_map bundle_line bs) ++ end_line) (state place.Names (told h s w l) names remarks)) joined
-      (subst (λ t. Reads here t (state place.Names (told h s w ((before ++ b ∷ []) ++ bs)) names remarks)) (sym (append_assoc (bundle_line b) (flat_map bundle_line bs) end_line)) all)
+    (subst (λ t. Reads here t (state place.Names (told h s w ((before ++ b ∷ []) ++ bs)) names remarks)) (sym (append_assoc (bundle_line b) (flat_map bundle_line bs) end_line)) all)
 
 -- ---- the sizes
 
@@ -93,7 +91,7 @@ size_reads h s bound some few =
     let read : with_size nothing_told.papers (decimal h ∷ decimal s ∷ []) ≡ Ok (told h s [] []) =
     rw (number_back max_candidates h (omega arith) bound, number_back max_seats s (omega (arith, few)) few, ne_eqb s 0 (λ e. omega (arith, e))) refl in
     number_line nothing_told (state place.Withdrawn (told h s [] []) nothing_told.names nothing_told.remarks) (decimal h) (decimal s ∷ []) (decimal_figures h (omega arith)) (decimal_figures s (omega (arith, few)), tt)
-      (ap (with_size_line nothing_told) words ∙ rw read refl)
+    (ap (with_size_line nothing_told) words ∙ rw read refl)
 
 -- ---- the withdrawn
 
@@ -131,4 +129,4 @@ withdrawn_reads h s (c ∷ cs) names remarks bound set low =
     let words = line_numbers (minus_word c) (map minus_word cs) first others in
     let read : with_withdrawn (told h s [] []) (map minus_word (c ∷ cs)) ≡ Ok (told h s (c ∷ cs) []) = rw (withdrawn_back h [] (c ∷ cs) bound set low) refl in
     subst (λ t. Reads here ((minus_word c ++ t) ++ 10 ∷ []) end) (sym (minus_text cs))
-      (number_line here end (minus_word c) (map minus_word cs) first others (ap (with_withdrawn_line here) words ∙ rw read refl))
+    (number_line here end (minus_word c) (map minus_word cs) first others (ap (with_withdrawn_line here) words ∙ rw read refl))

@@ -13,3 +13,4 @@ pub mod QuoteLaws
 pub mod CandidateLaws
 pub mod CommentLaws
 pub mod ReadBackLaws
+pub mod OwnBallots

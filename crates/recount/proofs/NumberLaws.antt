@@ -1,14 +1,13 @@
 -- A number is read back from the digits that write it.
-use Rattle.std.proofs.Common.{◌≡◌, ◌∙◌, ℕ, ◌+◌, ◌-◌, ◌*◌, ◌/◌, ◌%◌, ◌^◌, ◌<◌, ◌≤◌, ◌&&◌, nat_le, Bool, true, false, List, [], ◌∷◌, ◌++◌, length, refl, sym, ap, subst, arith, length-append, Ok, Err}
-use Rattle.std.specs.Prelude.{◌==◌, nat_eq, nat_lt, Result, codes, if◌then◌else◌}
+use Rattle.std.proofs.Common.{◌≡◌, ◌∙◌, ℕ, ◌+◌, ◌-◌, ◌*◌, ◌/◌, ◌%◌, ◌^◌, ◌<◌, ◌≤◌, Bool, true, false, [], ◌∷◌, ◌++◌, length, refl, sym, ap, arith, length-append, Ok, Err}
+use Rattle.std.specs.Prelude.{◌==◌, nat_eq, Result, codes}
 use Rattle.std.specs.Fmt.{decimal}
 use Rattle.std.specs.Char.{is_ascii_digit}
-use Rattle.std.specs.List.{list_all, list_any}
 use Rattle.std.specs.Cmp.Lexicographic.{pointwise}
 use Rattle.std.proofs.lemmas.Bool.{eqb-true, false≢true, le-leb, le-ltb, ne_eqb}
 use Rattle.std.proofs.lemmas.Fmt.{decimal_by_steps}
 use Rattle.std.proofs.lemmas.List.Folds.{list_all-append}
-use Rattle.recount.specs.Numbers.{candidate_in, in_range, number_from, number_in, with_digit}
+use Rattle.recount.specs.Numbers.{candidate_in, number_from, number_in, with_digit}
 use Rattle.recount.specs.Outcomes.{and_then}
 use Rattle.recount.specs.Pieces.{Text}
 use Rattle.recount.specs.Ranks.{is_zero, is_shared}
@@ -27,6 +26,7 @@ decimal_figures n small = decimal_by_steps (λ n ds. IsFigures ds) one more n sm
   where
     one : (n : ℕ) → n < 10 → IsFigures ((48 + n) ∷ [])
     one n low = record { all = and_both _ _ (digit_figure n low) refl; some = omega arith }
+
     more : (n : ℕ) (ds : Text) → 10 ≤ n → IsFigures ds → IsFigures (ds ++ (48 + n % 10) ∷ [])
     more n ds high is = record {
       all = list_all-append is_figure ds ((48 + n % 10) ∷ []) ∙ and_both _ _ is.all (and_both _ _ (digit_figure (n % 10) (omega arith)) refl);
@@ -56,6 +56,7 @@ read_from_digits n small = decimal_by_steps (λ n ds. (most : ℕ) → n ≤ mos
   where
     one : (n : ℕ) → n < 10 → (most : ℕ) → n ≤ most → number_from most 0 ((48 + n) ∷ []) ≡ Ok n
     one n low most few = ap (λ r. and_then r (λ m. Ok m)) (digit_read most 0 n n low (omega arith) few)
+
     more : (n : ℕ) (ds : Text) → 10 ≤ n → ((most : ℕ) → n / 10 ≤ most → number_from most 0 ds ≡ Ok (n / 10)) → (most : ℕ) → n ≤ most → number_from most 0 (ds ++ (48 + n % 10) ∷ []) ≡ Ok n
     more n ds high rest most few =
         number_snoc most 0 ds (48 + n % 10)

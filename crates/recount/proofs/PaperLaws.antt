@@ -1,34 +1,25 @@
 -- The lines of papers are read back.
-use Rattle.std.proofs.Common.{◌≡◌, ◌∙◌, ℕ, ◌+◌, ◌*◌, ◌/◌, ◌%◌, ◌^◌, ◌<◌, ◌≤◌, nat_eq, nat_le, not, Bool, true, false, List, [], ◌∷◌, ◌++◌, length, map, take, drop, refl, sym, ap, subst, arith, append_assoc, append-nil, length-append, Ok, Err}
-use Rattle.std.specs.Prelude.{◌==◌, Result, codes, if◌then◌else◌, replicate}
+use Rattle.std.proofs.Common.{◌≡◌, ◌∙◌, ℕ, ◌+◌, ◌%◌, ◌^◌, ◌<◌, ◌≤◌, nat_eq, Bool, true, false, List, [], ◌∷◌, ◌++◌, length, map, refl, sym, ap, subst, arith, append_assoc, append-nil, Ok}
+use Rattle.std.specs.Prelude.{◌==◌, codes}
 use Rattle.std.specs.Fmt.{decimal}
-use Rattle.std.specs.List.{AllByRecursion, filter, flat_map, list_any}
-use Rattle.std.specs.List.Sorted.{IsStrictlySortedBy}
-use Rattle.std.specs.Ordering.{match_ordering, ordering_reverse}
-use Rattle.std.specs.declared.cmp.Ordering.{Ordering}
-use Rattle.std.specs.declared.cmp.Ordering.TheVariants.{Less, Equal, Greater}
-use Rattle.std.specs.Cmp.Lexicographic.{nat_list_cmp_total}
-use Rattle.std.proofs.lemmas.Bool.{eq-eqb, eqb-true, false≢true, le-leb, ne_eqb}
+use Rattle.std.specs.List.{AllByRecursion, list_any}
+use Rattle.std.proofs.lemmas.Bool.{eq-eqb, false≢true, le-leb, ne_eqb}
 use Rattle.std.proofs.lemmas.Fmt.{decimal_by_steps}
 use Rattle.std.proofs.lemmas.List.Folds.{list_any-append}
-use Rattle.paper.specs.Columns.{max_candidates}
 use Rattle.paper.specs.Ranking.{IsRanking}
-use Rattle.votes.specs.Units.{max_papers, max_seats}
-use Rattle.count.specs.Bundles.{Bundle, list_cmp, papers_of, with_papers}
-use Rattle.sheet.specs.Ballots.{bundle_line, end_line}
+use Rattle.votes.specs.Units.{max_papers}
+use Rattle.count.specs.Bundles.{Bundle, papers_of, with_papers}
+use Rattle.sheet.specs.Ballots.{bundle_line}
 use Rattle.sheet.specs.Lines.{line, preferences}
 use Rattle.recount.specs.Comments.{Remarks}
-use Rattle.recount.specs.Numbers.{candidate_in}
-use Rattle.recount.specs.Outcomes.{and_then}
 use Rattle.recount.specs.Papers.{Told, papers_in, with_bundle, with_list}
 use Rattle.recount.specs.Pieces.{Text}
-use Rattle.recount.specs.Ranks.{Ranked, named_from, named_in, with_rank, without}
+use Rattle.recount.specs.Ranks.{named_from, without}
 use Rattle.recount.specs.Reading.{Named, Reading, begins_with_minus, is_withdrawn_line, numbers_of, with_content_at, with_line_of, with_papers_line}
-use Rattle.recount.specs.declared.problem.Flaw.{Flaw}
-use Rattle.recount.specs.declared.ranks.Rank.TheVariants.{Single, Ended}
+use Rattle.recount.specs.declared.ranks.Rank.TheVariants.{Single}
 use Rattle.recount.specs.declared.state.Place.{Place}
 use Rattle.recount.specs.declared.state.Place.TheVariants as place
-use Rattle.recount.proofs.LineLaws.{AreFigures, IsFigures, Reads, line_content, line_numbers, line_unended, or_both, or_none, reads-line, reads-nothing, reads-then, spaced}
+use Rattle.recount.proofs.LineLaws.{AreFigures, IsFigures, Reads, line_content, line_numbers, line_unended, or_both, or_none, reads-line, spaced}
 use Rattle.recount.proofs.NumberLaws.{candidate_back, decimal_figures, decimal_nonzero, decimal_unshared, number_back}
 
 -- ---- where a file stands
@@ -64,6 +55,7 @@ apart_more before x (c ∷ list) apart none = (
   where
     parts : ((c == x) ≡ false) × (list_any (λ y. y == x) list ≡ false)
     parts = or_none (c == x) (list_any (λ y. y == x) list) none
+
     differ : c ≡ x → ⊥
     differ e = absurd (false≢true (sym parts.0 ∙ eq-eqb c x e))
 
@@ -77,7 +69,7 @@ named_back highest before [] bound rank low apart = ap Ok (sym (append-nil befor
 named_back highest before (c ∷ list) bound rank low apart =
     let small : c < 2 ^ 64 = omega (arith, low.0) in
     rw (decimal_nonzero c rank.0 small, decimal_unshared c small, candidate_back highest c rank.0 low.0 bound, apart.0)
-      (named_back highest (before ++ c ∷ []) list bound rank.3 low.1 (apart_more before c list apart.1 rank.2) ∙ ap Ok (append_assoc before (c ∷ []) list))
+    (named_back highest (before ++ c ∷ []) list bound rank.3 low.1 (apart_more before c list apart.1 rank.2) ∙ ap Ok (append_assoc before (c ∷ []) list))
 
 none_before : (list : List ℕ) → Apart [] list
 none_before [] = tt
@@ -106,9 +98,11 @@ unminus n small = (decimal_by_steps (λ n ds. (begins_with_minus ds ≡ false) �
   where
     one : (n : ℕ) → n < 10 → (begins_with_minus ((48 + n) ∷ []) ≡ false) × (0 < length ((48 + n) ∷ []))
     one n low = (ne_eqb (48 + n) 45 (λ e. omega (arith, e)), omega arith)
+
     longer : (ds : Text) (d : ℕ) → begins_with_minus ds ≡ false → 0 < length ds → (begins_with_minus (ds ++ d ∷ []) ≡ false) × (0 < length (ds ++ d ∷ []))
     longer [] d h some = absurd (omega arith)
     longer (x ∷ ds) d h some = (h, omega arith)
+
     more : (n : ℕ) (ds : Text) → 10 ≤ n → (begins_with_minus ds ≡ false) × (0 < length ds) → (begins_with_minus (ds ++ (48 + n % 10) ∷ []) ≡ false) × (0 < length (ds ++ (48 + n % 10) ∷ []))
     more n ds high is = longer ds (48 + n % 10) is.0 is.1
 
@@ -156,6 +150,6 @@ bundle_reads first h s w bs names remarks list n bound can few =
     let words = line_numbers (decimal n) (rank_words list) (decimal_figures n small) figures in
     let unminused : is_withdrawn_line (numbers_of (decimal n ++ spaced (rank_words list))) ≡ false = ap is_withdrawn_line words ∙ unminus n small in
     subst (λ t. Reads here t (state place.Papers (told h s w (with_papers bs list n)) names remarks)) (sym (bundle_text list n))
-      (number_line here _ (decimal n) (rank_words list) (decimal_figures n small) figures
-        (among_papers first here (decimal n ++ spaced (rank_words list)) unminused
-          ∙ (ap (with_papers_line here) words ∙ bundle_words here n list _ can.listed (words_told h s w bs list n bound can few))))
+    (number_line here _ (decimal n) (rank_words list) (decimal_figures n small) figures
+    (among_papers first here (decimal n ++ spaced (rank_words list)) unminused
+    ∙ (ap (with_papers_line here) words ∙ bundle_words here n list _ can.listed (words_told h s w bs list n bound can few))))

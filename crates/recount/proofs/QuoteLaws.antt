@@ -1,5 +1,5 @@
 -- The names are read back.
-use Rattle.std.proofs.Common.{◌≡◌, ◌∙◌, ℕ, zero, suc, ◌+◌, ◌<◌, ◌≤◌, ◌||◌, List, [], ◌∷◌, ◌++◌, Bool, true, false, length, map, refl, sym, ap, subst, arith, append_assoc, append-nil, length-append, Ok, Some, None}
+use Rattle.std.proofs.Common.{◌≡◌, ◌∙◌, ℕ, zero, suc, ◌+◌, ◌<◌, ◌≤◌, ◌||◌, List, [], ◌∷◌, ◌++◌, Bool, true, false, length, map, refl, sym, ap, subst, arith, append_assoc, append-nil, length-append, Ok, Some}
 use Rattle.std.specs.Prelude.{◌==◌, codes, fold, if◌then◌else◌, Option, option_map}
 use Rattle.std.specs.List.{AllByRecursion, find, flat_map, list_any, range_with_len}
 use Rattle.std.specs.Str.{IsAscii, is_utf8}
@@ -10,12 +10,12 @@ use Rattle.std.proofs.lemmas.Str.Ascii.{IsAscii-cons, IsAscii-nil}
 use Rattle.sheet.specs.Ballots.{name_at, name_line, name_or_withdrawn}
 use Rattle.sheet.specs.Lines.{escaped, line, quoted}
 use Rattle.recount.specs.Comments.{Remarks}
-use Rattle.recount.specs.Names.{Quoting, as_text, name_in, with_byte}
+use Rattle.recount.specs.Names.{Quoting, name_in, with_byte}
 use Rattle.recount.specs.Papers.{Told}
 use Rattle.recount.specs.Pieces.{Text}
 use Rattle.recount.specs.ReadingBack.{IsName}
-use Rattle.recount.specs.Reading.{Named, Reading, with_name, with_name_line}
-use Rattle.recount.specs.declared.names.Within.TheVariants.{Before, Inside, Behind}
+use Rattle.recount.specs.Reading.{Named, with_name}
+use Rattle.recount.specs.declared.names.Within.TheVariants.{Inside}
 use Rattle.recount.specs.declared.state.Place.TheVariants as place
 use Rattle.recount.proofs.LineLaws.{Reads, or_both, or_none, reads-line, reads-nothing, reads-then}
 use Rattle.recount.proofs.PaperLaws.{state}
@@ -65,7 +65,7 @@ name_reads papers names remarks name is =
     let end = with_name here name in
     let body = append-nil (quoted name) in
     subst (λ t. Reads here (t ++ 10 ∷ []) end) (sym body)
-      (reads-line here (quoted name) end (quoted_unended name is.unended) (rw (name_back name is.text) refl))
+    (reads-line here (quoted name) end (quoted_unended name is.unended) (rw (name_back name is.text) refl))
 
 -- ---- the names of all numbers
 
@@ -92,7 +92,7 @@ pub names_read : (candidates : List (ℕ × Text)) (papers : Told) (remarks : Re
     → Reads (state place.Names papers (record { names = before; ward = ward }) remarks) (flat_map (name_line candidates) (range_with_len k n)) (state place.Names papers (record { names = before ++ map (name_of candidates) (range_with_len k n); ward = ward }) remarks)
 names_read candidates papers remarks ward before k zero all few =
     subst (λ l. Reads (state place.Names papers (record { names = before; ward = ward }) remarks) [] (state place.Names papers (record { names = l; ward = ward }) remarks)) (sym (append-nil before))
-      (reads-nothing (state place.Names papers (record { names = before; ward = ward }) remarks))
+    (reads-nothing (state place.Names papers (record { names = before; ward = ward }) remarks))
 names_read candidates papers remarks ward before k (suc n) all few =
     let name = name_of candidates k in
     let here = state place.Names papers (record { names = before; ward = ward }) remarks in
@@ -104,8 +104,8 @@ names_read candidates papers remarks ward before k (suc n) all few =
     let more : length (before ++ name ∷ []) + n ≤ papers.highest = omega (arith, length-append before (name ∷ [])) in
     let others = names_read candidates papers remarks ward (before ++ name ∷ []) (k + 1) n all more in
     subst (λ l. Reads here (name_line candidates k ++ flat_map (name_line candidates) (range_with_len (k + 1) n)) (state place.Names papers (record { names = l; ward = ward }) remarks))
-      (append_assoc before (name ∷ []) (map (name_of candidates) (range_with_len (k + 1) n)))
-      (reads-then here (name_line candidates k) mid (flat_map (name_line candidates) (range_with_len (k + 1) n)) end one others)
+    (append_assoc before (name ∷ []) (map (name_of candidates) (range_with_len (k + 1) n)))
+    (reads-then here (name_line candidates k) mid (flat_map (name_line candidates) (range_with_len (k + 1) n)) end one others)
 
 -- the ward's name stands behind them
 pub ward_name_reads : (papers : Told) (remarks : Remarks) (names : List Text) (name : Text) → IsName name → papers.highest ≤ length names

@@ -1,16 +1,15 @@
 -- The ballots of a ward are read back.
-use Rattle.std.proofs.Common.{◌≡◌, ◌∙◌, ℕ, zero, suc, ◌+◌, ◌-◌, ◌^◌, ◌<◌, ◌≤◌, ◌||◌, nat_eq, nat_le, Bool, true, false, List, [], ◌∷◌, ◌++◌, length, map, refl, sym, ap, subst, arith, append_assoc, append-nil, length-append, Ok, Some, None, is_none}
+use Rattle.std.proofs.Common.{◌≡◌, ◌∙◌, ℕ, zero, suc, ◌+◌, ◌-◌, ◌<◌, ◌≤◌, ◌||◌, nat_eq, Bool, true, false, List, [], ◌∷◌, ◌++◌, length, map, refl, sym, ap, subst, arith, append_assoc, append-nil, length-append, Ok, Some, None, is_none}
 use Rattle.std.specs.Prelude.{◌==◌, codes, if◌then◌else◌, Option, option_map, replicate, slice_get}
 use Rattle.std.specs.Fmt.{decimal}
 use Rattle.std.specs.List.{AllByRecursion, filter, find, flat_map, list_all, list_any, range_with_len}
-use Rattle.std.proofs.lemmas.Bool.{eq-eqb, eqb-true, eqb-false, false≢true, le-leb, ne_eqb}
-use Rattle.std.proofs.lemmas.List.{length-map, length-replicate}
+use Rattle.std.proofs.lemmas.Bool.{eqb-true, eqb-false, false≢true, le-leb, ne_eqb}
+use Rattle.std.proofs.lemmas.List.{length-replicate}
 use Rattle.std.proofs.lemmas.List.FromFn.{length-map-range_with_len}
 use Rattle.paper.specs.Columns.{IsColumnSet, max_candidates}
-use Rattle.paper.specs.Ranking.{IsRanking}
 use Rattle.paper.proofs.ColumnSets.{Ascends, ascends_from_columns, columns_from_ascends}
-use Rattle.votes.specs.Units.{max_papers, max_seats}
-use Rattle.count.specs.Bundles.{AreBundles, Bundle, IsBundle, papers_of}
+use Rattle.votes.specs.Units.{max_papers}
+use Rattle.count.specs.Bundles.{Bundle, IsBundle, papers_of}
 use Rattle.count.specs.Law.Contest.{AreForCandidates, In}
 use Rattle.sheet.specs.Ballots.{ballots, bundle_line, comments, end_line, highest_number, lot_comment, name_at, name_line, name_lines, number_or_none, papers_text, rejected_comment, size_line, ward_comment, withdrawn, withdrawn_line}
 use Rattle.sheet.specs.Entries.{SheetEntry}
@@ -21,21 +20,20 @@ use Rattle.recount.specs.Papers.{Told}
 use Rattle.sheet.specs.Sheet.{rejected_line}
 use Rattle.recount.specs.Pieces.{Text, behind_byte_order_mark, pieces_of}
 use Rattle.recount.specs.Reading.{Named, Reading, nothing_told, read, read_from}
-use Rattle.recount.specs.ReadingBack.{AreCodes, CanBeReadBack, IsPollOf, IsReadBack}
+use Rattle.recount.specs.ReadingBack.{CanBeReadBack, IsPollOf, IsReadBack}
 use Rattle.recount.specs.Wards.{candidates_of, numbers_of, poll_by, poll_told, ward_told}
 use Rattle.recount.specs.declared.pieces.Separator.TheVariants.{LineFeed}
 use Rattle.recount.specs.declared.state.Place.TheVariants as place
 use Rattle.recount.proofs.CandidateLaws.{Rise, any_range, rebuilt}
 use Rattle.recount.proofs.CommentLaws.{AreCounts, lots_read, rejected_reads, ward_reads}
 use Rattle.recount.proofs.FrontLaws.{bundles_read, size_reads, withdrawn_reads}
-use Rattle.recount.proofs.LineLaws.{IsFigures, Reads, and_parts, figure_other, is_figure, or_none, reads-nothing, reads-then}
+use Rattle.recount.proofs.LineLaws.{IsFigures, Reads, and_parts, figure_other, is_figure, reads-nothing, reads-then}
 use Rattle.recount.proofs.NumberLaws.{decimal_figures}
 use Rattle.recount.proofs.PaperLaws.{CanStand, Standing, state, told}
 use Rattle.recount.proofs.QuoteLaws.{name_of, names_read, ward_name_reads}
 use Rattle.recount.proofs.WardLemmas.{lower}
 
 -- ---- the highest number
-
 
 highest_next : (x y : ℕ × Text) (others : List (ℕ × Text)) → highest_number (x ∷ y ∷ others) ≡ highest_number (y ∷ others)
 highest_next x y others =
@@ -138,7 +136,7 @@ module _ (ward : SheetEntry) where
   candidates_back set =
       let up = ascends_from_columns (numbers_of ward) set in
       rebuilt ward.candidates (withdrawn ward) highest 1 (highest + 1) ward.candidates (omega arith) (rises 0 highest ward.candidates up (all_low 0 ward.candidates up)) (λ c low. refl)
-        (λ c low high. any_range (λ d. is_none (name_at ward.candidates d)) 1 highest c low (omega (arith, high)))
+      (λ c low high. any_range (λ d. is_none (name_at ward.candidates d)) 1 highest c low (omega (arith, high)))
 
 -- ---- the poll of a ward
 
@@ -172,7 +170,7 @@ poll_reads (Some poll) bundles n seats papers names number is =
     let five = five_of poll.rejected is.1.five is.1.fit in
     let here = state place.End papers names (record { ward = number; rejected = None; lots = [] }) in
     subst (λ r. Reads here (codes "# " ++ rejected_line r) (state place.End papers names (record { ward = number; rejected = Some r; lots = [] }))) (sym five.is)
-      (rejected_reads papers names (record { ward = number; rejected = None; lots = [] }) five.a five.b five.c five.d five.e five.counts refl)
+    (rejected_reads papers names (record { ward = number; rejected = None; lots = [] }) five.a five.b five.c five.d five.e five.counts refl)
 
 poll_back : (poll : Option Poll) (bundles : List Bundle) (n seats : ℕ) → IsPollOf poll bundles n seats → poll_by (rejected_told poll) bundles n seats ≡ poll
 poll_back None bundles n seats is = ap (λ bs. poll_by None bs n seats) is.0 ∙ rw (le-leb n seats is.1) refl
@@ -247,9 +245,9 @@ module _ (ward : SheetEntry) (bundles : List Bundle) (lots : List (ℕ × ℕ)) 
       let stand = bundles_stand ward bundles 0 can.candidate_set can.bundles_are.each can.for_candidates can.few_papers in
       let papers = bundles_read true number ward.seats (withdrawn ward) [] bundles nothing_told.names none_told bound can.bundles_are.rise stand (omega (arith, can.few_papers)) in
       subst (λ t. Reads nothing_told t (state place.Names all_told nothing_told.names none_told)) (sym (append_assoc (size_line ward ++ withdrawn_line (withdrawn ward)) (flat_map bundle_line bundles) end_line))
-        (reads-then nothing_told (size_line ward ++ withdrawn_line (withdrawn ward)) (state place.Withdrawn (told number ward.seats (withdrawn ward) []) nothing_told.names none_told) (flat_map bundle_line bundles ++ end_line) (state place.Names all_told nothing_told.names none_told)
-          (reads-then nothing_told (size_line ward) (state place.Withdrawn (told number ward.seats [] []) nothing_told.names none_told) (withdrawn_line (withdrawn ward)) (state place.Withdrawn (told number ward.seats (withdrawn ward) []) nothing_told.names none_told) sizes gone)
-          papers)
+      (reads-then nothing_told (size_line ward ++ withdrawn_line (withdrawn ward)) (state place.Withdrawn (told number ward.seats (withdrawn ward) []) nothing_told.names none_told) (flat_map bundle_line bundles ++ end_line) (state place.Names all_told nothing_told.names none_told)
+      (reads-then nothing_told (size_line ward) (state place.Withdrawn (told number ward.seats [] []) nothing_told.names none_told) (withdrawn_line (withdrawn ward)) (state place.Withdrawn (told number ward.seats (withdrawn ward) []) nothing_told.names none_told) sizes gone)
+      papers)
 
   names_back : CanBeReadBack ward bundles lots → Reads (state place.Names all_told nothing_told.names none_told) (name_lines ward) (state place.End all_told names_told none_told)
   names_back can =
@@ -257,8 +255,8 @@ module _ (ward : SheetEntry) (bundles : List Bundle) (lots : List (ℕ × ℕ)) 
       let here = state place.Names all_told nothing_told.names none_told in
       let mid = state place.Names all_told (record { names = all_names ward; ward = [] }) none_told in
       reads-then here (flat_map (name_line ward.candidates) (range_with_len 1 number)) mid (line (quoted ward.name ∷ [])) (state place.End all_told names_told none_told)
-        (names_read ward.candidates all_told none_told [] [] 1 number can.names (omega arith))
-        (ward_name_reads all_told none_told (all_names ward) ward.name can.name (omega (arith, size)))
+      (names_read ward.candidates all_told none_told [] [] 1 number can.names (omega arith))
+      (ward_name_reads all_told none_told (all_names ward) ward.name can.name (omega (arith, size)))
 
   comments_back : CanBeReadBack ward bundles lots → Reads (state place.End all_told names_told none_told) (comments ward lots) whole
   comments_back can =
@@ -266,14 +264,14 @@ module _ (ward : SheetEntry) (bundles : List Bundle) (lots : List (ℕ × ℕ)) 
       let numbered = state place.End all_told names_told (record { ward = Some ward.number; rejected = None; lots = [] }) in
       let polled = state place.End all_told names_told (record { ward = Some ward.number; rejected = rejected_told ward.poll; lots = [] }) in
       reads-then here (ward_comment ward ++ rejected_comment ward.poll) polled (flat_map lot_comment lots) whole
-        (reads-then here (ward_comment ward) numbered (rejected_comment ward.poll) polled (ward_reads all_told names_told none_told ward can.number refl) (poll_reads ward.poll bundles (length ward.candidates) ward.seats all_told names_told (Some ward.number) can.poll))
-        (lots_read all_told names_told (Some ward.number) (rejected_told ward.poll) lots can.lots_small can.lots_once)
+      (reads-then here (ward_comment ward) numbered (rejected_comment ward.poll) polled (ward_reads all_told names_told none_told ward can.number refl) (poll_reads ward.poll bundles (length ward.candidates) ward.seats all_told names_told (Some ward.number) can.poll))
+      (lots_read all_told names_told (Some ward.number) (rejected_told ward.poll) lots can.lots_small can.lots_once)
 
   all_read : CanBeReadBack ward bundles lots → Reads nothing_told (ballots ward bundles lots) whole
   all_read can =
       reads-then nothing_told (papers_text ward bundles ++ name_lines ward) (state place.End all_told names_told none_told) (comments ward lots) whole
-        (reads-then nothing_told (papers_text ward bundles) (state place.Names all_told nothing_told.names none_told) (name_lines ward) (state place.End all_told names_told none_told) (front_reads can) (names_back can))
-        (comments_back can)
+      (reads-then nothing_told (papers_text ward bundles) (state place.Names all_told nothing_told.names none_told) (name_lines ward) (state place.End all_told names_told none_told) (front_reads can) (names_back can))
+      (comments_back can)
 
   understood_so : CanBeReadBack ward bundles lots → read (ballots ward bundles lots) ≡ Ok whole
   understood_so can =
