@@ -1,6 +1,6 @@
 -- What comes of a count that ended.
 use Rattle.std.proofs.Common.{◌≡◌, ◌∙◌, ℕ, List, reverse, refl, sym, ap, subst}
-use Rattle.std.specs.Prelude.{Option, Some, None}
+use Rattle.std.specs.Prelude.{Some, None}
 use Rattle.std.proofs.lemmas.List.{reverse-reverse}
 use Rattle.count.specs.Advance.{end_after}
 use Rattle.count.specs.Bundles.{Bundle}

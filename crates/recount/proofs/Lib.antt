@@ -6,3 +6,11 @@ pub mod DifferenceLemmas
 pub mod WardLemmas
 pub mod CheckLemmas
 pub mod LineLaws
+pub mod NumberLaws
+pub mod PaperLaws
+pub mod FrontLaws
+pub mod QuoteLaws
+pub mod CandidateLaws
+pub mod CommentLaws
+pub mod ReadBackLaws
+pub mod OwnBallots

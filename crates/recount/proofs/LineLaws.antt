@@ -1,16 +1,16 @@
 -- Texts that are cut into just the pieces of which they were made, and lines that are read one after the other.
-use Rattle.std.proofs.Common.{◌≡◌, ◌∙◌, ℕ, ◌+◌, ◌<◌, ◌≤◌, ◌&&◌, ◌||◌, nat_le, Bool, true, false, List, [], ◌∷◌, ◌++◌, length, refl, sym, ap, subst, arith, append_assoc, append-nil, Ok}
-use Rattle.std.specs.Prelude.{◌==◌, Result}
+use Rattle.std.proofs.Common.{◌≡◌, ◌∙◌, ℕ, ◌+◌, ◌<◌, ◌≤◌, ◌&&◌, ◌||◌, nat_le, Bool, true, false, List, [], ◌∷◌, ◌++◌, length, refl, sym, ap, arith, append_assoc, append-nil, Ok}
+use Rattle.std.specs.Prelude.{◌==◌}
 use Rattle.std.specs.List.{flat_map, list_all, list_any}
 use Rattle.std.proofs.lemmas.Bool.{eqb-true, false≢true, leb-true, ne_eqb}
 use Rattle.std.proofs.lemmas.List.Folds.{list_all-append}
 use Rattle.recount.specs.Pieces.{Text, is_blank, kind_of, parts, piece, pieces_of}
-use Rattle.recount.specs.Reading.{Reading, before_comment, numbers_of, on_line, read_from, with_line}
+use Rattle.recount.specs.Reading.{Reading, before_comment, numbers_of, read_from, with_line}
 use Rattle.recount.specs.declared.pieces.Kind.TheVariants.{Content}
 use Rattle.recount.specs.declared.pieces.Separator.{Separator}
 use Rattle.recount.specs.declared.pieces.Separator.TheVariants.{Blank, LineFeed}
 
-or_none : (a b : Bool) → (a || b) ≡ false → (a ≡ false) × (b ≡ false)
+pub or_none : (a b : Bool) → (a || b) ≡ false → (a ≡ false) × (b ≡ false)
 or_none false b h = (refl, h)
 or_none true b h = absurd (false≢true (sym h))
 
@@ -21,7 +21,7 @@ and_parts false b h = absurd (false≢true h)
 pub and_both : (a b : Bool) → a ≡ true → b ≡ true → (a && b) ≡ true
 and_both a b h k = rw (h, k) refl
 
-or_both : (a b : Bool) → a ≡ false → b ≡ false → (a || b) ≡ false
+pub or_both : (a b : Bool) → a ≡ false → b ≡ false → (a || b) ≡ false
 or_both a b h k = rw (h, k) refl
 
 -- ---- pieces
@@ -90,6 +90,7 @@ plain_other b n out apart h = by (is_figure b) refl h
     eq : (c : Bool) → (b == 32) ≡ c → c ≡ true → (b == n) ≡ false
     eq true e h = ne_eqb b n (λ same. apart (sym same ∙ eqb-true b 32 e))
     eq false e h = absurd (false≢true h)
+
     by : (c : Bool) → is_figure b ≡ c → (c || (b == 32)) ≡ true → (b == n) ≡ false
     by true e h = figure_other b n e out
     by false e h = eq (b == 32) refl h

@@ -1,5 +1,5 @@
 -- The pieces of a text, byte by byte.
-use Rattle.std.proofs.Common.{◌≡◌, ◌∙◌, ℕ, ◌+◌, ◌-◌, ◌<◌, ◌≤◌, true, false, List, [], ◌∷◌, ◌++◌, length, get_or, take, drop, refl, sym, ap, arith}
+use Rattle.std.proofs.Common.{◌≡◌, ◌∙◌, ℕ, ◌+◌, ◌-◌, ◌<◌, ◌≤◌, true, false, List, [], ◌∷◌, ◌++◌, length, get_or, take, drop, refl, ap, arith}
 use Rattle.std.proofs.lemmas.List.{get_or-drop, length-drop, take_more, at_drop_more}
 use Rattle.recount.specs.Pieces.{parts, piece, pieces_of}
 use Rattle.recount.specs.declared.pieces.Separator.{Separator}

@@ -10,7 +10,7 @@ use Rattle.sheet.proofs.Candidates.{IsColumn-candidate}
 use Rattle.recount.specs.Wards.{candidates_from, candidates_of}
 
 -- numbers that ascend from above a number on do so from above a lower one
-lower : (k : ℕ) (xs : List ℕ) → Ascends (k + 1) xs → Ascends k xs
+pub lower : (k : ℕ) (xs : List ℕ) → Ascends (k + 1) xs → Ascends k xs
 lower k [] up = tt
 lower k (x ∷ xs) up = (omega (arith, up.0), up.1, up.2)
 

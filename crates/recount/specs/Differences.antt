@@ -1,5 +1,5 @@
 -- Where a text first differs from another.
-use Rattle.std.specs.Prelude.{◌≡◌, ◌≢◌, ◌⊎◌, ℕ, suc, zero, ◌+◌, ◌==◌, nat_lt, if◌then◌else◌, List, [], ◌∷◌, length}
+use Rattle.std.specs.Prelude.{◌≡◌, ◌≢◌, ◌⊎◌, ℕ, suc, zero, ◌+◌, ◌==◌, nat_lt, if◌then◌else◌, [], ◌∷◌, length}
 use Rattle.recount.specs.Pieces.{Text}
 use Rattle.recount.specs.declared.differences.Checked.{Checked}
 use Rattle.recount.specs.declared.differences.Checked.TheVariants as checked

@@ -10,4 +10,5 @@ pub mod Reading
 pub mod Differences
 pub mod Wards
 pub mod Checks
+pub mod ReadingBack
 pub mod Views

@@ -1,6 +1,5 @@
 -- The names of a file of ballots: a line each, in quotation marks.
-use Rattle.std.specs.Prelude.{ℕ, suc, ◌==◌, ◌||◌, nat_eq, nat_lt, if◌then◌else◌, List, [], ◌∷◌, ◌++◌, fold, length, Result, Ok, Err}
-use Rattle.std.specs.List.{list_any}
+use Rattle.std.specs.Prelude.{ℕ, ◌==◌, ◌||◌, if◌then◌else◌, [], ◌∷◌, ◌++◌, fold, Result, Ok, Err}
 use Rattle.std.specs.Str.{is_utf8}
 use Rattle.recount.specs.Pieces.{Text, is_blank}
 use Rattle.recount.specs.declared.names.Within.{Within}

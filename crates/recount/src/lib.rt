@@ -29,8 +29,10 @@ mod state;
 // the ward that it tells, and a text beside it
 mod checking;
 mod lots;
+mod reading_back;
 mod wards;
 
 pub use checking::check;
 pub use differences::Checked;
 pub use problem::{Flaw, Problem};
+pub use reading_back::ballots_read_back;

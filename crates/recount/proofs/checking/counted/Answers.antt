@@ -1,5 +1,5 @@
 -- Why `counted` keeps its promise.
-use Rattle.std.proofs.Common.{◌≡◌, ◌∙◌, List, ℕ, reverse, sym, ap, subst}
+use Rattle.std.proofs.Common.{◌≡◌, ◌∙◌, sym, ap}
 use Rattle.count.specs.Bundles.{papers_of}
 use Rattle.count.specs.Law.Contest.{contest_for}
 use Rattle.count.specs.Law.Elected.{elected_after}

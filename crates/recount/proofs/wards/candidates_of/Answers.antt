@@ -1,5 +1,5 @@
 -- Why `candidates_of` keeps its promise.
-use Rattle.std.proofs.Common.{◌≡◌, ◌≤◌, ◌∙◌, length, map, arith}
+use Rattle.std.proofs.Common.{◌≡◌, ◌≤◌, length, map, arith}
 use Rattle.std.specs.Prelude.{string_bytes}
 use Rattle.std.proofs.lemmas.Grind.{common_steps}
 use Rattle.std.proofs.lemmas.List.{length-map}

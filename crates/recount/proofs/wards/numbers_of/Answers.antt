@@ -1,9 +1,4 @@
 -- Why `numbers_of` keeps its promise.
-use Rattle.std.proofs.Common.{◌≡◌, ◌∙◌, ◌+◌, ◌++◌, [], ◌∷◌, String, Global, ℕ, get_or, length, map, take, sym, ap, subst, arith}
-use Rattle.std.proofs.lemmas.List.{length-map, map_more, take-map, take_all}
-use Rattle.paper.specs.Columns.{IsColumn, IsColumnSet}
-use Rattle.count.proofs.ColumnLemmas.{columns-take}
-use Rattle.sheet.proofs.Candidates.{IsColumn-candidate}
 use Rattle.recount.proofs.WardLemmas.{number_more, number_is, numbers_done}
 use Rattle.recount.proofs.wards.numbers_of.Goals as goal
 
