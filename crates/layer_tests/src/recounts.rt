@@ -7,7 +7,6 @@ use sheet::{Poll, Ward, ballots_text, can_be_printed, declaration_text, sheet_te
 use std::alloc::{AllocError, Global};
 use std::fmt::Write;
 use std::process::Abort;
-use std::str;
 use std::test::Fail;
 
 const BALLOTS: &str = r#"3 2
@@ -77,7 +76,7 @@ fn told(alloc: Global, ballots: &[u8], text: &[u8]) -> Result<String, Fail> {
     match check(alloc, ballots, text) {
         Ok(Checked::Same) => told.push_str("same")?,
         Ok(Checked::Differs { line, should_be }) => {
-            write!(told, "line {line}: {}", str::from_utf8(&should_be)?)?;
+            write!(told, "line {line}: {should_be}")?;
         }
         Err(problem) => write!(told, "{problem}")?,
     }
