@@ -1,8 +1,13 @@
 -- Names that are text.
-use Rattle.std.proofs.Common.{◌≡◌, Bool, true, false, List, ℕ, refl}
+use Rattle.std.proofs.Common.{◌≡◌, Bool, true, false, List, [], ◌∷◌, ℕ, refl}
 use Rattle.std.specs.Prelude.{Ok, Err, IsUtf8}
-use Rattle.std.specs.Str.{is_utf8}
-use Rattle.std.proofs.lemmas.Str.{IsUtf8-from_is_utf8, is_utf8-from_IsUtf8}
+use Rattle.std.specs.Prelude.{nat_lt}
+use Rattle.std.specs.List.{list_all}
+use Rattle.std.specs.Str.{IsAscii, is_utf8}
+use Rattle.std.proofs.lemmas.Bool.{ltb-true}
+use Rattle.std.proofs.lemmas.Str.Ascii.{IsAscii-cons, IsAscii-nil}
+use Rattle.recount.proofs.LineLaws.{and_parts}
+use Rattle.std.proofs.lemmas.Str.{IsUtf8-from_ascii, IsUtf8-from_is_utf8, is_utf8-from_IsUtf8}
 use Rattle.recount.specs.Names.{as_text}
 use Rattle.recount.specs.declared.problem.Flaw.TheVariants.{NotUtf8}
 
@@ -15,3 +20,13 @@ not_text name true e isnt = absurd (isnt (IsUtf8-from_is_utf8 name e))
 
 pub name_isnt_text : (name : List ℕ) → ¬ (IsUtf8 name) → Err NotUtf8 ≡ as_text name
 name_isnt_text name isnt = rw (not_text name (is_utf8 name) refl isnt) refl
+
+ascii_of : (text : List ℕ) → list_all (λ b. nat_lt b 128) text ≡ true → IsAscii text
+ascii_of [] all = IsAscii-nil
+ascii_of (b ∷ text) all =
+    let part = and_parts (nat_lt b 128) (list_all (λ x. nat_lt x 128) text) all in
+    IsAscii-cons b text (ltb-true b 128 part.0) (ascii_of text part.1)
+
+-- bytes below 128 are text
+pub ascii_text : (text : List ℕ) → list_all (λ b. nat_lt b 128) text ≡ true → is_utf8 text ≡ true
+ascii_text text all = is_utf8-from_IsUtf8 text (IsUtf8-from_ascii text (ascii_of text all))

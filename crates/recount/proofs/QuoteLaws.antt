@@ -2,11 +2,9 @@
 use Rattle.std.proofs.Common.{◌≡◌, ◌∙◌, ℕ, zero, suc, ◌+◌, ◌<◌, ◌≤◌, ◌||◌, List, [], ◌∷◌, ◌++◌, Bool, true, false, length, map, refl, sym, ap, subst, arith, append_assoc, append-nil, length-append, Ok, Some}
 use Rattle.std.specs.Prelude.{◌==◌, codes, fold, if◌then◌else◌, Option, option_map}
 use Rattle.std.specs.List.{AllByRecursion, find, flat_map, list_any, range_with_len}
-use Rattle.std.specs.Str.{IsAscii, is_utf8}
+use Rattle.std.specs.Str.{is_utf8}
 use Rattle.std.proofs.lemmas.Bool.{le-ltb, lt-ltb}
 use Rattle.std.proofs.lemmas.List.Folds.{list_any-append}
-use Rattle.std.proofs.lemmas.Str.{IsUtf8-from_ascii, is_utf8-from_IsUtf8}
-use Rattle.std.proofs.lemmas.Str.Ascii.{IsAscii-cons, IsAscii-nil}
 use Rattle.sheet.specs.Ballots.{name_at, name_line, name_or_withdrawn}
 use Rattle.sheet.specs.Lines.{escaped, line, quoted}
 use Rattle.recount.specs.Comments.{Remarks}
@@ -17,6 +15,7 @@ use Rattle.recount.specs.ReadingBack.{IsName}
 use Rattle.recount.specs.Reading.{Named, with_name}
 use Rattle.recount.specs.declared.names.Within.TheVariants.{Inside}
 use Rattle.recount.specs.declared.state.Place.TheVariants as place
+use Rattle.recount.proofs.NameLemmas.{ascii_text}
 use Rattle.recount.proofs.LineLaws.{Reads, or_both, or_none, reads-line, reads-nothing, reads-then}
 use Rattle.recount.proofs.PaperLaws.{state}
 
@@ -73,11 +72,8 @@ module _ (candidates : List (ℕ × Text)) where
   abbrev pub name_of : ℕ → Text
   name_of c = name_or_withdrawn (name_at candidates c)
 
-withdrawn_ascii : IsAscii (codes "withdrawn")
-withdrawn_ascii = IsAscii-cons 119 (codes "ithdrawn") (omega arith) (IsAscii-cons 105 (codes "thdrawn") (omega arith) (IsAscii-cons 116 (codes "hdrawn") (omega arith) (IsAscii-cons 104 (codes "drawn") (omega arith) (IsAscii-cons 100 (codes "rawn") (omega arith) (IsAscii-cons 114 (codes "awn") (omega arith) (IsAscii-cons 97 (codes "wn") (omega arith) (IsAscii-cons 119 (codes "n") (omega arith) (IsAscii-cons 110 [] (omega arith) IsAscii-nil))))))))
-
 withdrawn_name : IsName (codes "withdrawn")
-withdrawn_name = record { text = is_utf8-from_IsUtf8 (codes "withdrawn") (IsUtf8-from_ascii (codes "withdrawn") withdrawn_ascii); unended = refl }
+withdrawn_name = record { text = ascii_text (codes "withdrawn") refl; unended = refl }
 
 found_name : (b : Bool) (x : ℕ × Text) (others : Option (ℕ × Text)) → IsName x.1 → IsName (name_or_withdrawn (option_map (λ (candidate : ℕ × Text). candidate.1) others))
     → IsName (name_or_withdrawn (option_map (λ (candidate : ℕ × Text). candidate.1) (if b then Some x else others)))

@@ -1,5 +1,5 @@
 -- Why `line_behind` keeps its promise.
-use Rattle.std.proofs.Common.{◌≡◌, ◌∙◌, ap, subst, sym}
+use Rattle.std.proofs.Common.{◌∙◌, ap, subst, sym}
 use Rattle.std.specs.Str.{IsUtf8}
 use Rattle.recount.specs.Differences.{behind_lines, first_line}
 use Rattle.recount.proofs.DifferenceLemmas.{line_text}
