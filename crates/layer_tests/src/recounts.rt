@@ -310,6 +310,18 @@ fn problems(rt: HostRuntime) -> Result<(), Fail> {
     for (old, new, words) in files {
         tells(&rt, BALLOTS, old, new, SHEET, words)?;
     }
+    let mut long = String::new(rt.alloc());
+    for _ in 0..1001 {
+        long.push('a')?;
+    }
+    tells(
+        &rt,
+        BALLOTS,
+        "Ann",
+        long.as_str(),
+        SHEET,
+        "line 7 of the ballots: a name is too long",
+    )?;
     let cut = told(rt.alloc(), b"3 2\n1 1 0\n", b"")?;
     assert_eq!(rt;
         cut.as_str(),

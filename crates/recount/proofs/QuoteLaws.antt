@@ -13,6 +13,7 @@ use Rattle.recount.specs.Papers.{Told}
 use Rattle.recount.specs.Pieces.{Text}
 use Rattle.recount.specs.ReadingBack.{IsName}
 use Rattle.recount.specs.Reading.{Named, with_name}
+use Rattle.recount.specs.declared.names.TheConstants.{MAX_NAME}
 use Rattle.recount.specs.declared.names.Within.TheVariants.{Inside}
 use Rattle.recount.specs.declared.state.Place.TheVariants as place
 use Rattle.recount.proofs.NameLemmas.{ascii_text}
@@ -38,8 +39,8 @@ name_inside acc (b ∷ name) rest =
     ∙ (name_inside (acc ++ b ∷ []) name rest ∙ ap (λ n. fold with_byte (inside n) rest) (append_assoc acc (b ∷ []) name)))
 
 -- a name in quotation marks is read back
-pub name_back : (name : Text) → is_utf8 name ≡ true → name_in (quoted name) ≡ Ok name
-name_back name text = rw (name_inside [] name (34 ∷ []), text) refl
+pub name_back : (name : Text) → IsName name → name_in (quoted name) ≡ Ok name
+name_back name is = rw (name_inside [] name (34 ∷ []), le-ltb MAX_NAME (length name) is.short, is.text) refl
 
 escaped_unended : (mark : Bool) (b : ℕ) → (b == 10) ≡ false → list_any (λ x. x == 10) (if mark then 92 ∷ b ∷ [] else b ∷ []) ≡ false
 escaped_unended true b none = or_both (b == 10) _ none refl
@@ -64,7 +65,7 @@ name_reads papers names remarks name is =
     let end = with_name here name in
     let body = append-nil (quoted name) in
     subst (λ t. Reads here (t ++ 10 ∷ []) end) (sym body)
-    (reads-line here (quoted name) end (quoted_unended name is.unended) (rw (name_back name is.text) refl))
+    (reads-line here (quoted name) end (quoted_unended name is.unended) (rw (name_back name is) refl))
 
 -- ---- the names of all numbers
 
@@ -73,7 +74,7 @@ module _ (candidates : List (ℕ × Text)) where
   name_of c = name_or_withdrawn (name_at candidates c)
 
 withdrawn_name : IsName (codes "withdrawn")
-withdrawn_name = record { text = ascii_text (codes "withdrawn") refl; unended = refl }
+withdrawn_name = record { short = omega arith; text = ascii_text (codes "withdrawn") refl; unended = refl }
 
 found_name : (b : Bool) (x : ℕ × Text) (others : Option (ℕ × Text)) → IsName x.1 → IsName (name_or_withdrawn (option_map (λ (candidate : ℕ × Text). candidate.1) others))
     → IsName (name_or_withdrawn (option_map (λ (candidate : ℕ × Text). candidate.1) (if b then Some x else others)))
