@@ -7,7 +7,6 @@ use sheet::{Poll, Ward, ballots_text, can_be_printed, declaration_text, sheet_te
 use std::alloc::{AllocError, Global};
 use std::fmt::Write;
 use std::process::Abort;
-use std::str;
 use std::test::Fail;
 
 const BALLOTS: &str = r#"3 2
@@ -77,7 +76,7 @@ fn told(alloc: Global, ballots: &[u8], text: &[u8]) -> Result<String, Fail> {
     match check(alloc, ballots, text) {
         Ok(Checked::Same) => told.push_str("same")?,
         Ok(Checked::Differs { line, should_be }) => {
-            write!(told, "line {line}: {}", str::from_utf8(&should_be)?)?;
+            write!(told, "line {line}: {should_be}")?;
         }
         Err(problem) => write!(told, "{problem}")?,
     }
@@ -311,6 +310,18 @@ fn problems(rt: HostRuntime) -> Result<(), Fail> {
     for (old, new, words) in files {
         tells(&rt, BALLOTS, old, new, SHEET, words)?;
     }
+    let mut long = String::new(rt.alloc());
+    for _ in 0..1001 {
+        long.push('a')?;
+    }
+    tells(
+        &rt,
+        BALLOTS,
+        "Ann",
+        long.as_str(),
+        SHEET,
+        "line 7 of the ballots: a name is too long",
+    )?;
     let cut = told(rt.alloc(), b"3 2\n1 1 0\n", b"")?;
     assert_eq!(rt;
         cut.as_str(),

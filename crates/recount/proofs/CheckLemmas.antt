@@ -1,7 +1,6 @@
 -- What comes of a count that ended.
 use Rattle.std.proofs.Common.{◌≡◌, ◌∙◌, ℕ, List, reverse, refl, sym, ap, subst}
 use Rattle.std.specs.Prelude.{Some, None}
-use Rattle.std.proofs.lemmas.List.{reverse-reverse}
 use Rattle.count.specs.Advance.{end_after}
 use Rattle.count.specs.Bundles.{Bundle}
 use Rattle.count.specs.Law.Contest.{Contest, History}
@@ -12,12 +11,10 @@ use Rattle.count.specs.declared.run.CountEnd.TheVariants as end
 use Rattle.count.specs.declared.stages.Stage.{Stage}
 use Rattle.sheet.specs.Entries.{SheetEntry}
 use Rattle.sheet.specs.Sheet.{declaration, sheet}
-use Rattle.recount.specs.Checks.{EndsAt, IsCountProblem, IsCountedCheck, problem_of, undrawn}
+use Rattle.recount.specs.Checks.{EndsAt, IsCountedCheck, problem_of, undrawn}
 use Rattle.recount.specs.Differences.{IsComparison}
 use Rattle.recount.specs.Wards.{contest_in}
 use Rattle.recount.specs.declared.differences.Checked.{Checked}
-use Rattle.recount.specs.declared.problem.Problem.{Problem}
-use Rattle.recount.specs.declared.problem.Problem.TheVariants as problem
 
 -- a whole count ends at its stages
 ends_at : (contest : Contest) (lots : List (ℕ × ℕ)) (stages : List Stage) (history : History) (why : CountEnd) → reverse stages ≡ history → IsWholeCount contest lots history → end_after contest lots history ≡ Some why → EndsAt contest lots stages why
@@ -25,16 +22,6 @@ ends_at contest lots stages history why is whole ended = record {
   whole = subst (IsWholeCount contest lots) (sym is) whole;
   ended = ap (end_after contest lots) is ∙ ended;
 }
-
--- why it isn't finished
-pub hindered : (contest : Contest) (lots : List (ℕ × ℕ)) (history : History) (why : CountEnd) (told : Problem) → IsWholeCount contest lots history → end_after contest lots history ≡ Some why → Some told ≡ problem_of why → IsCountProblem contest lots told
-hindered contest lots history end.Finished told whole ended is = absurd (cc is)
-hindered contest lots history (end.LotNeeded stage among) told whole ended is =
-    let same : problem.LotNeeded stage among ≡ told = cc is in
-    subst (IsCountProblem contest lots) same (reverse history, ends_at contest lots (reverse history) history _ (reverse-reverse history) whole ended)
-hindered contest lots history (end.LotNotAmong stage) told whole ended is =
-    let same : problem.LotNotAmong stage ≡ told = cc is in
-    subst (IsCountProblem contest lots) same (reverse history, ends_at contest lots (reverse history) history _ (reverse-reverse history) whole ended)
 
 finished : (why : CountEnd) → None ≡ problem_of why → why ≡ end.Finished
 finished end.Finished is = refl

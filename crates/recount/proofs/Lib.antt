@@ -14,3 +14,4 @@ pub mod CandidateLaws
 pub mod CommentLaws
 pub mod ReadBackLaws
 pub mod OwnBallots
+pub mod WorkedBallots

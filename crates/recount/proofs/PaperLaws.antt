@@ -37,9 +37,6 @@ number_line here there w ws is are content =
 
 -- ---- the preferences of a line
 
-pub AreLow : ℕ → List ℕ → Type 0
-AreLow highest list = AllByRecursion (λ c. c ≤ highest) list
-
 abbrev pub Standing : List ℕ → List ℕ → Type 0
 Standing withdrawn list = AllByRecursion (λ c. list_any (nat_eq c) withdrawn ≡ false) list
 

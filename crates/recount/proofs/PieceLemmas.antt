@@ -1,7 +1,7 @@
 -- The pieces of a text, byte by byte.
-use Rattle.std.proofs.Common.{◌≡◌, ◌∙◌, ℕ, ◌+◌, ◌-◌, ◌<◌, ◌≤◌, true, false, List, [], ◌∷◌, ◌++◌, length, get_or, take, drop, refl, ap, arith}
+use Rattle.std.proofs.Common.{◌≡◌, ◌∙◌, ℕ, ◌+◌, ◌-◌, ◌<◌, ◌≤◌, false, List, [], ◌∷◌, ◌++◌, length, get_or, take, drop, refl, ap, arith}
 use Rattle.std.proofs.lemmas.List.{get_or-drop, length-drop, take_more, at_drop_more}
-use Rattle.recount.specs.Pieces.{parts, piece, pieces_of}
+use Rattle.recount.specs.Pieces.{parts, pieces_of}
 use Rattle.recount.specs.declared.pieces.Separator.{Separator}
 
 -- the piece that is begun has a byte more
@@ -17,10 +17,3 @@ pub goes_on : (s : Separator) (text : List ℕ) (start i : ℕ) → start ≤ i 
     → pieces_of s (take (i - start) (drop start text)) (drop i text) ≡ pieces_of s (take (i + 1 - start) (drop start text)) (drop (i + 1) text)
 goes_on s text start i within here other =
     at_drop_more (pieces_of s (take (i - start) (drop start text))) text i 0 here ∙ rw (other, piece_more text start i within here) refl
-
--- one that parts two ends it
-pub is_cut : (s : Separator) (text : List ℕ) (start i : ℕ) → i < length text → parts s (get_or text i 0) ≡ true
-    → pieces_of s (take (i - start) (drop start text)) (drop i text) ≡ piece s (take (i - start) (drop start text)) ++ pieces_of s (take (i + 1 - (i + 1)) (drop (i + 1) text)) (drop (i + 1) text)
-is_cut s text start i here parted =
-    let none : i + 1 - (i + 1) ≡ 0 = omega arith in
-    at_drop_more (pieces_of s (take (i - start) (drop start text))) text i 0 here ∙ rw (parted, none) refl

@@ -2,11 +2,8 @@
 use Rattle.std.proofs.Common.{◌≡◌, ◌∙◌, ℕ, zero, suc, ◌+◌, ◌<◌, ◌≤◌, ◌||◌, List, [], ◌∷◌, ◌++◌, Bool, true, false, length, map, refl, sym, ap, subst, arith, append_assoc, append-nil, length-append, Ok, Some}
 use Rattle.std.specs.Prelude.{◌==◌, codes, fold, if◌then◌else◌, Option, option_map}
 use Rattle.std.specs.List.{AllByRecursion, find, flat_map, list_any, range_with_len}
-use Rattle.std.specs.Str.{IsAscii, is_utf8}
 use Rattle.std.proofs.lemmas.Bool.{le-ltb, lt-ltb}
 use Rattle.std.proofs.lemmas.List.Folds.{list_any-append}
-use Rattle.std.proofs.lemmas.Str.{IsUtf8-from_ascii, is_utf8-from_IsUtf8}
-use Rattle.std.proofs.lemmas.Str.Ascii.{IsAscii-cons, IsAscii-nil}
 use Rattle.sheet.specs.Ballots.{name_at, name_line, name_or_withdrawn}
 use Rattle.sheet.specs.Lines.{escaped, line, quoted}
 use Rattle.recount.specs.Comments.{Remarks}
@@ -15,8 +12,10 @@ use Rattle.recount.specs.Papers.{Told}
 use Rattle.recount.specs.Pieces.{Text}
 use Rattle.recount.specs.ReadingBack.{IsName}
 use Rattle.recount.specs.Reading.{Named, with_name}
+use Rattle.recount.specs.declared.names.TheConstants.{MAX_NAME}
 use Rattle.recount.specs.declared.names.Within.TheVariants.{Inside}
 use Rattle.recount.specs.declared.state.Place.TheVariants as place
+use Rattle.recount.proofs.NameLemmas.{ascii_text}
 use Rattle.recount.proofs.LineLaws.{Reads, or_both, or_none, reads-line, reads-nothing, reads-then}
 use Rattle.recount.proofs.PaperLaws.{state}
 
@@ -39,8 +38,8 @@ name_inside acc (b ∷ name) rest =
     ∙ (name_inside (acc ++ b ∷ []) name rest ∙ ap (λ n. fold with_byte (inside n) rest) (append_assoc acc (b ∷ []) name)))
 
 -- a name in quotation marks is read back
-pub name_back : (name : Text) → is_utf8 name ≡ true → name_in (quoted name) ≡ Ok name
-name_back name text = rw (name_inside [] name (34 ∷ []), text) refl
+pub name_back : (name : Text) → IsName name → name_in (quoted name) ≡ Ok name
+name_back name is = rw (name_inside [] name (34 ∷ []), le-ltb MAX_NAME (length name) is.short, is.text) refl
 
 escaped_unended : (mark : Bool) (b : ℕ) → (b == 10) ≡ false → list_any (λ x. x == 10) (if mark then 92 ∷ b ∷ [] else b ∷ []) ≡ false
 escaped_unended true b none = or_both (b == 10) _ none refl
@@ -65,7 +64,7 @@ name_reads papers names remarks name is =
     let end = with_name here name in
     let body = append-nil (quoted name) in
     subst (λ t. Reads here (t ++ 10 ∷ []) end) (sym body)
-    (reads-line here (quoted name) end (quoted_unended name is.unended) (rw (name_back name is.text) refl))
+    (reads-line here (quoted name) end (quoted_unended name is.unended) (rw (name_back name is) refl))
 
 -- ---- the names of all numbers
 
@@ -73,11 +72,8 @@ module _ (candidates : List (ℕ × Text)) where
   abbrev pub name_of : ℕ → Text
   name_of c = name_or_withdrawn (name_at candidates c)
 
-withdrawn_ascii : IsAscii (codes "withdrawn")
-withdrawn_ascii = IsAscii-cons 119 (codes "ithdrawn") (omega arith) (IsAscii-cons 105 (codes "thdrawn") (omega arith) (IsAscii-cons 116 (codes "hdrawn") (omega arith) (IsAscii-cons 104 (codes "drawn") (omega arith) (IsAscii-cons 100 (codes "rawn") (omega arith) (IsAscii-cons 114 (codes "awn") (omega arith) (IsAscii-cons 97 (codes "wn") (omega arith) (IsAscii-cons 119 (codes "n") (omega arith) (IsAscii-cons 110 [] (omega arith) IsAscii-nil))))))))
-
 withdrawn_name : IsName (codes "withdrawn")
-withdrawn_name = record { text = is_utf8-from_IsUtf8 (codes "withdrawn") (IsUtf8-from_ascii (codes "withdrawn") withdrawn_ascii); unended = refl }
+withdrawn_name = record { short = omega arith; text = ascii_text (codes "withdrawn") refl; unended = refl }
 
 found_name : (b : Bool) (x : ℕ × Text) (others : Option (ℕ × Text)) → IsName x.1 → IsName (name_or_withdrawn (option_map (λ (candidate : ℕ × Text). candidate.1) others))
     → IsName (name_or_withdrawn (option_map (λ (candidate : ℕ × Text). candidate.1) (if b then Some x else others)))

@@ -1,5 +1,5 @@
 -- Where a text first differs from another.
-use Rattle.std.specs.Prelude.{◌≡◌, ◌≢◌, ◌⊎◌, ℕ, suc, zero, ◌+◌, ◌==◌, nat_lt, if◌then◌else◌, [], ◌∷◌, length}
+use Rattle.std.specs.Prelude.{◌≡◌, ◌≢◌, ◌⊎◌, ℕ, suc, zero, ◌+◌, ◌==◌, nat_lt, if◌then◌else◌, [], ◌∷◌, length, string_bytes}
 use Rattle.recount.specs.Pieces.{Text}
 use Rattle.recount.specs.declared.differences.Checked.{Checked}
 use Rattle.recount.specs.declared.differences.Checked.TheVariants as checked
@@ -44,4 +44,4 @@ pub record DiffersAt (text should : Text) (line : ℕ) (should_be : Text) : Type
 abbrev pub IsComparison : Text → Text → Text → Checked → Type 0
 IsComparison text sheet declaration checked.Same = (text ≡ sheet) ⊎ (text ≡ declaration)
 IsComparison text sheet declaration (checked.Differs line should_be) =
-    (text ≢ sheet) × (text ≢ declaration) × DiffersAt text (nearer text sheet declaration) line should_be.items
+    (text ≢ sheet) × (text ≢ declaration) × DiffersAt text (nearer text sheet declaration) line (string_bytes should_be)

@@ -1,11 +1,12 @@
 -- The names of a file of ballots: a line each, in quotation marks.
-use Rattle.std.specs.Prelude.{ℕ, ◌==◌, ◌||◌, if◌then◌else◌, [], ◌∷◌, ◌++◌, fold, Result, Ok, Err}
+use Rattle.std.specs.Prelude.{ℕ, ◌==◌, ◌||◌, if◌then◌else◌, [], ◌∷◌, ◌++◌, fold, Result, Ok, Err, nat_lt, length}
 use Rattle.std.specs.Str.{is_utf8}
 use Rattle.recount.specs.Pieces.{Text, is_blank}
+use Rattle.recount.specs.declared.names.TheConstants.{MAX_NAME}
 use Rattle.recount.specs.declared.names.Within.{Within}
 use Rattle.recount.specs.declared.names.Within.TheVariants.{Before, Inside, Escaped, Behind, Remark, Astray}
 use Rattle.recount.specs.declared.problem.Flaw.{Flaw}
-use Rattle.recount.specs.declared.problem.Flaw.TheVariants.{NoName, NotUtf8, OpenQuote}
+use Rattle.recount.specs.declared.problem.Flaw.TheVariants.{LongName, NoName, NotUtf8, OpenQuote}
 
 -- a name that is read so far, and where the next byte of its line stands
 pub record Quoting : Type 0 where
@@ -34,9 +35,9 @@ quoting_at Astray quoting byte = quoting
 abbrev pub with_byte : Quoting → ℕ → Quoting
 with_byte quoting byte = quoting_at quoting.within quoting byte
 
--- a name that is text
+-- a name that isn't too long, and is text
 abbrev pub as_text : Text → Result Text Flaw
-as_text name = if is_utf8 name then Ok name else Err NotUtf8
+as_text name = if nat_lt MAX_NAME (length name) then Err LongName else (if is_utf8 name then Ok name else Err NotUtf8)
 
 -- the name of a line that was read to its end
 abbrev pub name_at : Within → Text → Result Text Flaw

@@ -9,13 +9,18 @@ use Rattle.count.specs.Law.Contest.{AreForCandidates}
 use Rattle.sheet.specs.Ballots.{ballots}
 use Rattle.sheet.specs.Entries.{SheetEntry}
 use Rattle.sheet.specs.declared.ward.Poll.{Poll}
+use Rattle.recount.specs.Checks.{IsChecked, IsProblem, IsWardCheck, IsWardProblem}
 use Rattle.recount.specs.Comments.{is_drawn}
 use Rattle.recount.specs.Pieces.{Text}
 use Rattle.recount.specs.Reading.{Reading, read}
 use Rattle.recount.specs.Wards.{numbers_of, ward_told}
+use Rattle.recount.specs.declared.names.TheConstants.{MAX_NAME}
+use Rattle.recount.specs.declared.differences.Checked.{Checked}
+use Rattle.recount.specs.declared.problem.Problem.{Problem}
 
--- a name that stands on one line: it is text, and has no line feed
+-- a name that stands on one line: it isn't too long, is text, and has no line feed
 pub record IsName (name : Text) : Type 0 where
+  pub short : length name ≤ MAX_NAME
   pub text : is_utf8 name ≡ true
   pub unended : list_any (λ b. b == 10) name ≡ false
 
@@ -60,3 +65,19 @@ pub record IsReadBack (ward : SheetEntry) (bundles : List Bundle) (lots : List (
   pub ward_is : ward_told reading ≡ ward
   pub bundles_are : reading.papers.bundles ≡ bundles
   pub lots_are : reading.remarks.lots ≡ lots
+
+-- each ward's ballots are read back
+abbrev pub AreReadBack : Type 0
+AreReadBack = (ward : SheetEntry) (bundles : List Bundle) (lots : List (ℕ × ℕ)) → CanBeReadBack ward bundles lots → IsReadBack ward bundles lots
+
+-- what is told of a text beside a ward's ballots is what comes of it beside that ward
+abbrev pub AreCheckedAsTold : Type 0
+AreCheckedAsTold =
+    (ward : SheetEntry) (bundles : List Bundle) (lots : List (ℕ × ℕ)) → CanBeReadBack ward bundles lots →
+    (text : Text) (checked : Checked) → IsChecked (ballots ward bundles lots) text checked → IsWardCheck ward.poll ward bundles lots text checked
+
+-- and a problem is one of its count
+abbrev pub AreHinderedAsTold : Type 0
+AreHinderedAsTold =
+    (ward : SheetEntry) (bundles : List Bundle) (lots : List (ℕ × ℕ)) → CanBeReadBack ward bundles lots →
+    (why : Problem) → IsProblem (ballots ward bundles lots) why → IsWardProblem ward.poll ward bundles lots why

@@ -34,7 +34,7 @@ fn compared(
 {
     let sheet = sheet_text(alloc, ward, stages)?;
     let declaration = declaration_text(alloc, ward, elected)?;
-    comparison(alloc, text, sheet.as_bytes(), declaration.as_bytes())
+    comparison(alloc, text, sheet.as_str(), declaration.as_str())
 }
 
 /// Why a count isn't finished, if it isn't.

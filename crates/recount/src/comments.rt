@@ -1,7 +1,8 @@
 //! Our own comments: the number of the ward, the rejected papers of each code, and the lots.
 
 ghost use Rattle.std.specs.Prelude.{◌≡◌, ◌∷◌, [], map, option_map, IfOk, OnOk, codes};
-ghost use Rattle.recount.specs.Comments.{code_in, codes_in, count_in, is_drawn, is_end, is_word, lot_in, rejected_in, small_in, ward_in, with_comment, with_kind, with_lot, with_rejected, with_ward, with_words};
+ghost use Rattle.recount.specs.Comments.{code_in, codes_in, count_in, is_drawn, is_end, is_word, lot_in, rejected_in, small_in, ward_in};
+ghost use Rattle.recount.specs.Comments.{with_comment, with_kind, with_lot, with_rejected, with_ward, with_words};
 ghost use Rattle.recount.specs.Outcomes.{outcome};
 ghost use Rattle.recount.specs.Views.{remarks_of};
 

@@ -1,6 +1,6 @@
 //! Where a text first differs from another.
 
-ghost use Rattle.std.specs.Prelude.{◌≡◌, ◌≤◌, length, IfOk};
+ghost use Rattle.std.specs.Prelude.{◌≡◌, ◌≤◌, length, string_bytes, IfOk};
 ghost use Rattle.recount.specs.Differences.{IsComparison, behind_lines, common, ended_lines, first_line, nearer};
 
 use std::alloc::{AllocError, Global};
@@ -12,7 +12,7 @@ pub enum Checked {
     Same,
     /// The text differs: the first line that does, counted from 1, and what it should be, with its line
     /// feed; empty where the text should have ended.
-    Differs { line: u64, should_be: Vec<u8> },
+    Differs { line: u64, should_be: String },
 }
 
 /// The longest beginning that two texts share.
@@ -73,11 +73,20 @@ fn first_line(text: &[u8]) -> &[u8]
     text
 }
 
+/// A line of a text, behind so many of its lines.
+fn line_behind(alloc: Global, lines: usize, text: &str) -> Result<String, AllocError>
+    ensures { IfOk result (λ line. string_bytes line ≡ first_line (behind_lines lines text.now)) }
+{
+    let line = first_line(behind_lines(lines, text.as_bytes()));
+    let bytes = Vec::from_slice(alloc, line)?;
+    Ok(String::from_utf8(bytes).unwrap())
+}
+
 /// Of a sheet and a declaration the one that a text is like for longer.
-fn nearer<'a>(text: &[u8], sheet: &'a [u8], declaration: &'a [u8]) -> &'a [u8]
+fn nearer<'a>(text: &[u8], sheet: &'a str, declaration: &'a str) -> &'a str
     ensures { result.now ≡ nearer text.now sheet.now declaration.now }
 {
-    if common(text, sheet).len() < common(text, declaration).len() {
+    if common(text, sheet.as_bytes()).len() < common(text, declaration.as_bytes()).len() {
         declaration
     } else {
         sheet
@@ -88,17 +97,17 @@ fn nearer<'a>(text: &[u8], sheet: &'a [u8], declaration: &'a [u8]) -> &'a [u8]
 pub(crate) fn comparison(
     alloc: Global,
     text: &[u8],
-    sheet: &[u8],
-    declaration: &[u8],
+    sheet: &str,
+    declaration: &str,
 ) -> Result<Checked, AllocError>
     ensures { IfOk result (λ checked. IsComparison text.now sheet.now declaration.now checked) }
 {
-    if text == sheet || text == declaration {
+    if text == sheet.as_bytes() || text == declaration.as_bytes() {
         return Ok(Checked::Same);
     }
     let should = nearer(text, sheet, declaration);
-    let same = ended_lines(common(text, should));
-    let should_be = first_line(behind_lines(same, should)).to_vec(alloc)?;
+    let same = ended_lines(common(text, should.as_bytes()));
+    let should_be = line_behind(alloc, same, should)?;
     Ok(Checked::Differs {
         line: same as u64 + 1,
         should_be,

@@ -10,6 +10,9 @@ use crate::problem::Flaw;
 use std::alloc::{AllocError, Global};
 use std::str;
 
+/// The most bytes of a name. A sheet tells each name at each stage, so a longer one would take much room there.
+const MAX_NAME: usize = 1000;
+
 /// Where the next byte of a line with a name stands.
 #[derive(Clone, Copy)]
 pub(crate) enum Within {
@@ -34,10 +37,13 @@ pub(crate) struct Quoted {
     within: Within,
 }
 
-/// A name that is text.
+/// A name that isn't too long, and is text.
 fn as_text(name: Vec<u8>) -> Result<String, Flaw>
     ensures { told_as (λ text. string_bytes text) result ≡ as_text name.items }
 {
+    if name.len() > MAX_NAME {
+        return Err(Flaw::LongName);
+    }
     match str::from_utf8(&name) {
         Ok(_) => {}
         Err(_) => return Err(Flaw::NotUtf8),

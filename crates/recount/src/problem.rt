@@ -42,6 +42,9 @@ pub enum Flaw {
     /// A quotation mark isn't closed.
     #[error("a quotation mark is not closed")]
     OpenQuote,
+    /// A name has more than 1,000 bytes.
+    #[error("a name is too long")]
+    LongName,
     /// A name isn't UTF-8.
     #[error("a name is not UTF-8")]
     NotUtf8,
