@@ -81,22 +81,23 @@ fn tell_line_ends(rt: &HostRuntime, text: &[u8]) -> io::Result<()> {
 }
 
 /// Tells the first line that differs, and what it should be.
-fn tell_line(rt: &HostRuntime, line: u64, mut should_be: Vec<u8>) -> io::Result<()> {
+fn tell_line(rt: &HostRuntime, line: u64, should_be: String) -> io::Result<()> {
     if should_be.is_empty() {
         return eprintln!(rt; "line {line} differs: the text should end before it");
     }
-    if should_be.last() == Some(&b'\n') {
-        should_be.pop();
+    let mut bytes = should_be.into_bytes();
+    if bytes.last() == Some(&b'\n') {
+        bytes.pop();
     }
-    shown(&mut should_be);
+    shown(&mut bytes);
     eprintln!(rt; "line {line} differs, and should be:")?;
     let mut err = rt.stderr();
-    err.write_all(&should_be)?;
+    err.write_all(&bytes)?;
     err.write_all(b"\n")
 }
 
 /// Tells where a text differs.
-fn tell_difference(rt: &HostRuntime, line: u64, should_be: Vec<u8>, text: &[u8]) -> io::Result<()> {
+fn tell_difference(rt: &HostRuntime, line: u64, should_be: String, text: &[u8]) -> io::Result<()> {
     tell_line(rt, line, should_be)?;
     tell_line_ends(rt, text)
 }
