@@ -9,7 +9,7 @@ use std::fmt::Write;
 use std::process::Abort;
 use std::test::Fail;
 
-const BALLOTS: &str = r#"3 2
+pub(crate) const BALLOTS: &str = r#"3 2
 4 1 2 0
 2 1 3 0
 1 2 0
@@ -29,7 +29,7 @@ const FOREIGN: &str =
     "\u{feff}# an election\r\n3 2 # candidates, seats\r\n\r\n2 3 0\r\n1 1 2 3 0 # alone\r\n1\t2   0\r\n\
 # Ward 7\r\n  2 1 3 0\r\n1 1 2 1=3 0\r\n2 1 2 0\r\n0\r\n \"Ann\" # first\r\n\"Bob\"\r\n\"Cy\"\r\n\"Harbour\"";
 
-const SHEET: &str = "Ward 7 Harbour
+pub(crate) const SHEET: &str = "Ward 7 Harbour
 Seats 2, valid 9, quota 4.00000
 Rejected 1: 0, 2: 0, 3: 0, 4: 0, 5: 0
 Stage 1: first preferences
@@ -52,14 +52,14 @@ Stage 3: exclusion of 2, last vacancies
          0.00002 lost by fractions
 ";
 
-const DECLARATION: &str = "Ward 7 Harbour
+pub(crate) const DECLARATION: &str = "Ward 7 Harbour
 Elected
  1 Ann
  3 Cy
 ";
 
 /// Bob and Cy are tied at all stages.
-const TIED: &str = r#"3 1
+pub(crate) const TIED: &str = r#"3 1
 2 1 0
 1 2 0
 1 3 0
@@ -74,7 +74,8 @@ const TIED: &str = r#"3 1
 fn told(alloc: Global, ballots: &[u8], text: &[u8]) -> Result<String, Fail> {
     let mut told = String::new(alloc);
     match check(alloc, ballots, text) {
-        Ok(Checked::Same) => told.push_str("same")?,
+        Ok(Checked::Sheet) => told.push_str("the sheet")?,
+        Ok(Checked::Declaration) => told.push_str("the declaration")?,
         Ok(Checked::Differs { line, should_be }) => {
             write!(told, "line {line}: {should_be}")?;
         }
@@ -107,9 +108,9 @@ fn tells(
 #[test]
 fn understood(rt: HostRuntime) -> Result<(), Fail> {
     for ballots in [BALLOTS, FOREIGN] {
-        for text in [SHEET, DECLARATION] {
+        for (text, name) in [(SHEET, "the sheet"), (DECLARATION, "the declaration")] {
             let told = told(rt.alloc(), ballots.as_bytes(), text.as_bytes())?;
-            assert_eq!(rt; told.as_str(), "same");
+            assert_eq!(rt; told.as_str(), name);
         }
     }
     Ok(())
@@ -340,6 +341,80 @@ fn problems(rt: HostRuntime) -> Result<(), Fail> {
     Ok(())
 }
 
+/// Comments of ours that aren't written so, and others.
+#[test]
+fn comments(rt: HostRuntime) -> Result<(), Fail> {
+    let astray = "a comment that begins with Ward, Rejected or Lot, but is not written as ours are";
+    let files = [
+        ("# Ward 7", "#Ward 7", 11),
+        ("# Ward 7", "# ward 7", 11),
+        ("# Ward 7", "# WARD 7", 11),
+        ("# Ward 7", "## Ward 7", 11),
+        ("# Ward 7", "#\u{a0}Ward 7", 11),
+        ("# Ward 7", "# Ward7", 11),
+        ("# Rejected", "#rejected", 12),
+        ("3 2\n", "3 2 # Ward 7\n", 1),
+        ("4 1 2 0\n", "4 1 2 0#Lot at stage 2: 1\n", 2),
+        ("0\n\"Ann\"", "0 # Lot at stage 2: 1\n\"Ann\"", 6),
+        ("\"Ann\"\n", "\"Ann\" # Rejected 1: 1\n", 7),
+        ("\"Harbour\"\n", "\"Harbour\"#LOT\n", 10),
+    ];
+    for (old, new, line) in files {
+        let words = format!(in rt.alloc(); "line {line} of the ballots: {astray}")?;
+        tells(&rt, BALLOTS, old, new, SHEET, words.as_str())?;
+    }
+    let others = [
+        ("3 2\n", "3 2 # the ward's candidates and seats\n"),
+        ("\"Ann\"\n", "\"Ann\" # Wards 1 to 3, a lot\n"),
+        ("# Ward 7", "# Lots of wards\n#\n#### \n# Ward: 7,"),
+        ("# Ward 7", "# 2 wards\n#Rejections: none\n# Ward 007 "),
+    ];
+    for (old, new) in others {
+        tells(&rt, BALLOTS, old, new, SHEET, "the sheet")?;
+    }
+    Ok(())
+}
+
+/// Ranks that several share, of whom some are withdrawn.
+#[test]
+fn shared_ranks(rt: HostRuntime) -> Result<(), Fail> {
+    let ballots = r#"4 1
+-3
+2 1 0
+1 2 0
+0
+"Ann"
+"Bob"
+"gone"
+"Dee"
+"Harbour"
+"#;
+    let sheet = "Ward 1 Harbour
+Seats 1, valid 3, quota 2.00000
+Rejected 1: 0, 2: 0, 3: 0, 4: 0, 5: 0
+Stage 1: first preferences
+ 1       2.00000 E Ann
+ 2       1.00000 - Bob
+ 4       0.00000 - Dee
+         0.00000 non-transferable
+         0.00000 lost by fractions
+";
+    let files = [
+        ("2 1 0\n", "2 3=1 0\n", "the sheet"),
+        ("2 1 0\n", "2 3 1=2 0\n", "line 3 of the ballots: no first preference"),
+        ("2 1 0\n", "2 3 1 2=4=3 0\n", "the sheet"),
+        ("2 1 0\n", "2 1=3 2=4 1 0\n", "the sheet"),
+        ("2 1 0\n", "2 1=3 1 0\n", "line 3 of the ballots: a candidate twice"),
+        ("2 1 0\n", "2 1 2=4 x 0\n", "line 3 of the ballots: a word is not a number"),
+        ("2 1 0\n", "2 1 2=4 5 0\n", "line 3 of the ballots: no such candidate"),
+        ("2 1 0\n", "2 1 2= 0\n", "line 3 of the ballots: a word is not a number"),
+    ];
+    for (old, new, words) in files {
+        tells(&rt, ballots, old, new, sheet, words)?;
+    }
+    Ok(())
+}
+
 #[test]
 fn lots(rt: HostRuntime) -> Result<(), Fail> {
     let elected = "Ward 1 Harbour\nElected\n 1 Ann\n";
@@ -349,7 +424,7 @@ fn lots(rt: HostRuntime) -> Result<(), Fail> {
             "# Lot at stage 2: 1\n",
             "the lot for stage 2 names none of the tied",
         ),
-        ("# Lot at stage 2: 3\n", "same"),
+        ("# Lot at stage 2: 3\n", "the declaration"),
         (
             "# Lot at stage 2: 3\n# Lot at stage 1: 3\n",
             "a lot is recorded for stage 1, and none is drawn there",
@@ -380,7 +455,7 @@ fn prints_and_checks(
     let ballots = ballots_text(rt.alloc(), ward, bundles, &[])?;
     let sheet = sheet_text(rt.alloc(), ward, &[])?;
     let same = told(rt.alloc(), ballots.as_bytes(), sheet.as_bytes())?;
-    assert_eq!(rt; same.as_str(), "same");
+    assert_eq!(rt; same.as_str(), "the sheet");
     Ok(())
 }
 

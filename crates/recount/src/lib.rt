@@ -7,7 +7,8 @@
 //!
 //! ```text
 //! match check(alloc, ballots, text)? {
-//!     Checked::Same => ..,                          // these ballots give this very text
+//!     Checked::Sheet => ..,                         // these ballots give this very stage sheet,
+//!     Checked::Declaration => ..,                   // or this very declaration
 //!     Checked::Differs { line, should_be } => ..,   // the first line that differs, and what it should be
 //! }
 //! ```
@@ -23,6 +24,7 @@ mod pieces;
 mod comments;
 mod names;
 mod papers;
+mod passing;
 mod ranks;
 mod reading;
 mod state;
@@ -31,8 +33,18 @@ mod checking;
 mod lots;
 mod reading_back;
 mod wards;
+// what the program is asked for, and what it tells
+mod asking;
+mod folders;
+mod help;
+mod hints;
+mod pages;
+mod shown;
+mod telling;
 
+pub use asking::{WordsFault, run};
 pub use checking::check;
 pub use differences::Checked;
+pub use folders::{Folder, Unread};
 pub use problem::{Flaw, Problem};
 pub use reading_back::ballots_read_back;
