@@ -16,6 +16,7 @@ use std::{env, fs};
 use votes::Counted;
 
 /// The files of this machine.
+#[derive(Clone, Copy)]
 struct Paths<'a> {
     rt: &'a HostRuntime,
 }

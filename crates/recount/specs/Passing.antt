@@ -1,5 +1,5 @@
 -- Comments that are passed over, and those that aren't: who reads one that begins with one of our words takes it for ours.
-use Rattle.std.specs.Prelude.{ℕ, ◌==◌, ◌||◌, Bool, if◌then◌else◌, [], ◌∷◌, Result, Ok, Err, codes}
+use Rattle.std.specs.Prelude.{◌==◌, ◌||◌, Bool, if◌then◌else◌, [], ◌∷◌, Result, Ok, Err, codes}
 use Rattle.std.specs.Char.{is_ascii_alphabetic, is_ascii_alphanumeric}
 use Rattle.std.specs.Str.{str_eq_ignore_ascii_case}
 use Rattle.recount.specs.Pieces.{Text}

@@ -1,5 +1,5 @@
 -- What is wrong with ballots, and what hinders a check, in words.
-use Rattle.std.specs.Prelude.{ℕ, List, [], ◌∷◌, ◌++◌, codes}
+use Rattle.std.specs.Prelude.{List, [], ◌∷◌, ◌++◌, codes}
 use Rattle.std.specs.Fmt.{decimal}
 use Rattle.recount.specs.Pieces.{Text}
 use Rattle.recount.specs.declared.problem.Flaw.{Flaw}

@@ -185,11 +185,7 @@ impl Comments {
     }
 
     /// The words of a line with a comment.
-    fn take_words(
-        &mut self,
-        line: &[u8],
-        words: &[&[u8]],
-    ) -> Result<Result<(), Flaw>, AllocError>
+    fn take_words(&mut self, line: &[u8], words: &[&[u8]]) -> Result<Result<(), Flaw>, AllocError>
         ensures { IfOk result (λ told. outcome told (remarks_of self.new) ≡ with_words (remarks_of self.old) line.now (map (λ w. w.now) words.now)) }
     {
         let [sign, kind, others @ ..] = words else {

@@ -34,7 +34,10 @@ pub enum Outcome {
     /// A word isn't UTF-8.
     NotUtf8,
     /// The file at this path can't be read, for this reason.
-    Unread { path: String, why: String },
+    Unread {
+        path: String,
+        why: String,
+    },
     /// This came of the check, and this can't be seen of the text.
     Checked {
         checked: Checked,
@@ -82,11 +85,7 @@ fn differing(
 }
 
 /// What came of a check, in words.
-fn checked_text(
-    alloc: Global,
-    checked: &Checked,
-    hint: Option<Hint>,
-) -> Result<String, AllocError>
+fn checked_text(alloc: Global, checked: &Checked, hint: Option<Hint>) -> Result<String, AllocError>
     ensures { IfOk result (λ text. string_bytes text ≡ checked_text checked.now hint) }
 {
     match checked {

@@ -141,7 +141,10 @@ impl fmt::Display for Problem {
                 write!(f, "the lot for stage {stage} names none of the tied")
             }
             Problem::LotNotNeeded { stage } => {
-                write!(f, "a lot is recorded for stage {stage}, and none is drawn there")
+                write!(
+                    f,
+                    "a lot is recorded for stage {stage}, and none is drawn there"
+                )
             }
             Problem::Memory => f.write_str("memory is wanting"),
         }

@@ -71,11 +71,7 @@ impl Ranks {
     }
 
     /// Several, one behind another.
-    fn add_each(
-        &mut self,
-        highest: u8,
-        words: &[&[u8]],
-    ) -> Result<Result<(), Flaw>, AllocError>
+    fn add_each(&mut self, highest: u8, words: &[&[u8]]) -> Result<Result<(), Flaw>, AllocError>
         requires { highest ≤ max_candidates }
         ensures is { IfOk result (λ told. outcome told (ranks_of self.new) ≡ with_each highest (ranks_of self.old) (map (λ w. w.now) words.now)) }
         ensures ranking { IfOk result (λ _. IsRanking self.old.named.items → IsRanking self.new.named.items) }

@@ -30,10 +30,7 @@ fn before_comment(line: &[u8]) -> &[u8]
 }
 
 /// The words of a line of numbers, with a comment behind them at most.
-fn words_before_comment(
-    alloc: Global,
-    line: &[u8],
-) -> Result<Result<Vec<&[u8]>, Flaw>, AllocError>
+fn words_before_comment(alloc: Global, line: &[u8]) -> Result<Result<Vec<&[u8]>, Flaw>, AllocError>
     ensures { IfOk result (λ told. told_as (λ words. map (λ w. w.now) words.items) told ≡ words_before_comment line.now) }
 {
     if let Err(flaw) = pass_over(behind_number_sign(line)) {
