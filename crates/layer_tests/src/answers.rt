@@ -14,6 +14,7 @@ const IS_DECLARATION: &str =
     "the text is the declaration that these ballots, rejected papers and lots give\n";
 
 /// Two files that can be read, and others that can't.
+#[derive(Clone, Copy)]
 struct Shelf<'a> {
     alloc: Global,
     ballots: &'a str,
