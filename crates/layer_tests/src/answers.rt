@@ -10,6 +10,7 @@ use votes::Counted;
 /// The first line of what is told of the sheet, and of the declaration.
 const IS_SHEET: &str =
     "the text is the stage sheet that these ballots, rejected papers and lots give\n";
+
 const IS_DECLARATION: &str =
     "the text is the declaration that these ballots, rejected papers and lots give\n";
 
@@ -84,9 +85,12 @@ fn asks(
 #[test]
 fn words(rt: HostRuntime) -> Result<(), Fail> {
     let files = (BALLOTS, SHEET);
-    let unasked =
-        "error: give the path of the ballots, and that of the sheet; --help tells more\n";
-    for words in [[].as_slice(), ["text"].as_slice(), ["ballots", "text", "text"].as_slice()] {
+    let unasked = "error: give the path of the ballots, and that of the sheet; --help tells more\n";
+    for words in [
+        [].as_slice(),
+        ["text"].as_slice(),
+        ["ballots", "text", "text"].as_slice(),
+    ] {
         asks(&rt, Ok(words), files, ("", unasked, 2))?;
     }
     let not_text = ("", "error: a word is not UTF-8\n", 2);
@@ -107,7 +111,8 @@ fn words(rt: HostRuntime) -> Result<(), Fail> {
         (IS_DECLARATION, "", 0),
     )?;
     // the two swapped, and the ballots beside themselves
-    let swapped = "error: line 1 of the ballots: not the highest number of a candidate, and the seats\n";
+    let swapped =
+        "error: line 1 of the ballots: not the highest number of a candidate, and the seats\n";
     asks(&rt, Ok(&["text", "ballots"]), files, ("", swapped, 2))?;
     let itself = "line 1 differs, and should be:\nWard 7 Harbour\n";
     asks(&rt, Ok(&["ballots", "ballots"]), files, ("", itself, 1))?;
@@ -121,22 +126,48 @@ fn differences(rt: HostRuntime) -> Result<(), Fail> {
     let texts = [
         ("", first, ""),
         ("Ward 8 Harbour\n", first, ""),
-        ("\u{feff}Ward 7 Harbour\n", first, "(it begins with a byte order mark, as another program writes it; a sheet doesn't)\n"),
-        ("Ward 7 Harbour\r\n", first, "(its lines end with carriage returns, as another system writes them; a sheet's don't)\n"),
+        (
+            "\u{feff}Ward 7 Harbour\n",
+            first,
+            "(it begins with a byte order mark, as another program writes it; a sheet doesn't)\n",
+        ),
+        (
+            "Ward 7 Harbour\r\n",
+            first,
+            "(its lines end with carriage returns, as another system writes them; a sheet's don't)\n",
+        ),
         ("Ward 7 Harbour", first, "(its last line has no line end)\n"),
-        ("Ward 7 Harbour\nElected\n 1 Ann\n 3 Cy\n 2 Bob\n", longer, ""),
-        ("Ward 7 Harbour\nElected\n 1 Ann\n 3 Cy\n 2 Bob", longer, "(its last line has no line end)\n"),
+        (
+            "Ward 7 Harbour\nElected\n 1 Ann\n 3 Cy\n 2 Bob\n",
+            longer,
+            "",
+        ),
+        (
+            "Ward 7 Harbour\nElected\n 1 Ann\n 3 Cy\n 2 Bob",
+            longer,
+            "(its last line has no line end)\n",
+        ),
     ];
     for (text, line, hint) in texts {
         let told = format!(in rt.alloc(); "{line}{hint}")?;
-        asks(&rt, Ok(&["ballots", "text"]), (BALLOTS, text), ("", told.as_str(), 1))?;
+        asks(
+            &rt,
+            Ok(&["ballots", "text"]),
+            (BALLOTS, text),
+            ("", told.as_str(), 1),
+        )?;
     }
     // a name that could steer a terminal
     let (front, back) = BALLOTS.split_once("Harbour").ok_or("no name")?;
     let name = "H\u{1b}[2J\u{7f}\u{9b}\t\u{202e}\u{2066}\u{200f}\u{61c}ü\u{a0}";
     let ballots = format!(in rt.alloc(); "{front}{name}{back}")?;
     let told = "line 1 differs, and should be:\nWard 7 H?[2J???????ü\u{a0}\n";
-    asks(&rt, Ok(&["ballots", "text"]), (ballots.as_str(), SHEET), ("", told, 1))?;
+    asks(
+        &rt,
+        Ok(&["ballots", "text"]),
+        (ballots.as_str(), SHEET),
+        ("", told, 1),
+    )?;
     Ok(())
 }
 
@@ -146,19 +177,41 @@ fn hindrances(rt: HostRuntime) -> Result<(), Fail> {
     let (amiss, needless) = (drawn("2: 1")?, drawn("1: 3")?);
     let files = [
         ("3 0\n", "line 1 of the ballots: no seats"),
-        ("3 2\n1 1 0\n0\n\"Ann\"\n", "line 5 of the ballots: the file ends before the ward's name"),
-        ("1 1\n1 1 0\n0\n\"Ann\"\n\"Harbour\"", "no more candidates than seats"),
-        (TIED, "no lot is recorded for stage 2, where these are tied: 2 3"),
+        (
+            "3 2\n1 1 0\n0\n\"Ann\"\n",
+            "line 5 of the ballots: the file ends before the ward's name",
+        ),
+        (
+            "1 1\n1 1 0\n0\n\"Ann\"\n\"Harbour\"",
+            "no more candidates than seats",
+        ),
+        (
+            TIED,
+            "no lot is recorded for stage 2, where these are tied: 2 3",
+        ),
         (amiss.as_str(), "the lot for stage 2 names none of the tied"),
-        (needless.as_str(), "no lot is recorded for stage 2, where these are tied: 2 3"),
+        (
+            needless.as_str(),
+            "no lot is recorded for stage 2, where these are tied: 2 3",
+        ),
     ];
     for (ballots, why) in files {
         let told = format!(in rt.alloc(); "error: {why}\n")?;
-        asks(&rt, Ok(&["ballots", "text"]), (ballots, SHEET), ("", told.as_str(), 2))?;
+        asks(
+            &rt,
+            Ok(&["ballots", "text"]),
+            (ballots, SHEET),
+            ("", told.as_str(), 2),
+        )?;
     }
     let both = format!(in rt.alloc(); "{TIED}# Lot at stage 2: 3\n# Lot at stage 255: 3\n")?;
     let told = "error: a lot is recorded for stage 255, and none is drawn there\n";
-    asks(&rt, Ok(&["ballots", "text"]), (both.as_str(), SHEET), ("", told, 2))?;
+    asks(
+        &rt,
+        Ok(&["ballots", "text"]),
+        (both.as_str(), SHEET),
+        ("", told, 2),
+    )?;
     Ok(())
 }
 
@@ -195,7 +248,12 @@ fn breaks(
 
 #[test]
 fn outputs_that_fail(rt: HostRuntime) -> Result<(), Fail> {
-    breaks(&rt, SHEET, (8, 25), ("the text", "error: the output failed\n"))?;
+    breaks(
+        &rt,
+        SHEET,
+        (8, 25),
+        ("the text", "error: the output failed\n"),
+    )?;
     breaks(&rt, SHEET, (0, 5), ("", "error"))?;
     breaks(&rt, "", (0, 6), ("", "line 1"))?;
     Ok(())

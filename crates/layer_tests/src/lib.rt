@@ -20,6 +20,8 @@ mod pages;
 #[cfg(test)]
 mod papers;
 #[cfg(test)]
+mod readings;
+#[cfg(test)]
 mod recounts;
 #[cfg(test)]
 mod sheets;

@@ -3,7 +3,8 @@
 //!
 //! [`check`] reads the ballots, as `ballots` prints them or as other counting programs write them (BLT), counts
 //! them to the end by the recorded lots, and compares. A [`Problem`] tells what of the ballots isn't understood, or
-//! which lot is wanting.
+//! which lot is wanting. [`run`] does what the checker's words ask: it has both files read from a [`Folder`], and
+//! tells what came of it on two outputs.
 //!
 //! ```text
 //! match check(alloc, ballots, text)? {
