@@ -13,6 +13,15 @@ play_changed() {
     play - check ballots.txt changed.txt
 }
 
+# Plays an order whose output takes nothing.
+play_full() {
+    local status=0
+    echo "output full: \$ count-office $*"
+    (cd "$folder" && "$office" "$@" >/dev/full 2>errors) || status=$?
+    sed 's/^/error: /' "$folder/errors"
+    echo "status $status"
+}
+
 # Plays the check of the sheet against the ballots, changed by `sed`.
 play_ballots() {
     echo "changed ballots: $*"
@@ -36,12 +45,19 @@ play_ballots() {
     play_changed '$a\ 9       0.00000 - Zoe'
     play_changed -z '$s/\n$//'
     play_changed 's/$/\r/'
+    play_changed '1s/^/\xef\xbb\xbf/'
     play_changed -n '1,3p'
 
     # other ballots, rejected papers, and lots
     play_ballots '2s/4/5/'
     play_ballots 's/Rejected 1: 0/Rejected 1: 1/'
     play_ballots '$a# Lot at stage 2: 1'
+
+    # comments of ours in another form or place, and others
+    play_ballots 's/# Rejected 1: 0/#Rejected 1: 1/'
+    play_ballots 's/# Rejected 1: 0/# rejected 1: 1/'
+    play_ballots '10s/$/ # Rejected 1: 1, 2: 0, 3: 0, 4: 0, 5: 0/'
+    play_ballots '1s/$/ # the ward of Harbour, its lots and papers/'
 
     # ballots as other programs write them, and what isn't understood
     play_ballots -e 's/$/\r/' -e '1s/^/\xef\xbb\xbf/'
@@ -51,6 +67,7 @@ play_ballots() {
     play_ballots '4s/ 0$//'
     play_ballots '6d'
     play_ballots '7s/"$//'
+    play_ballots -e '10s/Harbour/Harbour\x1b[2J\xc2\x9b2J\xe2\x80\xaee/'
     printf '3 1\n2 1 0\n1 2 0\n1 3 0\n0\n"Ann"\n"Bob"\n"Cy"\n"Harbour"\n' >"$folder/tied.txt"
     play - check tied.txt sheet.txt
 
@@ -60,6 +77,10 @@ play_ballots() {
     play - check ballots.txt sheet.txt more.txt
     play - check missing.txt sheet.txt
     play - check ballots.txt "$folder"
+
+    # an output that fails
+    play_full - check ballots.txt sheet.txt
+    play_full - check --help
 } >"$folder/played"
 sed -i "s|$folder|FOLDER|" "$folder/played"
 

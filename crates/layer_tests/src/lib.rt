@@ -6,6 +6,8 @@
 #![tactic(auto)]
 
 #[cfg(test)]
+mod answers;
+#[cfg(test)]
 mod asked;
 #[cfg(test)]
 mod ballots;
@@ -17,6 +19,8 @@ mod imports;
 mod pages;
 #[cfg(test)]
 mod papers;
+#[cfg(test)]
+mod readings;
 #[cfg(test)]
 mod recounts;
 #[cfg(test)]

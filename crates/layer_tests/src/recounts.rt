@@ -1,4 +1,4 @@
-//! Texts checked against ballots: what is read, what is told of a text that differs, and each problem's text.
+//! Texts checked against ballots: what is told of one that is theirs, and of one that differs; and lots.
 
 use count::Bundles;
 use paper::Prefs;
@@ -9,7 +9,7 @@ use std::fmt::Write;
 use std::process::Abort;
 use std::test::Fail;
 
-const BALLOTS: &str = r#"3 2
+pub(crate) const BALLOTS: &str = r#"3 2
 4 1 2 0
 2 1 3 0
 1 2 0
@@ -29,7 +29,7 @@ const FOREIGN: &str =
     "\u{feff}# an election\r\n3 2 # candidates, seats\r\n\r\n2 3 0\r\n1 1 2 3 0 # alone\r\n1\t2   0\r\n\
 # Ward 7\r\n  2 1 3 0\r\n1 1 2 1=3 0\r\n2 1 2 0\r\n0\r\n \"Ann\" # first\r\n\"Bob\"\r\n\"Cy\"\r\n\"Harbour\"";
 
-const SHEET: &str = "Ward 7 Harbour
+pub(crate) const SHEET: &str = "Ward 7 Harbour
 Seats 2, valid 9, quota 4.00000
 Rejected 1: 0, 2: 0, 3: 0, 4: 0, 5: 0
 Stage 1: first preferences
@@ -52,14 +52,14 @@ Stage 3: exclusion of 2, last vacancies
          0.00002 lost by fractions
 ";
 
-const DECLARATION: &str = "Ward 7 Harbour
+pub(crate) const DECLARATION: &str = "Ward 7 Harbour
 Elected
  1 Ann
  3 Cy
 ";
 
 /// Bob and Cy are tied at all stages.
-const TIED: &str = r#"3 1
+pub(crate) const TIED: &str = r#"3 1
 2 1 0
 1 2 0
 1 3 0
@@ -71,10 +71,11 @@ const TIED: &str = r#"3 1
 "#;
 
 /// What came of a check, in words.
-fn told(alloc: Global, ballots: &[u8], text: &[u8]) -> Result<String, Fail> {
+pub(crate) fn told(alloc: Global, ballots: &[u8], text: &[u8]) -> Result<String, Fail> {
     let mut told = String::new(alloc);
     match check(alloc, ballots, text) {
-        Ok(Checked::Same) => told.push_str("same")?,
+        Ok(Checked::Sheet) => told.push_str("the sheet")?,
+        Ok(Checked::Declaration) => told.push_str("the declaration")?,
         Ok(Checked::Differs { line, should_be }) => {
             write!(told, "line {line}: {should_be}")?;
         }
@@ -90,7 +91,7 @@ fn replaced(alloc: Global, text: &str, old: &str, new: &str) -> Result<String, F
 }
 
 /// Checks a text against ballots that have the first of some words replaced.
-fn tells(
+pub(crate) fn tells(
     rt: &(impl Abort + AllocGlobal),
     ballots: &str,
     old: &str,
@@ -107,9 +108,9 @@ fn tells(
 #[test]
 fn understood(rt: HostRuntime) -> Result<(), Fail> {
     for ballots in [BALLOTS, FOREIGN] {
-        for text in [SHEET, DECLARATION] {
+        for (text, name) in [(SHEET, "the sheet"), (DECLARATION, "the declaration")] {
             let told = told(rt.alloc(), ballots.as_bytes(), text.as_bytes())?;
-            assert_eq!(rt; told.as_str(), "same");
+            assert_eq!(rt; told.as_str(), name);
         }
     }
     Ok(())
@@ -161,186 +162,6 @@ fn differing(rt: HostRuntime) -> Result<(), Fail> {
 }
 
 #[test]
-fn problems(rt: HostRuntime) -> Result<(), Fail> {
-    let files = [
-        (
-            "3 2\n",
-            "",
-            "line 1 of the ballots: not the highest number of a candidate, and the seats",
-        ),
-        (
-            "3 2\n",
-            "31 2\n",
-            "line 1 of the ballots: a number is too large",
-        ),
-        ("3 2\n", "3 0\n", "line 1 of the ballots: no seats"),
-        (
-            "3 2\n",
-            "3 two\n",
-            "line 1 of the ballots: a word is not a number",
-        ),
-        (
-            "2 1 3 0\n",
-            "2 1 -3 0\n",
-            "line 3 of the ballots: a word is not a number",
-        ),
-        (
-            "2 1 3 0\n",
-            "-2\n",
-            "line 3 of the ballots: a word is not a number",
-        ),
-        (
-            "2 1 3 0\n",
-            "4999501 1 3 0\n",
-            "line 3 of the ballots: a number is too large",
-        ),
-        (
-            "2 1 3 0\n",
-            "4999500 1 3 0\n",
-            "line 3 of the ballots: too many papers",
-        ),
-        (
-            "2 1 3 0\n",
-            "18446744073709551617 1 3 0\n",
-            "line 3 of the ballots: a number is too large",
-        ),
-        ("2 1 3 0\n", "0 1 3 0\n", "line 3 of the ballots: no papers"),
-        (
-            "2 1 3 0\n",
-            "2 1 4 0\n",
-            "line 3 of the ballots: no such candidate",
-        ),
-        (
-            "2 1 3 0\n",
-            "2 1 3 1 0\n",
-            "line 3 of the ballots: a candidate twice",
-        ),
-        (
-            "2 1 3 0\n",
-            "2 1=3 0\n",
-            "line 3 of the ballots: no first preference",
-        ),
-        (
-            "2 1 3 0\n",
-            "2 0\n",
-            "line 3 of the ballots: no first preference",
-        ),
-        (
-            "2 1 3 0\n",
-            "2 1 3\n",
-            "line 3 of the ballots: no 0 at the end",
-        ),
-        (
-            "2 1 3 0\n",
-            "2 1 3 0 1 0\n",
-            "line 3 of the ballots: no 0 at the end",
-        ),
-        (
-            "2 1 3 0\n",
-            "2 1=3\n",
-            "line 3 of the ballots: no 0 at the end",
-        ),
-        (
-            "0\n\"Ann\"",
-            "\"Ann\"",
-            "line 6 of the ballots: a word is not a number",
-        ),
-        (
-            "\"Ann\"",
-            "Ann",
-            "line 7 of the ballots: not a name in quotation marks",
-        ),
-        (
-            "\"Ann\"",
-            "\"Ann\" \"Bob\"",
-            "line 7 of the ballots: not a name in quotation marks",
-        ),
-        (
-            "\"Ann\"",
-            "\"Ann",
-            "line 7 of the ballots: a quotation mark is not closed",
-        ),
-        (
-            "\"Ann\"",
-            "\"Ann\\\"",
-            "line 7 of the ballots: a quotation mark is not closed",
-        ),
-        (
-            "\"Ann\"\n",
-            "\"Ann\"\n\"Dee\"\n",
-            "line 11 of the ballots: a line behind the ward's name",
-        ),
-        (
-            "\"Ann\"\n",
-            "",
-            "line 12 of the ballots: the file ends before the ward's name",
-        ),
-        (
-            "# Ward 7",
-            "# Ward 256",
-            "line 11 of the ballots: not the number of a ward",
-        ),
-        (
-            "# Ward 7",
-            "# Ward 7 8",
-            "line 11 of the ballots: not the number of a ward",
-        ),
-        (
-            "# Ward 7",
-            "# Ward 7\n# Ward 7",
-            "line 12 of the ballots: told a second time",
-        ),
-        (
-            "5: 0",
-            "6: 0",
-            "line 12 of the ballots: not the rejected papers of each code",
-        ),
-        (
-            "5: 0",
-            "5: 0, 6: 0",
-            "line 12 of the ballots: not the rejected papers of each code",
-        ),
-        (
-            "# Ward 7",
-            "# Lot at stage 2:",
-            "line 11 of the ballots: not the lot of a stage",
-        ),
-        ("3 2\n", "3 3\n", "no more candidates than seats"),
-    ];
-    for (old, new, words) in files {
-        tells(&rt, BALLOTS, old, new, SHEET, words)?;
-    }
-    let mut long = String::new(rt.alloc());
-    for _ in 0..1001 {
-        long.push('a')?;
-    }
-    tells(
-        &rt,
-        BALLOTS,
-        "Ann",
-        long.as_str(),
-        SHEET,
-        "line 7 of the ballots: a name is too long",
-    )?;
-    let cut = told(rt.alloc(), b"3 2\n1 1 0\n", b"")?;
-    assert_eq!(rt;
-        cut.as_str(),
-        "line 3 of the ballots: the file ends before the line 0 behind the papers"
-    );
-    let empty = told(rt.alloc(), b"# nothing\n\n", b"")?;
-    assert_eq!(rt;
-        empty.as_str(),
-        "line 3 of the ballots: the file ends before the candidates and seats"
-    );
-    let bytes = told(rt.alloc(), b"0 1\n0\n\"\xff\"\n", b"")?;
-    assert_eq!(rt;
-        bytes.as_str(),
-        "line 3 of the ballots: a name is not UTF-8"
-    );
-    Ok(())
-}
-
-#[test]
 fn lots(rt: HostRuntime) -> Result<(), Fail> {
     let elected = "Ward 1 Harbour\nElected\n 1 Ann\n";
     let files = [
@@ -349,7 +170,7 @@ fn lots(rt: HostRuntime) -> Result<(), Fail> {
             "# Lot at stage 2: 1\n",
             "the lot for stage 2 names none of the tied",
         ),
-        ("# Lot at stage 2: 3\n", "same"),
+        ("# Lot at stage 2: 3\n", "the declaration"),
         (
             "# Lot at stage 2: 3\n# Lot at stage 1: 3\n",
             "a lot is recorded for stage 1, and none is drawn there",
@@ -380,7 +201,7 @@ fn prints_and_checks(
     let ballots = ballots_text(rt.alloc(), ward, bundles, &[])?;
     let sheet = sheet_text(rt.alloc(), ward, &[])?;
     let same = told(rt.alloc(), ballots.as_bytes(), sheet.as_bytes())?;
-    assert_eq!(rt; same.as_str(), "same");
+    assert_eq!(rt; same.as_str(), "the sheet");
     Ok(())
 }
 

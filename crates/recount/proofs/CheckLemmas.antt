@@ -3,7 +3,7 @@ use Rattle.std.proofs.Common.{◌≡◌, ◌∙◌, ℕ, List, reverse, refl, sy
 use Rattle.std.specs.Prelude.{Some, None}
 use Rattle.count.specs.Advance.{end_after}
 use Rattle.count.specs.Bundles.{Bundle}
-use Rattle.count.specs.Law.Contest.{Contest, History}
+use Rattle.count.specs.Law.Contest.{Contest, History, IsContest}
 use Rattle.count.specs.Law.Elected.{elected_after}
 use Rattle.count.specs.Law.Right.{IsWholeCount}
 use Rattle.count.specs.declared.run.CountEnd.{CountEnd}
@@ -30,9 +30,10 @@ finished (end.LotNotAmong stage) is = absurd (cc is)
 
 -- what comes of a text where it is
 pub counted_so : (ward : SheetEntry) (bundles : List Bundle) (lots : List (ℕ × ℕ)) (text : List ℕ) (checked : Checked) (contest : Contest) (stages : List Stage) (history : History) (why : CountEnd) (elected : List ℕ)
-    → contest ≡ contest_in ward bundles → reverse stages ≡ history → IsWholeCount contest lots history → end_after contest lots history ≡ Some why → None ≡ problem_of why → elected ≡ elected_after contest history → None ≡ undrawn contest lots
+    → IsContest contest → contest ≡ contest_in ward bundles → reverse stages ≡ history → IsWholeCount contest lots history → end_after contest lots history ≡ Some why → None ≡ problem_of why → elected ≡ elected_after contest history → None ≡ undrawn contest lots
     → IsComparison text (sheet ward stages) (declaration ward elected) checked → IsCountedCheck ward bundles lots text checked
-counted_so ward bundles lots text checked contest stages history why elected same is whole ended none chosen drawn compared = record {
+counted_so ward bundles lots text checked contest stages history why elected held same is whole ended none chosen drawn compared = record {
+  contest = subst IsContest same held;
   stages = stages;
   counted = subst (λ c. EndsAt c lots stages end.Finished) same (ends_at contest lots stages history end.Finished is whole (ended ∙ ap Some (finished why none)));
   drawn = ap (λ c. undrawn c lots) (sym same) ∙ sym drawn;

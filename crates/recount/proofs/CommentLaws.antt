@@ -63,7 +63,7 @@ unfolding line
 ward_reads papers names remarks ward few first =
     let n = ward.number in
     let more : Remarks = record { ward = Some n; rejected = remarks.rejected; lots = remarks.lots } in
-    let read : with_comment remarks (codes "# Ward " ++ decimal n) ≡ Ok more = ap (with_words remarks) (ward_words n few) ∙ rw (small_back n few, first) refl in
+    let read : with_comment remarks (codes "# Ward " ++ decimal n) ≡ Ok more = ap (with_words remarks (codes "# Ward " ++ decimal n)) (ward_words n few) ∙ rw (small_back n few, first) refl in
     subst (λ t. Reads (state place.End papers names remarks) ((codes "# Ward " ++ t) ++ 10 ∷ []) (state place.End papers names more)) (sym (append-nil (decimal n)))
     (comment_reads papers names remarks more (codes "# Ward " ++ decimal n) refl (unended n (omega arith)) read)
 
@@ -112,7 +112,7 @@ pub rejected_reads : (papers : Told) (names : Named) (remarks : Remarks) (a b c 
 unfolding line
 rejected_reads papers names remarks a b c d e few first =
     let more : Remarks = record { ward = remarks.ward; rejected = Some (a ∷ b ∷ c ∷ d ∷ e ∷ []); lots = remarks.lots } in
-    let read : with_comment remarks (rejected_text a b c d e) ≡ Ok more = ap (with_words remarks) (rejected_pieces a b c d e few) ∙ rw (rejected_back a b c d e few, first) refl in
+    let read : with_comment remarks (rejected_text a b c d e) ≡ Ok more = ap (with_words remarks (rejected_text a b c d e)) (rejected_pieces a b c d e few) ∙ rw (rejected_back a b c d e few, first) refl in
     comment_reads papers names remarks more (rejected_text a b c d e) refl (rejected_unended a b c d e few) read
 
 -- ---- the lots
@@ -130,7 +130,7 @@ lot_reads : (papers : Told) (names : Named) (remarks : Remarks) (k c : ℕ) → 
 unfolding line
 lot_reads papers names remarks k c low small first =
     let more : Remarks = record { ward = remarks.ward; rejected = remarks.rejected; lots = remarks.lots ++ (k, c) ∷ [] } in
-    let read : with_comment remarks (lot_text k c) ≡ Ok more = ap (with_words remarks) (lot_pieces k c low small) ∙ rw (small_back k low, small_back c small, first) refl in
+    let read : with_comment remarks (lot_text k c) ≡ Ok more = ap (with_words remarks (lot_text k c)) (lot_pieces k c low small) ∙ rw (small_back k low, small_back c small, first) refl in
     comment_reads papers names remarks more (lot_text k c) refl (part_unended k _ (omega arith) (part_unended c [] (omega arith) refl)) read
 
 abbrev Undrawn : List (ℕ × ℕ) → List (ℕ × ℕ) → Type 0

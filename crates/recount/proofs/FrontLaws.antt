@@ -18,6 +18,7 @@ use Rattle.count.proofs.ColumnLemmas.{columns-take}
 use Rattle.sheet.specs.Ballots.{bundle_line, end_line, withdrawn_line, withdrawn_number}
 use Rattle.sheet.specs.Lines.{line}
 use Rattle.recount.specs.Comments.{Remarks}
+use Rattle.recount.specs.Outcomes.{and_then}
 use Rattle.recount.specs.Papers.{with_size, with_withdrawn, withdrawn_from}
 use Rattle.recount.specs.Pieces.{Text}
 use Rattle.recount.specs.Reading.{Named, nothing_told, with_size_line, with_withdrawn_line}
@@ -61,7 +62,7 @@ end_reads : (first : Bool) (h s : ℕ) (w : List ℕ) (bs : List Bundle) (names 
 unfolding line
 end_reads first h s w bs names remarks =
     let here = state (papers_at first) (told h s w bs) names remarks in
-    number_line here (state place.Names (told h s w bs) names remarks) (codes "0") [] zero_figures tt (among_papers first here (codes "0") refl)
+    number_line here (state place.Names (told h s w bs) names remarks) (codes "0") [] zero_figures tt (among_papers first here (codes "0") (codes "0" ∷ []) refl refl)
 
 pub bundles_read : (first : Bool) (h s : ℕ) (w : List ℕ) (before bs : List Bundle) (names : Named) (remarks : Remarks) → h ≤ 30 → IsStrictlySortedBy list_cmp (lists_of (before ++ bs))
     → AllByRecursion (λ (b : Bundle). CanStand h w b.0 b.1) bs → length (papers_of before) + length (papers_of bs) ≤ max_papers
@@ -91,7 +92,7 @@ size_reads h s bound some few =
     let read : with_size nothing_told.papers (decimal h ∷ decimal s ∷ []) ≡ Ok (told h s [] []) =
     rw (number_back max_candidates h (omega arith) bound, number_back max_seats s (omega (arith, few)) few, ne_eqb s 0 (λ e. omega (arith, e))) refl in
     number_line nothing_told (state place.Withdrawn (told h s [] []) nothing_told.names nothing_told.remarks) (decimal h) (decimal s ∷ []) (decimal_figures h (omega arith)) (decimal_figures s (omega (arith, few)), tt)
-    (ap (with_size_line nothing_told) words ∙ rw read refl)
+    (ap (λ told. and_then told (with_size_line nothing_told)) words ∙ rw read refl)
 
 -- ---- the withdrawn
 
@@ -129,4 +130,4 @@ withdrawn_reads h s (c ∷ cs) names remarks bound set low =
     let words = line_numbers (minus_word c) (map minus_word cs) first others in
     let read : with_withdrawn (told h s [] []) (map minus_word (c ∷ cs)) ≡ Ok (told h s (c ∷ cs) []) = rw (withdrawn_back h [] (c ∷ cs) bound set low) refl in
     subst (λ t. Reads here ((minus_word c ++ t) ++ 10 ∷ []) end) (sym (minus_text cs))
-    (number_line here end (minus_word c) (map minus_word cs) first others (ap (with_withdrawn_line here) words ∙ rw read refl))
+    (number_line here end (minus_word c) (map minus_word cs) first others (ap (λ told. and_then told (with_withdrawn_line here)) words ∙ rw read refl))

@@ -4,8 +4,10 @@ use Rattle.std.specs.Prelude.{◌==◌}
 use Rattle.std.specs.List.{flat_map, list_all, list_any}
 use Rattle.std.proofs.lemmas.Bool.{eqb-true, false≢true, leb-true, ne_eqb}
 use Rattle.std.proofs.lemmas.List.Folds.{list_all-append}
+use Rattle.recount.specs.Outcomes.{and_then}
+use Rattle.recount.specs.Passing.{behind_number_sign, pass_over}
 use Rattle.recount.specs.Pieces.{Text, is_blank, kind_of, parts, piece, pieces_of}
-use Rattle.recount.specs.Reading.{Reading, before_comment, numbers_of, read_from, with_line}
+use Rattle.recount.specs.Reading.{Reading, before_comment, read_from, with_line, words_before_comment}
 use Rattle.recount.specs.declared.pieces.Kind.TheVariants.{Content}
 use Rattle.recount.specs.declared.pieces.Separator.{Separator}
 use Rattle.recount.specs.declared.pieces.Separator.TheVariants.{Blank, LineFeed}
@@ -132,10 +134,19 @@ no_comment (x ∷ xs) none =
     let part = or_none (x == 35) (list_any (λ b. b == 35) xs) none in
     rw part.0 (ap (λ t. x ∷ t) (no_comment xs part.1))
 
-pub line_numbers : (w : Text) (ws : List Text) → IsFigures w → AreFigures ws → numbers_of (w ++ spaced ws) ≡ w ∷ ws
+nothing_behind : (xs : Text) → list_any (λ b. b == 35) xs ≡ false → behind_number_sign xs ≡ []
+nothing_behind [] none = refl
+nothing_behind (x ∷ xs) none =
+    let part = or_none (x == 35) (list_any (λ b. b == 35) xs) none in
+    rw part.0 (nothing_behind xs part.1)
+
+pub line_numbers : (w : Text) (ws : List Text) → IsFigures w → AreFigures ws → words_before_comment (w ++ spaced ws) ≡ Ok (w ∷ ws)
 line_numbers w ws is are =
-    ap (pieces_of Blank []) (no_comment (w ++ spaced ws) (none_of is_plain (λ b. b == 35) (λ b h. plain_other b 35 (λ l m. omega arith) (λ e. omega (arith, e)) h) (w ++ spaced ws) (line_plain w ws is are)))
-    ∙ line_words w ws is are
+    let line = w ++ spaced ws in
+    let none = none_of is_plain (λ b. b == 35) (λ b h. plain_other b 35 (λ l m. omega arith) (λ e. omega (arith, e)) h) line (line_plain w ws is are) in
+    let passed : pass_over (behind_number_sign line) ≡ Ok tt = ap pass_over (nothing_behind line none) in
+    ap (λ told. and_then told (λ passed. Ok (pieces_of Blank [] (before_comment line)))) passed
+    ∙ ap Ok (ap (pieces_of Blank []) (no_comment line none) ∙ line_words w ws is are)
 
 pub line_unended : (w : Text) (ws : List Text) → IsFigures w → AreFigures ws → list_any (λ b. b == 10) (w ++ spaced ws) ≡ false
 line_unended w ws is are = none_of is_plain (λ b. b == 10) (λ b h. plain_other b 10 (λ l m. omega arith) (λ e. omega (arith, e)) h) (w ++ spaced ws) (line_plain w ws is are)

@@ -8,19 +8,18 @@ use Rattle.std.proofs.lemmas.Bool.{le-ltb, ltb-true}
 use Rattle.std.proofs.lemmas.Str.Ascii.{IsAscii-cons, IsAscii-nil}
 use Rattle.recount.proofs.LineLaws.{and_parts}
 use Rattle.std.proofs.lemmas.Str.{IsUtf8-from_ascii, IsUtf8-from_is_utf8, is_utf8-from_IsUtf8}
-use Rattle.recount.specs.Names.{as_text}
-use Rattle.recount.specs.declared.names.TheConstants.{MAX_NAME}
+use Rattle.recount.specs.Names.{as_text, max_name}
 use Rattle.recount.specs.declared.problem.Flaw.TheVariants.{NotUtf8}
 
-pub name_is_text : (name : List ℕ) → length name ≤ MAX_NAME → IsUtf8 name → Ok name ≡ as_text name
-name_is_text name short text = rw (le-ltb MAX_NAME (length name) short, is_utf8-from_IsUtf8 name text) refl
+pub name_is_text : (name : List ℕ) → length name ≤ max_name → IsUtf8 name → Ok name ≡ as_text name
+name_is_text name short text = rw (le-ltb max_name (length name) short, is_utf8-from_IsUtf8 name text) refl
 
 not_text : (name : List ℕ) (b : Bool) → is_utf8 name ≡ b → ¬ (IsUtf8 name) → is_utf8 name ≡ false
 not_text name false e isnt = e
 not_text name true e isnt = absurd (isnt (IsUtf8-from_is_utf8 name e))
 
-pub name_isnt_text : (name : List ℕ) → length name ≤ MAX_NAME → ¬ (IsUtf8 name) → Err NotUtf8 ≡ as_text name
-name_isnt_text name short isnt = rw (le-ltb MAX_NAME (length name) short, not_text name (is_utf8 name) refl isnt) refl
+pub name_isnt_text : (name : List ℕ) → length name ≤ max_name → ¬ (IsUtf8 name) → Err NotUtf8 ≡ as_text name
+name_isnt_text name short isnt = rw (le-ltb max_name (length name) short, not_text name (is_utf8 name) refl isnt) refl
 
 ascii_of : (text : List ℕ) → list_all (λ b. nat_lt b 128) text ≡ true → IsAscii text
 ascii_of [] all = IsAscii-nil

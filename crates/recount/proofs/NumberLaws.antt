@@ -1,6 +1,6 @@
 -- A number is read back from the digits that write it.
 use Rattle.std.proofs.Common.{◌≡◌, ◌∙◌, ℕ, ◌+◌, ◌-◌, ◌*◌, ◌/◌, ◌%◌, ◌^◌, ◌<◌, ◌≤◌, Bool, true, false, [], ◌∷◌, ◌++◌, length, refl, sym, ap, arith, length-append, Ok, Err}
-use Rattle.std.specs.Prelude.{◌==◌, nat_eq, Result, codes}
+use Rattle.std.specs.Prelude.{nat_eq, Result, codes}
 use Rattle.std.specs.Fmt.{decimal}
 use Rattle.std.specs.Char.{is_ascii_digit}
 use Rattle.std.specs.Cmp.Lexicographic.{pointwise}
@@ -9,10 +9,11 @@ use Rattle.std.proofs.lemmas.Fmt.{decimal_by_steps}
 use Rattle.std.proofs.lemmas.List.Folds.{list_all-append}
 use Rattle.recount.specs.Numbers.{candidate_in, number_from, number_in, with_digit}
 use Rattle.recount.specs.Outcomes.{and_then}
-use Rattle.recount.specs.Pieces.{Text}
-use Rattle.recount.specs.Ranks.{is_zero, is_shared}
+use Rattle.recount.specs.Pieces.{Text, parts, pieces_of}
+use Rattle.recount.specs.Ranks.{is_zero}
+use Rattle.recount.specs.declared.pieces.Separator.TheVariants.{Equals}
 use Rattle.recount.specs.declared.problem.Flaw.{Flaw}
-use Rattle.recount.proofs.LineLaws.{IsFigures, and_both, and_parts, figure_other, is_figure, none_of}
+use Rattle.recount.proofs.LineLaws.{IsFigures, and_both, and_parts, figure_other, is_figure, last_piece, none_of}
 
 digit_figure : (d : ℕ) → d < 10 → is_figure (48 + d) ≡ true
 digit_figure d small = and_both _ _ (le-leb 45 (48 + d) (omega arith)) (le-leb (48 + d) 57 (omega arith))
@@ -100,5 +101,5 @@ decimal_nonzero n some small = by (is_zero (decimal n)) refl
             omega (arith, none)
 
 -- none is written as a shared rank
-pub decimal_unshared : (n : ℕ) → n < 2 ^ 64 → is_shared (decimal n) ≡ false
-decimal_unshared n small = none_of is_figure (λ b. b == 61) (λ b h. figure_other b 61 h (λ l m. omega arith)) (decimal n) (decimal_figures n small).all
+pub decimal_alone : (n : ℕ) → n < 2 ^ 64 → pieces_of Equals [] (decimal n) ≡ decimal n ∷ []
+decimal_alone n small = last_piece Equals [] (decimal n) (none_of is_figure (parts Equals) (λ b h. figure_other b 61 h (λ l m. omega arith)) (decimal n) (decimal_figures n small).all)

@@ -15,12 +15,12 @@ use Rattle.recount.specs.Comments.{Remarks}
 use Rattle.recount.specs.Papers.{Told, papers_in, with_bundle, with_list}
 use Rattle.recount.specs.Pieces.{Text}
 use Rattle.recount.specs.Ranks.{named_from, without}
-use Rattle.recount.specs.Reading.{Named, Reading, begins_with_minus, is_withdrawn_line, numbers_of, with_content_at, with_line_of, with_papers_line}
-use Rattle.recount.specs.declared.ranks.Rank.TheVariants.{Single}
+use Rattle.recount.specs.Reading.{Named, Reading, begins_with_minus, is_withdrawn_line, with_content_at, with_line_of, with_papers_line, words_before_comment}
+use Rattle.recount.specs.declared.ranks.NextWord.TheVariants.{Preference}
 use Rattle.recount.specs.declared.state.Place.{Place}
 use Rattle.recount.specs.declared.state.Place.TheVariants as place
 use Rattle.recount.proofs.LineLaws.{AreFigures, IsFigures, Reads, line_content, line_numbers, line_unended, or_both, or_none, reads-line, spaced}
-use Rattle.recount.proofs.NumberLaws.{candidate_back, decimal_figures, decimal_nonzero, decimal_unshared, number_back}
+use Rattle.recount.proofs.NumberLaws.{candidate_back, decimal_alone, decimal_figures, decimal_nonzero, number_back}
 
 -- ---- where a file stands
 
@@ -60,13 +60,13 @@ apart_more before x (c ∷ list) apart none = (
 abbrev pub rank_words : List ℕ → List Text
 rank_words list = map decimal list ++ codes "0" ∷ []
 
-named_back : (highest : ℕ) (before list : List ℕ) → highest ≤ 30 → IsRanking list → AllByRecursion (λ c. c ≤ highest) list → Apart before list
-    → named_from highest (record { named = before; rank = Single }) (rank_words list) ≡ Ok (before ++ list)
-named_back highest before [] bound rank low apart = ap Ok (sym (append-nil before))
-named_back highest before (c ∷ list) bound rank low apart =
+named_back : (highest : ℕ) (withdrawn before list : List ℕ) → highest ≤ 30 → IsRanking list → AllByRecursion (λ c. c ≤ highest) list → Standing withdrawn list → Apart before list
+    → named_from highest withdrawn (record { named = before; next = Preference }) (rank_words list) ≡ Ok (before ++ list)
+named_back highest withdrawn before [] bound rank low standing apart = ap Ok (sym (append-nil before))
+named_back highest withdrawn before (c ∷ list) bound rank low standing apart =
     let small : c < 2 ^ 64 = omega (arith, low.0) in
-    rw (decimal_nonzero c rank.0 small, decimal_unshared c small, candidate_back highest c rank.0 low.0 bound, apart.0)
-    (named_back highest (before ++ c ∷ []) list bound rank.3 low.1 (apart_more before c list apart.1 rank.2) ∙ ap Ok (append_assoc before (c ∷ []) list))
+    rw (decimal_nonzero c rank.0 small, decimal_alone c small, candidate_back highest c rank.0 low.0 bound, standing.0, candidate_back highest c rank.0 low.0 bound, apart.0)
+    (named_back highest withdrawn (before ++ c ∷ []) list bound rank.3 low.1 standing.1 (apart_more before c list apart.1 rank.2) ∙ ap Ok (append_assoc before (c ∷ []) list))
 
 none_before : (list : List ℕ) → Apart [] list
 none_before [] = tt
@@ -108,9 +108,9 @@ abbrev pub papers_at : Bool → Place
 papers_at true = place.Withdrawn
 papers_at false = place.Papers
 
-pub among_papers : (first : Bool) (here : Reading) (text : Text) → is_withdrawn_line (numbers_of text) ≡ false → with_content_at (papers_at first) here text ≡ with_papers_line here (numbers_of text)
-among_papers true here text none = rw none refl
-among_papers false here text none = refl
+pub among_papers : (first : Bool) (here : Reading) (text : Text) (words : List Text) → words_before_comment text ≡ Ok words → is_withdrawn_line words ≡ false → with_content_at (papers_at first) here text ≡ with_papers_line here words
+among_papers true here text words are none = rw (are, none) refl
+among_papers false here text words are none = rw are refl
 
 -- papers of one list that a file may tell
 pub record CanStand (highest : ℕ) (withdrawn : List ℕ) (list : List ℕ) (n : ℕ) : Type 0 where
@@ -131,7 +131,7 @@ papers_back n some few = rw (number_back max_papers n (omega (arith, few)) few, 
 words_told : (h s : ℕ) (w : List ℕ) (bs : List Bundle) (list : List ℕ) (n : ℕ) → h ≤ 30 → CanStand h w list n → length (papers_of bs) + n ≤ max_papers
     → with_bundle (told h s w bs) (decimal n ∷ rank_words list) ≡ Ok (told h s w (with_papers bs list n))
 words_told h s w bs list n bound can few =
-    rw (papers_back n can.some can.few, named_back h [] list bound can.ranking can.low (none_before list), all_stand w list can.standing) (list_told h s w bs n list can.listed few)
+    rw (papers_back n can.some can.few, named_back h w [] list bound can.ranking can.low can.standing (none_before list), all_stand w list can.standing) (list_told h s w bs n list can.listed few)
 
 bundle_words : (here : Reading) (n : ℕ) (list : List ℕ) (papers : Told) → 1 ≤ length list → with_bundle here.papers (decimal n ∷ rank_words list) ≡ Ok papers
     → with_papers_line here (decimal n ∷ rank_words list) ≡ Ok (state place.Papers papers here.names here.remarks)
@@ -145,8 +145,8 @@ bundle_reads first h s w bs names remarks list n bound can few =
     let small : n < 2 ^ 64 = omega (arith, can.few) in
     let figures = rank_figures h list bound can.low in
     let words = line_numbers (decimal n) (rank_words list) (decimal_figures n small) figures in
-    let unminused : is_withdrawn_line (numbers_of (decimal n ++ spaced (rank_words list))) ≡ false = ap is_withdrawn_line words ∙ unminus n small in
+    let unminused : is_withdrawn_line (decimal n ∷ rank_words list) ≡ false = unminus n small in
     subst (λ t. Reads here t (state place.Papers (told h s w (with_papers bs list n)) names remarks)) (sym (bundle_text list n))
     (number_line here _ (decimal n) (rank_words list) (decimal_figures n small) figures
-    (among_papers first here (decimal n ++ spaced (rank_words list)) unminused
-    ∙ (ap (with_papers_line here) words ∙ bundle_words here n list _ can.listed (words_told h s w bs list n bound can few))))
+    (among_papers first here (decimal n ++ spaced (rank_words list)) (decimal n ∷ rank_words list) words unminused
+    ∙ bundle_words here n list _ can.listed (words_told h s w bs list n bound can few)))

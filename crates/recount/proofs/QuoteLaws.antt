@@ -7,12 +7,11 @@ use Rattle.std.proofs.lemmas.List.Folds.{list_any-append}
 use Rattle.sheet.specs.Ballots.{name_at, name_line, name_or_withdrawn}
 use Rattle.sheet.specs.Lines.{escaped, line, quoted}
 use Rattle.recount.specs.Comments.{Remarks}
-use Rattle.recount.specs.Names.{Quoting, name_in, with_byte}
+use Rattle.recount.specs.Names.{Quoting, max_name, name_in, with_byte}
 use Rattle.recount.specs.Papers.{Told}
 use Rattle.recount.specs.Pieces.{Text}
 use Rattle.recount.specs.ReadingBack.{IsName}
 use Rattle.recount.specs.Reading.{Named, with_name}
-use Rattle.recount.specs.declared.names.TheConstants.{MAX_NAME}
 use Rattle.recount.specs.declared.names.Within.TheVariants.{Inside}
 use Rattle.recount.specs.declared.state.Place.TheVariants as place
 use Rattle.recount.proofs.NameLemmas.{ascii_text}
@@ -22,7 +21,7 @@ use Rattle.recount.proofs.PaperLaws.{state}
 -- ---- quotation marks
 
 abbrev inside : Text → Quoting
-inside name = record { name = name; within = Inside }
+inside name = record { name = name; comment = []; within = Inside }
 
 byte_inside : (mark stroke : Bool) (b : ℕ) (acc rest : Text) → (b == 34) ≡ mark → (b == 92) ≡ stroke
     → fold with_byte (inside acc) ((if mark || stroke then 92 ∷ b ∷ [] else b ∷ []) ++ rest) ≡ fold with_byte (inside (acc ++ b ∷ [])) rest
@@ -39,7 +38,7 @@ name_inside acc (b ∷ name) rest =
 
 -- a name in quotation marks is read back
 pub name_back : (name : Text) → IsName name → name_in (quoted name) ≡ Ok name
-name_back name is = rw (name_inside [] name (34 ∷ []), le-ltb MAX_NAME (length name) is.short, is.text) refl
+name_back name is = rw (name_inside [] name (34 ∷ []), le-ltb max_name (length name) is.short, is.text) refl
 
 escaped_unended : (mark : Bool) (b : ℕ) → (b == 10) ≡ false → list_any (λ x. x == 10) (if mark then 92 ∷ b ∷ [] else b ∷ []) ≡ false
 escaped_unended true b none = or_both (b == 10) _ none refl

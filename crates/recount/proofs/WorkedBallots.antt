@@ -9,7 +9,7 @@ use Rattle.recount.specs.Numbers.{number_in}
 use Rattle.recount.specs.Papers.{Told, with_bundle, with_size, with_withdrawn}
 use Rattle.recount.specs.Pieces.{kind_of, lines_of, words_of}
 use Rattle.recount.specs.Ranks.{named_in}
-use Rattle.recount.specs.Reading.{Reading, nothing_told, numbers_of, read, with_line}
+use Rattle.recount.specs.Reading.{Reading, nothing_told, read, with_line, words_before_comment}
 use Rattle.recount.proofs.NameLemmas.{ascii_text}
 use Rattle.recount.specs.declared.pieces.Kind.TheVariants.{Comment, Empty}
 use Rattle.recount.specs.declared.problem.Flaw.{Flaw}
@@ -24,14 +24,17 @@ behind_mark = refl
 blanks_part : words_of (codes " 4  1 2" ++ 9 ∷ codes "0" ++ 13 ∷ []) ≡ codes "4" ∷ codes "1" ∷ codes "2" ∷ codes "0" ∷ []
 blanks_part = refl
 
-remark_behind : numbers_of (codes "1 2 0 # alone") ≡ codes "1" ∷ codes "2" ∷ codes "0" ∷ []
-remark_behind = refl
+comment_behind : words_before_comment (codes "1 2 0 # alone") ≡ Ok (codes "1" ∷ codes "2" ∷ codes "0" ∷ [])
+comment_behind = refl
+
+ours_behind : words_before_comment (codes "1 2 0 #Rejected 1: 0") ≡ Err flaw.Astray
+ours_behind = refl
 
 nothing_there : kind_of (codes "  " ++ 13 ∷ []) ≡ Empty
 nothing_there = refl
 
-remark_there : kind_of (codes "  # 1 2 0") ≡ Comment
-remark_there = refl
+comment_there : kind_of (codes "  # 1 2 0") ≡ Comment
+comment_there = refl
 
 -- ---- numbers
 
@@ -64,16 +67,22 @@ no_seats = refl
 gone : with_withdrawn three (codes "-3" ∷ codes "-1" ∷ []) ≡ Ok (record { highest = 3; seats = 2; withdrawn = 1 ∷ 2 ∷ 3 ∷ []; bundles = [] })
 gone = refl
 
-shared_rank : named_in 4 (codes "1" ∷ codes "2" ∷ codes "3=4" ∷ codes "1" ∷ codes "0" ∷ []) ≡ Ok (1 ∷ 2 ∷ [])
+shared_rank : named_in 4 [] (codes "1" ∷ codes "2" ∷ codes "3=4" ∷ codes "1" ∷ codes "0" ∷ []) ≡ Ok (1 ∷ 2 ∷ [])
 shared_rank = refl
 
-twice : named_in 4 (codes "1" ∷ codes "2" ∷ codes "1" ∷ codes "0" ∷ []) ≡ Err flaw.CandidateTwice
+shared_with_the_withdrawn : named_in 4 (3 ∷ []) (codes "1" ∷ codes "3=2" ∷ codes "4" ∷ codes "0" ∷ []) ≡ Ok (1 ∷ 3 ∷ 2 ∷ 4 ∷ [])
+shared_with_the_withdrawn = refl
+
+no_rank_behind : named_in 4 [] (codes "1" ∷ codes "3=4" ∷ codes "2x" ∷ codes "0" ∷ []) ≡ Err flaw.NotNumber
+no_rank_behind = refl
+
+twice : named_in 4 [] (codes "1" ∷ codes "2" ∷ codes "1" ∷ codes "0" ∷ []) ≡ Err flaw.CandidateTwice
 twice = refl
 
-nobody : named_in 4 (codes "5" ∷ codes "0" ∷ []) ≡ Err flaw.NoSuchCandidate
+nobody : named_in 4 [] (codes "5" ∷ codes "0" ∷ []) ≡ Err flaw.NoSuchCandidate
 nobody = refl
 
-unended : named_in 4 (codes "1" ∷ codes "2" ∷ []) ≡ Err flaw.NoZero
+unended : named_in 4 [] (codes "1" ∷ codes "2" ∷ []) ≡ Err flaw.NoZero
 unended = refl
 
 passed_over : with_bundle three (codes "5" ∷ codes "2" ∷ codes "1" ∷ codes "0" ∷ []) ≡ Ok (record { highest = 3; seats = 2; withdrawn = 2 ∷ []; bundles = (1 ∷ [], 5) ∷ [] })
@@ -96,13 +105,25 @@ rejected_papers = refl
 a_lot : with_comment nothing (codes "# Lot at stage 3: 2") ≡ Ok (record { ward = None; rejected = None; lots = (3, 2) ∷ [] })
 a_lot = refl
 
-of_another : with_comment nothing (codes "#Ward 7") ≡ Ok nothing
+of_another : with_comment nothing (codes "# the ward of Harbour") ≡ Ok nothing
 of_another = refl
+
+without_blank : with_comment nothing (codes "#Rejected 1: 1") ≡ Err flaw.Astray
+without_blank = refl
+
+in_small_letters : with_comment nothing (codes "# lot at stage 3: 2") ≡ Err flaw.Astray
+in_small_letters = refl
+
+other_word : with_comment nothing (codes "# Wards: 7") ≡ Ok nothing
+other_word = refl
 
 -- ---- names, and a file
 
 escaped_name : name_in (codes " \"A \\\"B\\\" \\\\ C\" # who") ≡ Ok (codes "A \"B\" \\ C")
 escaped_name = rw (ascii_text (codes "A \"B\" \\ C") refl) refl
+
+ours_behind_name : name_in (codes "\"Ann\" # Ward 7") ≡ Err flaw.Astray
+ours_behind_name = refl
 
 open_name : name_in (codes "\"Ann\\\"") ≡ Err flaw.OpenQuote
 open_name = refl
@@ -114,7 +135,7 @@ told_by reading (line ∷ lines) = and_then (with_line reading line) (λ more. t
 
 above_names : told_by nothing_told (lines_of (codes "3 1 # three\n# Ward 7\n-2\n\n2 3 1 0\n1 1 3=2 0\n1 3 1 0\n0")) ≡ Ok (record {
   place = place.Names;
-  papers = record { highest = 3; seats = 1; withdrawn = 2 ∷ []; bundles = (1 ∷ [], 1) ∷ (3 ∷ 1 ∷ [], 3) ∷ [] };
+  papers = record { highest = 3; seats = 1; withdrawn = 2 ∷ []; bundles = (1 ∷ 3 ∷ [], 1) ∷ (3 ∷ 1 ∷ [], 3) ∷ [] };
   names = record { names = []; ward = [] };
   remarks = record { ward = Some 7; rejected = None; lots = [] };
 })

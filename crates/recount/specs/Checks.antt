@@ -58,8 +58,9 @@ problem_of end.Finished = None
 problem_of (end.LotNeeded stage among) = Some (problem.LotNeeded stage among)
 problem_of (end.LotNotAmong stage) = Some (problem.LotNotAmong stage)
 
--- what comes of a text beside the sheet and the declaration of a contested ward, whose count is finished
+-- what comes of a text beside the sheet and the declaration of a contested ward: it has a contest, whose count is finished
 pub record IsCountedCheck (ward : SheetEntry) (bundles : List Bundle) (lots : List (ℕ × ℕ)) (text : Text) (checked : Checked) : Type 0 where
+  pub contest : IsContest (contest_in ward bundles)
   pub stages : List Stage
   pub counted : EndsAt (contest_in ward bundles) lots stages end.Finished
   pub drawn : undrawn (contest_in ward bundles) lots ≡ None

@@ -4,6 +4,8 @@ use Rattle.std.specs.List.{list_any}
 use Rattle.std.specs.Option.{option_and_then}
 use Rattle.std.specs.Cmp.Lexicographic.{pointwise}
 use Rattle.recount.specs.Numbers.{number_in}
+use Rattle.recount.specs.Outcomes.{and_then}
+use Rattle.recount.specs.Passing.{pass_over}
 use Rattle.recount.specs.Pieces.{Text, pieces_of}
 use Rattle.recount.specs.declared.pieces.Separator.TheVariants.{Mark}
 use Rattle.recount.specs.declared.problem.Flaw.{Flaw}
@@ -87,19 +89,23 @@ abbrev pub with_lot : Remarks → Option (ℕ × ℕ) → Result Remarks Flaw
 with_lot remarks None = Err Lot
 with_lot remarks (Some lot) = once (is_drawn lot.0 remarks.lots) (record { ward = remarks.ward; rejected = remarks.rejected; lots = remarks.lots ++ lot ∷ [] })
 
--- a comment of this kind; any other is passed over
-abbrev pub with_kind : Remarks → Text → List Text → Result Remarks Flaw
-with_kind remarks kind words =
+-- a comment that isn't ours tells nothing
+abbrev pub with_other : Remarks → Text → Result Remarks Flaw
+with_other remarks line = and_then (pass_over line) (λ passed. Ok remarks)
+
+-- a line with a comment of this kind, and the words behind it
+abbrev pub with_kind : Remarks → Text → Text → List Text → Result Remarks Flaw
+with_kind remarks line kind words =
     if is_word (codes "Ward") kind then with_ward remarks (ward_in words) else (
     if is_word (codes "Rejected") kind then with_rejected remarks (rejected_in words) else (
-    if is_word (codes "Lot") kind then with_lot remarks (lot_in words) else Ok remarks))
+    if is_word (codes "Lot") kind then with_lot remarks (lot_in words) else with_other remarks line))
 
--- the words of a comment: our own have a `#` alone before their kind
-abbrev pub with_words : Remarks → List Text → Result Remarks Flaw
-with_words remarks [] = Ok remarks
-with_words remarks (sign ∷ []) = Ok remarks
-with_words remarks (sign ∷ kind ∷ words) = if is_word (codes "#") sign then with_kind remarks kind words else Ok remarks
+-- the words of a line with a comment: our own have a `#` alone before their kind
+abbrev pub with_words : Remarks → Text → List Text → Result Remarks Flaw
+with_words remarks line [] = with_other remarks line
+with_words remarks line (sign ∷ []) = with_other remarks line
+with_words remarks line (sign ∷ kind ∷ words) = if is_word (codes "#") sign then with_kind remarks line kind words else with_other remarks line
 
--- a comment; its words are parted by colons and commas too
+-- a comment on a line of its own; its words are parted by colons and commas too
 abbrev pub with_comment : Remarks → Text → Result Remarks Flaw
-with_comment remarks line = with_words remarks (pieces_of Mark [] line)
+with_comment remarks line = with_words remarks line (pieces_of Mark [] line)

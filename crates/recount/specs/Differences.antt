@@ -1,5 +1,5 @@
 -- Where a text first differs from another.
-use Rattle.std.specs.Prelude.{◌≡◌, ◌≢◌, ◌⊎◌, ℕ, suc, zero, ◌+◌, ◌==◌, nat_lt, if◌then◌else◌, [], ◌∷◌, length, string_bytes}
+use Rattle.std.specs.Prelude.{◌≡◌, ◌≢◌, ℕ, suc, zero, ◌+◌, ◌==◌, nat_lt, if◌then◌else◌, [], ◌∷◌, length, string_bytes}
 use Rattle.recount.specs.Pieces.{Text}
 use Rattle.recount.specs.declared.differences.Checked.{Checked}
 use Rattle.recount.specs.declared.differences.Checked.TheVariants as checked
@@ -39,9 +39,10 @@ pub record DiffersAt (text should : Text) (line : ℕ) (should_be : Text) : Type
   pub at : line ≡ same_lines text should + 1
   pub is : should_be ≡ first_line (behind_lines (same_lines text should) should)
 
--- what is told of a text beside a sheet and a declaration: that it is one of them; or that it is neither, and its first line that
+-- what is told of a text beside a sheet and a declaration: which of them it is; or that it is neither, and its first line that
 -- differs from the one it is like
 abbrev pub IsComparison : Text → Text → Text → Checked → Type 0
-IsComparison text sheet declaration checked.Same = (text ≡ sheet) ⊎ (text ≡ declaration)
+IsComparison text sheet declaration checked.Sheet = text ≡ sheet
+IsComparison text sheet declaration checked.Declaration = text ≡ declaration
 IsComparison text sheet declaration (checked.Differs line should_be) =
     (text ≢ sheet) × (text ≢ declaration) × DiffersAt text (nearer text sheet declaration) line (string_bytes should_be)

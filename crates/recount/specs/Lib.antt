@@ -4,6 +4,7 @@ pub mod Pieces
 pub mod Numbers
 pub mod Ranks
 pub mod Papers
+pub mod Passing
 pub mod Names
 pub mod Comments
 pub mod Reading
@@ -12,3 +13,8 @@ pub mod Wards
 pub mod Checks
 pub mod ReadingBack
 pub mod Views
+pub mod Texts
+pub mod Pages
+pub mod Outputs
+pub mod Folders
+pub mod Asking

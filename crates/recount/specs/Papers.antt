@@ -66,4 +66,4 @@ with_list told papers (c ∷ list) =
 abbrev pub with_bundle : Told → List Text → Result Told Flaw
 with_bundle told [] = Err NoPapers
 with_bundle told (weight ∷ words) =
-    and_then (papers_in weight) (λ papers. and_then (named_in told.highest words) (λ named. with_list told papers (without told.withdrawn named)))
+    and_then (papers_in weight) (λ papers. and_then (named_in told.highest told.withdrawn words) (λ named. with_list told papers (without told.withdrawn named)))

@@ -3,7 +3,7 @@ use Rattle.std.specs.Prelude.{ℕ, ◌==◌, ◌&&◌, ◌||◌, ◌++◌, Bool,
 use Rattle.recount.specs.declared.pieces.Kind.{Kind}
 use Rattle.recount.specs.declared.pieces.Kind.TheVariants.{Empty, Comment, Content}
 use Rattle.recount.specs.declared.pieces.Separator.{Separator}
-use Rattle.recount.specs.declared.pieces.Separator.TheVariants.{LineFeed, Blank, Mark}
+use Rattle.recount.specs.declared.pieces.Separator.TheVariants.{LineFeed, Blank, Mark, Equals}
 
 -- some bytes
 abbrev pub Text : Type 0
@@ -13,22 +13,25 @@ Text = List ℕ
 abbrev pub is_blank : ℕ → Bool
 is_blank byte = byte == 32 || (byte == 9 || byte == 13)
 
--- whether a byte parts two pieces: a line feed parts lines, and blanks part words; in our own comments colons and commas do too
+-- whether a byte parts two pieces: a line feed parts lines, and blanks part words; in our own comments colons and commas do too; and an
+-- equals sign parts those who share a rank
 abbrev pub parts : Separator → ℕ → Bool
 parts LineFeed byte = byte == 10
 parts Blank byte = is_blank byte
 parts Mark byte = is_blank byte || (byte == 58 || byte == 44)
+parts Equals byte = byte == 61
 
 -- a word, where there is one
 abbrev pub word : Text → List Text
 word [] = []
 word (byte ∷ bytes) = (byte ∷ bytes) ∷ []
 
--- a piece that is whole: a line may be empty, and no word stands between two blanks
+-- a piece that is whole: a line or one of those who share a rank may be empty, and no word stands between two blanks
 abbrev pub piece : Separator → Text → List Text
 piece LineFeed text = text ∷ []
 piece Blank text = word text
 piece Mark text = word text
+piece Equals text = text ∷ []
 
 -- the pieces of a text behind the beginning of the first
 abbrev pub pieces_of : Separator → Text → Text → List Text

@@ -3,6 +3,7 @@ use Rattle.std.specs.Prelude.{ℕ, ◌+◌, ◌==◌, nat_lt, Bool, false, if◌
 use Rattle.recount.specs.Outcomes.{and_then}
 use Rattle.recount.specs.Pieces.{Text, kind_of, lines_of, words_of}
 use Rattle.recount.specs.Ranks.{is_zero}
+use Rattle.recount.specs.Passing.{behind_number_sign, pass_over}
 use Rattle.recount.specs.Papers.{Told, with_bundle, with_size, with_withdrawn}
 use Rattle.recount.specs.Names.{name_in}
 use Rattle.recount.specs.Comments.{Remarks, with_comment}
@@ -40,9 +41,9 @@ abbrev pub before_comment : Text → Text
 before_comment [] = []
 before_comment (byte ∷ bytes) = if byte == 35 then [] else byte ∷ before_comment bytes
 
--- the words of a line of numbers
-abbrev pub numbers_of : Text → List Text
-numbers_of line = words_of (before_comment line)
+-- the words of a line of numbers, with a comment behind them at most
+abbrev pub words_before_comment : Text → Result (List Text) Flaw
+words_before_comment line = and_then (pass_over (behind_number_sign line)) (λ passed. Ok (words_of (before_comment line)))
 
 -- whether a line of numbers is `0`, which ends the papers
 abbrev pub is_end_line : List Text → Bool
@@ -89,13 +90,13 @@ with_name_line reading line = and_then (name_in line) (λ name. Ok (with_name re
 
 -- a line that tells something, by where it stands
 abbrev pub with_content_at : Place → Reading → Text → Result Reading Flaw
-with_content_at place.Size reading line = with_size_line reading (numbers_of line)
-with_content_at place.Withdrawn reading line = with_withdrawn_line reading (numbers_of line)
-with_content_at place.Papers reading line = with_papers_line reading (numbers_of line)
+with_content_at place.Size reading line = and_then (words_before_comment line) (with_size_line reading)
+with_content_at place.Withdrawn reading line = and_then (words_before_comment line) (with_withdrawn_line reading)
+with_content_at place.Papers reading line = and_then (words_before_comment line) (with_papers_line reading)
 with_content_at place.Names reading line = with_name_line reading line
 with_content_at place.End reading line = Err BehindName
 
--- a line: an empty one is passed over, and of the comments our own alone are read, wherever they stand
+-- a line: an empty one is passed over; of the comments that stand alone our own are read, between whichever lines
 abbrev pub with_line_of : Kind → Reading → Text → Result Reading Flaw
 with_line_of Empty reading line = Ok reading
 with_line_of Comment reading line = and_then (with_comment reading.remarks line) (λ remarks. Ok (with_remarks reading remarks))
@@ -117,7 +118,8 @@ abbrev pub on_line : {X Y : Type 0} → ℕ → Result X Flaw → (X → Result 
 on_line k (Ok x) f = f x
 on_line k (Err flaw) f = Err (k, flaw)
 
--- what is told by some lines behind others, so many in all; or what is wrong with the first that isn't understood, or with the end
+-- what is told by some lines behind others, so many in all; or what is wrong with the first that isn't understood, or with the end, which is told of the
+-- last line: behind a line feed at the end that is an empty one
 abbrev pub read_from : ℕ → Reading → List Text → Result Reading (ℕ × Flaw)
 read_from k reading [] = on_line k (at_end reading.place reading) (λ read. Ok read)
 read_from k reading (line ∷ lines) = on_line (k + 1) (with_line reading line) (λ more. read_from (k + 1) more lines)

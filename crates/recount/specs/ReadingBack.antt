@@ -14,13 +14,13 @@ use Rattle.recount.specs.Comments.{is_drawn}
 use Rattle.recount.specs.Pieces.{Text}
 use Rattle.recount.specs.Reading.{Reading, read}
 use Rattle.recount.specs.Wards.{numbers_of, ward_told}
-use Rattle.recount.specs.declared.names.TheConstants.{MAX_NAME}
+use Rattle.recount.specs.Names.{max_name}
 use Rattle.recount.specs.declared.differences.Checked.{Checked}
 use Rattle.recount.specs.declared.problem.Problem.{Problem}
 
 -- a name that stands on one line: it isn't too long, is text, and has no line feed
 pub record IsName (name : Text) : Type 0 where
-  pub short : length name ≤ MAX_NAME
+  pub short : length name ≤ max_name
   pub text : is_utf8 name ≡ true
   pub unended : list_any (λ b. b == 10) name ≡ false
 

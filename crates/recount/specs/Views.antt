@@ -17,7 +17,7 @@ use Rattle.recount.specs.declared.state.Reader.{Reader}
 
 -- whom a line names so far
 abbrev pub ranks_of : Ranks → Ranked
-ranks_of ranks = record { named = ranks.named.items; rank = ranks.rank }
+ranks_of ranks = record { named = ranks.named.items; next = ranks.next }
 
 -- what a file tells of candidates, seats and papers
 abbrev pub told_of : Papers → Told
@@ -25,7 +25,7 @@ told_of papers = record { highest = papers.highest; seats = papers.seats; withdr
 
 -- a name that is read so far
 abbrev pub quoting_of : Quoted → Quoting
-quoting_of quoted = record { name = quoted.name.items; within = quoted.within }
+quoting_of quoted = record { name = quoted.name.items; comment = quoted.comment.items; within = quoted.within }
 
 -- what our own comments tell
 abbrev pub remarks_of : Comments → Remarks

@@ -2,11 +2,12 @@
 
 ghost use Rattle.std.specs.Prelude.{◌≡◌, ◌∷◌, [], map, option_map, IfOk, OnOk, codes};
 ghost use Rattle.recount.specs.Comments.{code_in, codes_in, count_in, is_drawn, is_end, is_word, lot_in, rejected_in, small_in, ward_in};
-ghost use Rattle.recount.specs.Comments.{with_comment, with_kind, with_lot, with_rejected, with_ward, with_words};
+ghost use Rattle.recount.specs.Comments.{with_comment, with_kind, with_lot, with_other, with_rejected, with_ward, with_words};
 ghost use Rattle.recount.specs.Outcomes.{outcome};
 ghost use Rattle.recount.specs.Views.{remarks_of};
 
 use crate::numbers::number_in;
+use crate::passing::pass_over;
 use crate::pieces::{Separator, pieces_of};
 use crate::problem::Flaw;
 use crate::state::Comments;
@@ -155,9 +156,21 @@ impl Comments {
         Ok(Ok(()))
     }
 
-    /// A comment of a kind.
-    fn take_kind(&mut self, kind: &[u8], words: &[&[u8]]) -> Result<Result<(), Flaw>, AllocError>
-        ensures { IfOk result (λ told. outcome told (remarks_of self.new) ≡ with_kind (remarks_of self.old) kind.now (map (λ w. w.now) words.now)) }
+    /// A comment that isn't ours.
+    fn take_other(&self, line: &[u8]) -> Result<(), Flaw>
+        ensures { outcome result (remarks_of self.now) ≡ with_other (remarks_of self.now) line.now }
+    {
+        pass_over(line)
+    }
+
+    /// A line with a comment of a kind, and the words behind it.
+    fn take_kind(
+        &mut self,
+        line: &[u8],
+        kind: &[u8],
+        words: &[&[u8]],
+    ) -> Result<Result<(), Flaw>, AllocError>
+        ensures { IfOk result (λ told. outcome told (remarks_of self.new) ≡ with_kind (remarks_of self.old) line.now kind.now (map (λ w. w.now) words.now)) }
     {
         if is_word("Ward", kind) {
             return Ok(self.take_ward(ward_in(words)));
@@ -168,23 +181,23 @@ impl Comments {
         if is_word("Lot", kind) {
             return self.take_lot(lot_in(words));
         }
-        Ok(Ok(()))
+        Ok(self.take_other(line))
     }
 
-    /// The words of a comment.
-    fn take_words(&mut self, words: &[&[u8]]) -> Result<Result<(), Flaw>, AllocError>
-        ensures { IfOk result (λ told. outcome told (remarks_of self.new) ≡ with_words (remarks_of self.old) (map (λ w. w.now) words.now)) }
+    /// The words of a line with a comment.
+    fn take_words(&mut self, line: &[u8], words: &[&[u8]]) -> Result<Result<(), Flaw>, AllocError>
+        ensures { IfOk result (λ told. outcome told (remarks_of self.new) ≡ with_words (remarks_of self.old) line.now (map (λ w. w.now) words.now)) }
     {
         let [sign, kind, others @ ..] = words else {
-            return Ok(Ok(()));
+            return Ok(self.take_other(line));
         };
         if !is_word("#", sign) {
-            return Ok(Ok(()));
+            return Ok(self.take_other(line));
         }
-        self.take_kind(kind, others)
+        self.take_kind(line, kind, others)
     }
 
-    /// A comment.
+    /// A comment on a line of its own.
     pub(crate) fn take(
         &mut self,
         alloc: Global,
@@ -193,6 +206,6 @@ impl Comments {
         ensures { IfOk result (λ told. outcome told (remarks_of self.new) ≡ with_comment (remarks_of self.old) line.now) }
     {
         let words = pieces_of(alloc, Separator::Mark, line)?;
-        self.take_words(&words)
+        self.take_words(line, &words)
     }
 }

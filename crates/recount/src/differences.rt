@@ -8,8 +8,10 @@ use std::alloc::{AllocError, Global};
 /// What came of a check.
 #[derive(Drop)]
 pub enum Checked {
-    /// The text is exactly the one that the ballots give.
-    Same,
+    /// The text is exactly the stage sheet that the ballots give.
+    Sheet,
+    /// The text is exactly the declaration that the ballots give.
+    Declaration,
     /// The text differs: the first line that does, counted from 1, and what it should be, with its line
     /// feed; empty where the text should have ended.
     Differs { line: u64, should_be: String },
@@ -102,8 +104,11 @@ pub(crate) fn comparison(
 ) -> Result<Checked, AllocError>
     ensures { IfOk result (λ checked. IsComparison text.now sheet.now declaration.now checked) }
 {
-    if text == sheet.as_bytes() || text == declaration.as_bytes() {
-        return Ok(Checked::Same);
+    if text == sheet.as_bytes() {
+        return Ok(Checked::Sheet);
+    }
+    if text == declaration.as_bytes() {
+        return Ok(Checked::Declaration);
     }
     let should = nearer(text, sheet, declaration);
     let same = ended_lines(common(text, should.as_bytes()));

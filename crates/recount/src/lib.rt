@@ -3,11 +3,13 @@
 //!
 //! [`check`] reads the ballots, as `ballots` prints them or as other counting programs write them (BLT), counts
 //! them to the end by the recorded lots, and compares. A [`Problem`] tells what of the ballots isn't understood, or
-//! which lot is wanting.
+//! which lot is wanting. [`run`] does what the checker's words ask: it has both files read from a [`Folder`], and
+//! tells what came of it on two outputs.
 //!
 //! ```text
 //! match check(alloc, ballots, text)? {
-//!     Checked::Same => ..,                          // these ballots give this very text
+//!     Checked::Sheet => ..,                         // these ballots give this very stage sheet,
+//!     Checked::Declaration => ..,                   // or this very declaration
 //!     Checked::Differs { line, should_be } => ..,   // the first line that differs, and what it should be
 //! }
 //! ```
@@ -23,6 +25,7 @@ mod pieces;
 mod comments;
 mod names;
 mod papers;
+mod passing;
 mod ranks;
 mod reading;
 mod state;
@@ -31,8 +34,18 @@ mod checking;
 mod lots;
 mod reading_back;
 mod wards;
+// what the program is asked for, and what it tells
+mod asking;
+mod folders;
+mod help;
+mod hints;
+mod pages;
+mod shown;
+mod telling;
 
+pub use asking::{WordsFault, run};
 pub use checking::check;
 pub use differences::Checked;
+pub use folders::{Folder, Unread};
 pub use problem::{Flaw, Problem};
 pub use reading_back::ballots_read_back;

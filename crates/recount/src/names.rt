@@ -5,6 +5,7 @@ ghost use Rattle.recount.specs.Names.{as_text, name_in, name_of, with_byte, with
 ghost use Rattle.recount.specs.Outcomes.{told_as};
 ghost use Rattle.recount.specs.Views.{quoting_of};
 
+use crate::passing::pass_over;
 use crate::pieces::is_blank;
 use crate::problem::Flaw;
 use std::alloc::{AllocError, Global};
@@ -25,15 +26,16 @@ pub(crate) enum Within {
     /// Behind the quotation mark that closes it.
     Behind,
     /// Behind a `#` there.
-    Remark,
+    Comment,
     /// Behind what stands beside a name.
-    Astray,
+    Beside,
 }
 
-/// A name that is read so far, and where the next byte of its line stands.
+/// A name that is read so far, the comment behind it, and where the next byte of its line stands.
 #[derive(Drop)]
 pub(crate) struct Quoted {
     name: Vec<u8>,
+    comment: Vec<u8>,
     within: Within,
 }
 
@@ -70,7 +72,7 @@ impl Quoted {
                 if byte == b'"' {
                     self.within = Within::Inside;
                 } else if !is_blank(byte) {
-                    self.within = Within::Astray;
+                    self.within = Within::Beside;
                 }
                 Ok(())
             }
@@ -93,13 +95,17 @@ impl Quoted {
             }
             Within::Behind => {
                 if byte == b'#' {
-                    self.within = Within::Remark;
+                    self.within = Within::Comment;
                 } else if !is_blank(byte) {
-                    self.within = Within::Astray;
+                    self.within = Within::Beside;
                 }
                 Ok(())
             }
-            Within::Remark | Within::Astray => Ok(()),
+            Within::Comment => {
+                self.comment.push(byte)?;
+                Ok(())
+            }
+            Within::Beside => Ok(()),
         }
     }
 
@@ -108,9 +114,13 @@ impl Quoted {
         ensures { told_as (λ text. string_bytes text) result ≡ name_of (quoting_of self) }
     {
         match self.within {
-            Within::Before | Within::Astray => Err(Flaw::NoName),
+            Within::Before | Within::Beside => Err(Flaw::NoName),
             Within::Inside | Within::Escaped => Err(Flaw::OpenQuote),
-            Within::Behind | Within::Remark => as_text(self.name),
+            Within::Behind => as_text(self.name),
+            Within::Comment => {
+                pass_over(&self.comment)?;
+                as_text(self.name)
+            }
         }
     }
 }
@@ -121,6 +131,7 @@ pub(crate) fn name_in(alloc: Global, line: &[u8]) -> Result<Result<String, Flaw>
 {
     let mut quoted = Quoted {
         name: Vec::new(alloc),
+        comment: Vec::new(alloc),
         within: Within::Before,
     };
     for byte in line {

@@ -120,7 +120,7 @@ impl Papers {
             Ok(papers) => papers,
             Err(flaw) => return Ok(Err(flaw)),
         };
-        let named = match named_in(alloc, self.highest, ranks)? {
+        let named = match named_in(alloc, self.highest, &self.withdrawn, ranks)? {
             Ok(named) => named,
             Err(flaw) => return Ok(Err(flaw)),
         };

@@ -14,6 +14,8 @@ pub(crate) enum Separator {
     Blank,
     /// The same, a colon or a comma.
     Mark,
+    /// An equals sign: what is parted are those who share a rank.
+    Equals,
 }
 
 /// What stands on a line.
@@ -42,6 +44,7 @@ fn parts(separator: Separator, byte: u8) -> bool
         Separator::LineFeed => byte == b'\n',
         Separator::Blank => is_blank(byte),
         Separator::Mark => is_blank(byte) || (byte == b':' || byte == b','),
+        Separator::Equals => byte == b'=',
     }
 }
 
@@ -54,7 +57,7 @@ fn with_piece<'a>(
     ensures { IfOk result (λ all. map (λ p. p.now) all.items ≡ map (λ p. p.now) pieces.entry.items ++ piece separator text.now) }
 {
     match separator {
-        Separator::LineFeed => pieces.push(text)?,
+        Separator::LineFeed | Separator::Equals => pieces.push(text)?,
         Separator::Blank | Separator::Mark => {
             if !text.is_empty() {
                 pieces.push(text)?;

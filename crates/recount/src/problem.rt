@@ -1,98 +1,154 @@
 //! What isn't understood of ballots.
 
+ghost use Rattle.std.specs.Prelude.{◌≡◌};
+
 use paper::Columns;
-use thiserror::Error;
+use std::error::Error;
+use std::fmt;
 
 /// What is wrong with a line of the ballots.
-#[derive(Clone, Copy, Debug, Error)]
+#[derive(Clone, Copy, Debug)]
 pub enum Flaw {
     /// The first line isn't two numbers.
-    #[error("not the highest number of a candidate, and the seats")]
     Size,
     /// There are no seats.
-    #[error("no seats")]
     NoSeat,
     /// A word isn't digits alone; or one of withdrawn candidates isn't a number behind a minus.
-    #[error("a word is not a number")]
     NotNumber,
     /// A number is past its range.
-    #[error("a number is too large")]
     TooLarge,
     /// There are no papers in a bundle.
-    #[error("no papers")]
     NoPapers,
     /// A candidate's number is 0, or above the highest.
-    #[error("no such candidate")]
     NoSuchCandidate,
     /// A candidate stands twice among the preferences of a line.
-    #[error("a candidate twice")]
     CandidateTwice,
     /// Nobody who stands is the single first preference.
-    #[error("no first preference")]
     NoPreference,
     /// A line of papers doesn't end with 0, or has words behind it.
-    #[error("no 0 at the end")]
     NoZero,
     /// There are more papers than a ward can have.
-    #[error("too many papers")]
     TooManyPapers,
     /// There is no name in quotation marks, or something else stands beside it.
-    #[error("not a name in quotation marks")]
     NoName,
     /// A quotation mark isn't closed.
-    #[error("a quotation mark is not closed")]
     OpenQuote,
     /// A name has more than 1,000 bytes.
-    #[error("a name is too long")]
     LongName,
     /// A name isn't UTF-8.
-    #[error("a name is not UTF-8")]
     NotUtf8,
     /// It stands behind the name of the ward.
-    #[error("a line behind the ward's name")]
     BehindName,
     /// The comment doesn't tell the number of a ward.
-    #[error("not the number of a ward")]
     Ward,
     /// The comment doesn't tell the rejected papers of each code.
-    #[error("not the rejected papers of each code")]
     Rejected,
     /// The comment doesn't tell a stage and a candidate.
-    #[error("not the lot of a stage")]
     Lot,
+    /// A comment begins with one of our words, but isn't written as ours are.
+    Astray,
     /// The comment tells what was told before.
-    #[error("told a second time")]
     Twice,
     /// The file ends before its first line of numbers.
-    #[error("the file ends before the candidates and seats")]
     NoSize,
     /// The file ends before the line `0` behind the papers.
-    #[error("the file ends before the line 0 behind the papers")]
     NoEnd,
     /// The file ends before the name of the ward.
-    #[error("the file ends before the ward's name")]
     NamesWanting,
 }
 
+impl Flaw {
+    ghost use Rattle.recount.specs.Texts.{flaw_text};
+
+    /// The flaw in words.
+    fn text(&self) -> &'static str
+        ensures { result.now ≡ flaw_text self.now }
+    {
+        match self {
+            Flaw::Size => "not the highest number of a candidate, and the seats",
+            Flaw::NoSeat => "no seats",
+            Flaw::NotNumber => "a word is not a number",
+            Flaw::TooLarge => "a number is too large",
+            Flaw::NoPapers => "no papers",
+            Flaw::NoSuchCandidate => "no such candidate",
+            Flaw::CandidateTwice => "a candidate twice",
+            Flaw::NoPreference => "no first preference",
+            Flaw::NoZero => "no 0 at the end",
+            Flaw::TooManyPapers => "too many papers",
+            Flaw::NoName => "not a name in quotation marks",
+            Flaw::OpenQuote => "a quotation mark is not closed",
+            Flaw::LongName => "a name is too long",
+            Flaw::NotUtf8 => "a name is not UTF-8",
+            Flaw::BehindName => "a line behind the ward's name",
+            Flaw::Ward => "not the number of a ward",
+            Flaw::Rejected => "not the rejected papers of each code",
+            Flaw::Lot => "not the lot of a stage",
+            Flaw::Astray => {
+                "a comment that begins with Ward, Rejected or Lot, but is not written as ours are"
+            }
+            Flaw::Twice => "told a second time",
+            Flaw::NoSize => "the file ends before the candidates and seats",
+            Flaw::NoEnd => "the file ends before the line 0 behind the papers",
+            Flaw::NamesWanting => "the file ends before the ward's name",
+        }
+    }
+}
+
+impl fmt::Display for Flaw {
+    ghost use Rattle.std.specs.Prelude.{Some};
+    ghost use Rattle.recount.specs.Texts.{flaw_text};
+
+    ghost output = { λ flaw. Some (flaw_text flaw) };
+
+    fn fmt<W: fmt::Write>(&self, f: &mut fmt::Formatter<W>) -> fmt::Result {
+        f.write_str(self.text())
+    }
+}
+
+impl Error for Flaw {}
+
 /// Why a text can't be checked against ballots.
-#[derive(Clone, Copy, Debug, Error)]
+#[derive(Clone, Copy, Debug)]
 pub enum Problem {
     /// This is wrong with a line of the ballots, counted from 1.
-    #[error("line {line} of the ballots: {flaw}")]
     Line { line: u64, flaw: Flaw },
     /// There are papers, or rejected ones, but no more candidates than seats.
-    #[error("no more candidates than seats")]
     NoContest,
     /// At this stage these are tied, and no lot is recorded.
-    #[error("no lot is recorded for stage {stage}")]
     LotNeeded { stage: u8, among: Columns },
     /// At this stage the recorded lot names none of the tied.
-    #[error("the lot for stage {stage} names none of the tied")]
     LotNotAmong { stage: u8 },
     /// A lot is recorded for this stage, at which none is drawn.
-    #[error("a lot is recorded for stage {stage}, and none is drawn there")]
     LotNotNeeded { stage: u8 },
     /// Memory was wanting.
-    #[error("memory")]
     Memory,
 }
+
+impl fmt::Display for Problem {
+    ghost use Rattle.std.specs.Prelude.{Some};
+    ghost use Rattle.recount.specs.Texts.{problem_text};
+
+    ghost output = { λ problem. Some (problem_text problem) };
+
+    fn fmt<W: fmt::Write>(&self, f: &mut fmt::Formatter<W>) -> fmt::Result {
+        match self {
+            Problem::Line { line, flaw } => write!(f, "line {line} of the ballots: {flaw}"),
+            Problem::NoContest => f.write_str("no more candidates than seats"),
+            Problem::LotNeeded { stage, .. } => {
+                write!(f, "no lot is recorded for stage {stage}")
+            }
+            Problem::LotNotAmong { stage } => {
+                write!(f, "the lot for stage {stage} names none of the tied")
+            }
+            Problem::LotNotNeeded { stage } => {
+                write!(
+                    f,
+                    "a lot is recorded for stage {stage}, and none is drawn there"
+                )
+            }
+            Problem::Memory => f.write_str("memory is wanting"),
+        }
+    }
+}
+
+impl Error for Problem {}

@@ -1,33 +1,34 @@
 //! The preferences on a line of papers.
 
-ghost use Rattle.std.specs.Prelude.{◌≡◌, ◌≤◌, [], map, IfOk};
+ghost use Rattle.std.specs.Prelude.{◌≡◌, ◌≤◌, [], length, map, IfOk};
 ghost use Rattle.paper.specs.Columns.{max_candidates};
 ghost use Rattle.paper.specs.Ranking.{IsRanking};
 ghost use Rattle.recount.specs.Outcomes.{outcome, told_as};
-ghost use Rattle.recount.specs.Ranks.{is_shared, is_zero, named_in, named_of, with_candidate, with_rank, without};
+ghost use Rattle.recount.specs.Ranks.{is_zero, named_in, named_of, standing_from, with_candidate, with_each, with_rank, with_rank_word, with_word, without};
 ghost use Rattle.recount.specs.Views.{ranks_of};
 
 use crate::numbers::candidate_in;
+use crate::pieces::{Separator, pieces_of};
 use crate::problem::Flaw;
 use paper::Columns;
 use std::alloc::{AllocError, Global};
 
 /// Where the next word of a line of papers stands.
 #[derive(Clone, Copy)]
-pub(crate) enum Rank {
+pub(crate) enum NextWord {
     /// Where preferences are read.
-    Single,
+    Preference,
     /// Behind a shared rank, where none is read any more.
-    Shared,
+    BehindShared,
     /// Behind the 0.
-    Ended,
+    BehindZero,
 }
 
 /// The candidates whom a line of papers names so far, the first preference first, and where its next word stands.
 #[derive(Drop)]
 pub(crate) struct Ranks {
     named: Vec<u8>,
-    rank: Rank,
+    next: NextWord,
 }
 
 /// Whether a word is 0, which ends a line.
@@ -37,11 +38,18 @@ pub(crate) fn is_zero(word: &[u8]) -> bool
     word == b"0".as_slice()
 }
 
-/// Whether a word is a rank that several candidates share.
-fn is_shared(word: &[u8]) -> bool
-    ensures { result ≡ is_shared word.now }
+/// How many of those with some numbers stand.
+fn standing_in(highest: u8, withdrawn: &Columns, words: &[&[u8]]) -> Result<usize, Flaw>
+    ensures { result ≡ standing_from highest withdrawn.now 0 (map (λ w. w.now) words.now) }
 {
-    word.contains(&b'=')
+    let mut standing = 0;
+    for word in words {
+        if withdrawn.has(candidate_in(highest, word)?) {
+            continue;
+        }
+        standing += 1;
+    }
+    Ok(standing)
 }
 
 impl Ranks {
@@ -62,40 +70,82 @@ impl Ranks {
         Ok(Ok(()))
     }
 
-    /// One word more, where preferences are read.
-    fn take_single(&mut self, highest: u8, word: &[u8]) -> Result<Result<(), Flaw>, AllocError>
-        requires few { highest ≤ max_candidates }
-        requires here { self.old.rank ≡ Rank.Single }
-        ensures is { IfOk result (λ told. outcome told (ranks_of self.new) ≡ with_rank highest (ranks_of self.old) word.now) }
+    /// Several, one behind another.
+    fn add_each(&mut self, highest: u8, words: &[&[u8]]) -> Result<Result<(), Flaw>, AllocError>
+        requires { highest ≤ max_candidates }
+        ensures is { IfOk result (λ told. outcome told (ranks_of self.new) ≡ with_each highest (ranks_of self.old) (map (λ w. w.now) words.now)) }
         ensures ranking { IfOk result (λ _. IsRanking self.old.named.items → IsRanking self.new.named.items) }
     {
-        if is_zero(word) {
-            self.rank = Rank::Ended;
+        for word in words {
+            if let Err(flaw) = self.add(highest, word)? {
+                return Ok(Err(flaw));
+            }
+        }
+        Ok(Ok(()))
+    }
+
+    /// A rank more, of whose candidates so many stand.
+    fn add_rank(
+        &mut self,
+        highest: u8,
+        words: &[&[u8]],
+        standing: usize,
+    ) -> Result<Result<(), Flaw>, AllocError>
+        requires { highest ≤ max_candidates }
+        ensures is { IfOk result (λ told. outcome told (ranks_of self.new) ≡ with_rank self.old.next highest (ranks_of self.old) (map (λ w. w.now) words.now) standing) }
+        ensures ranking { IfOk result (λ _. IsRanking self.old.named.items → IsRanking self.new.named.items) }
+    {
+        match self.next {
+            NextWord::Preference => {}
+            NextWord::BehindShared => return Ok(Ok(())),
+            NextWord::BehindZero => return Ok(Err(Flaw::NoZero)),
+        }
+        if standing > 1 {
+            self.next = NextWord::BehindShared;
             return Ok(Ok(()));
         }
-        if is_shared(word) {
-            self.rank = Rank::Shared;
-            return Ok(Ok(()));
+        self.add_each(highest, words)
+    }
+
+    /// The word of a rank.
+    fn take_rank(
+        &mut self,
+        alloc: Global,
+        highest: u8,
+        withdrawn: &Columns,
+        word: &[u8],
+    ) -> Result<Result<(), Flaw>, AllocError>
+        requires { highest ≤ max_candidates }
+        ensures is { IfOk result (λ told. outcome told (ranks_of self.new) ≡ with_rank_word highest withdrawn.now (ranks_of self.old) word.now) }
+        ensures ranking { IfOk result (λ _. IsRanking self.old.named.items → IsRanking self.new.named.items) }
+    {
+        let words = pieces_of(alloc, Separator::Equals, word)?;
+        match standing_in(highest, withdrawn, &words) {
+            Ok(standing) => self.add_rank(highest, &words, standing),
+            Err(flaw) => Ok(Err(flaw)),
         }
-        self.add(highest, word)
     }
 
     /// One word more.
-    fn take(&mut self, highest: u8, word: &[u8]) -> Result<Result<(), Flaw>, AllocError>
+    fn take(
+        &mut self,
+        alloc: Global,
+        highest: u8,
+        withdrawn: &Columns,
+        word: &[u8],
+    ) -> Result<Result<(), Flaw>, AllocError>
         requires { highest ≤ max_candidates }
-        ensures is { IfOk result (λ told. outcome told (ranks_of self.new) ≡ with_rank highest (ranks_of self.old) word.now) }
+        ensures is { IfOk result (λ told. outcome told (ranks_of self.new) ≡ with_word highest withdrawn.now (ranks_of self.old) word.now) }
         ensures ranking { IfOk result (λ _. IsRanking self.old.named.items → IsRanking self.new.named.items) }
     {
-        match self.rank {
-            Rank::Single => self.take_single(highest, word),
-            Rank::Shared => {
-                if is_zero(word) {
-                    self.rank = Rank::Ended;
-                }
-                Ok(Ok(()))
-            }
-            Rank::Ended => Ok(Err(Flaw::NoZero)),
+        if let NextWord::BehindZero = self.next {
+            return Ok(Err(Flaw::NoZero));
         }
+        if is_zero(word) {
+            self.next = NextWord::BehindZero;
+            return Ok(Ok(()));
+        }
+        self.take_rank(alloc, highest, withdrawn, word)
     }
 
     /// The candidates whom a whole line names.
@@ -103,29 +153,30 @@ impl Ranks {
         ensures is { told_as (λ named. named.items) result ≡ named_of (ranks_of self) }
         ensures ranking { IfOk result (λ named. named ≡ self.named) }
     {
-        match self.rank {
-            Rank::Ended => Ok(self.named),
-            Rank::Single | Rank::Shared => Err(Flaw::NoZero),
+        match self.next {
+            NextWord::BehindZero => Ok(self.named),
+            NextWord::Preference | NextWord::BehindShared => Err(Flaw::NoZero),
         }
     }
 }
 
-/// The candidates whom the words behind a number of papers name, single and in their order, up to the 0.
+/// The candidates whom the words behind a number of papers name, in their order, up to a shared rank or the 0.
 pub(crate) fn named_in(
     alloc: Global,
     highest: u8,
+    withdrawn: &Columns,
     words: &[&[u8]],
 ) -> Result<Result<Vec<u8>, Flaw>, AllocError>
     requires { highest ≤ max_candidates }
-    ensures is { IfOk result (λ told. told_as (λ named. named.items) told ≡ named_in highest (map (λ w. w.now) words.now)) }
+    ensures is { IfOk result (λ told. told_as (λ named. named.items) told ≡ named_in highest withdrawn.now (map (λ w. w.now) words.now)) }
     ensures ranking { IfOk result (λ told. IfOk told (λ named. IsRanking named.items)) }
 {
     let mut ranks = Ranks {
         named: Vec::new(alloc),
-        rank: Rank::Single,
+        next: NextWord::Preference,
     };
     for word in words {
-        if let Err(flaw) = ranks.take(highest, word)? {
+        if let Err(flaw) = ranks.take(alloc, highest, withdrawn, word)? {
             return Ok(Err(flaw));
         }
     }

@@ -2,12 +2,13 @@
 
 ghost use Rattle.std.specs.Prelude.{◌≡◌, ◌<◌, ◌≤◌, map, length, IfOk, IfErr, Ok};
 ghost use Rattle.paper.specs.Columns.{max_candidates};
-ghost use Rattle.recount.specs.Outcomes.{outcome};
+ghost use Rattle.recount.specs.Outcomes.{outcome, told_as};
 ghost use Rattle.recount.specs.Reading.{at_end, before_comment, is_end_line, is_withdrawn_line, nothing_told, read, read_from};
-ghost use Rattle.recount.specs.Reading.{with_content_at, with_line, with_name_line, with_papers_line, with_size_line, with_withdrawn_line};
+ghost use Rattle.recount.specs.Reading.{words_before_comment, with_content_at, with_line, with_name_line, with_papers_line, with_size_line, with_withdrawn_line};
 ghost use Rattle.recount.specs.Views.{IsFlawOf, reading_of};
 
 use crate::names::name_in;
+use crate::passing::{behind_number_sign, pass_over};
 use crate::pieces::{Kind, Separator, kind_of, lines_of, pieces_of};
 use crate::problem::{Flaw, Problem};
 use crate::ranks::is_zero;
@@ -26,6 +27,16 @@ fn before_comment(line: &[u8]) -> &[u8]
         }
     }
     line
+}
+
+/// The words of a line of numbers, with a comment behind them at most.
+fn words_before_comment(alloc: Global, line: &[u8]) -> Result<Result<Vec<&[u8]>, Flaw>, AllocError>
+    ensures { IfOk result (λ told. told_as (λ words. map (λ w. w.now) words.items) told ≡ words_before_comment line.now) }
+{
+    if let Err(flaw) = pass_over(behind_number_sign(line)) {
+        return Ok(Err(flaw));
+    }
+    Ok(Ok(pieces_of(alloc, Separator::Blank, before_comment(line))?))
 }
 
 /// Whether a line of numbers is `0`, which ends the papers.
@@ -143,7 +154,10 @@ impl Reader {
             Place::End => return Ok(Err(Flaw::BehindName)),
             Place::Size | Place::Withdrawn | Place::Papers => {}
         }
-        let words = pieces_of(alloc, Separator::Blank, before_comment(line))?;
+        let words = match words_before_comment(alloc, line)? {
+            Ok(words) => words,
+            Err(flaw) => return Ok(Err(flaw)),
+        };
         match self.place {
             Place::Size => Ok(self.take_size_line(&words)),
             Place::Withdrawn => self.take_withdrawn_line(alloc, &words),

@@ -1,7 +1,7 @@
 -- Why `counted` keeps its promise.
-use Rattle.std.proofs.Common.{◌≡◌, ◌∙◌, sym, ap}
+use Rattle.std.proofs.Common.{◌≡◌, ◌∙◌, sym, ap, subst, rules}
 use Rattle.count.specs.Bundles.{papers_of}
-use Rattle.count.specs.Law.Contest.{contest_for}
+use Rattle.count.specs.Law.Contest.{IsContest, contest_for}
 use Rattle.count.specs.Law.Elected.{elected_after}
 use Rattle.sheet.specs.Entries.{shown}
 use Rattle.std.specs.Prelude.{None}
@@ -20,5 +20,6 @@ returns-in-Ok-compared-clause-ok c =
     c.elected.ensures ∙ ap (λ held. elected_after held c.run_count.new.book.history) c.in-Ok-run_count.ensures.same in
     let drawn : None ≡ undrawn c.in-Ok.book.contest c.args.lots.now =
     (rw c.in-Ok-None.field-0-is at c.in-Ok-None.ensures) ∙ ap (λ held. undrawn held c.args.lots.now) (sym (ap (λ b. b.contest) c.in-Ok.ensures)) in
-    counted_so (shown ward) bundles c.args.lots.now c.args.text.now c.in-Ok-compared.checked c.in-Ok.book.contest c.stages.result.now c.run_count.new.book.history c.in-Ok-run_count.end c.elected.result
+    let held : IsContest c.in-Ok.book.contest = subst IsContest (sym (ap (λ b. b.contest) c.in-Ok.ensures)) (search (rules, c.is_bundled_contest.ensures, c.if-not-is_bundled_contest.false)) in
+    counted_so (shown ward) bundles c.args.lots.now c.args.text.now c.in-Ok-compared.checked c.in-Ok.book.contest c.stages.result.now c.run_count.new.book.history c.in-Ok-run_count.end c.elected.result held
     contest c.stages.ensures.is c.in-Ok-run_count.ensures.whole c.in-Ok-run_count.ensures.end c.in-None.ensures elected drawn c.in-Ok-compared.ensures

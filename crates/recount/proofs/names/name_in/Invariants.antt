@@ -7,4 +7,4 @@ use Rattle.recount.specs.declared.names.Within.TheVariants.{Before}
 use Rattle.recount.proofs.names.name_in.Given as goal
 
 abbrev pub invariant-loop-byte : goal.invariant-loop-byte
-invariant-loop-byte l = fold with_byte (quoting_of l.quoted) (drop l.byte-index l.line) ≡ fold with_byte (record { name = []; within = Before }) l.line
+invariant-loop-byte l = fold with_byte (quoting_of l.quoted) (drop l.byte-index l.line) ≡ fold with_byte (record { name = []; comment = []; within = Before }) l.line

@@ -3,11 +3,11 @@ use Rattle.std.proofs.Common.{◌≡◌, [], map, drop}
 use Rattle.paper.specs.Ranking.{IsRanking}
 use Rattle.recount.specs.Ranks.{named_from}
 use Rattle.recount.specs.Views.{ranks_of}
-use Rattle.recount.specs.declared.ranks.Rank.TheVariants.{Single}
+use Rattle.recount.specs.declared.ranks.NextWord.TheVariants.{Preference}
 use Rattle.recount.proofs.ranks.named_in.Given as goal
 
 abbrev pub invariant-loop-word : goal.invariant-loop-word
 invariant-loop-word l = record {
-  same : named_from l.highest (ranks_of l.ranks) (map (λ w. w.now) (drop l.word-index l.words)) ≡ named_from l.highest (record { named = []; rank = Single }) (map (λ w. w.now) l.words);
+  same : named_from l.highest l.withdrawn (ranks_of l.ranks) (map (λ w. w.now) (drop l.word-index l.words)) ≡ named_from l.highest l.withdrawn (record { named = []; next = Preference }) (map (λ w. w.now) l.words);
   ranking : IsRanking l.ranks.named.items;
 }

@@ -1,0 +1,18 @@
+//! The program's help.
+
+/// What the program tells of itself.
+pub(crate) const HELP: &str =
+    "Checks a stage sheet or a declaration against the ballots of its ward, without an office.
+
+Usage: count-office - check <BALLOTS> <SHEET>
+
+Arguments:
+  <BALLOTS>  The path of the ballots, as the order ballots prints them, or as other programs
+             write them (BLT)
+  <SHEET>    The path of the text, as the orders sheet and result print it
+
+The status is 0 where the text is the very one that these ballots, rejected papers and lots
+give, and 1 where it differs: the first line that does is told, and what it should be. It is 2
+where the words or the ballots are not understood, or a lot is wanting, and 3 where a file
+can't be read, memory is wanting, or an output fails.
+";
