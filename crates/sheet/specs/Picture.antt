@@ -46,4 +46,4 @@ bar scale earlier before now =
     codes " 15)\"><path d=\"M0 -1v14\"/><rect class=\"kept\" width=\"" ∷ decimal kept ∷
     codes "\" height=\"12\"/><rect class=\"" ∷ moved before now ∷
     codes "\" x=\"" ∷ decimal kept ∷ codes "\" width=\"" ∷ decimal (all - kept) ∷
-    codes "\" height=\"12\"/><path class=\"quota\" d=\"M" ∷ decimal (bar_length scale scale.quota) ∷ codes " -1v14\"/></g>" ∷ [])
+    codes "\" height=\"12\"/><path class=\"quota\" d=\"M" ∷ decimal (bar_length scale scale.quota) ∷ codes " -1m-1.4 0h2.8v14h-2.8z\"/></g>" ∷ [])

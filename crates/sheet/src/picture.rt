@@ -124,7 +124,7 @@ pub fn write_bar<W: Sink>(
         Piece::Number(all.saturating_sub(kept)),
         Piece::Text("\" height=\"12\"/><path class=\"quota\" d=\"M"),
         Piece::Number(bar_length(scale, scale.quota)),
-        Piece::Text(" -1v14\"/></g>"),
+        Piece::Text(" -1m-1.4 0h2.8v14h-2.8z\"/></g>"),
     ];
     write_line(sink, &pieces)
 }
