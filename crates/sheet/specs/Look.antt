@@ -9,7 +9,7 @@ style =
     codes "h1, h2, caption, .sign { break-after: avoid; }\n" ++ (
     codes "h1 { font-size: 1.6rem; margin: 0 0 .5rem; }\n" ++ (
     codes "h2 { font-size: 1.2rem; margin: 1.2rem 0 .4rem; }\n" ++ (
-    codes "h1, p, li, th[scope=row] { overflow-wrap: anywhere; }\n" ++ (
+    codes "h1, p, li, th[scope=row] { overflow: hidden; overflow-wrap: anywhere; }\n" ++ (
     codes ".open { border: 2px solid #000; padding: .4rem .6rem; }\n" ++ (
     codes "ul { list-style: none; margin: 0; padding: 0; }\n" ++ (
     codes "table { border-collapse: collapse; }\n" ++ (
@@ -59,4 +59,4 @@ legend =
     codes "<rect class=\"kept\" y=\"6\" width=\"24\" height=\"12\"/><text x=\"28\" y=\"16\">votes kept</text>" ++ (
     codes "<rect class=\"gained\" x=\"132\" y=\"6\" width=\"24\" height=\"12\"/><text x=\"160\" y=\"16\">gained at the stage</text>" ++ (
     codes "<rect class=\"lost\" x=\"324\" y=\"6\" width=\"24\" height=\"12\"/><text x=\"352\" y=\"16\">lost at the stage</text>" ++ (
-    codes "<path class=\"quota\" d=\"M494.6 3h2.8v18h-2.8z\"/><text x=\"504\" y=\"16\">quota</text>")))
+    codes "<path class=\"quota\" d=\"M494.6 4h2.8v16h-2.8z\"/><text x=\"504\" y=\"16\">quota</text>")))

@@ -46,7 +46,7 @@ picture_head ward place stages = row (
 -- a candidate's row in a picture, which opens a group 30 below the one before. His name ends where its room ends, above the bars and at the picture's edge: it stands in a picture of its own
 abbrev pub bar_row : Scale → ℕ → List Stage → ℕ → List ℕ → List ℕ
 bar_row scale place stages c name = row (
-    codes "<g transform=\"translate(0 30)\"><svg y=\"-2\" width=\"898\" height=\"16\"><text y=\"13\">" ∷ decimal c ∷
+    codes "<g transform=\"translate(0 30)\"><svg y=\"-2\" width=\"898\" height=\"17\"><text y=\"13\">" ∷ decimal c ∷
     codes " <tspan>" ∷ plain name ∷ codes "</tspan></text></svg>" ∷ []) (Bar c scale) [] place stages
 
 -- the rows of all candidates in a picture

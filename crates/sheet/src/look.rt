@@ -13,7 +13,7 @@ body { color: #000; background: #fff; font: 1rem/1.4 sans-serif; max-width: 68re
 h1, h2, caption, .sign { break-after: avoid; }
 h1 { font-size: 1.6rem; margin: 0 0 .5rem; }
 h2 { font-size: 1.2rem; margin: 1.2rem 0 .4rem; }
-h1, p, li, th[scope=row] { overflow-wrap: anywhere; }
+h1, p, li, th[scope=row] { overflow: hidden; overflow-wrap: anywhere; }
 .open { border: 2px solid #000; padding: .4rem .6rem; }
 ul { list-style: none; margin: 0; padding: 0; }
 table { border-collapse: collapse; }
@@ -70,5 +70,5 @@ pub fn legend() -> &'static str
 <rect class=\"kept\" y=\"6\" width=\"24\" height=\"12\"/><text x=\"28\" y=\"16\">votes kept</text>\
 <rect class=\"gained\" x=\"132\" y=\"6\" width=\"24\" height=\"12\"/><text x=\"160\" y=\"16\">gained at the stage</text>\
 <rect class=\"lost\" x=\"324\" y=\"6\" width=\"24\" height=\"12\"/><text x=\"352\" y=\"16\">lost at the stage</text>\
-<path class=\"quota\" d=\"M494.6 3h2.8v18h-2.8z\"/><text x=\"504\" y=\"16\">quota</text>"
+<path class=\"quota\" d=\"M494.6 4h2.8v16h-2.8z\"/><text x=\"504\" y=\"16\">quota</text>"
 }

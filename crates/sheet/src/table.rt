@@ -136,7 +136,7 @@ fn write_bar_row<W: Sink>(
     let (c, name) = candidate;
     let opening = [
         Piece::Text(
-            "<g transform=\"translate(0 30)\"><svg y=\"-2\" width=\"898\" height=\"16\"><text y=\"13\">",
+            "<g transform=\"translate(0 30)\"><svg y=\"-2\" width=\"898\" height=\"17\"><text y=\"13\">",
         ),
         Piece::Number(u64::from(*c)),
         Piece::Text(" <tspan>"),
