@@ -88,7 +88,7 @@ const DECLARED: &str = r##"
 <div class="wide" role="region" tabindex="0" aria-label="Stages 1 to 3, as a picture">
 <svg class="moves" role="img" viewBox="-2 0 900 140">
 <title>Stages 1 to 3: how votes moved</title>
-<rect class="kept" y="6" width="24" height="12"/><text x="28" y="16">votes kept</text><rect class="gained" x="132" y="6" width="24" height="12"/><text x="160" y="16">gained at the stage</text><rect class="lost" x="324" y="6" width="24" height="12"/><text x="352" y="16">lost at the stage</text><path class="quota" d="M494.6 4h2.8v16h-2.8z"/><text x="504" y="16">quota</text>
+<rect class="paper" x="-2" width="900" height="100%"/><rect class="kept" y="6" width="24" height="12"/><text x="28" y="16">votes kept</text><rect class="gained" x="132" y="6" width="24" height="12"/><text x="160" y="16">gained at the stage</text><rect class="lost" x="324" y="6" width="24" height="12"/><text x="352" y="16">lost at the stage</text><path class="quota" d="M494.6 4h2.8v16h-2.8z"/><text x="504" y="16">quota</text>
 <text x="0" y="40">Stage 1</text>
 <text x="112" y="40">Stage 2</text>
 <text x="224" y="40">Stage 3</text>

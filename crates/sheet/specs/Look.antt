@@ -4,7 +4,6 @@ use Rattle.std.specs.Prelude.{ℕ, List, ◌++◌, codes}
 -- the style of a page
 unfoldable pub style : List ℕ
 style =
-    codes ":root { color-scheme: only light; }\n" ++ (
     codes "body { color: #000; background: #fff; font: 1rem/1.4 sans-serif; max-width: 68rem; margin: 1rem auto; padding: 0 1rem; }\n" ++ (
     codes "h1, h2, caption, .sign { break-after: avoid; }\n" ++ (
     codes "h1 { font-size: 1.6rem; margin: 0 0 .5rem; }\n" ++ (
@@ -22,11 +21,12 @@ style =
     codes "td i, td b, td small { display: block; font-size: inherit; white-space: nowrap; }\n" ++ (
     codes "td small { color: #444; }\n" ++ (
     codes ".wide { overflow-x: auto; }\n" ++ (
-    codes ".moves { display: block; width: 100%; min-width: 56rem; margin: .6rem 0; background: #fff; forced-color-adjust: none; }\n" ++ (
+    codes ".moves { display: block; width: 100%; min-width: 56rem; margin: .6rem 0; forced-color-adjust: none; }\n" ++ (
     codes ".moves svg { overflow: hidden; }\n" ++ (
     codes ".moves text { font: 14px sans-serif; fill: #000; }\n" ++ (
     codes ".moves tspan { unicode-bidi: plaintext; }\n" ++ (
     codes ".moves path { fill: none; stroke: #000; }\n" ++ (
+    codes ".moves .paper { fill: #fff; }\n" ++ (
     codes ".moves .kept { fill: #757575; }\n" ++ (
     codes ".moves .gained { fill: url(#gained); stroke: #000; }\n" ++ (
     codes ".moves .lost { fill: none; stroke: #000; stroke-width: 1.2; stroke-dasharray: 3 2; }\n" ++ (

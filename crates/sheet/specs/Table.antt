@@ -40,7 +40,7 @@ abbrev pub picture_head : SheetEntry → ℕ → List Stage → List ℕ
 picture_head ward place stages = row (
     codes "<div class=\"wide\" role=\"region\" tabindex=\"0\" aria-label=\"" ∷ span (place + 1) (length stages) ∷
     codes ", as a picture\">\n<svg class=\"moves\" role=\"img\" viewBox=\"-2 0 900 " ∷ decimal (50 + 30 * min (length ward.candidates) 30) ∷
-    codes "\">\n<title>" ∷ span (place + 1) (length stages) ∷ codes ": how votes moved</title>\n" ∷ legend ∷ [])
+    codes "\">\n<title>" ∷ span (place + 1) (length stages) ∷ codes ": how votes moved</title>\n<rect class=\"paper\" x=\"-2\" width=\"900\" height=\"100%\"/>" ∷ legend ∷ [])
     Above (codes "<g transform=\"translate(0 15)\">") place stages
 
 -- a candidate's row in a picture, which opens a group 30 below the one before. His name ends where its room ends, above the bars and at the picture's edge: it stands in a picture of its own

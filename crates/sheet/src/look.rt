@@ -8,7 +8,6 @@ pub fn style() -> &'static str
     ensures { result.now ≡ style_text }
 {
     "\
-:root { color-scheme: only light; }
 body { color: #000; background: #fff; font: 1rem/1.4 sans-serif; max-width: 68rem; margin: 1rem auto; padding: 0 1rem; }
 h1, h2, caption, .sign { break-after: avoid; }
 h1 { font-size: 1.6rem; margin: 0 0 .5rem; }
@@ -26,11 +25,12 @@ th[scope=row], th[scope=col]:first-child { text-align: left; font-weight: normal
 td i, td b, td small { display: block; font-size: inherit; white-space: nowrap; }
 td small { color: #444; }
 .wide { overflow-x: auto; }
-.moves { display: block; width: 100%; min-width: 56rem; margin: .6rem 0; background: #fff; forced-color-adjust: none; }
+.moves { display: block; width: 100%; min-width: 56rem; margin: .6rem 0; forced-color-adjust: none; }
 .moves svg { overflow: hidden; }
 .moves text { font: 14px sans-serif; fill: #000; }
 .moves tspan { unicode-bidi: plaintext; }
 .moves path { fill: none; stroke: #000; }
+.moves .paper { fill: #fff; }
 .moves .kept { fill: #757575; }
 .moves .gained { fill: url(#gained); stroke: #000; }
 .moves .lost { fill: none; stroke: #000; stroke-width: 1.2; stroke-dasharray: 3 2; }

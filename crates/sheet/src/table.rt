@@ -115,7 +115,9 @@ fn write_picture_head<W: Sink>(
         Piece::Number(50 + 30 * ward.candidates.len().min(30) as u64),
         Piece::Text("\">\n<title>"),
         Piece::Span(first, last),
-        Piece::Text(": how votes moved</title>\n"),
+        Piece::Text(
+            ": how votes moved</title>\n<rect class=\"paper\" x=\"-2\" width=\"900\" height=\"100%\"/>",
+        ),
         Piece::Text(legend()),
     ];
     let end = "<g transform=\"translate(0 15)\">";
