@@ -45,7 +45,7 @@ const DECLARED: &str = r##"
 <li>Stage 3: 2 <bdi>&quot;Bob&quot; &amp; &#39;Co&#39;</bdi></li>
 </ul>
 <h2>Stages</h2>
-<svg class="patterns" width="0" height="0" aria-hidden="true"><defs><pattern id="gained" width="4" height="4" patternUnits="userSpaceOnUse" patternTransform="rotate(45)"><rect width="4" height="4" fill="#fff"/><rect width="1.6" height="4" fill="#000"/></pattern></defs></svg>
+<svg class="patterns" width="0" height="0" aria-hidden="true"><defs><pattern id="gained" width="4" height="4" patternUnits="userSpaceOnUse" patternTransform="rotate(45)"><rect width="4" height="4" fill="#fff"/><rect width="1.6" height="4" fill="#000"/></pattern><clipPath id="room"><rect y="-2" width="898" height="17"/></clipPath></defs></svg>
 <div class="wide" role="region" tabindex="0" aria-label="Stages 1 to 3, as a table">
 <table class="stages">
 <caption>Stages 1 to 3</caption>
@@ -93,17 +93,17 @@ const DECLARED: &str = r##"
 <text x="112" y="40">Stage 2</text>
 <text x="224" y="40">Stage 3</text>
 <g transform="translate(0 15)">
-<g transform="translate(0 30)"><svg y="-2" width="898" height="17"><text y="13">1 <tspan>Ann &lt;b&gt;</tspan></text></svg>
+<g transform="translate(0 30)"><text y="11">1 <tspan>Ann &lt;b&gt;</tspan></text>
 <g transform="translate(0 17)"><path d="M0 -1v12"/><rect class="kept" width="100" height="10"/><rect class="gained" x="100" width="0" height="10"/><path class="quota" d="M66 -1m-1.4 0h2.8v12h-2.8z"/></g>
 <g transform="translate(112 17)"><path d="M0 -1v12"/><rect class="kept" width="66" height="10"/><rect class="lost" x="66" width="34" height="10"/><path class="quota" d="M66 -1m-1.4 0h2.8v12h-2.8z"/></g>
 <g transform="translate(224 17)"><path d="M0 -1v12"/><rect class="kept" width="66" height="10"/><rect class="gained" x="66" width="0" height="10"/><path class="quota" d="M66 -1m-1.4 0h2.8v12h-2.8z"/></g>
 
-<g transform="translate(0 30)"><svg y="-2" width="898" height="17"><text y="13">2 <tspan>&quot;Bob&quot; &amp; &#39;Co&#39;</tspan></text></svg>
+<g transform="translate(0 30)"><text y="11">2 <tspan>&quot;Bob&quot; &amp; &#39;Co&#39;</tspan></text>
 <g transform="translate(0 17)"><path d="M0 -1v12"/><rect class="kept" width="16" height="10"/><rect class="gained" x="16" width="0" height="10"/><path class="quota" d="M66 -1m-1.4 0h2.8v12h-2.8z"/></g>
 <g transform="translate(112 17)"><path d="M0 -1v12"/><rect class="kept" width="16" height="10"/><rect class="gained" x="16" width="22" height="10"/><path class="quota" d="M66 -1m-1.4 0h2.8v12h-2.8z"/></g>
 <g transform="translate(224 17)"><path d="M0 -1v12"/><rect class="kept" width="38" height="10"/><rect class="gained" x="38" width="0" height="10"/><path class="quota" d="M66 -1m-1.4 0h2.8v12h-2.8z"/></g>
 
-<g transform="translate(0 30)"><svg y="-2" width="898" height="17"><text y="13">3 <tspan>רות</tspan></text></svg>
+<g transform="translate(0 30)"><text y="11">3 <tspan>רות</tspan></text>
 <g transform="translate(0 17)"><path d="M0 -1v12"/><rect class="kept" width="33" height="10"/><rect class="gained" x="33" width="0" height="10"/><path class="quota" d="M66 -1m-1.4 0h2.8v12h-2.8z"/></g>
 <g transform="translate(112 17)"><path d="M0 -1v12"/><rect class="kept" width="33" height="10"/><rect class="gained" x="33" width="11" height="10"/><path class="quota" d="M66 -1m-1.4 0h2.8v12h-2.8z"/></g>
 <g transform="translate(224 17)"><path d="M0 -1v12"/><rect class="kept" width="44" height="10"/><rect class="gained" x="44" width="0" height="10"/><path class="quota" d="M66 -1m-1.4 0h2.8v12h-2.8z"/></g>

@@ -22,8 +22,8 @@ style =
     codes "td small { color: #444; }\n" ++ (
     codes ".wide { overflow-x: auto; }\n" ++ (
     codes ".moves { display: block; width: 100%; min-width: 56rem; margin: .6rem 0; forced-color-adjust: none; }\n" ++ (
-    codes ".moves svg { overflow: hidden; }\n" ++ (
     codes ".moves text { font: 14px sans-serif; fill: #000; }\n" ++ (
+    codes ".moves g text { clip-path: url(#room); }\n" ++ (
     codes ".moves tspan { unicode-bidi: plaintext; }\n" ++ (
     codes ".moves path { fill: none; stroke: #000; }\n" ++ (
     codes ".moves .paper { fill: #fff; }\n" ++ (
@@ -46,12 +46,13 @@ style =
     codes "* { -webkit-print-color-adjust: exact; print-color-adjust: exact; }\n" ++ (
     codes "}\n"))))))))))))))))))))))))))))))))))))))))
 
--- the pattern of what was gained, once for all pictures of a page
+-- once for all pictures of a page: the pattern of what was gained, and the room of a name, above its bars and up to the edge
 unfoldable pub patterns : List ℕ
 patterns =
     codes "<svg class=\"patterns\" width=\"0\" height=\"0\" aria-hidden=\"true\"><defs>" ++ (
     codes "<pattern id=\"gained\" width=\"4\" height=\"4\" patternUnits=\"userSpaceOnUse\" patternTransform=\"rotate(45)\">" ++ (
-    codes "<rect width=\"4\" height=\"4\" fill=\"#fff\"/><rect width=\"1.6\" height=\"4\" fill=\"#000\"/></pattern></defs></svg>"))
+    codes "<rect width=\"4\" height=\"4\" fill=\"#fff\"/><rect width=\"1.6\" height=\"4\" fill=\"#000\"/></pattern>" ++ (
+    codes "<clipPath id=\"room\"><rect y=\"-2\" width=\"898\" height=\"17\"/></clipPath></defs></svg>")))
 
 -- what the bars of a picture mean
 unfoldable pub legend : List ℕ

@@ -60,7 +60,7 @@ value_in (Candidate c) stage = votes_at stage c
 value_in NonTransferable stage = stage.non_transferable
 value_in Lost stage = stage.lost
 
--- its value at the last of some stages, none before the first
+-- its value at the last of some stages, none before the first: gains less losses, of all stages up to one, add up to the value there
 abbrev pub value_after : Line → Option Stage → ℕ
 value_after line None = 0
 value_after line (Some stage) = value_in line stage

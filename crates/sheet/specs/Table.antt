@@ -43,11 +43,10 @@ picture_head ward place stages = row (
     codes "\">\n<title>" ∷ span (place + 1) (length stages) ∷ codes ": how votes moved</title>\n<rect class=\"paper\" x=\"-2\" width=\"900\" height=\"100%\"/>" ∷ legend ∷ [])
     Above (codes "<g transform=\"translate(0 15)\">") place stages
 
--- a candidate's row in a picture, which opens a group 30 below the one before. His name ends where its room ends, above the bars and at the picture's edge: it stands in a picture of its own
+-- a candidate's row in a picture, which opens a group 30 below the one before.
 abbrev pub bar_row : Scale → ℕ → List Stage → ℕ → List ℕ → List ℕ
-bar_row scale place stages c name = row (
-    codes "<g transform=\"translate(0 30)\"><svg y=\"-2\" width=\"898\" height=\"17\"><text y=\"13\">" ∷ decimal c ∷
-    codes " <tspan>" ∷ plain name ∷ codes "</tspan></text></svg>" ∷ []) (Bar c scale) [] place stages
+bar_row scale place stages c name =
+    row (codes "<g transform=\"translate(0 30)\"><text y=\"11\">" ∷ decimal c ∷ codes " <tspan>" ∷ plain name ∷ codes "</tspan></text>" ∷ []) (Bar c scale) [] place stages
 
 -- the rows of all candidates in a picture
 abbrev pub bar_rows : SheetEntry → Scale → ℕ → List Stage → List ℕ

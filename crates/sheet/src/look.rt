@@ -26,8 +26,8 @@ td i, td b, td small { display: block; font-size: inherit; white-space: nowrap; 
 td small { color: #444; }
 .wide { overflow-x: auto; }
 .moves { display: block; width: 100%; min-width: 56rem; margin: .6rem 0; forced-color-adjust: none; }
-.moves svg { overflow: hidden; }
 .moves text { font: 14px sans-serif; fill: #000; }
+.moves g text { clip-path: url(#room); }
 .moves tspan { unicode-bidi: plaintext; }
 .moves path { fill: none; stroke: #000; }
 .moves .paper { fill: #fff; }
@@ -52,14 +52,15 @@ tr, .moves, .sign { break-inside: avoid; }
 "
 }
 
-/// The pattern of what was gained, once for all pictures of a page.
+/// Once for all pictures of a page: the pattern of what was gained, and the room of a name, in which it is clipped.
 pub fn patterns() -> &'static str
     ensures { result.now ≡ patterns_text }
 {
     "\
 <svg class=\"patterns\" width=\"0\" height=\"0\" aria-hidden=\"true\"><defs>\
 <pattern id=\"gained\" width=\"4\" height=\"4\" patternUnits=\"userSpaceOnUse\" patternTransform=\"rotate(45)\">\
-<rect width=\"4\" height=\"4\" fill=\"#fff\"/><rect width=\"1.6\" height=\"4\" fill=\"#000\"/></pattern></defs></svg>"
+<rect width=\"4\" height=\"4\" fill=\"#fff\"/><rect width=\"1.6\" height=\"4\" fill=\"#000\"/></pattern>\
+<clipPath id=\"room\"><rect y=\"-2\" width=\"898\" height=\"17\"/></clipPath></defs></svg>"
 }
 
 /// What the bars of a picture mean.

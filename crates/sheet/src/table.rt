@@ -137,13 +137,11 @@ fn write_bar_row<W: Sink>(
 {
     let (c, name) = candidate;
     let opening = [
-        Piece::Text(
-            "<g transform=\"translate(0 30)\"><svg y=\"-2\" width=\"898\" height=\"17\"><text y=\"13\">",
-        ),
+        Piece::Text("<g transform=\"translate(0 30)\"><text y=\"11\">"),
         Piece::Number(u64::from(*c)),
         Piece::Text(" <tspan>"),
         Piece::Escaped(name.as_str()),
-        Piece::Text("</tspan></text></svg>"),
+        Piece::Text("</tspan></text>"),
     ];
     write_row(sink, &opening, Cell::Bar(*c, scale), "", place, stages)
 }
