@@ -2,7 +2,6 @@
 
 ghost use Rattle.std.specs.Prelude.{◌≡◌, ◌-◌, ◌^◌, ◌<◌, string_bytes};
 ghost use Rattle.std.specs.List.{flat_map};
-ghost use Rattle.count.specs.declared.stages.Stage.{Stage};
 ghost use Rattle.sheet.specs.Cells.{from_place};
 ghost use Rattle.sheet.specs.Entries.{shown};
 ghost use Rattle.sheet.specs.Page.{elected_at, elected_end, elected_text, item_at, left_words as words_of, seats_left as left_of, unopposed_item, unopposed_text};
