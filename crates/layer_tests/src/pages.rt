@@ -1,4 +1,4 @@
-//! Pages, byte for byte but for their style.
+//! Pages, byte for byte but for their style, which its definition has.
 
 use count::{Action, Stage};
 use paper::Columns;
@@ -45,8 +45,8 @@ const DECLARED: &str = r##"
 <li>Stage 3: 2 <bdi>&quot;Bob&quot; &amp; &#39;Co&#39;</bdi></li>
 </ul>
 <h2>Stages</h2>
-<svg class="patterns" width="0" height="0" aria-hidden="true"><defs><pattern id="gained" width="4" height="4" patternUnits="userSpaceOnUse" patternTransform="rotate(45)"><rect width="4" height="4" fill="#fff"/><rect width="1.6" height="4" fill="#000"/></pattern></defs></svg>
-<div class="wide">
+<svg class="patterns" width="0" height="0" aria-hidden="true"><defs><pattern id="gained" width="4" height="4" patternUnits="userSpaceOnUse" patternTransform="rotate(45)"><rect width="4" height="4" fill="#fff"/><rect width="1.6" height="4" fill="#000"/></pattern><clipPath id="room"><rect y="-2" width="898" height="17"/></clipPath></defs></svg>
+<div class="wide" role="region" tabindex="0" aria-label="Stages 1 to 3, as a table">
 <table class="stages">
 <caption>Stages 1 to 3</caption>
 <thead>
@@ -85,28 +85,28 @@ const DECLARED: &str = r##"
 </tbody>
 </table>
 </div>
-<div class="wide">
+<div class="wide" role="region" tabindex="0" aria-label="Stages 1 to 3, as a picture">
 <svg class="moves" role="img" viewBox="-2 0 900 140">
 <title>Stages 1 to 3: how votes moved</title>
-<rect class="kept" y="6" width="24" height="12"/><text x="28" y="16">votes kept</text><rect class="gained" x="112" y="6" width="24" height="12"/><text x="140" y="16">gained at the stage</text><rect class="lost" x="264" y="6" width="24" height="12"/><text x="292" y="16">lost at the stage</text><path class="quota" d="M412 3v18"/><text x="420" y="16">quota</text>
+<rect class="paper" x="-2" width="900" height="100%"/><rect class="kept" y="6" width="24" height="12"/><text x="28" y="16">votes kept</text><rect class="gained" x="132" y="6" width="24" height="12"/><text x="160" y="16">gained at the stage</text><rect class="lost" x="324" y="6" width="24" height="12"/><text x="352" y="16">lost at the stage</text><path class="quota" d="M494.6 4h2.8v16h-2.8z"/><text x="504" y="16">quota</text>
 <text x="0" y="40">Stage 1</text>
 <text x="112" y="40">Stage 2</text>
 <text x="224" y="40">Stage 3</text>
 <g transform="translate(0 15)">
 <g transform="translate(0 30)"><text y="11">1 <tspan>Ann &lt;b&gt;</tspan></text>
-<g transform="translate(0 15)"><path d="M0 -1v14"/><rect class="kept" width="100" height="12"/><rect class="gained" x="100" width="0" height="12"/><path class="quota" d="M66 -1v14"/></g>
-<g transform="translate(112 15)"><path d="M0 -1v14"/><rect class="kept" width="66" height="12"/><rect class="lost" x="66" width="34" height="12"/><path class="quota" d="M66 -1v14"/></g>
-<g transform="translate(224 15)"><path d="M0 -1v14"/><rect class="kept" width="66" height="12"/><rect class="gained" x="66" width="0" height="12"/><path class="quota" d="M66 -1v14"/></g>
+<g transform="translate(0 17)"><path d="M0 -1v12"/><rect class="kept" width="100" height="10"/><rect class="gained" x="100" width="0" height="10"/><path class="quota" d="M66 -1m-1.4 0h2.8v12h-2.8z"/></g>
+<g transform="translate(112 17)"><path d="M0 -1v12"/><rect class="kept" width="66" height="10"/><rect class="lost" x="66" width="34" height="10"/><path class="quota" d="M66 -1m-1.4 0h2.8v12h-2.8z"/></g>
+<g transform="translate(224 17)"><path d="M0 -1v12"/><rect class="kept" width="66" height="10"/><rect class="gained" x="66" width="0" height="10"/><path class="quota" d="M66 -1m-1.4 0h2.8v12h-2.8z"/></g>
 
 <g transform="translate(0 30)"><text y="11">2 <tspan>&quot;Bob&quot; &amp; &#39;Co&#39;</tspan></text>
-<g transform="translate(0 15)"><path d="M0 -1v14"/><rect class="kept" width="16" height="12"/><rect class="gained" x="16" width="0" height="12"/><path class="quota" d="M66 -1v14"/></g>
-<g transform="translate(112 15)"><path d="M0 -1v14"/><rect class="kept" width="16" height="12"/><rect class="gained" x="16" width="22" height="12"/><path class="quota" d="M66 -1v14"/></g>
-<g transform="translate(224 15)"><path d="M0 -1v14"/><rect class="kept" width="38" height="12"/><rect class="gained" x="38" width="0" height="12"/><path class="quota" d="M66 -1v14"/></g>
+<g transform="translate(0 17)"><path d="M0 -1v12"/><rect class="kept" width="16" height="10"/><rect class="gained" x="16" width="0" height="10"/><path class="quota" d="M66 -1m-1.4 0h2.8v12h-2.8z"/></g>
+<g transform="translate(112 17)"><path d="M0 -1v12"/><rect class="kept" width="16" height="10"/><rect class="gained" x="16" width="22" height="10"/><path class="quota" d="M66 -1m-1.4 0h2.8v12h-2.8z"/></g>
+<g transform="translate(224 17)"><path d="M0 -1v12"/><rect class="kept" width="38" height="10"/><rect class="gained" x="38" width="0" height="10"/><path class="quota" d="M66 -1m-1.4 0h2.8v12h-2.8z"/></g>
 
 <g transform="translate(0 30)"><text y="11">3 <tspan>רות</tspan></text>
-<g transform="translate(0 15)"><path d="M0 -1v14"/><rect class="kept" width="33" height="12"/><rect class="gained" x="33" width="0" height="12"/><path class="quota" d="M66 -1v14"/></g>
-<g transform="translate(112 15)"><path d="M0 -1v14"/><rect class="kept" width="33" height="12"/><rect class="gained" x="33" width="11" height="12"/><path class="quota" d="M66 -1v14"/></g>
-<g transform="translate(224 15)"><path d="M0 -1v14"/><rect class="kept" width="44" height="12"/><rect class="gained" x="44" width="0" height="12"/><path class="quota" d="M66 -1v14"/></g>
+<g transform="translate(0 17)"><path d="M0 -1v12"/><rect class="kept" width="33" height="10"/><rect class="gained" x="33" width="0" height="10"/><path class="quota" d="M66 -1m-1.4 0h2.8v12h-2.8z"/></g>
+<g transform="translate(112 17)"><path d="M0 -1v12"/><rect class="kept" width="33" height="10"/><rect class="gained" x="33" width="11" height="10"/><path class="quota" d="M66 -1m-1.4 0h2.8v12h-2.8z"/></g>
+<g transform="translate(224 17)"><path d="M0 -1v12"/><rect class="kept" width="44" height="10"/><rect class="gained" x="44" width="0" height="10"/><path class="quota" d="M66 -1m-1.4 0h2.8v12h-2.8z"/></g>
 
 </g></g></g></g>
 </svg>
@@ -173,6 +173,24 @@ const UNCONTESTED: &str = r##"
 <p>First witness</p>
 <p>Second witness</p>
 </div>
+</body>
+</html>
+"##;
+
+/// The same before its declaration: that a seat stays empty is known without a count.
+const NOT_DECLARED: &str = r##"
+</head>
+<body>
+<h1>Ward 7 <bdi>&lt;Harbour&gt;</bdi></h1>
+<p class="open"><strong>This is not a declared result.</strong> The ward is not declared yet, and what stands here may change.</p>
+<h2>Elected</h2>
+<p>Seats: 4. The ward is uncontested: there is no poll, and all its candidates are elected.</p>
+<ul>
+<li>1 <bdi>Ann &lt;b&gt;</bdi></li>
+<li>2 <bdi>&quot;Bob&quot; &amp; &#39;Co&#39;</bdi></li>
+<li>3 <bdi>רות</bdi></li>
+</ul>
+<p>Seats that stay empty: 1</p>
 </body>
 </html>
 "##;
@@ -245,9 +263,13 @@ fn prints_blocks(
     assert!(rt; can_be_printed(ward));
     let text = page_text(rt.alloc(), ward, false, stages, &[])?;
     for words in [
+        " aria-label=\"Stages 1 to 8, as a table\">",
         "<caption>Stages 1 to 8</caption>",
+        " aria-label=\"Stages 1 to 8, as a picture\">",
         "<title>Stages 1 to 8: how votes moved</title>",
+        " aria-label=\"Stage 9, as a table\">",
         "<caption>Stage 9</caption>",
+        " aria-label=\"Stage 9, as a picture\">",
         "<title>Stage 9: how votes moved</title>",
     ] {
         assert!(rt; text.as_str().find(words).is_some());
@@ -298,5 +320,6 @@ fn pages(rt: HostRuntime) -> Result<(), Fail> {
     ward.seats = 4;
     ward.poll = None;
     prints(&rt, &ward, true, &stages, &[], UNCONTESTED)?;
+    prints(&rt, &ward, false, &[], &[], NOT_DECLARED)?;
     Ok(())
 }

@@ -5,7 +5,7 @@ use Rattle.std.proofs.lemmas.Bool.{cond-false, ne_eqb}
 use Rattle.std.proofs.lemmas.Grind.{flat_map-append}
 use Rattle.std.proofs.lemmas.Str.{IsUtf8-append, IsUtf8-had, IsUtf8-nil}
 use Rattle.std.specs.declared.alloc.Global.{Global}
-use Rattle.csv.specs.Writing.{escaped, fields_text, field_text, is_blank, quoted, row_text}
+use Rattle.csv.specs.Writing.{escaped, fields_text, field_text, is_blank, row_text}
 use Rattle.sheet.specs.Spreadsheet.{writer}
 use Rattle.sheet.proofs.Bytewise.{ascii_then, IsUtf8-by_bytes}
 

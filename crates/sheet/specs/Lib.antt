@@ -1,4 +1,4 @@
--- What sheets, declarations, ballots and pages are.
+-- What stage sheets, declarations, ballots, pages and tables are.
 pub mod Lines
 pub mod Pieces
 pub mod Writing
@@ -9,6 +9,7 @@ pub mod Sheet
 pub mod Ballots
 pub mod Cells
 pub mod Picture
+pub mod Look
 pub mod Table
 pub mod Page
 pub mod Spreadsheet

@@ -19,6 +19,10 @@ number_column c = right_in 2 (decimal c)
 abbrev pub value_column : ℕ → List ℕ
 value_column units = right_in 13 (votes_text units)
 
+-- some stages by the numbers of the first and the last: `Stages 1 to 8`, `Stage 9`
+abbrev pub span : ℕ → ℕ → List ℕ
+span first last = if first == last then codes "Stage " ++ decimal first else codes "Stages " ++ decimal first ++ codes " to " ++ decimal last
+
 -- the number of a candidate behind a space
 abbrev pub preference : ℕ → List ℕ
 preference c = codes " " ++ decimal c

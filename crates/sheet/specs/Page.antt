@@ -8,9 +8,9 @@ use Rattle.sheet.specs.Ballots.{name_at, name_or_withdrawn}
 use Rattle.sheet.specs.Cells.{from_place}
 use Rattle.sheet.specs.Entries.{SheetEntry}
 use Rattle.sheet.specs.Lines.{line, plain}
+use Rattle.sheet.specs.Look.{style, patterns}
 use Rattle.sheet.specs.Picture.{scale_of}
 use Rattle.sheet.specs.Table.{blocks}
-use Rattle.sheet.specs.declared.look.TheConstants.{STYLE, PATTERNS}
 use Rattle.sheet.specs.declared.ward.Poll.{Poll}
 
 -- what stands below the ward's name where it is not declared
@@ -22,7 +22,7 @@ note false = codes "\n<p class=\"open\"><strong>This is not a declared result.</
 abbrev pub page_head : SheetEntry → Bool → List ℕ
 page_head ward is_declared = line (
     codes "<!DOCTYPE html>\n<html lang=\"en\">\n<head>\n<meta charset=\"utf-8\">\n<meta name=\"viewport\" content=\"width=device-width, initial-scale=1\">\n<title>Ward "
-    ∷ decimal ward.number ∷ codes " " ∷ plain ward.name ∷ codes "</title>\n<style>\n" ∷ STYLE.now ∷ codes "</style>\n</head>\n<body>\n<h1>Ward "
+    ∷ decimal ward.number ∷ codes " " ∷ plain ward.name ∷ codes "</title>\n<style>\n" ∷ style ∷ codes "</style>\n</head>\n<body>\n<h1>Ward "
     ∷ decimal ward.number ∷ codes " <bdi>" ∷ plain ward.name ∷ codes "</bdi></h1>" ∷ note is_declared ∷ [])
 
 -- the rejected papers of all codes
@@ -79,12 +79,12 @@ elected_text ward is_declared stages =
 abbrev pub unopposed_item : ℕ → List ℕ → List ℕ
 unopposed_item c name = line (codes "<li>" ∷ decimal c ∷ codes " <bdi>" ∷ plain name ∷ codes "</bdi></li>" ∷ [])
 
--- an uncontested ward: all its candidates are elected
-abbrev pub unopposed_text : SheetEntry → Bool → List ℕ
-unopposed_text ward is_declared =
+-- an uncontested ward: all its candidates are elected, and a seat that none of them takes stays empty
+abbrev pub unopposed_text : SheetEntry → List ℕ
+unopposed_text ward =
     line (codes "<h2>Elected</h2>\n<p>Seats: " ∷ decimal ward.seats ∷ codes ". The ward is uncontested: there is no poll, and all its candidates are elected.</p>\n<ul>" ∷ [])
     ++ flat_map (λ candidate. unopposed_item candidate.0 candidate.1) ward.candidates
-    ++ elected_end is_declared (ward.seats - length ward.candidates)
+    ++ elected_end true (ward.seats - length ward.candidates)
 
 -- the candidate whom a lot named, and at which stage
 abbrev pub lot_item : List (ℕ × List ℕ) → (ℕ × ℕ) → List ℕ
@@ -101,11 +101,11 @@ lots_text ward lots =
 abbrev pub stages_part : SheetEntry → Poll → List Stage → List ℕ
 stages_part ward poll stages =
     if length stages == 0 then line (codes "<h2>Stages</h2>\n<p>No stage is done yet.</p>" ∷ [])
-    else line (codes "<h2>Stages</h2>\n" ∷ PATTERNS.now ∷ []) ++ blocks ward (scale_of ward.seats poll stages) stages
+    else line (codes "<h2>Stages</h2>\n" ∷ patterns ∷ []) ++ blocks ward (scale_of ward.seats poll stages) stages
 
 -- the result of a ward
 abbrev pub result_text : SheetEntry → Option Poll → Bool → List Stage → List (ℕ × ℕ) → List ℕ
-result_text ward None is_declared stages lots = unopposed_text ward is_declared
+result_text ward None is_declared stages lots = unopposed_text ward
 result_text ward (Some poll) is_declared stages lots =
     papers_table ward.seats poll ++ elected_text ward is_declared stages ++ lots_text ward lots ++ stages_part ward poll stages
 

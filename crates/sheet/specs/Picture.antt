@@ -43,7 +43,7 @@ bar scale earlier before now =
     let all = bar_length scale (max before now) in
     line (
     codes "<g transform=\"translate(" ∷ decimal (column_at earlier) ∷
-    codes " 15)\"><path d=\"M0 -1v14\"/><rect class=\"kept\" width=\"" ∷ decimal kept ∷
-    codes "\" height=\"12\"/><rect class=\"" ∷ moved before now ∷
+    codes " 17)\"><path d=\"M0 -1v12\"/><rect class=\"kept\" width=\"" ∷ decimal kept ∷
+    codes "\" height=\"10\"/><rect class=\"" ∷ moved before now ∷
     codes "\" x=\"" ∷ decimal kept ∷ codes "\" width=\"" ∷ decimal (all - kept) ∷
-    codes "\" height=\"12\"/><path class=\"quota\" d=\"M" ∷ decimal (bar_length scale scale.quota) ∷ codes " -1v14\"/></g>" ∷ [])
+    codes "\" height=\"10\"/><path class=\"quota\" d=\"M" ∷ decimal (bar_length scale scale.quota) ∷ codes " -1m-1.4 0h2.8v12h-2.8z\"/></g>" ∷ [])

@@ -1,6 +1,6 @@
 -- The stages of a ward as a table for a spreadsheet (CSV): a row a candidate, and four columns a stage.
-use Rattle.std.specs.Prelude.{ℕ, ◌+◌, ◌-◌, Bool, ◌||◌, ◌==◌, if◌then◌else◌, nat_eq, List, [], ◌∷◌, ◌++◌, length, map, slice_get, codes, decimal, Option, Some, None, ⊤}
-use Rattle.std.specs.List.{flat_map, list_any}
+use Rattle.std.specs.Prelude.{ℕ, ◌+◌, ◌-◌, Bool, ◌||◌, ◌==◌, if◌then◌else◌, List, [], ◌∷◌, ◌++◌, length, map, slice_get, codes, decimal, Option, Some, None, ⊤}
+use Rattle.std.specs.List.{flat_map}
 use Rattle.csv.specs.Writing.{default_writer, row_text}
 use Rattle.csv.specs.declared.writer.QuoteStyle.TheVariants as style
 use Rattle.csv.specs.declared.writer.WriterBuilder.{WriterBuilder}
@@ -60,7 +60,7 @@ value_in (Candidate c) stage = votes_at stage c
 value_in NonTransferable stage = stage.non_transferable
 value_in Lost stage = stage.lost
 
--- its value at the last of some stages, none before the first
+-- its value at the last of some stages, none before the first: gains less losses, of all stages up to one, add up to the value there
 abbrev pub value_after : Line → Option Stage → ℕ
 value_after line None = 0
 value_after line (Some stage) = value_in line stage

@@ -2,22 +2,19 @@
 use Rattle.std.specs.Prelude.{ℕ, ◌+◌, ◌*◌, ◌%◌, ◌==◌, min, if◌then◌else◌, List, [], ◌∷◌, ◌++◌, length, take, codes, decimal}
 use Rattle.std.specs.List.{flat_map, range_with_len}
 use Rattle.count.specs.declared.stages.Stage.{Stage}
-use Rattle.sheet.specs.Lines.{plain}
+use Rattle.sheet.specs.Lines.{span, plain}
 use Rattle.sheet.specs.Cells.{row}
 use Rattle.sheet.specs.Entries.{SheetEntry}
-use Rattle.sheet.specs.declared.look.TheConstants.{LEGEND}
+use Rattle.sheet.specs.Look.{legend}
 use Rattle.sheet.specs.declared.cells.Cell.TheVariants.{Head, Candidate, NonTransferable, Lost, Above, Bar}
 use Rattle.sheet.specs.declared.picture.Scale.{Scale}
 
--- `Stages 1 to 8`, `Stage 9`: some stages by their numbers
-abbrev pub span : ℕ → ℕ → List (List ℕ)
-span first last = if first == last then codes "Stage " ∷ decimal first ∷ [] else codes "Stages " ∷ decimal first ∷ codes " to " ∷ decimal last ∷ []
-
--- the heads of a table's columns, with its caption
+-- the heads of a table's columns, with its caption, in a region of its own that a keyboard reaches and scrolls
 abbrev pub head_row : ℕ → List Stage → List ℕ
 head_row place stages = row (
-    (codes "<div class=\"wide\">\n<table class=\"stages\">\n<caption>" ∷ []) ++ span (place + 1) (length stages) ++
-    (codes "</caption>\n<thead>\n<tr><th scope=\"col\">Candidate</th>" ∷ [])) Head (codes "</tr>\n</thead>\n<tbody>") place stages
+    codes "<div class=\"wide\" role=\"region\" tabindex=\"0\" aria-label=\"" ∷ span (place + 1) (length stages) ∷
+    codes ", as a table\">\n<table class=\"stages\">\n<caption>" ∷ span (place + 1) (length stages) ∷
+    codes "</caption>\n<thead>\n<tr><th scope=\"col\">Candidate</th>" ∷ []) Head (codes "</tr>\n</thead>\n<tbody>") place stages
 
 -- a candidate's row
 abbrev pub candidate_row : ℕ → List Stage → ℕ → List ℕ → List ℕ
@@ -38,13 +35,15 @@ sum_rows place stages =
 abbrev pub table : SheetEntry → ℕ → List Stage → List ℕ
 table ward place stages = head_row place stages ++ candidate_rows ward place stages ++ sum_rows place stages
 
--- the head of a picture: what it shows, what its bars mean, and the names of the stages. It has room for each candidate, of whom there are 30 at most
+-- the head of a picture, in such a region: what it shows, what its bars mean, and the names of the stages. It has room for each candidate, of whom there are 30 at most
 abbrev pub picture_head : SheetEntry → ℕ → List Stage → List ℕ
 picture_head ward place stages = row (
-    (codes "<div class=\"wide\">\n<svg class=\"moves\" role=\"img\" viewBox=\"-2 0 900 " ∷ decimal (50 + 30 * min (length ward.candidates) 30) ∷ codes "\">\n<title>" ∷ [])
-    ++ span (place + 1) (length stages) ++ (codes ": how votes moved</title>\n" ∷ LEGEND.now ∷ [])) Above (codes "<g transform=\"translate(0 15)\">") place stages
+    codes "<div class=\"wide\" role=\"region\" tabindex=\"0\" aria-label=\"" ∷ span (place + 1) (length stages) ∷
+    codes ", as a picture\">\n<svg class=\"moves\" role=\"img\" viewBox=\"-2 0 900 " ∷ decimal (50 + 30 * min (length ward.candidates) 30) ∷
+    codes "\">\n<title>" ∷ span (place + 1) (length stages) ∷ codes ": how votes moved</title>\n<rect class=\"paper\" x=\"-2\" width=\"900\" height=\"100%\"/>" ∷ legend ∷ [])
+    Above (codes "<g transform=\"translate(0 15)\">") place stages
 
--- a candidate's row in a picture, which opens a group 30 below the one before
+-- a candidate's row in a picture, which opens a group 30 below the one before.
 abbrev pub bar_row : Scale → ℕ → List Stage → ℕ → List ℕ → List ℕ
 bar_row scale place stages c name =
     row (codes "<g transform=\"translate(0 30)\"><text y=\"11\">" ∷ decimal c ∷ codes " <tspan>" ∷ plain name ∷ codes "</tspan></text>" ∷ []) (Bar c scale) [] place stages

@@ -1,6 +1,6 @@
 //! What a table or a picture on a page tells of a stage.
 
-ghost use Rattle.std.specs.Prelude.{◌≡◌, ◌-◌, ◌^◌, ◌<◌, length, map};
+ghost use Rattle.std.specs.Prelude.{◌≡◌, ◌-◌, ◌^◌, ◌<◌, map};
 ghost use Rattle.count.specs.Law.Contest.{votes_at};
 ghost use Rattle.sheet.specs.Cells.{apart as apart_of, cell_text, column_head, from_place, row, sign as sign_of, standing as standing_of, sum_cell, votes_before as before_of, votes_cell};
 ghost use Rattle.sheet.specs.Pieces.{piece_text};

@@ -2,7 +2,6 @@
 
 ghost use Rattle.std.specs.Prelude.{◌≡◌, ◌-◌, ◌^◌, ◌<◌, string_bytes};
 ghost use Rattle.std.specs.List.{flat_map};
-ghost use Rattle.count.specs.declared.stages.Stage.{Stage};
 ghost use Rattle.sheet.specs.Cells.{from_place};
 ghost use Rattle.sheet.specs.Entries.{shown};
 ghost use Rattle.sheet.specs.Page.{elected_at, elected_end, elected_text, item_at, left_words as words_of, seats_left as left_of, unopposed_item, unopposed_text};
@@ -145,10 +144,10 @@ fn write_unopposed_items<W: Sink>(sink: &mut W, ward: &Ward) -> Result<(), Broke
     Ok(())
 }
 
-/// Writes that a ward is uncontested, and all its candidates.
-pub fn write_unopposed<W: Sink>(sink: &mut W, ward: &Ward, is_declared: bool) -> Result<(), Broken>
+/// Writes that a ward is uncontested, and all its candidates. What seats are left is known without a count.
+pub fn write_unopposed<W: Sink>(sink: &mut W, ward: &Ward) -> Result<(), Broken>
     requires { W.failed sink.old < 2 ^ 64 - 1 }
-    ensures { Writes W.taken W.failed sink.old sink.new (unopposed_text (shown ward.now) is_declared) result }
+    ensures { Writes W.taken W.failed sink.old sink.new (unopposed_text (shown ward.now)) result }
 {
     let opening = [
         Piece::Text("<h2>Elected</h2>\n<p>Seats: "),
@@ -160,5 +159,5 @@ pub fn write_unopposed<W: Sink>(sink: &mut W, ward: &Ward, is_declared: bool) ->
     write_line(sink, &opening)?;
     write_unopposed_items(sink, ward)?;
     let left = usize::from(ward.seats).saturating_sub(ward.candidates.len());
-    write_elected_end(sink, is_declared, left)
+    write_elected_end(sink, true, left)
 }

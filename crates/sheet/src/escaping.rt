@@ -1,7 +1,6 @@
 //! Texts on a page, never markup.
 
-ghost use Rattle.std.specs.Prelude.{◌≡◌, ◌-◌, ◌^◌, ◌<◌, codes};
-ghost use Rattle.std.specs.List.{flat_map};
+ghost use Rattle.std.specs.Prelude.{◌-◌, ◌^◌, ◌<◌};
 ghost use Rattle.sheet.specs.Lines.{plain, plain_byte};
 ghost use Rattle.sheet.specs.Writing.{Puts, Writes};
 

@@ -4,7 +4,7 @@ ghost use Rattle.std.specs.Prelude.{◌≡◌, ◌-◌, ◌^◌, ◌<◌, ◌≤
 ghost use Rattle.std.specs.Str.{IsUtf8};
 ghost use Rattle.votes.specs.Text.{votes_text};
 ghost use Rattle.std.specs.List.{flat_map};
-ghost use Rattle.sheet.specs.Lines.{line, number_column, right_in, preference, preferences, escaped, quoted};
+ghost use Rattle.sheet.specs.Lines.{line, number_column, right_in, span, preference, preferences, escaped, quoted};
 ghost use Rattle.sheet.specs.Pieces.{piece_text};
 ghost use Rattle.sheet.specs.Writing.{Puts, Writes};
 
@@ -23,6 +23,8 @@ pub enum Piece<'a> {
     NumberColumn(u8),
     /// The text of a value, right in 13 places.
     ValueColumn(Votes),
+    /// Some stages by the numbers of the first and the last: `Stages 1 to 8`, `Stage 9`.
+    Span(u64, u64),
     /// The numbers of some candidates, each behind a space.
     Preferences(&'a [u8]),
     /// A text in quotation marks.
@@ -84,6 +86,21 @@ pub fn write_number<W: Sink>(sink: &mut W, c: u8) -> Result<(), Broken>
     ensures { Writes W.taken W.failed sink.old sink.new (decimal c) result }
 {
     write_text(sink, Buffer::new().format(c))
+}
+
+/// Writes some stages by the numbers of the first and the last.
+fn write_span<W: Sink>(sink: &mut W, first: u64, last: u64) -> Result<(), Broken>
+    requires { W.failed sink.old < 2 ^ 64 - 1 }
+    ensures { Writes W.taken W.failed sink.old sink.new (span first last) result }
+{
+    if first == last {
+        write_text(sink, "Stage ")?;
+        return write_text(sink, Buffer::new().format(first));
+    }
+    write_text(sink, "Stages ")?;
+    write_text(sink, Buffer::new().format(first))?;
+    write_text(sink, " to ")?;
+    write_text(sink, Buffer::new().format(last))
 }
 
 /// Writes the number of a candidate behind a space.
@@ -149,6 +166,7 @@ fn write_piece<W: Sink>(sink: &mut W, piece: &Piece) -> Result<(), Broken>
         Piece::Value(value) => write_value(sink, 0, *value),
         Piece::NumberColumn(c) => write_number_column(sink, *c),
         Piece::ValueColumn(value) => write_value(sink, 13, *value),
+        Piece::Span(first, last) => write_span(sink, *first, *last),
         Piece::Preferences(list) => write_preferences(sink, list),
         Piece::Quoted(text) => write_quoted(sink, text),
         Piece::Escaped(text) => write_plain(sink, text),

@@ -1,6 +1,6 @@
 //! The page that shows the result of a ward, to print and sign.
 
-ghost use Rattle.std.specs.Prelude.{◌≡◌, ◌-◌, ◌^◌, ◌<◌, ◌≤◌, List, []};
+ghost use Rattle.std.specs.Prelude.{◌≡◌, ◌-◌, ◌^◌, ◌<◌, ◌≤◌};
 ghost use Rattle.std.specs.List.{flat_map};
 ghost use Rattle.votes.specs.Units.{max_papers, max_seats};
 ghost use Rattle.sheet.specs.Entries.{shown};
@@ -11,7 +11,7 @@ ghost use Rattle.sheet.specs.Writing.{Writes};
 use crate::ballots::name_or_withdrawn;
 use crate::elected::{write_elected, write_unopposed};
 use crate::line::{Piece, write_line, write_text};
-use crate::look::{PATTERNS, STYLE};
+use crate::look::{patterns, style};
 use crate::picture::scale_of;
 use crate::table::write_blocks;
 use crate::ward::{Poll, Ward};
@@ -42,7 +42,7 @@ fn write_page_head<W: Sink>(sink: &mut W, ward: &Ward, is_declared: bool) -> Res
         Piece::Text(" "),
         Piece::Escaped(ward.name),
         Piece::Text("</title>\n<style>\n"),
-        Piece::Text(STYLE),
+        Piece::Text(style()),
         Piece::Text("</style>\n</head>\n<body>\n<h1>Ward "),
         Piece::Number(u64::from(ward.number)),
         Piece::Text(" <bdi>"),
@@ -172,7 +172,7 @@ fn write_stages_part<W: Sink>(
         let none = Piece::Text("<h2>Stages</h2>\n<p>No stage is done yet.</p>");
         return write_line(sink, &[none]);
     }
-    let opening = [Piece::Text("<h2>Stages</h2>\n"), Piece::Text(PATTERNS)];
+    let opening = [Piece::Text("<h2>Stages</h2>\n"), Piece::Text(patterns())];
     write_line(sink, &opening)?;
     write_blocks(sink, ward, scale_of(ward.seats, poll, stages), stages)
 }
@@ -190,7 +190,7 @@ fn write_result<W: Sink>(
     ensures { Writes W.taken W.failed sink.old sink.new (result_text (shown ward.now) ward.now.poll is_declared stages.now lots.now) result }
 {
     let Some(poll) = ward.poll else {
-        return write_unopposed(sink, ward, is_declared);
+        return write_unopposed(sink, ward);
     };
     write_papers_table(sink, ward.seats, &poll)?;
     write_elected(sink, ward, is_declared, stages)?;

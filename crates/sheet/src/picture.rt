@@ -114,17 +114,17 @@ pub fn write_bar<W: Sink>(
     let pieces = [
         Piece::Text("<g transform=\"translate("),
         Piece::Number(column_at(earlier)),
-        Piece::Text(" 15)\"><path d=\"M0 -1v14\"/><rect class=\"kept\" width=\""),
+        Piece::Text(" 17)\"><path d=\"M0 -1v12\"/><rect class=\"kept\" width=\""),
         Piece::Number(kept),
-        Piece::Text("\" height=\"12\"/><rect class=\""),
+        Piece::Text("\" height=\"10\"/><rect class=\""),
         Piece::Text(moved(before, now)),
         Piece::Text("\" x=\""),
         Piece::Number(kept),
         Piece::Text("\" width=\""),
         Piece::Number(all.saturating_sub(kept)),
-        Piece::Text("\" height=\"12\"/><path class=\"quota\" d=\"M"),
+        Piece::Text("\" height=\"10\"/><path class=\"quota\" d=\"M"),
         Piece::Number(bar_length(scale, scale.quota)),
-        Piece::Text(" -1v14\"/></g>"),
+        Piece::Text(" -1m-1.4 0h2.8v12h-2.8z\"/></g>"),
     ];
     write_line(sink, &pieces)
 }

@@ -7,7 +7,7 @@ ghost use Rattle.sheet.specs.Writing.{Writes};
 
 use crate::cells::{Cell, write_row};
 use crate::line::{Piece, write_text};
-use crate::look::LEGEND;
+use crate::look::legend;
 use crate::picture::Scale;
 use crate::ward::Ward;
 use count::Stage;
@@ -19,17 +19,15 @@ fn write_head_row<W: Sink>(sink: &mut W, place: usize, stages: &[Stage]) -> Resu
     requires failures { W.failed sink.old < 2 ^ 64 - 1 }
     ensures { Writes W.taken W.failed sink.old sink.new (head_row place stages.now) result }
 {
-    let start = Piece::Text("<div class=\"wide\">\n<table class=\"stages\">\n<caption>");
-    let heads = Piece::Text("</caption>\n<thead>\n<tr><th scope=\"col\">Candidate</th>");
+    let (first, last) = (place as u64 + 1, stages.len() as u64);
+    let opening = [
+        Piece::Text("<div class=\"wide\" role=\"region\" tabindex=\"0\" aria-label=\""),
+        Piece::Span(first, last),
+        Piece::Text(", as a table\">\n<table class=\"stages\">\n<caption>"),
+        Piece::Span(first, last),
+        Piece::Text("</caption>\n<thead>\n<tr><th scope=\"col\">Candidate</th>"),
+    ];
     let end = "</tr>\n</thead>\n<tbody>";
-    let first = Piece::Number(place as u64 + 1);
-    if place + 1 == stages.len() {
-        let opening = [start, Piece::Text("Stage "), first, heads];
-        return write_row(sink, &opening, Cell::Head, end, place, stages);
-    }
-    let last = Piece::Number(stages.len() as u64);
-    let (all, to) = (Piece::Text("Stages "), Piece::Text(" to "));
-    let opening = [start, all, first, to, last, heads];
     write_row(sink, &opening, Cell::Head, end, place, stages)
 }
 
@@ -109,25 +107,20 @@ fn write_picture_head<W: Sink>(
     requires failures { W.failed sink.old < 2 ^ 64 - 1 }
     ensures { Writes W.taken W.failed sink.old sink.new (picture_head (shown ward.now) place stages.now) result }
 {
-    let start = Piece::Text(
-        "<div class=\"wide\">\n<svg class=\"moves\" role=\"img\" viewBox=\"-2 0 900 ",
-    );
-    let height = Piece::Number(50 + 30 * ward.candidates.len().min(30) as u64);
-    let title = Piece::Text("\">\n<title>");
-    let (moved, legend) = (
-        Piece::Text(": how votes moved</title>\n"),
-        Piece::Text(LEGEND),
-    );
+    let (first, last) = (place as u64 + 1, stages.len() as u64);
+    let opening = [
+        Piece::Text("<div class=\"wide\" role=\"region\" tabindex=\"0\" aria-label=\""),
+        Piece::Span(first, last),
+        Piece::Text(", as a picture\">\n<svg class=\"moves\" role=\"img\" viewBox=\"-2 0 900 "),
+        Piece::Number(50 + 30 * ward.candidates.len().min(30) as u64),
+        Piece::Text("\">\n<title>"),
+        Piece::Span(first, last),
+        Piece::Text(
+            ": how votes moved</title>\n<rect class=\"paper\" x=\"-2\" width=\"900\" height=\"100%\"/>",
+        ),
+        Piece::Text(legend()),
+    ];
     let end = "<g transform=\"translate(0 15)\">";
-    let first = Piece::Number(place as u64 + 1);
-    if place + 1 == stages.len() {
-        let stage = Piece::Text("Stage ");
-        let opening = [start, height, title, stage, first, moved, legend];
-        return write_row(sink, &opening, Cell::Above, end, place, stages);
-    }
-    let last = Piece::Number(stages.len() as u64);
-    let (all, to) = (Piece::Text("Stages "), Piece::Text(" to "));
-    let opening = [start, height, title, all, first, to, last, moved, legend];
     write_row(sink, &opening, Cell::Above, end, place, stages)
 }
 

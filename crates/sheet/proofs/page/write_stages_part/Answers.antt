@@ -13,9 +13,9 @@ returns-in_err-write_line g c =
     let e : (length c.args.stages.now == 0) ≡ false = sym c.is_empty.ensures ∙ c.if-is_empty.false in
     let r = c.from_residual.result in
     let failure = c.from_residual.ensures.0 in
-    rw e (Writes-front _ r failure (Writes-failed r failure c.in_err-write_line.ensures))
+    rw e (Writes-front _ r failure (Writes-failed r failure (rw c.patterns.ensures at c.in_err-write_line.ensures)))
 
 pub returns : goal.returns
 returns g c =
     let e : (length c.args.stages.now == 0) ≡ false = sym c.is_empty.ensures ∙ c.if-is_empty.false in
-    rw e (Writes-then _ c.in_ok-write_line.ensures (rw c.scale_of.ensures at c.write_blocks.ensures))
+    rw e (Writes-then _ (rw c.patterns.ensures at c.in_ok-write_line.ensures) (rw c.scale_of.ensures at c.write_blocks.ensures))
