@@ -143,8 +143,8 @@ impl KeptCount {
         elected_with(&self.terms, &self.stages)
     }
 
-    /// Where the count comes to by the stage that is due by the recorded lots; none where no action is due. An error is want of
-    /// memory.
+    /// Where the count comes to by the stage that is due by the recorded lots, which is the only one that comes
+    /// behind those so far; none just where no action is due. An error is want of memory.
     pub fn next_stage(
         &self,
         alloc: Global,
@@ -152,7 +152,7 @@ impl KeptCount {
     ) -> Result<Option<NextStage>, AllocError>
         ensures is { IfOk result (λ found. IfSome found (λ next. (contest : Contest) (history : History) → IsKeptOf contest history self.now
             → (next.places.items ≡ places_after contest (with_next contest lots.now history) self.now.bundles) × (next.stages.items ≡ reverse (with_next contest lots.now history)))) }
-        ensures some { IfOk result (λ found. (contest : Contest) (history : History) → IsKeptOf contest history self.now → IsSome (next_action_of contest lots.now history) → IsSome found) }
+        ensures some { IfOk result (λ found. (contest : Contest) (history : History) → IsKeptOf contest history self.now → IsSome found ↔ IsSome (next_action_of contest lots.now history)) }
     {
         match next_action(&self.terms, &self.stages, lots) {
             None => Ok(None),

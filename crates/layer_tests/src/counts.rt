@@ -2,6 +2,7 @@
 
 mod books;
 mod bundles;
+mod rows;
 mod worked;
 
 ghost use Rattle.count.specs.Bundles.{papers_of};

@@ -24,8 +24,8 @@ impl<S: Alter> Office<S> {
     /// No office is open afterwards.
     ///
     /// `Office` tells what `open_from` would, and nothing is copied; the office is only read, whatever comes of it.
-    /// `Taken` where there is a table with the name of one of ours already. The other database is not changed
-    /// then. After `Copy` it is found as it was, or the whole copy.
+    /// `Taken` where there is a table with the name of one of ours already, or where the other connection is inside
+    /// a transaction. The other database is not changed then. After `Copy` it is found as it was, or the whole copy.
     pub fn copy<T: Alter>(
         alloc: Global,
         conn: &mut Connection<S>,

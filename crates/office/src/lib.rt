@@ -3,7 +3,7 @@
 //! `Office` stands over any store of `sqlite`. `create` makes an empty office, `open_from` opens one, and
 //! `migrate` makes of an earlier program's office one that opens, and `copy` the same office in another database;
 //! `handle` answers one request and `run` a list of them; `status`, `columns`, `work`, `sheet`, `result` and
-//! `ballots` tell of the state, and change nothing, as `wards`, `batches`, `doubtful`, `differences` and `receipts`
+//! `text` tell of the state, and change nothing, as `wards`, `batches`, `doubtful`, `differences` and `receipts`
 //! tell the office alone. A fault inside a transaction closes the office: it answers 104 until it is opened again,
 //! and what is found then is the state before the request or the one after it, whole.
 //!

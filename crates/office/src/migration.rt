@@ -10,7 +10,7 @@ ghost use Rattle.tables.specs.Presence.{IsOurs, IsOlderSchema};
 ghost use Rattle.tables.specs.Reading.{OnlyReads};
 ghost use Rattle.store.specs.declared.older.OlderForm.{OlderForm};
 ghost use Rattle.store.specs.Offices.{HoldsState, IsAt, Wears};
-ghost use Rattle.store.specs.Migrations.{older_tables, IsOlderState, HoldsOlder, RestsOlder, StoresOlder, WasAt, IsToldInMigration, LeavesOldOrNew, LeavesOlderOr};
+ghost use Rattle.store.specs.Migrations.{older_tables, IsOlderState, HoldsOlder, RestsOlder, StoresOlder, WasAt, IsToldInMigration, FailsToMigrate, LeavesOldOrNew, LeavesOlderOr};
 
 use crate::offices::Office;
 use sqlite::{Alter, Connection};
@@ -25,7 +25,8 @@ impl<S: Alter> Office<S> {
     /// `WrongDatabase` and `NewerSchema` as `open_from` tells them. `Damaged` where the rows are the tables of
     /// no state, neither of this program's version nor of the earlier one's. Nothing is changed then. After
     /// `Memory` and `Store` the earlier office is found as it was, or the whole of the new one; where none was
-    /// there, nothing is changed. `Store` too where the connection is inside a transaction.
+    /// there, nothing is changed. `Store` where the store failed, where rowids aren't the rows' own, or where the
+    /// connection is inside a transaction.
     pub fn migrate(alloc: Global, conn: &mut Connection<S>) -> Result<Migrated, Fault>
         ensures moved { HasCleanDisk (state S.Store conn.new) → (form : OlderForm) (s : OfficeState) → RestsOlder form s (state S.Store conn.old)
             → IfOk result (λ m. (m ≡ Migrated.Done) × IsAt s (state S.Store conn.new)) }
@@ -43,6 +44,8 @@ impl<S: Alter> Office<S> {
             → IfOk result (λ m. (s : OfficeState) × WasAt db m s × IsAt s (state S.Store conn.new)) }
         ensures told { HasCleanDisk (state S.Store conn.new) → (db : Database) → IsOurs db.schema → IsOlderSchema db.schema → RestsAt db (state S.Store conn.old)
             → IfErr result (IsToldInMigration db) }
+        ensures fails { HasCleanDisk (state S.Store conn.new) → (db : Database) → IsOurs db.schema → IsOlderSchema db.schema → RestsAt db (state S.Store conn.old)
+            → IfErr result (FailsToMigrate db (state S.Store conn.old) (state S.Store conn.new)) }
         ensures unchanged { IfErr result (λ f. (f ≡ Fault.Memory) ⊎ ((f ≡ Fault.Store) ⊎ OnlyReads (state S.Store conn.old) (state S.Store conn.new))) }
         ensures wears { Wears (state S.Store conn.old) (state S.Store conn.new) }
         ensures clean { HasCleanDisk (state S.Store conn.new) → HasCleanDisk (state S.Store conn.old) }

@@ -123,7 +123,8 @@ impl<S: Alter> Office<S> {
     ///
     /// `Memory` before the transaction leaves tables and office as they were, and the office open. Any
     /// other fault closes the office: the tables before the request are found then, or, where it was
-    /// accepted, those after it. A closed office answers `Closed`.
+    /// accepted, those after it. A closed office answers `Closed`. Where the office stays open after a
+    /// fault, no row was written, not even in a transaction that was undone.
     ///
     /// The request that met a fault, sent again after the office was opened again, is `Done` where the old
     /// tables were found and `Kept` where the new ones were, with the same reply and state after.
@@ -142,6 +143,7 @@ impl<S: Alter> Office<S> {
         ensures unseen { WhenOpenAt (state S.Store) self.old self.new
             (λ s. is_office actor ≡ false → (clerk : ℕ) → (actor == clerk) ≡ false → LeavesState (state S.Store self.new.held) (λ x. seen_by clerk x ≡ seen_by clerk s)) }
         ensures closes { IfErr result (λ f. (f ≡ Fault.Memory) ⊎ (self.new.closed ≡ true)) }
+        ensures unwritten { IfErr result (λ f. self.new.closed ≡ false → OnlyReads (state S.Store self.old.held) (state S.Store self.new.held)) }
         ensures cause { WhenOpenAt (state S.Store) self.old self.new
             (λ s. IfErr result (λ f. FailsBy (state S.Store self.old.held) (state S.Store self.new.held) f ⊎ (is_accepted (step s actor id.now command.now) ≡ true))) }
         ensures wears { Wears (state S.Store self.old.held) (state S.Store self.new.held) }
@@ -157,6 +159,7 @@ impl<S: Alter> Office<S> {
             (λ s. Handled s (step s actor id.now command.now) result self.new.closed (state S.Store self.new.held)) }
         ensures again { OnOk result ((s : OfficeState) → IsKeptAgain actor id.now command.now (step s actor id.now command.now)) }
         ensures closes { IfErr result (λ f. (f ≡ Fault.Memory) ⊎ (self.new.closed ≡ true)) }
+        ensures unwritten { IfErr result (λ f. self.new.closed ≡ false → OnlyReads (state S.Store self.old.held) (state S.Store self.new.held)) }
         ensures cause { WhenOpenAt (state S.Store) self.old self.new
             (λ s. IfErr result (λ f. FailsBy (state S.Store self.old.held) (state S.Store self.new.held) f ⊎ (is_accepted (step s actor id.now command.now) ≡ true))) }
         ensures wears { Wears (state S.Store self.old.held) (state S.Store self.new.held) }

@@ -1,7 +1,9 @@
 -- What an accepted request adds makes of the tabulation of a state that of the state after it.
-use Rattle.std.proofs.Common.{◌≡◌, ℕ, ◌+◌, Bool, true, false, cond, List, Option, Some, None, Result, Ok, Err, option_map, string_bytes, refl, sym, subst, ◌∙◌}
+use Rattle.std.proofs.Common.{◌≡◌, ℕ, ◌+◌, Bool, true, false, cond, List, Option, Some, None, Result, Ok, Err, option_map, string_bytes, refl, sym, ap, subst, ◌∙◌}
 use Rattle.std.specs.Result.{IfOk}
 use Rattle.std.specs.Str.{bytes_eq}
+use Rattle.std.specs.declared.string.String.{String}
+use Rattle.std.specs.declared.alloc.Global.{Global}
 use Rattle.std.proofs.lemmas.List.Sorted.{IsPermutation-refl}
 use Rattle.register.specs.declared.refusal.Reason.{Reason}
 use Rattle.register.specs.declared.refusal.Reason.TheVariants.{BadId, IdUsed}
@@ -13,6 +15,7 @@ use Rattle.register.specs.declared.batches.BatchCommand.TheVariants.{Add as batc
 use Rattle.register.specs.declared.counts.CountCommand.TheVariants.{Seal, Advance, Lot, Declare}
 use Rattle.register.specs.declared.elections.Count.{Count as CountValue}
 use Rattle.register.specs.declared.tabulated.Addition.{Addition}
+use Rattle.register.specs.declared.decision.Change.{Change}
 use Rattle.register.specs.declared.decision.Decision.{Decision}
 use Rattle.register.specs.declared.decision.Decision.TheVariants.{Accepted, Kept, Refused}
 use Rattle.register.specs.declared.view.View.{View}
@@ -26,7 +29,7 @@ use Rattle.register.specs.Elections.{election_of}
 use Rattle.register.specs.Parts.{part_entries}
 use Rattle.register.specs.Machine.{accepts, keeps, refuses, part_of, objections, subject_of, reply_to, effect_of, receipt_for, judged, answered, decided, ruling_at}
 use Rattle.register.specs.Tabulated.{AdditionEntries, no_addition, addition_entries, with_addition, tabulation_of, SameTabulation, IsCountFor, AddsWhatIsCounted}
-use Rattle.register.specs.Additions.{addition_at, IsAddedFor, DecidesAddition}
+use Rattle.register.specs.Additions.{addition_at, addition_due, IsAddedBy, IsAddedFor, DecidesAddition, IsAddedAt, AddsNoMore}
 use Rattle.register.specs.Views.{IsViewOf, decided_on, ruling_of}
 use Rattle.register.proofs.MapLemmas.{found_number}
 use Rattle.register.proofs.CountLemmas.{HasStageDue, advance_due}
@@ -91,17 +94,34 @@ module _ (s : OfficeState) (actor : ℕ) (is : IsState s) (receipt : ReceiptEntr
       let later = with_effect (effect_of actor command (part_of s actor command)) s in
       nothing_added s (with_receipt receipt later) (addition_entries addition) none (of_receipt receipt later ∙ same)
 
-  -- an Advance, which adds the stage that is due
+  -- an Advance adds the stage of the action that is due,
+  stage_alone : (ward : ℕ) → IsCountFor s (Count (Advance ward)) shown → IsAddedFor (Count (Advance ward)) shown addition → (due : HasStageDue s ward) → addition_entries addition ≡ addition_at (election_of s due.own) due.action
+  stage_alone ward count adds due =
+      let own = count due.own due.found due.due.contested in
+      let added = subst (λ (o : Option CountValue). IsAddedBy (Advance ward) o addition) own.1 adds in
+      added (election_of s due.own) own.2 (found_number (λ (w : WardEntry). w.number) s.wards ward due.own due.found) ∙ ap (addition_due (election_of s due.own)) due.due.next
+
   advanced : (ward : ℕ) → IsCountFor s (Count (Advance ward)) shown → IsAddedFor (Count (Advance ward)) shown addition → HasStageDue s ward → IsTold (stage_counted ward (next_stage (ward_at s ward)))
   advanced ward count adds due =
       let stage = due.due in
-      let own = count due.own due.found stage.contested in
-      let of = own.2 in
-      let same = adds own.0 own.1 (election_of s due.own) due.action of (found_number (λ (w : WardEntry). w.number) s.wards ward due.own due.found) stage.next in
       subst (λ (k : ℕ). IsTold (stage_counted ward k)) (sym stage.stage)
-      (subst (λ (a : AdditionEntries). SameTabulation (with_addition a (tabulation_of s)) (tabulation_of (with_receipt receipt (with_effect (stage_counted ward (due.own.done + 1)) s)))) (sym same)
+      (subst (λ (a : AdditionEntries). SameTabulation (with_addition a (tabulation_of s)) (tabulation_of (with_receipt receipt (with_effect (stage_counted ward (due.own.done + 1)) s)))) (sym (stage_alone ward count adds due))
       (subst (SameTabulation (with_addition (addition_at (election_of s due.own) due.action) (tabulation_of s))) (sym (of_receipt receipt (with_effect (stage_counted ward (due.own.done + 1)) s)))
       (stage_tabulated s ward due.own is due.found due.action stage)))
+
+  -- and any other command nothing
+  added : (command : Command) → first_reason (objections actor command (part_of s actor command)) ≡ None → IsCountFor s command shown → IsAddedFor command shown addition → IsAddedAt s command addition
+  added (Ward command) free count adds = adds
+  added (Candidate command) free count adds = adds
+  added (Batch command) free count adds = adds
+  added (Keying command) free count adds = adds
+  added (Verdict command) free count adds = adds
+  added (Count (Seal ward)) free count adds = adds
+  added (Count (Advance ward)) free count adds =
+      let due = advance_due s actor ward is free in
+      record { own = due.own; found = due.found; action = due.action; due = due.due.next; adds = stage_alone ward count adds due }
+  added (Count (Lot ward stage candidate)) free count adds = adds
+  added (Count (Declare ward)) free count adds = adds
 
   told : (command : Command) → first_reason (objections actor command (part_of s actor command)) ≡ None → IsCountFor s command shown → IsAddedFor command shown addition → IsTold (effect_of actor command (part_of s actor command))
   told (Ward (ward_add ward seats name)) free count adds = stays (Ward (ward_add ward seats name)) adds (fits s actor (Ward (ward_add ward seats name)) is free).tabulated
@@ -120,14 +140,26 @@ module _ (s : OfficeState) (actor : ℕ) (is : IsState s) (receipt : ReceiptEntr
 
 -- ---- a decision
 
--- what is decided on a view of a state adds to the tabulation what is counted
-pub adds_counted : (s : OfficeState) (view : View) (command : Command) (decision : Decision) → IsState s → IsViewOf s command view → ruling_of decision ≡ decided_on view command → DecidesAddition command view.part.count decision → AddsWhatIsCounted s decision
-adds_counted s view command (Accepted change reply) is shows same adds =
-    let id = view.id.now in
-    let receipt = receipt_for view.actor id command (part_of s view.actor command) in
-    let at_state = same ∙ ruling_on s view.actor id command (option_map receipt_entry view.receipt) (part_entries view.part) shows.receipt shows.part in
-    let by = is_accepted s view.actor id command (change_entry change) (string_bytes reply) (sym at_state) in
-    subst (λ (made : ChangeEntry). SameTabulation (with_addition (addition_entries change.addition) (tabulation_of s)) (tabulation_of (with_change made s))) by.change_is
-    (told s view.actor is receipt view.part.count change.addition command by.free (shows.count by.new) adds)
-adds_counted s view command (Kept reply) is shows same adds = tt
-adds_counted s view command (Refused why) is shows same adds = tt
+module _ (s : OfficeState) (view : View) (command : Command) where
+  -- a change that is decided on a view of the state is that of an accepted request
+  decided_there : (change : Change) (reply : String Global) → IsViewOf s command view → ruling_of (Accepted change reply) ≡ decided_on view command → IsAccepted s view.actor view.id.now command (change_entry change)
+  decided_there change reply shows same =
+      is_accepted s view.actor view.id.now command (change_entry change) (string_bytes reply)
+      (sym (same ∙ ruling_on s view.actor view.id.now command (option_map receipt_entry view.receipt) (part_entries view.part) shows.receipt shows.part))
+
+  -- what is decided on a view of a state adds to the tabulation what is counted,
+  pub adds_counted : (decision : Decision) → IsState s → IsViewOf s command view → ruling_of decision ≡ decided_on view command → DecidesAddition command view.part.count decision → AddsWhatIsCounted s decision
+  adds_counted (Accepted change reply) is shows same adds =
+      let by = decided_there change reply shows same in
+      subst (λ (made : ChangeEntry). SameTabulation (with_addition (addition_entries change.addition) (tabulation_of s)) (tabulation_of (with_change made s))) by.change_is
+      (told s view.actor is (receipt_for view.actor view.id.now command (part_of s view.actor command)) view.part.count change.addition command by.free (shows.count by.new) adds)
+  adds_counted (Kept reply) is shows same adds = tt
+  adds_counted (Refused why) is shows same adds = tt
+
+  -- and no more than that
+  pub adds_no_more : (decision : Decision) → IsState s → IsViewOf s command view → ruling_of decision ≡ decided_on view command → DecidesAddition command view.part.count decision → AddsNoMore s command decision
+  adds_no_more (Accepted change reply) is shows same adds =
+      let by = decided_there change reply shows same in
+      added s view.actor is (receipt_for view.actor view.id.now command (part_of s view.actor command)) view.part.count change.addition command by.free (shows.count by.new) adds
+  adds_no_more (Kept reply) is shows same adds = tt
+  adds_no_more (Refused why) is shows same adds = tt

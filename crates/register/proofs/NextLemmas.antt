@@ -1,5 +1,6 @@
 -- What a count that is shown comes to by the stage that is due, and what this adds to the tabulation.
-use Rattle.std.proofs.Common.{◌≡◌, ℕ, suc, ◌+◌, ◌==◌, true, false, List, [], ◌∷◌, map, length, reverse, Some, refl, ap, ◌∙◌, arith}
+use Rattle.std.proofs.Common.{◌≡◌, ℕ, suc, ◌+◌, ◌==◌, true, false, List, [], ◌∷◌, map, length, reverse, Option, Some, None, refl, ap, ◌∙◌, arith}
+use Rattle.std.specs.Prelude.{IsSome}
 use Rattle.std.proofs.lemmas.Bool.{both_ways, eqb-true, eq-eqb}
 use Rattle.std.proofs.lemmas.List.{reverse-reverse, length-reverse}
 use Rattle.count.specs.Books.{placed}
@@ -16,9 +17,14 @@ use Rattle.count.specs.declared.stages.Stage.{Stage}
 use Rattle.register.specs.Marks.{columns_of}
 use Rattle.register.specs.Elections.{ElectionEntry, contest_of, stages_of}
 use Rattle.register.specs.Tabulated.{PlacedEntry, FigureEntry, AdditionEntries, figure_at, placed_after}
-use Rattle.register.specs.Additions.{moved_between, figures_added, addition_by, addition_at}
+use Rattle.register.specs.Additions.{moved_between, figures_added, addition_by, addition_at, addition_due}
 use Rattle.register.specs.Walks.{moved_bundles, last_figures, all_added, moves_added}
 use Rattle.register.proofs.MovedLemmas.{walked-moves}
+
+-- where an action is due, this is added, whichever it is
+pub some_due : (e : ElectionEntry) (due : Option Action) (added : AdditionEntries) → IsSome due → ((action : Action) → due ≡ Some action → added ≡ addition_at e action) → added ≡ addition_due e due
+some_due e None added some each = absurd (cc)
+some_due e (Some action) added some each = each action refl
 
 -- what a stage more makes of what was kept: places and stages
 abbrev pub IsNext : Contest → List (ℕ × ℕ) → History → CountKept → List Placed → List Stage → Type 0

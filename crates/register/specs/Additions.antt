@@ -1,5 +1,5 @@
 -- What a stage more of a ward's count adds to the tabulation of an office.
-use Rattle.std.specs.Prelude.{◌≡◌, ⊤, ℕ, ◌+◌, ◌==◌, Bool, not, ◌&&◌, List, [], ◌∷◌, map, length, Option, Some}
+use Rattle.std.specs.Prelude.{◌≡◌, ⊤, ℕ, ◌+◌, ◌==◌, Bool, not, ◌&&◌, List, [], ◌∷◌, map, length, Option, Some, None}
 use Rattle.std.specs.List.{filter}
 use Rattle.count.specs.Bundles.{Bundle, bundled}
 use Rattle.count.specs.Marks.{figures_at}
@@ -18,7 +18,8 @@ use Rattle.register.specs.declared.decision.Decision.TheVariants.{Accepted, Kept
 use Rattle.register.specs.declared.elections.Count.{Count as CountValue}
 use Rattle.register.specs.declared.tabulated.Addition.{Addition}
 use Rattle.register.specs.Marks.{columns_of}
-use Rattle.register.specs.Elections.{ElectionEntry, contest_of, stages_of}
+use Rattle.register.specs.Offices.{WardEntry, OfficeState, ward_at}
+use Rattle.register.specs.Elections.{ElectionEntry, election_of, contest_of, stages_of}
 use Rattle.register.specs.Tabulated.{FigureEntry, AdditionEntries, placed_after, figure_at, no_addition, addition_entries, IsCountOf}
 
 -- two places are one
@@ -44,15 +45,19 @@ addition_by e (r ∷ before) s =
 abbrev pub addition_at : ElectionEntry → Action → AdditionEntries
 addition_at e action = addition_by e (stages_of e) (stage_of (contest_of e) (stages_of e) action)
 
+-- what the stage that is due adds, and nothing where no action is due
+abbrev pub addition_due : ElectionEntry → Option Action → AdditionEntries
+addition_due e None = no_addition
+addition_due e (Some action) = addition_at e action
+
 -- this is what the stage that is due adds to a ward's count, where that is the one shown
 abbrev pub IsAddedTo : ℕ → CountValue → Addition → Type 0
 IsAddedTo ward count addition =
-    (e : ElectionEntry) (action : Action) → IsCountOf e count → ward ≡ e.ward.number → next_action (contest_of e) e.lots (stages_of e) ≡ Some action
-    → addition_entries addition ≡ addition_at e action
+    (e : ElectionEntry) → IsCountOf e count → ward ≡ e.ward.number → addition_entries addition ≡ addition_due e (next_action (contest_of e) e.lots (stages_of e))
 
 -- this is what a command about a count adds, where it is accepted: an Advance the stage that is due in the count shown, another command nothing
 abbrev pub IsAddedBy : CountCommand → Option CountValue → Addition → Type 0
-IsAddedBy (Advance ward) shown addition = (count : CountValue) → shown ≡ Some count → IsAddedTo ward count addition
+IsAddedBy (Advance ward) (Some count) addition = IsAddedTo ward count addition
 IsAddedBy command shown addition = addition_entries addition ≡ no_addition
 
 -- so any command does
@@ -65,3 +70,22 @@ abbrev pub DecidesAddition : Command → Option CountValue → Decision → Type
 DecidesAddition command shown (Accepted change reply) = IsAddedFor command shown change.addition
 DecidesAddition command shown (Kept reply) = ⊤
 DecidesAddition command shown (Refused why) = ⊤
+
+-- An accepted Advance adds the stage of the action that is due in the count of its ward.
+pub record AddsStageDue (s : OfficeState) (ward : ℕ) (addition : Addition) : Type 0 where
+  pub own : WardEntry
+  pub found : ward_at s ward ≡ Some own
+  pub action : Action
+  pub due : next_action (contest_of (election_of s own)) (election_of s own).lots (stages_of (election_of s own)) ≡ Some action
+  pub adds : addition_entries addition ≡ addition_at (election_of s own) action
+
+-- this is all that an accepted command adds to the tabulation of a state: an Advance its stage, another command nothing
+abbrev pub IsAddedAt : OfficeState → Command → Addition → Type 0
+IsAddedAt s (Count (Advance ward)) addition = AddsStageDue s ward addition
+IsAddedAt s command addition = addition_entries addition ≡ no_addition
+
+-- so a decision adds no more, where it accepts a command
+abbrev pub AddsNoMore : OfficeState → Command → Decision → Type 0
+AddsNoMore s command (Accepted change reply) = IsAddedAt s command change.addition
+AddsNoMore s command (Kept reply) = ⊤
+AddsNoMore s command (Refused why) = ⊤

@@ -12,7 +12,7 @@ ghost use Rattle.register.specs.declared.command.Request.{Request};
 ghost use Rattle.register.specs.Standings.{work_of};
 ghost use Rattle.register.specs.Machine.{objections, IsNumbered, subject_of, reply_to, effect_of, judged, ruling_at, step, state_after, after, accepted_of, IsKeptAgain};
 ghost use Rattle.register.specs.Tabulated.{AddsWhatIsCounted};
-ghost use Rattle.register.specs.Additions.{IsAddedFor, DecidesAddition};
+ghost use Rattle.register.specs.Additions.{IsAddedFor, DecidesAddition, AddsNoMore};
 ghost use Rattle.register.specs.WorkedOffice.{WardRows, NominationRows, KeyedRows, ThirdRows, UncontestedRows};
 ghost use Rattle.register.specs.Views.{IsViewOf, decided_on, ruling_of, outcome_of, IsToldAlike, IsAdvanced};
 
@@ -171,8 +171,9 @@ fn decided(alloc: Global, view: &View<'_>, command: &Command) -> Result<Decision
 /// them as they are. An error is want of memory, and nothing was decided then.
 ///
 /// With what an accepted request adds to it, the tabulation of the counts before it is the one after it, up to
-/// the order of its entries. So an Advance adds the figures of its stage, with all bundles of the ward at the
-/// first one, and at a later one those whose papers lie elsewhere than before; no other request adds anything.
+/// the order of its entries. An Advance adds the figures of the stage that is due, with all bundles of the ward
+/// at the first one, and at a later one those whose papers lie elsewhere than before, and no others; no other
+/// request adds anything.
 ///
 /// A clerk, or whoever else isn't the office, is answered by what he sees of the state alone: the wards and
 /// their phases, the candidates, the batches, his own keyings and receipts. His requests leave what any other
@@ -185,6 +186,7 @@ pub fn decide(alloc: Global, view: &View<'_>, command: &Command) -> Result<Decis
     ensures stays_a_state { (s : OfficeState) → IsState s → IsState (state_after s (step s view.now.actor view.now.id.now command.now)) }
     ensures advances { (s : OfficeState) → IsState s → IsAdvanced s command.now (step s view.now.actor view.now.id.now command.now) }
     ensures tabulates { IfOk result (λ decision. (s : OfficeState) → IsState s → IsViewOf s command.now view.now → AddsWhatIsCounted s decision) }
+    ensures adds { IfOk result (λ decision. (s : OfficeState) → IsState s → IsViewOf s command.now view.now → AddsNoMore s command.now decision) }
     ensures blind { is_office view.now.actor ≡ false → IfOk result (λ decision. (s : OfficeState) → IsViewOf s command.now view.now → ruling_of decision ≡ ruling_at (seen_by view.now.actor s) view.now.actor view.now.id.now command.now) }
     ensures unseen { is_office view.now.actor ≡ false → (s : OfficeState) (clerk : ℕ) → (view.now.actor == clerk) ≡ false → seen_by clerk (state_after s (step s view.now.actor view.now.id.now command.now)) ≡ seen_by clerk s }
     ensures seen_alone { is_office view.now.actor ≡ false → (s : OfficeState) → IsState s

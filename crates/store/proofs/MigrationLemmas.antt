@@ -39,11 +39,12 @@ use Rattle.store.specs.EntryRows.{this_version, office_row}
 use Rattle.store.specs.Offices.{no_tabulation, tables_of, tables_with, HoldsState, IsAt}
 use Rattle.store.specs.Openings.{HasNoOffice, IsNewer, HoldsNoState, IsToldBy, HasVersion, has_entries, IsTabulatedAs}
 use Rattle.store.specs.Listings.{TellsStrange, ListsFirst}
-use Rattle.store.specs.Migrations.{tables_in, name_of, tabulation_in, older_tables, is_about_third, IsOlderState, HoldsOlder, RestsOlder, HoldsNoOlder, StoresOlder, LeavesOldOrNew, WasAt, IsToldInMigration, IsBare, IsOlderOf, Lacks, TellsOlder, LeavesOlderOr}
+use Rattle.store.specs.Migrations.{tables_in, name_of, tabulation_in, older_tables, is_about_third, IsOlderState, HoldsOlder, RestsOlder, HoldsNoOlder, StoresOlder, LeavesOldOrNew, WasAt, IsToldInMigration, FailsToMigrate, IsBare, IsOlderOf, Lacks, TellsOlder, LeavesOlderOr}
 use Rattle.tables.proofs.HoldLemmas.{rows_held, held_listed}
 use Rattle.tables.proofs.OrderLemmas.{key_of_number}
 use Rattle.tables.proofs.ChangeLemmas.{rows_set}
 use Rattle.tables.proofs.ReadLemmas.{only_reads_then}
+use Rattle.tables.proofs.CauseLemmas.{failed_later}
 use Rattle.tables.proofs.ListingLemmas.{begins_to}
 use Rattle.tables.proofs.MakeLemmas.{first_at, first_from, first_begins, first_leaves, first_found, all_made}
 use Rattle.store.proofs.StateLemmas.{equal_maps, tabulated_same, one_state}
@@ -482,6 +483,12 @@ module _ (r : Result Migrated Fault) (old new : State) where
       go : (m : Migrated) → (x : OfficeState) × WasAt db m x × IsAt x new → (m ≡ Already) × IsAt s new
       go Already found = (refl, subst (λ (y : OfficeState). IsAt y new) (sym (one_state db s found.0 held found.1)) found.2)
       go Done found = absurd (two_versions db (older_version found.1.0 db found.0 found.1.1) (state_version db s held))
+
+-- why a migration that began with a read came to nothing
+pub if_failed_later : (r : Result Migrated Fault) (db : Database) (a b c : State) → OnlyReads a b → HasCleanDisk b → b.faults ≤ c.faults → IfErr r (FailsToMigrate db b c) → IfErr r (FailsToMigrate db a c)
+if_failed_later (Ok m) db a b c first clean counts fails = tt
+if_failed_later (Err f) db a b c first clean counts (inl listed) = inl (λ store. elim (listed store) [ inl failed ↦ inl (failed_later a b c first clean counts failed) | inr shared ↦ inr shared ])
+if_failed_later (Err f) db a b c first clean counts (inr held) = inr held
 
 -- ---- the parts of a reading
 

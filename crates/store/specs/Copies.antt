@@ -30,7 +30,7 @@ holdings_of s = record {
 abbrev pub LeavesNoneOrAll : OfficeState → State → State → Type 0
 LeavesNoneOrAll s old new = (trees : Trees) → new.may_leave trees → old.may_leave trees ⊎ Stores (tables_of s) trees
 
--- why nothing was copied: what an opening tells at this database, and where that is a fault of its store, why; or, where it holds a state, memory
+-- why no copy is told: what an opening tells at this database, and where that is a fault of its store, why; or, where it holds a state, memory
 -- was wanting for the copy, or the copy's store failed
 abbrev pub IsToldInCopying : Database → State → State → CopyFault → Type 0
 IsToldInCopying db old new (Office fault) = IsToldBy db fault × FailsToList db old new fault

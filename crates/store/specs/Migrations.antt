@@ -14,6 +14,7 @@ use Rattle.tables.specs.declared.presence.Form.{Form}
 use Rattle.tables.specs.declared.presence.Form.TheVariants.{WithoutThird, WithoutCounts as WithoutCountTables}
 use Rattle.tables.specs.Contents.{Contents, changed, Stores}
 use Rattle.tables.specs.Making.{HasFirst, RestsFirst, StoresFirst}
+use Rattle.tables.specs.Reading.{FailsToList}
 use Rattle.store.specs.declared.older.OlderForm.{OlderForm}
 use Rattle.store.specs.declared.older.OlderForm.TheVariants.{WithCounts, WithoutCounts}
 use Rattle.store.specs.declared.migration.Migrated.{Migrated}
@@ -99,6 +100,11 @@ IsToldInMigration db Closed = ⊥
 IsToldInMigration db WrongDatabase = HasNoOffice db
 IsToldInMigration db NewerSchema = IsNewer db
 IsToldInMigration db OlderSchema = ⊥
+
+-- why a migration came to nothing, where that is told as a fault of the store: all rows couldn't be listed; or they are the older tables of a
+-- state, and of a write that fails no cause is stated
+abbrev pub FailsToMigrate : Database → State → State → Fault → Type 0
+FailsToMigrate db old new f = FailsToList db old new f ⊎ ((form : OlderForm) × (s : OfficeState) × HoldsOlder form db s)
 
 -- ---- the parts of a migration
 

@@ -33,14 +33,16 @@ pub struct Holdings {
     pub receipts: usize,
 }
 
-/// Why nothing was copied.
+/// Why no copy is told.
 #[derive(Clone, Copy)]
 pub enum CopyFault {
     /// The office tells this when it is opened, or its store is inside a transaction.
     Office(Fault),
-    /// Where the copy was to be made there is a table with the name of one of ours, or a transaction is under way.
+    /// Where the copy was to be made there is a table with the name of one of ours, or a transaction is under way;
+    /// nothing was written.
     Taken,
-    /// The copy couldn't be written, for want of memory, or since its store failed.
+    /// The copy couldn't be written to its end, for want of memory, or since its store failed: none was made, or
+    /// the whole of it.
     Copy(Fault),
 }
 
@@ -91,8 +93,9 @@ fn commit_copy<T: Alter>(alloc: Global, copy: &mut Connection<T>, rows: &Rows) -
 /// transaction, and tells how much it has. No office is open afterwards.
 ///
 /// The rows are judged first, as `Store::open_from` does, and what it would tell is told as `Office`; the office
-/// is only read, whatever comes of it. `Taken` where there is a table with the name of one of ours already. The
-/// other database is not changed then. After `Copy` it is found as it was, or the whole copy.
+/// is only read, whatever comes of it. `Taken` where there is a table with the name of one of ours already, or
+/// where the other connection is inside a transaction. The other database is not changed then. After `Copy` it
+/// is found as it was, or the whole copy.
 pub fn copy<S: Alter, T: Alter>(
     alloc: Global,
     conn: &mut Connection<S>,

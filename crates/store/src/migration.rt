@@ -12,7 +12,7 @@ ghost use Rattle.tables.specs.Reading.{OnlyReads};
 ghost use Rattle.store.specs.declared.older.OlderForm.{OlderForm};
 ghost use Rattle.store.specs.Offices.{tables_of, HoldsState, IsAt, Wears};
 ghost use Rattle.store.specs.Openings.{HasVersion};
-ghost use Rattle.store.specs.Migrations.{older_tables, IsOlderState, HoldsOlder, RestsOlder, StoresOlder, WasAt, IsToldInMigration, Lacks, TellsOlder, LeavesOldOrNew, LeavesOlderOr};
+ghost use Rattle.store.specs.Migrations.{older_tables, IsOlderState, HoldsOlder, RestsOlder, StoresOlder, WasAt, IsToldInMigration, FailsToMigrate, Lacks, TellsOlder, LeavesOldOrNew, LeavesOlderOr};
 
 use crate::older::{Older, read_older};
 use crate::opening::check;
@@ -61,6 +61,8 @@ fn migrate_older<S: Alter>(alloc: Global, conn: &mut Connection<S>) -> Result<Mi
         → LeavesOlderOr db (state S.Store conn.old) (state S.Store conn.new) }
     ensures told { HasCleanDisk (state S.Store conn.new) → (db : Database) → IsOlderSchema db.schema → HasVersion 1 db → RestsAt db (state S.Store conn.old)
         → IfErr result (TellsOlder db) }
+    ensures fails { HasCleanDisk (state S.Store conn.new) → (db : Database) → IsOlderSchema db.schema → HasVersion 1 db → RestsAt db (state S.Store conn.old)
+        → IfErr result (FailsToMigrate db (state S.Store conn.old) (state S.Store conn.new)) }
     ensures unchanged { IfErr result (λ f. (f ≡ Fault.Memory) ⊎ ((f ≡ Fault.Store) ⊎ OnlyReads (state S.Store conn.old) (state S.Store conn.new))) }
     ensures wears { Wears (state S.Store conn.old) (state S.Store conn.new) }
     ensures clean { HasCleanDisk (state S.Store conn.new) → HasCleanDisk (state S.Store conn.old) }
@@ -80,6 +82,8 @@ fn open_or_migrate<S: Alter>(alloc: Global, conn: &mut Connection<S>) -> Result<
         → LeavesOlderOr db (state S.Store conn.old) (state S.Store conn.new) }
     ensures told { HasCleanDisk (state S.Store conn.new) → (db : Database) → IsOurs db.schema → IsOlderSchema db.schema → RestsAt db (state S.Store conn.old)
         → IfErr result (IsToldInMigration db) }
+    ensures fails { HasCleanDisk (state S.Store conn.new) → (db : Database) → IsOurs db.schema → IsOlderSchema db.schema → RestsAt db (state S.Store conn.old)
+        → IfErr result (FailsToMigrate db (state S.Store conn.old) (state S.Store conn.new)) }
     ensures reads { HasCleanDisk (state S.Store conn.new) → (db : Database) → RestsAt db (state S.Store conn.old) → (s : OfficeState) → HoldsState db s
         → OnlyReads (state S.Store conn.old) (state S.Store conn.new) }
     ensures unchanged { IfErr result (λ f. (f ≡ Fault.Memory) ⊎ ((f ≡ Fault.Store) ⊎ OnlyReads (state S.Store conn.old) (state S.Store conn.new))) }
@@ -112,8 +116,8 @@ fn older_tables_tell_states()
 /// this program's version that is all, and nothing is changed. `WrongDatabase` and `NewerSchema` as there;
 /// `Damaged` where the rows are the tables of no state, or where a table is missing that should be there, or
 /// one is there that should not; nothing is changed then. After `Memory` and `Store` the older office is
-/// found as it was, or the whole of the new one, and where none was there nothing is changed; `Store` too
-/// where the connection is inside a transaction.
+/// found as it was, or the whole of the new one, and where none was there nothing is changed. `Store` where
+/// the store failed, where rowids aren't the rows' own, or where the connection is inside a transaction.
 pub fn migrate<S: Alter>(alloc: Global, conn: &mut Connection<S>) -> Result<Migrated, Fault>
     ensures moved { HasCleanDisk (state S.Store conn.new) → (form : OlderForm) (s : OfficeState) → RestsOlder form s (state S.Store conn.old)
         → IfOk result (λ m. (m ≡ Migrated.Done) × IsAt s (state S.Store conn.new)) }
@@ -131,6 +135,8 @@ pub fn migrate<S: Alter>(alloc: Global, conn: &mut Connection<S>) -> Result<Migr
         → IfOk result (λ m. (s : OfficeState) × WasAt db m s × IsAt s (state S.Store conn.new)) }
     ensures told { HasCleanDisk (state S.Store conn.new) → (db : Database) → IsOurs db.schema → IsOlderSchema db.schema → RestsAt db (state S.Store conn.old)
         → IfErr result (IsToldInMigration db) }
+    ensures fails { HasCleanDisk (state S.Store conn.new) → (db : Database) → IsOurs db.schema → IsOlderSchema db.schema → RestsAt db (state S.Store conn.old)
+        → IfErr result (FailsToMigrate db (state S.Store conn.old) (state S.Store conn.new)) }
     ensures unchanged { IfErr result (λ f. (f ≡ Fault.Memory) ⊎ ((f ≡ Fault.Store) ⊎ OnlyReads (state S.Store conn.old) (state S.Store conn.new))) }
     ensures wears { Wears (state S.Store conn.old) (state S.Store conn.new) }
     ensures clean { HasCleanDisk (state S.Store conn.new) → HasCleanDisk (state S.Store conn.old) }

@@ -11,7 +11,7 @@ ghost use Rattle.rowcheck.specs.States.{state_of, tabulated};
 ghost use Rattle.tables.specs.Schema.{schema_from};
 ghost use Rattle.tables.specs.Contents.{RestsAt};
 ghost use Rattle.tables.specs.Presence.{form_of, IsOlderSchema};
-ghost use Rattle.tables.specs.Reading.{OnlyReads};
+ghost use Rattle.tables.specs.Reading.{OnlyReads, FailsToList};
 ghost use Rattle.register.specs.declared.receipt.Receipt.{Receipt as ReceiptValue};
 ghost use Rattle.store.specs.declared.older.OlderForm.{OlderForm};
 ghost use Rattle.store.specs.Openings.{HasVersion, IsTabulatedAs};
@@ -69,6 +69,8 @@ fn older_rows<S: Alter>(
         → IfOk result (λ rows. ListsFirst (tables_in form) db (state_of rows) (tabulated rows)) }
     ensures told { HasCleanDisk (state S.Store conn.new) → (db : Database) → BeginsFirst (tables_in form) db.schema → RestsAt db (state S.Store conn.old)
         → IfErr result (TellsStrange (tables_in form) db) }
+    ensures fails { HasCleanDisk (state S.Store conn.new) → (db : Database) → BeginsFirst (tables_in form) db.schema → RestsAt db (state S.Store conn.old)
+        → IfErr result (FailsToList db (state S.Store conn.old) (state S.Store conn.new)) }
     ensures rise { IfOk result (λ rows. MapsRise (state_of rows)) }
     ensures bare { IfOk result (λ rows. IsBare form (state_of rows) (tabulated rows)) }
     ensures opens { HasCleanDisk (state S.Store conn.new) → OnOk result (IsTrue (state S.Store conn.new).is_open) }
@@ -150,6 +152,8 @@ fn read_form<S: Alter>(
         → IfOk result (λ missing. FoundOlder db form (addition_entries missing)) }
     ensures told { HasCleanDisk (state S.Store conn.new) → (db : Database) → db.schema ≡ schema_from (tables_in form) [] [] [] → RestsAt db (state S.Store conn.old)
         → IfErr result (TellsOlder db) }
+    ensures fails { HasCleanDisk (state S.Store conn.new) → (db : Database) → db.schema ≡ schema_from (tables_in form) [] [] [] → RestsAt db (state S.Store conn.old)
+        → IfErr result (FailsToList db (state S.Store conn.old) (state S.Store conn.new)) }
     ensures opens { HasCleanDisk (state S.Store conn.new) → OnOk result (IsTrue (state S.Store conn.new).is_open) }
     ensures reads { OnlyReads (state S.Store conn.old) (state S.Store conn.new) }
     ensures outside { conn.new.in_transaction ≡ false }
@@ -170,6 +174,8 @@ pub(crate) fn read_older<S: Alter>(alloc: Global, conn: &mut Connection<S>) -> R
         → IfOk result (λ older. FoundOlder db older.form (addition_entries older.missing)) }
     ensures told { HasCleanDisk (state S.Store conn.new) → (db : Database) → IsOlderSchema db.schema → RestsAt db (state S.Store conn.old)
         → IfErr result (TellsOlder db) }
+    ensures fails { HasCleanDisk (state S.Store conn.new) → (db : Database) → IsOlderSchema db.schema → RestsAt db (state S.Store conn.old)
+        → IfErr result (FailsToList db (state S.Store conn.old) (state S.Store conn.new)) }
     ensures opens { HasCleanDisk (state S.Store conn.new) → OnOk result (IsTrue (state S.Store conn.new).is_open) }
     ensures reads { OnlyReads (state S.Store conn.old) (state S.Store conn.new) }
     ensures outside { conn.new.in_transaction ≡ false }

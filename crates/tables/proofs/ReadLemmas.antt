@@ -55,6 +55,10 @@ reads_left Commits old new never which survives = record {
     | inl was ↦ was
     | inr made ↦ absurd (never trees made)
   ];
+  unwritten = λ honest. elim (which honest) [
+    | inl same ↦ same.1
+    | inr undone ↦ undone.counts
+  ];
 }
 
 pub only_reads : {X : Type 0} (sql : List ℕ) (params : Row) (old new : State) (rows : X → List Row) (r : Result X Error) → IsQuery sql
@@ -81,10 +85,14 @@ only_reads_then a b c first second = record {
   was_open = λ honest is_open. first.was_open (second.clean honest) (second.was_open honest is_open);
   rests = λ honest is_open db at. second.rests honest is_open db (first.rests (second.clean honest) (second.was_open honest is_open) db at);
   leaves = λ honest trees may. first.leaves (second.clean honest) trees (second.leaves honest trees may);
+  unwritten = λ honest.
+      let before = first.unwritten (second.clean honest) in
+      let after = second.unwritten honest in
+      record { changes = after.changes ∙ before.changes; last_rowid = after.last_rowid ∙ before.last_rowid };
 }
 
 pub only_reads_itself : (a : State) → OnlyReads a a
-only_reads_itself a = record { limit = refl; counts = omega arith; closes = λ h was. inl was; clean = λ h. h; was_open = λ h is_open. is_open; rests = λ h is_open db at. at; leaves = λ h trees may. may }
+only_reads_itself a = record { limit = refl; counts = omega arith; closes = λ h was. inl was; clean = λ h. h; was_open = λ h is_open. is_open; rests = λ h is_open db at. at; leaves = λ h trees may. may; unwritten = λ h. record { changes = refl; last_rowid = refl } }
 
 -- ---- an office between two transactions
 

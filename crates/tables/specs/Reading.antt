@@ -17,7 +17,7 @@ use Rattle.sqlite_resolve.specs.Lowering.{Checked}
 use Rattle.sqlite.specs.Schema.{Schema}
 use Rattle.sqlite.specs.Listing.{understood}
 use Rattle.sqlite.specs.Effect.{Database}
-use Rattle.sqlite.specs.State.{State, HasCleanDisk}
+use Rattle.sqlite.specs.State.{State, HasCleanDisk, KeepsCounts}
 use Rattle.sqlite.specs.Disk.{MoreFaults}
 use Rattle.tables.specs.declared.fault.Fault.{Fault}
 use Rattle.tables.specs.declared.fault.Fault.TheVariants.{Memory, Store}
@@ -39,7 +39,8 @@ abbrev pub IsQuery : List ℕ → Type 0
 IsQuery sql = (s : Schema) (c : Compiled) → understood s sql ≡ Ok c → c.returning ≡ None
 
 -- A read leaves the database as it was, if the connection is still open, and adds nothing to what a stop may leave. It sets no limit on the steps of
--- later queries, and only a fault of the disk shuts the connection.
+-- later queries, and only a fault of the disk shuts the connection. It wrote no row, not even in a transaction that was undone: what the store counts
+-- of its writes is as it was.
 pub record OnlyReads (old new : State) : Type 0 where
   pub limit : new.step_limit ≡ old.step_limit
   pub counts : old.faults ≤ new.faults
@@ -48,6 +49,7 @@ pub record OnlyReads (old new : State) : Type 0 where
   pub was_open : HasCleanDisk new → IsTrue new.is_open → IsTrue old.is_open
   pub rests : HasCleanDisk new → IsTrue new.is_open → (db : Database) → RestsAt db old → RestsAt db new
   pub leaves : HasCleanDisk new → (trees : Trees) → new.may_leave trees → old.may_leave trees
+  pub unwritten : HasCleanDisk new → KeepsCounts old new
 
 -- the store failed: the disk failed or refused once more, or the connection was shut before, or the caller had set a limit on the steps of a query
 abbrev pub HasFailed : State → State → Type 0

@@ -5,12 +5,12 @@ use Rattle.register.specs.Parts.{part_entries}
 use Rattle.register.specs.Items.{IsState}
 use Rattle.register.specs.Machine.{outcome_at, ruling_at, step}
 use Rattle.register.specs.Tabulated.{AddsWhatIsCounted}
-use Rattle.register.specs.Additions.{DecidesAddition}
+use Rattle.register.specs.Additions.{DecidesAddition, AddsNoMore}
 use Rattle.register.specs.Seen.{seen_by}
 use Rattle.register.specs.Views.{IsViewOf, decided_on, ruling_of, outcome_of, IsToldAlike}
 use Rattle.register.proofs.MachineLemmas.{step_on, ruling_on, step_stays, accepted_is_kept, told_alike, advances}
 use Rattle.register.proofs.SeenLemmas.{ruling_on_seen, unseen_by, stands_alone}
-use Rattle.register.proofs.DecisionLemmas.{IfOk-both, adds_counted}
+use Rattle.register.proofs.DecisionLemmas.{IfOk-both, adds_counted, adds_no_more}
 use Rattle.register.proofs.machine.decide.Goals as goal
 
 pub returns-clause-decides : goal.returns-clause-decides
@@ -44,6 +44,15 @@ returns-clause-tabulates c =
     let command = c.args.command.now in
     IfOk-both c.decided.result (λ d. ruling_of d ≡ decided_on view command) (λ d. DecidesAddition command view.part.count d) (λ d. (s : OfficeState) → IsState s → IsViewOf s command view → AddsWhatIsCounted s d)
     (λ d same adds s is shows. adds_counted s view command d is shows same adds)
+    c.decided.ensures.ruling
+    c.decided.ensures.adds
+
+pub returns-clause-adds : goal.returns-clause-adds
+returns-clause-adds c =
+    let view = c.args.view.now in
+    let command = c.args.command.now in
+    IfOk-both c.decided.result (λ d. ruling_of d ≡ decided_on view command) (λ d. DecidesAddition command view.part.count d) (λ d. (s : OfficeState) → IsState s → IsViewOf s command view → AddsNoMore s command d)
+    (λ d same adds s is shows. adds_no_more s view command d is shows same adds)
     c.decided.ensures.ruling
     c.decided.ensures.adds
 

@@ -1,5 +1,5 @@
 -- Why `item8` keeps its promise: entries are equal where the fields of the values are.
-use Rattle.std.proofs.Common.{◌≡◌, Bool, ◌&&◌, ◌==◌, nat_eq, refl, ap, List, [], ◌∷◌, map}
+use Rattle.std.proofs.Common.{◌≡◌, Bool, ◌&&◌, ◌==◌, nat_eq, refl, sym, ap, ◌∙◌, List, [], ◌∷◌, map}
 use Rattle.std.specs.Bool.{Decides}
 use Rattle.std.specs.Cmp.Lexicographic.{pointwise}
 use Rattle.std.proofs.lemmas.Bool.Decides.{Decides-at, Decides-like, Decides-and, Decides-eqb}
@@ -39,8 +39,8 @@ figure_told a b =
     (λ same. (ap (λ (e : FigureEntry). e.ward) same, (ap (λ (e : FigureEntry). e.stage) same, (ap (λ (e : FigureEntry). e.candidate) same, (ap (λ (e : FigureEntry). e.units) same, ap (λ (e : FigureEntry). e.mark) same)))))
     (Decides-and _ _ (Decides-eqb a.ward b.ward) (Decides-and _ _ (Decides-eqb a.stage b.stage) (Decides-and _ _ (Decides-eqb a.candidate b.candidate) (Decides-and _ _ (Decides-eqb a.units b.units) (Decides-eqb a.mark b.mark)))))
 
-pub returns : goal.returns
-returns c =
+pub returns-clause-compares : goal.returns-clause-compares
+returns-clause-compares c =
     let rows = c.args.rows.now in
     let counted = c.args.counted.now in
     let bundles = Decides-at c.eq-bundles.result _ c.eq-bundles.ensures (each_same placed_entry same_bundle bundle_told rows.bundles.items counted.bundles.items) in
@@ -49,3 +49,8 @@ returns c =
     (λ both i. record { bundles = both.0 i; figures = both.1 i })
     (λ same. (ap (λ (t : TabulationEntries). t.bundles) same, ap (λ (t : TabulationEntries). t.figures) same))
     (Decides-and c.eq-bundles.result c.eq-figures.result bundles figures)
+
+pub returns-clause-judges : goal.returns-clause-judges
+returns-clause-judges c of_state =
+    let same = returns-clause-compares c in
+    (λ yes. same.0 yes ∙ of_state, λ is. same.1 (is ∙ sym of_state))

@@ -64,3 +64,14 @@ returns-in_err-commit_migration-clause-wears g c = wears_then _ _ _ c.commit_mig
 
 pub returns-in_err-older-clause-wears : goal.returns-in_err-older-clause-wears
 returns-in_err-older-clause-wears g c = reads_wear _ _ c.read_older.ensures.reads
+
+pub returns-in_err-older-clause-fails : goal.returns-in_err-older-clause-fails
+returns-in_err-older-clause-fails g c clean db is office rests =
+    let p = err_from_is_err_and c.from_residual.result c.from_residual.ensures.1 in
+    rw (p.1, p.2) (inl (c.in_err-older.ensures.fails clean db is rests))
+
+pub returns-in_err-commit_migration-clause-fails : goal.returns-in_err-commit_migration-clause-fails
+returns-in_err-commit_migration-clause-fails g c clean db is office rests =
+    let found = c.in_ok-older.ensures.found (c.commit_migration.ensures.clean clean) db is office rests in
+    let p = err_from_is_err_and c.from_residual-in_err-commit_migration.result c.from_residual-in_err-commit_migration.ensures.1 in
+    rw (p.1, p.2) (inr (c.in_ok-older.older.form, found.0, found.1))

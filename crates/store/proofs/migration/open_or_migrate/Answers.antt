@@ -3,7 +3,7 @@ use Rattle.std.proofs.Common.{inl, inr}
 use Rattle.sqlite.specs.Held.{state}
 use Rattle.store.proofs.KeepLemmas.{opened_is_at, reads_wear, wears_then}
 use Rattle.store.proofs.TellLemmas.{state_version}
-use Rattle.store.proofs.MigrationLemmas.{leaves_later, told_at_once, if_told_later, if_read_first, two_versions, state_ours}
+use Rattle.store.proofs.MigrationLemmas.{leaves_later, told_at_once, if_told_later, if_failed_later, if_read_first, two_versions, state_ours}
 use Rattle.store.proofs.migration.open_or_migrate.Goals as goal
 
 pub returns-in-Ok-clause-opened : goal.returns-in-Ok-clause-opened
@@ -61,3 +61,14 @@ returns-in_default-clause-unchanged g c = inr (inr c.check.ensures.reads)
 
 pub returns-in_default-clause-wears : goal.returns-in_default-clause-wears
 returns-in_default-clause-wears g c = reads_wear _ _ c.check.ensures.reads
+
+pub returns-in-OlderSchema-clause-fails : goal.returns-in-OlderSchema-clause-fails
+returns-in-OlderSchema-clause-fails g c clean db ours is rests =
+    let before = c.migrate_older.ensures.clean clean in
+    let told = rw c.in-OlderSchema.is at (c.in-Err.ensures.told before db ours rests) in
+    let mid = c.check.ensures.reads.rests before (c.in-Err.ensures.older before db ours rests c.in-OlderSchema.is) db rests in
+    if_failed_later c.migrate_older.result db (state g.S.Store c.args.conn.now) (state g.S.Store c.check.new.conn) (state g.S.Store c.migrate_older.new.conn)
+    c.check.ensures.reads before c.migrate_older.ensures.wears.counts (c.migrate_older.ensures.fails clean db is told.1 mid)
+
+pub returns-in_default-clause-fails : goal.returns-in_default-clause-fails
+returns-in_default-clause-fails g c clean db ours is rests = inl (c.in-Err.ensures.fails clean db ours rests)

@@ -12,3 +12,9 @@ returns-in-WithoutCounts-clause-lists g c = rw c.in-WithoutCounts.is c.first_row
 
 pub returns-in-WithoutCounts-clause-told : goal.returns-in-WithoutCounts-clause-told
 returns-in-WithoutCounts-clause-told g c = rw c.in-WithoutCounts.is c.first_rows.ensures.told
+
+pub returns-in-WithCounts-clause-fails : goal.returns-in-WithCounts-clause-fails
+returns-in-WithCounts-clause-fails g c = rw c.in-WithCounts.is c.counted_rows.ensures.fails
+
+pub returns-in-WithoutCounts-clause-fails : goal.returns-in-WithoutCounts-clause-fails
+returns-in-WithoutCounts-clause-fails g c = rw c.in-WithoutCounts.is c.first_rows.ensures.fails

@@ -14,3 +14,9 @@ returns-in_err-missing-clause-told g c clean db is rests =
     let schema = form_schema c.in-Some.form db.schema is (sym (ap (λ (d : Database). form_of d.schema) rests.now) ∙ c.in-Some.ensures.some) in
     let p = err_from_is_err_and c.from_residual.result c.from_residual.ensures.1 in
     rw (p.1, p.2) (c.in_err-missing.ensures.told clean db schema rests)
+
+pub returns-in_err-missing-clause-fails : goal.returns-in_err-missing-clause-fails
+returns-in_err-missing-clause-fails g c clean db is rests =
+    let schema = form_schema c.in-Some.form db.schema is (sym (ap (λ (d : Database). form_of d.schema) rests.now) ∙ c.in-Some.ensures.some) in
+    let p = err_from_is_err_and c.from_residual.result c.from_residual.ensures.1 in
+    rw (p.1, p.2) (c.in_err-missing.ensures.fails clean db schema rests)

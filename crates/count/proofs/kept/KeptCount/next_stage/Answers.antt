@@ -1,5 +1,5 @@
 -- Of the proof of `next_stage`: what is shown by hand.
-use Rattle.std.proofs.Common.{◌≡◌, ◌∙◌, List, Option, None, reverse, sym, ap, subst}
+use Rattle.std.proofs.Common.{◌≡◌, ◌∙◌, List, Option, Some, None, reverse, refl, sym, ap, subst}
 use Rattle.std.specs.Prelude.{IsSome}
 use Rattle.count.specs.Advance.{Adds}
 use Rattle.count.specs.Books.{contest_of}
@@ -15,12 +15,21 @@ use Rattle.count.proofs.KeptLemmas.{kept-tells, kept-next}
 use Rattle.count.proofs.kept.KeptCount.next_stage.Goals as goal
 use Rattle.count.proofs.kept.KeptCount.next_stage.Goals.{In_ok-places-in-Some}
 
+-- none is due where none was found,
 pub returns-in-None-clause-some : goal.returns-in-None-clause-some
-returns-in-None-clause-some c contest history kept some =
+returns-in-None-clause-some c contest history kept =
     let none : None ≡ next_action contest c.args.lots.now history =
     kept-tells (λ k h. next_action k c.args.lots.now h) None c.self.inside.terms c.self.inside.bundles c.self.inside.places.items c.self.inside.stages.items c.deref.result.now c.args.self.now contest history
     c.self.view_is c.deref.ensures.value c.self.invariant c.in-None.ensures kept in
-    subst (λ (o : Option Action). IsSome o) (sym none) some
+    (λ nothing. absurd (cc), λ some. subst (λ (o : Option Action). IsSome o) (sym none) some)
+
+-- and one is due where one was
+pub returns-in_ok-places-in-Some-clause-some : goal.returns-in_ok-places-in-Some-clause-some
+returns-in_ok-places-in-Some-clause-some c contest history kept =
+    let one : Some c.in-Some.action ≡ next_action contest c.args.lots.now history =
+    kept-tells (λ k h. next_action k c.args.lots.now h) (Some c.in-Some.action) c.self.inside.terms c.self.inside.bundles c.self.inside.places.items c.self.inside.stages.items c.deref.result.now c.args.self.now contest history
+    c.self.view_is c.deref.ensures.value c.self.invariant c.in-Some.ensures kept in
+    (λ found. subst (λ (o : Option Action). IsSome o) one refl, λ some. refl)
 
 -- where the action is due, over the places and stages that were lent
 lent : (c : In_ok-places-in-Some) → let contest : Contest = contest_on c.self.inside.terms c.self.inside.bundles in
