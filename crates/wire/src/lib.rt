@@ -25,6 +25,7 @@ mod body;
 mod digits;
 mod head;
 mod length;
+pub mod origin;
 pub mod target;
 mod unread;
 // what is answered
@@ -37,6 +38,7 @@ mod serving;
 
 pub use asked::{Asked, Keying, read_asked};
 pub use denial::{Denial, Verb};
+pub use origin::Origin;
 pub use serving::{Served, serve_one};
 pub use target::Reading;
 pub use unread::Unread;
