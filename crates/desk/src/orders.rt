@@ -6,6 +6,7 @@ ghost use Rattle.desk.specs.Scripts.{sends_requests};
 
 use office::Text;
 use register::Request;
+use wire::Origin;
 
 /// A clerk's keying of a batch, which a file holds.
 #[derive(Clone, Copy, Debug)]
@@ -86,8 +87,12 @@ pub enum Order<'a> {
     Copy { path: &'a str },
     /// Bring an office that an earlier program made over to this one.
     Migrate,
-    /// Answer so many connections on a port of this machine.
-    Serve { port: u32, connections: u32 },
+    /// Answer so many connections on a port of this machine, and pages of an origin through a proxy, if one is given.
+    Serve {
+        port: u32,
+        connections: u32,
+        origin: Option<Origin<'a>>,
+    },
 }
 
 impl<'a> Order<'a> {

@@ -1,5 +1,5 @@
 -- Where a request may come from: which origin pages may have, and which headers show that a page from elsewhere sent a request.
-use Rattle.std.specs.Prelude.{◌&&◌, ◌||◌, ◌==◌, ◌∷◌, Bool, List, [], None, Option, Some, bytes_eq, codes, drop, false, if◌then◌else◌, length, nat_eq, nat_le, nat_lt, not, true, ℕ}
+use Rattle.std.specs.Prelude.{◌&&◌, ◌||◌, ◌==◌, ◌∷◌, Bool, List, [], None, Option, Some, bytes_eq, codes, drop, false, if◌then◌else◌, length, nat_eq, nat_le, nat_lt, not, option_map, true, ℕ}
 use Rattle.std.specs.Char.{is_ascii_digit, is_ascii_lowercase}
 use Rattle.std.specs.List.{list_any, prefix_len, starts_with}
 use Rattle.std.specs.Str.{str_eq_ignore_ascii_case}
@@ -42,6 +42,10 @@ is_origin text =
 -- the text of an origin
 abbrev pub origin_text : Origin → List ℕ
 origin_text origin = origin.text.now
+
+-- the text of the origin that was given, if one was
+abbrev pub given_by : Option Origin → Option (List ℕ)
+given_by origin = option_map origin_text origin
 
 -- the origin that a text is, if it is one
 abbrev pub origin_in : List ℕ → Option (List ℕ)

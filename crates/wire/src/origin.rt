@@ -3,7 +3,7 @@
 ghost use Rattle.std.specs.Prelude.{◌≡◌, ◌≤◌, false, length, map, option_map};
 ghost use Rattle.std.specs.List.{All, prefix_len};
 ghost use Rattle.httparse.specs.Spans.{IsHeaderWithin, header_bytes};
-ghost use Rattle.wire.specs.Origins.{authority_of, is_authority, is_foreign, is_foreign_header, is_given, is_given_host, is_host_byte, is_origin, is_own_host, is_own_origin, is_own_site, is_port_or_none, is_with_port, origin_in, origin_text};
+ghost use Rattle.wire.specs.Origins.{authority_of, given_by, is_authority, is_foreign, is_foreign_header, is_given, is_given_host, is_host_byte, is_origin, is_own_host, is_own_origin, is_own_site, is_port_or_none, is_with_port, origin_in, origin_text};
 
 use crate::digits::all_digits;
 use crate::length::is_named;
@@ -109,7 +109,7 @@ impl<'a> Origin<'a> {
 
 /// Whether it is the origin that was given.
 fn is_given(given: Option<Origin<'_>>, value: &[u8]) -> bool
-    ensures { result ≡ is_given (option_map origin_text given.entry) value.now }
+    ensures { result ≡ is_given (given_by given.entry) value.now }
 {
     match given {
         Some(origin) => value == origin.text.as_bytes(),
@@ -119,7 +119,7 @@ fn is_given(given: Option<Origin<'_>>, value: &[u8]) -> bool
 
 /// Whether it is the host of the origin that was given.
 fn is_given_host(given: Option<Origin<'_>>, value: &[u8]) -> bool
-    ensures { result ≡ is_given_host (option_map origin_text given.entry) value.now }
+    ensures { result ≡ is_given_host (given_by given.entry) value.now }
 {
     match given {
         Some(origin) => is_with_port(value, origin.authority()),
@@ -129,7 +129,7 @@ fn is_given_host(given: Option<Origin<'_>>, value: &[u8]) -> bool
 
 /// Whether it is the origin of a page that this machine serves, or the one that was given.
 fn is_own_origin(given: Option<Origin<'_>>, value: &[u8]) -> bool
-    ensures { result ≡ is_own_origin (option_map origin_text given.entry) value.now }
+    ensures { result ≡ is_own_origin (given_by given.entry) value.now }
 {
     is_with_port(b"http://127.0.0.1", value)
         || is_with_port(b"http://localhost", value)
@@ -145,14 +145,14 @@ fn is_own_site(value: &[u8]) -> bool
 
 /// Whether it is a name without a dot, this machine by its number, or the host of the origin that was given.
 fn is_own_host(given: Option<Origin<'_>>, value: &[u8]) -> bool
-    ensures { result ≡ is_own_host (option_map origin_text given.entry) value.now }
+    ensures { result ≡ is_own_host (given_by given.entry) value.now }
 {
     !value.contains(&b'.') || is_with_port(b"127.0.0.1", value) || is_given_host(given, value)
 }
 
 /// Whether a header shows that a page from elsewhere sent the request.
 fn is_foreign_header(given: Option<Origin<'_>>, name: &[u8], value: &[u8]) -> bool
-    ensures { result ≡ is_foreign_header (option_map origin_text given.entry) (name.now, value.now) }
+    ensures { result ≡ is_foreign_header (given_by given.entry) (name.now, value.now) }
 {
     if is_named(name, b"origin") {
         return !is_own_origin(given, value);
@@ -171,7 +171,7 @@ pub(crate) fn is_foreign(
     headers: &[HeaderSpan],
 ) -> bool
     requires { All (IsHeaderWithin (length buffer.now)) headers.now }
-    ensures { result ≡ is_foreign (option_map origin_text given.entry) (map (header_bytes buffer.now) headers.now) }
+    ensures { result ≡ is_foreign (given_by given.entry) (map (header_bytes buffer.now) headers.now) }
 {
     for header in headers {
         if is_foreign_header(given, header.name.of(buffer), header.value.of(buffer)) {
