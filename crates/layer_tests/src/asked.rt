@@ -76,12 +76,18 @@ fn asks_of(
     asked: &str,
 ) -> Result<(), Fail> {
     let mut reader = Counted::new(request);
-    assert_eq!(rt; asked_text(rt.alloc(), origin, &mut reader)?.as_str(), asked);
+    assert_eq!(rt;
+        asked_text(rt.alloc(), origin, &mut reader)?.as_str(),
+        asked
+    );
     let mut reader = Counted::new(Slow {
         left: request,
         fails: false,
     });
-    assert_eq!(rt; asked_text(rt.alloc(), origin, &mut reader)?.as_str(), asked);
+    assert_eq!(rt;
+        asked_text(rt.alloc(), origin, &mut reader)?.as_str(),
+        asked
+    );
     Ok(())
 }
 
@@ -241,7 +247,10 @@ fn long_heads_and_bodies(rt: HostRuntime) -> Result<(), Fail> {
         spaces.push(' ')?;
     }
     let mut reader = Counted::new(spaces.as_bytes());
-    assert_eq!(&rt; asked_text(rt.alloc(), None, &mut reader)?.as_str(), "BadRequest");
+    assert_eq!(&rt;
+        asked_text(rt.alloc(), None, &mut reader)?.as_str(),
+        "BadRequest"
+    );
     Ok(())
 }
 
@@ -340,16 +349,34 @@ fn asks_with(
     is_foreign: bool,
 ) -> Result<(), Fail> {
     let cases = [
-        ("POST /clerks/4/batches/12/keying", "Content-Length: 43", KEYED),
-        ("POST /clerks/4/batches/12/keying", "Content-Length: 42", "BadRequest"),
-        ("POST /clerks/4/batches/12/keying", "Content-Length: 1048577", "TooLarge"),
-        ("GET /clerks/4/work", "Content-Length: 43", "Work { clerk: 4 }"),
+        (
+            "POST /clerks/4/batches/12/keying",
+            "Content-Length: 43",
+            KEYED,
+        ),
+        (
+            "POST /clerks/4/batches/12/keying",
+            "Content-Length: 42",
+            "BadRequest",
+        ),
+        (
+            "POST /clerks/4/batches/12/keying",
+            "Content-Length: 1048577",
+            "TooLarge",
+        ),
+        (
+            "GET /clerks/4/work",
+            "Content-Length: 43",
+            "Work { clerk: 4 }",
+        ),
         ("PUT /clerks/4/work", "Content-Length: 43", "only Get"),
         ("GET /nothing", "Transfer-Encoding: chunked", "NotFound"),
     ];
     for (line, length, asked) in cases {
         for (first, second) in [(length, headers), (headers, length)] {
-            let request = format!(in rt.alloc(); "{line} HTTP/1.1\r\n{first}\r\n{second}\r\n\r\n{BODY}")?;
+            let request = format!(in rt.alloc();
+                "{line} HTTP/1.1\r\n{first}\r\n{second}\r\n\r\n{BODY}"
+            )?;
             let asked = if is_foreign { "Forbidden" } else { asked };
             asks_of(rt, origin, request.as_bytes(), asked)?;
         }
@@ -369,7 +396,11 @@ fn pages_from_elsewhere(rt: HostRuntime) -> Result<(), Fail> {
         asks_with(&rt, None, headers, false)?;
         asks_with(&rt, proxied, headers, false)?;
     }
-    asks(&rt, b"GET /nothing\r\nOrigin: http://evil.example\r\n\r\n", "BadRequest")?;
+    asks(
+        &rt,
+        b"GET /nothing\r\nOrigin: http://evil.example\r\n\r\n",
+        "BadRequest",
+    )?;
     Ok(())
 }
 
@@ -387,7 +418,11 @@ fn pages_through_a_proxy(rt: HostRuntime) -> Result<(), Fail> {
         ("Origin: http://count.example.org", false, true),
         ("Origin: http://count.example.org:80", false, false),
         ("Origin: http://Count.example.org", false, false),
-        ("Origin: http://count.example.org.evil.example", false, false),
+        (
+            "Origin: http://count.example.org.evil.example",
+            false,
+            false,
+        ),
         ("Host: count.example.org:8443", true, false),
         ("Host: count.example.org", true, true),
         ("Host: count.example.org:844", false, false),

@@ -91,15 +91,15 @@ FailsAfter-behind given old mid new got headers spans found (Ok asked) fits plac
 FailsAfter-behind given old mid new got headers spans found (Err Memory) fits places took after = tt
 FailsAfter-behind given old mid new got headers spans (head, there) (Err Broken) fits places took (more, then, lacks) =
     let fields = map (header_bytes got) (take spans.headers headers) in (
-  got ++ more,
-  Consumes-trans old mid new got more took then,
-  inr (
-    head,
-    drop spans.len got ++ more,
-    begins (got ++ more) got more headers spans head there fits places refl,
-    subst (λ (f : List NamedValue). LacksBytes (wanted (is_foreign given f) head.method (named_by head.target)) (body_length f) (drop spans.len got ++ more)) there.fields
-        (subst (λ p. LacksBytes (wanted (is_foreign given fields) head.method (named_by p)) (body_length fields) (drop spans.len got ++ more)) there.path
-        (subst (λ m. LacksBytes (wanted (is_foreign given fields) m (named_by (span_bytes got spans.path))) (body_length fields) (drop spans.len got ++ more)) there.method
-        lacks)),
-  ),
-)
+      got ++ more,
+      Consumes-trans old mid new got more took then,
+      inr (
+        head,
+        drop spans.len got ++ more,
+        begins (got ++ more) got more headers spans head there fits places refl,
+        subst (λ (f : List NamedValue). LacksBytes (wanted (is_foreign given f) head.method (named_by head.target)) (body_length f) (drop spans.len got ++ more)) there.fields
+            (subst (λ p. LacksBytes (wanted (is_foreign given fields) head.method (named_by p)) (body_length fields) (drop spans.len got ++ more)) there.path
+            (subst (λ m. LacksBytes (wanted (is_foreign given fields) m (named_by (span_bytes got spans.path))) (body_length fields) (drop spans.len got ++ more)) there.method
+            lacks)),
+      ),
+    )

@@ -1,10 +1,11 @@
 -- What a connection tells and leaves.
-use Rattle.std.proofs.Common.{ℕ, Bool, List, Option, inl}
+use Rattle.std.proofs.Common.{ℕ, Bool, List, Option, inl, refl}
 use Rattle.std.specs.Prelude.{IfSome}
 use Rattle.sqlite.specs.State.{State}
 use Rattle.register.specs.Offices.{OfficeState}
 use Rattle.wire.specs.Asking.{AskedEntry, Asks}
-use Rattle.wire.specs.Serving.{IsPut, OnAnswered, OnReadFailed, OnWriteFailed, Readies, ReadiesFor, Serves}
+use Rattle.wire.specs.Serving.{IsDeniedAlike, IsPut, OnAnswered, OnReadFailed, OnWriteFailed, Readies, ReadiesFor, Serves}
+use Rattle.wire.specs.declared.denial.Denial.{Denial}
 use Rattle.wire.specs.declared.response.Response.{Response}
 use Rattle.wire.specs.declared.serving.Served.{Served}
 use Rattle.wire.specs.declared.serving.Served.TheVariants.{Answered, ReadFailed, WriteFailed}
@@ -13,6 +14,10 @@ use Rattle.wire.specs.declared.serving.Served.TheVariants.{Answered, ReadFailed,
 pub ReadiesFor-asked : (given bytes : Option (List ℕ)) (s : OfficeState) (asked : AskedEntry) (response : Response) (closed : Bool) (st : State) → IfSome bytes (λ xs. Asks given xs asked)
     → Readies s asked response closed st → ReadiesFor given bytes s response closed st
 ReadiesFor-asked given bytes s asked response closed st asks ready = inl (record { asked = asked; asks = asks; readies = ready })
+
+-- what is denied is answered without a look at the state
+pub IsDeniedAlike-all : (why : Denial) → IsDeniedAlike why
+IsDeniedAlike-all why s t next answer is = (is.0, (refl, is.1), is.1)
 
 -- the answer that was ready was put
 pub Serves-put : (given bytes old new : Option (List ℕ)) (s : OfficeState) (response : Response) (served : Served) (closed : Bool) (st : State) → ReadiesFor given bytes s response closed st

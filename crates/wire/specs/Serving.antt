@@ -25,6 +25,7 @@ use Rattle.wire.specs.Bodies.{KeyingEntry}
 use Rattle.wire.specs.Replies.{work_body}
 use Rattle.wire.specs.Responses.{ResponseEntry, denied_response, fault_response, json_response, refusal_response, reply_response, text_response}
 use Rattle.wire.specs.Told.{IsTold, IsWritten, told_bytes}
+use Rattle.wire.specs.declared.denial.Denial.{Denial}
 use Rattle.wire.specs.declared.response.Response.{Response}
 use Rattle.wire.specs.declared.serving.Served.{Served}
 use Rattle.wire.specs.declared.serving.Served.TheVariants.{Answered, ReadFailed, WriteFailed}
@@ -134,6 +135,11 @@ abbrev pub closed_response : AskedEntry → ResponseEntry
 closed_response (denied why) = denied_response why
 closed_response (reading what) = fault_response (fault_number Closed)
 closed_response (keying clerk batch entry) = fault_response (fault_number Closed)
+
+-- a request that is denied, as a page's from elsewhere, is answered the same at every state, and by a closed office too; it changes nothing
+abbrev pub IsDeniedAlike : Denial → Type 0
+IsDeniedAlike why =
+    (s t next : OfficeState) (answer : ResponseEntry) → IsAnswer s (denied why) next answer → (next ≡ s) × IsAnswer t (denied why) t answer × (answer ≡ closed_response (denied why))
 
 -- this answer is ready to be written, and where the client's bytes are known, they ask just that
 pub record TellsClosed (given bytes : Option (List ℕ)) (response : Response) : Type 0 where

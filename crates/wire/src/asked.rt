@@ -4,6 +4,8 @@ ghost use Rattle.std.specs.Prelude.{◌≡◌, ◌≢◌, ◌-◌, ◌^◌, ◌<
 ghost use Rattle.wire.specs.Asking.{Asks, AsksOneThing, DeniesForeign, FailsAfter, IsUnread, IsWanting, LacksAt, LacksBody, TakesOwn, asked_at, asked_entry, asked_with, verb_of, verb_text, wanted};
 ghost use Rattle.wire.specs.Targets.{NamesItsOwn, named_by};
 ghost use Rattle.wire.specs.Origins.{given_by, is_foreign};
+ghost use Rattle.wire.specs.Serving.{IsDeniedAlike};
+ghost use Rattle.wire.specs.declared.denial.Denial.{Denial};
 ghost use Rattle.httparse.specs.Spans.{IsRequestWithin, header_bytes, span_bytes};
 
 use crate::body::{KeyingBody, keying_of, read_body};
@@ -141,7 +143,12 @@ fn read_behind<R: Source>(
 {
     let headers = &headers[..spans.headers];
     let is_foreign = is_foreign(origin, read, headers);
-    match wanted(alloc, is_foreign, spans.method.of(read), spans.path.of(read))? {
+    match wanted(
+        alloc,
+        is_foreign,
+        spans.method.of(read),
+        spans.path.of(read),
+    )? {
         Ok(Target::Keying { clerk, batch }) => {
             let size = body_length(read, headers);
             read_keying(alloc, reader, size, &read[spans.len..], clerk, batch)
@@ -181,7 +188,8 @@ fn read_request<R: Source>(
 /// Reads what a request asks of an office to which pages of an origin may come through a proxy, if one was given.
 ///
 /// A request with a header which shows that a page from elsewhere sent it, or that it came by a foreign name, is
-/// `Forbidden`, whatever else it asks; every other one asks what it asks without such a check.
+/// `Forbidden`, whatever else it asks; every other one asks what it asks without such a check. What is denied is answered
+/// the same at every state of the office.
 ///
 /// `Broken` comes only from the source, which then counts one failure more, and only while what was read doesn't
 /// say yet what is asked: once it does, nothing more is read, for the client may wait for its answer. Of the
@@ -202,6 +210,7 @@ pub fn read_asked<R: Source>(
     ensures one { (bytes : List ℕ) → AsksOneThing (given_by origin.entry) bytes }
     ensures foreign { (given : Option (List ℕ)) (bytes : List ℕ) → DeniesForeign given bytes }
     ensures others { (given : Option (List ℕ)) (bytes : List ℕ) → TakesOwn given bytes }
+    ensures alike { (why : Denial) → IsDeniedAlike why }
     ensures targets { (target : List ℕ) → NamesItsOwn target }
 {
     read_request(alloc, origin, reader)

@@ -165,11 +165,7 @@ fn is_foreign_header(given: Option<Origin<'_>>, name: &[u8], value: &[u8]) -> bo
 
 /// Whether a header, of those whose names and values stand in a buffer, shows that a page from elsewhere sent the
 /// request.
-pub(crate) fn is_foreign(
-    given: Option<Origin<'_>>,
-    buffer: &[u8],
-    headers: &[HeaderSpan],
-) -> bool
+pub(crate) fn is_foreign(given: Option<Origin<'_>>, buffer: &[u8], headers: &[HeaderSpan]) -> bool
     requires { All (IsHeaderWithin (length buffer.now)) headers.now }
     ensures { result ≡ is_foreign (given_by given.entry) (map (header_bytes buffer.now) headers.now) }
 {

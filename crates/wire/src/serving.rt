@@ -82,7 +82,7 @@ fn put<W: Sink>(writer: &mut W, response: &Response) -> Served
 /// was. `WriteFailed` comes only from the writer, which counts one failure more, where the reader counts
 /// none: a beginning of the answer was written, the write isn't tried again, and what the office answered
 /// stands. A closed office tells that it is closed, 104 (503), where it is asked anything, and stays as it
-/// is.
+/// is. A request that is denied, as one of a page from elsewhere, is answered the same at every state.
 pub fn serve_one<R: Source, W: Sink, S: Alter>(
     alloc: Global,
     origin: Option<Origin<'_>>,
