@@ -27,6 +27,7 @@ source "$(dirname "$(readlink -f "${BASH_SOURCE[0]}")")/play.bash"
     play town.db judge 12 6 maybe --id v1
     play town.db serve 0 10
     play town.db serve 8080 0
+    play town.db serve 8080 10 --origin count.example.org
 } >"$folder/played"
 
 compare help

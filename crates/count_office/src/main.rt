@@ -39,6 +39,7 @@ use store::Fault;
 use store::fault::fault_of;
 use traces::Found;
 use votes::{Counted, Sink};
+use wire::Origin;
 
 /// The files of this machine.
 #[derive(Clone, Copy)]
@@ -92,8 +93,12 @@ fn perform_on<S: Alter, O: Sink, E: Sink>(
     requires err { E.failed err.old < 2 ^ 64 - 1 }
 {
     match order {
-        Order::Serve { port, connections } => {
-            return serve(rt, conn, *port, *connections, err);
+        Order::Serve {
+            port,
+            connections,
+            origin,
+        } => {
+            return serve(rt, conn, *port, *connections, *origin, err);
         }
         Order::Copy { path } => return copy(rt, conn, office, path, out, err),
         _ => {}
@@ -113,12 +118,14 @@ fn listen(rt: &HostRuntime, port: u32) -> Option<TcpListener> {
     TcpListener::bind(rt, (Ipv4Addr::LOCALHOST, port)).ok()
 }
 
-/// Answers so many connections on a port of this machine, over an opened connection to the database.
+/// Answers so many connections on a port of this machine, over an opened connection to the database, and pages of an
+/// origin through a proxy, if one is given.
 fn serve<S: Alter, E: Sink>(
     rt: &HostRuntime,
     conn: Connection<S>,
     port: u32,
     connections: u32,
+    origin: Option<Origin<'_>>,
     err: &mut E,
 ) -> (u8, Connection<S>)
     requires { E.failed err.old < 2 ^ 64 - 1 }
@@ -128,7 +135,7 @@ fn serve<S: Alter, E: Sink>(
         Err((fault, conn)) => return (tell_failure(Failure::Office(fault), err), conn),
     };
     let served = match listen(rt, port) {
-        Some(listener) => serve_on(rt.alloc(), rt, &listener, connections, &mut office),
+        Some(listener) => serve_on(rt.alloc(), rt, &listener, connections, origin, &mut office),
         None => Err(Failure::Output),
     };
     let status = match served {

@@ -56,12 +56,6 @@ pub admits_fewer : {R W E I F : Type 0} (next : I → Option (Result (R × W) E)
 admits_fewer next from here to clients wanted (Ok done) failed came stops few = absurd (cc failed)
 admits_fewer next from here to clients wanted (Err failure) failed came stops few = (here, came, stops, few)
 
--- no more came than were wanted
-pub clients_few : {R W S E I F : Type 0} {next : I → Option (Result (R × W) E) → I → Type 0} {streams : Streams R W} {state_of : Held S → State} {from to : I} {wanted : ℕ} {old new : OfficeValue S}
-    {result : Result (Unit {0}) F} (served : ServesClients next streams state_of from to wanted old new result) → length served.clients ≤ wanted
-clients_few {result = Ok done} served = omega (arith, served.admits.1)
-clients_few {result = Err failure} served = omega (arith, served.admits.3)
-
 counts_at : {R W : Type 0} (streams : Streams R W) (old new : R × W) (served : Served) (C : Type 0)
     → OnAnswered served ((streams.failed new.0 ≡ streams.failed old.0) × (streams.failed_writes new.1 ≡ streams.failed_writes old.1))
     → OnReadFailed served ((streams.failed new.0 ≡ streams.failed old.0 + 1) × (new.1 ≡ old.1) × C)
@@ -71,15 +65,15 @@ counts_at streams old new ReadFailed C answered read wrote = (read.0, read.1)
 counts_at streams old new WriteFailed C answered read wrote = wrote
 
 -- a client was served, by the clauses of the call that served him
-pub client_served : {R W S : Type 0} (streams : Streams R W) (state_of : Held S → State) (old new : OfficeValue S) (reader reader_then : R) (writer writer_then : W) (served : Served) (C : Type 0)
+pub client_served : {R W S : Type 0} (given : Option (List ℕ)) (streams : Streams R W) (state_of : Held S → State) (old new : OfficeValue S) (reader reader_then : R) (writer writer_then : W) (served : Served) (C : Type 0)
     → OnAnswered served ((streams.failed reader_then ≡ streams.failed reader) × (streams.failed_writes writer_then ≡ streams.failed_writes writer))
     → OnReadFailed served ((streams.failed reader_then ≡ streams.failed reader + 1) × (writer_then ≡ writer) × C)
     → OnWriteFailed served ((streams.failed reader_then ≡ streams.failed reader) × (streams.failed_writes writer_then ≡ streams.failed_writes writer + 1))
     → (HasCleanDisk (state_of new.held) → old.closed ≡ false → (s : OfficeState) → IsAt s (state_of old.held)
-    → Serves (streams.held reader) (streams.taken writer) (streams.taken writer_then) s served new.closed (state_of new.held))
-    → (old.closed ≡ true → ServesClosed (streams.held reader) (streams.taken writer) (streams.taken writer_then) served) → (old.closed ≡ true → new ≡ old)
-    → (HasCleanDisk (state_of new.held) → HasCleanDisk (state_of old.held)) → ServesClient streams state_of old (reader, writer) new
-client_served streams state_of old new reader reader_then writer writer_then served C answered read wrote serves away stays clean = record {
+    → Serves given (streams.held reader) (streams.taken writer) (streams.taken writer_then) s served new.closed (state_of new.held))
+    → (old.closed ≡ true → ServesClosed given (streams.held reader) (streams.taken writer) (streams.taken writer_then) served) → (old.closed ≡ true → new ≡ old)
+    → (HasCleanDisk (state_of new.held) → HasCleanDisk (state_of old.held)) → ServesClient given streams state_of old (reader, writer) new
+client_served given streams state_of old new reader reader_then writer writer_then served C answered read wrote serves away stays clean = record {
   served = served;
   ends = (reader_then, writer_then);
   counts = counts_at streams (reader, writer) (reader_then, writer_then) served C answered read wrote;
@@ -98,20 +92,20 @@ abbrev ClosesAt : OfficeState → List Request → Bool → State → Type 0
 ClosesAt s last closed st = (closed ≡ true) × LeavesState st (IsAfterSome s last 0)
 
 -- what an answer that is ready leaves: so much was handed on for it; or it tells a fault that closed the office
-abbrev ReadyLeaves : Option (List ℕ) → OfficeState → (List Request → Type 0) → Type 0 → Bool → State → Type 0
-ReadyLeaves bytes s Tells Fails closed st =
-    ((sent : List Request) × Tells sent × IsOpenAt (after s sent) closed st) ⊎ ((last : List Request) × Fails × IsLastFor bytes last × ClosesAt s last closed st)
+abbrev ReadyLeaves : Option (List ℕ) → Option (List ℕ) → OfficeState → (List Request → Type 0) → Type 0 → Bool → State → Type 0
+ReadyLeaves given bytes s Tells Fails closed st =
+    ((sent : List Request) × Tells sent × IsOpenAt (after s sent) closed st) ⊎ ((last : List Request) × Fails × IsLastFor given bytes last × ClosesAt s last closed st)
 
 before_last : (s : OfficeState) (last : List Request) (x : OfficeState) → x ≡ s → IsAfterSome s last 0 x
 before_last s last x is = (0, omega arith, omega arith, omega arith, is)
 
-ready_answered : (bytes : Option (List ℕ)) (s : OfficeState) (asked : AskedEntry) (answer : ResponseEntry) (response : _) (closed : Bool) (st : State) → IfSome bytes (λ xs. Asks xs asked)
-    → IsTold answer response → IsAnswered s asked answer closed st → ReadyLeaves bytes s (λ sent. TellsFor bytes s sent response) (TellsFault response) closed st
-ready_answered bytes s (denied why) answer response closed st asks tells it =
+ready_answered : (given : Option (List ℕ)) (bytes : Option (List ℕ)) (s : OfficeState) (asked : AskedEntry) (answer : ResponseEntry) (response : _) (closed : Bool) (st : State) → IfSome bytes (λ xs. Asks given xs asked)
+    → IsTold answer response → IsAnswered s asked answer closed st → ReadyLeaves given bytes s (λ sent. TellsFor given bytes s sent response) (TellsFault response) closed st
+ready_answered given bytes s (denied why) answer response closed st asks tells it =
     inl ([], inl (denied why, asks, (subst (λ a. IsTold a response) it.is.1 tells, refl)), subst (λ x. IsOpenAt x closed st) it.is.0 it.open_at)
-ready_answered bytes s (reading what) answer response closed st asks tells it =
+ready_answered given bytes s (reading what) answer response closed st asks tells it =
     inl ([], inl (reading what, asks, (subst (λ a. IsTold a response) it.is.1 tells, refl)), subst (λ x. IsOpenAt x closed st) it.is.0 it.open_at)
-ready_answered bytes s (keying clerk batch entry) answer response closed st asks tells it =
+ready_answered given bytes s (keying clerk batch entry) answer response closed st asks tells it =
     let (outcome, is, next, told) = it.is in
     let same = is.each is.request is.is in
     inl (
@@ -120,13 +114,13 @@ ready_answered bytes s (keying clerk batch entry) answer response closed st asks
       subst (λ x. IsOpenAt x closed st) (next ∙ ap (state_after s) same) it.open_at,
     )
 
-ready_failed : (bytes : Option (List ℕ)) (s : OfficeState) (asked : AskedEntry) (fault : Fault) (response : _) (closed : Bool) (st : State) → IfSome bytes (λ xs. Asks xs asked)
-    → TellsFault response → FaultLeaves s asked fault closed st → ReadyLeaves bytes s (λ sent. TellsFor bytes s sent response) (TellsFault response) closed st
-ready_failed bytes s (denied why) fault response closed st asks tells leaves = absurd leaves
-ready_failed bytes s (reading what) fault response closed st asks tells (inl kept) = inl ([], inr (tells, refl), kept.open_at)
-ready_failed bytes s (reading what) fault response closed st asks tells (inr shut) = inr ([], tells, inl refl, (shut.is_closed, leaves_as st _ _ (before_last s []) shut.leaves))
-ready_failed bytes s (keying clerk batch entry) fault response closed st asks tells (outcome, is, inl kept) = inl ([], inr (tells, refl), kept.open_at)
-ready_failed bytes s (keying clerk batch entry) fault response closed st asks tells (outcome, is, inr shut) =
+ready_failed : (given : Option (List ℕ)) (bytes : Option (List ℕ)) (s : OfficeState) (asked : AskedEntry) (fault : Fault) (response : _) (closed : Bool) (st : State) → IfSome bytes (λ xs. Asks given xs asked)
+    → TellsFault response → FaultLeaves s asked fault closed st → ReadyLeaves given bytes s (λ sent. TellsFor given bytes s sent response) (TellsFault response) closed st
+ready_failed given bytes s (denied why) fault response closed st asks tells leaves = absurd leaves
+ready_failed given bytes s (reading what) fault response closed st asks tells (inl kept) = inl ([], inr (tells, refl), kept.open_at)
+ready_failed given bytes s (reading what) fault response closed st asks tells (inr shut) = inr ([], tells, inl refl, (shut.is_closed, leaves_as st _ _ (before_last s []) shut.leaves))
+ready_failed given bytes s (keying clerk batch entry) fault response closed st asks tells (outcome, is, inl kept) = inl ([], inr (tells, refl), kept.open_at)
+ready_failed given bytes s (keying clerk batch entry) fault response closed st asks tells (outcome, is, inr shut) =
     let last = is.request ∷ [] in
     let same = is.each is.request is.is in
     inr (
@@ -142,45 +136,45 @@ ready_failed bytes s (keying clerk batch entry) fault response closed st asks te
       ),
     )
 
-ready_leaves : (bytes : Option (List ℕ)) (s : OfficeState) (response : _) (closed : Bool) (st : State) → ReadiesFor bytes s response closed st → ReadyLeaves bytes s (λ sent. TellsFor bytes s sent response) (TellsFault response) closed st
-ready_leaves bytes s response closed st (inr wanting) = inl ([], inr ((Memory, inl wanting.0), refl), wanting.1)
-ready_leaves bytes s response closed st (inl ready) =
+ready_leaves : (given : Option (List ℕ)) (bytes : Option (List ℕ)) (s : OfficeState) (response : _) (closed : Bool) (st : State) → ReadiesFor given bytes s response closed st → ReadyLeaves given bytes s (λ sent. TellsFor given bytes s sent response) (TellsFault response) closed st
+ready_leaves given bytes s response closed st (inr wanting) = inl ([], inr ((Memory, inl wanting.0), refl), wanting.1)
+ready_leaves given bytes s response closed st (inl ready) =
     let (answer, tells, leaves) = ready.readies in
     elim leaves [
-      | inl answered ↦ ready_answered bytes s ready.asked answer response closed st ready.asks tells answered
-      | inr failed ↦ ready_failed bytes s ready.asked failed.0 response closed st ready.asks (failed.0, subst (λ a. IsTold a response) failed.1 tells) failed.2
+      | inl answered ↦ ready_answered given bytes s ready.asked answer response closed st ready.asks tells answered
+      | inr failed ↦ ready_failed given bytes s ready.asked failed.0 response closed st ready.asks (failed.0, subst (λ a. IsTold a response) failed.1 tells) failed.2
     ]
 
 -- what a client who was served leaves
-abbrev ClientLeaves : {R W : Type 0} → Streams R W → OfficeState → R × W → Bool → State → Type 0
-ClientLeaves streams s client closed st =
-    ((sent : List Request) × EndsFor streams client (EndsWith (TellsFor (streams.held client.0) s sent) (sent ≡ [])) × IsOpenAt (after s sent) closed st)
-    ⊎ ((last : List Request) × EndsFor streams client (EndsWith TellsFault ⊥) × IsLastFor (streams.held client.0) last × ClosesAt s last closed st)
+abbrev ClientLeaves : {R W : Type 0} → Option (List ℕ) → Streams R W → OfficeState → R × W → Bool → State → Type 0
+ClientLeaves given streams s client closed st =
+    ((sent : List Request) × EndsFor streams client (EndsWith (TellsFor given (streams.held client.0) s sent) (sent ≡ [])) × IsOpenAt (after s sent) closed st)
+    ⊎ ((last : List Request) × EndsFor streams client (EndsWith TellsFault ⊥) × IsLastFor given (streams.held client.0) last × ClosesAt s last closed st)
 
 -- an answer was put, whole or in part
-client_put : {R W : Type 0} (streams : Streams R W) (s : OfficeState) (client ends : R × W) (served : Served) (closed : Bool) (st : State) (Tells : List Request → Type 0) (Fails : Type 0)
+client_put : {R W : Type 0} (given : Option (List ℕ)) (streams : Streams R W) (s : OfficeState) (client ends : R × W) (served : Served) (closed : Bool) (st : State) (Tells : List Request → Type 0) (Fails : Type 0)
     → CountsAt streams client ends served
-    → ((sent : List Request) → Tells sent → EndsWith (TellsFor (streams.held client.0) s sent) (sent ≡ []) (streams.taken client.1) (streams.taken ends.1) served)
+    → ((sent : List Request) → Tells sent → EndsWith (TellsFor given (streams.held client.0) s sent) (sent ≡ []) (streams.taken client.1) (streams.taken ends.1) served)
     → (Fails → EndsWith TellsFault ⊥ (streams.taken client.1) (streams.taken ends.1) served)
-    → ReadyLeaves (streams.held client.0) s Tells Fails closed st → ClientLeaves streams s client closed st
-client_put streams s client ends served closed st Tells Fails counts tell fail (inl (sent, tells, open_at)) =
+    → ReadyLeaves given (streams.held client.0) s Tells Fails closed st → ClientLeaves given streams s client closed st
+client_put given streams s client ends served closed st Tells Fails counts tell fail (inl (sent, tells, open_at)) =
     inl (sent, record { served = served; ends = ends; counts = counts; told = tell sent tells }, open_at)
-client_put streams s client ends served closed st Tells Fails counts tell fail (inr (last, fails, is_last, closes)) =
+client_put given streams s client ends served closed st Tells Fails counts tell fail (inr (last, fails, is_last, closes)) =
     inr (last, record { served = served; ends = ends; counts = counts; told = fail fails }, is_last, closes)
 
-client_leaves : {R W : Type 0} (streams : Streams R W) (s : OfficeState) (client ends : R × W) (served : Served) (closed : Bool) (st : State) → CountsAt streams client ends served
-    → Serves (streams.held client.0) (streams.taken client.1) (streams.taken ends.1) s served closed st → ClientLeaves streams s client closed st
-client_leaves streams s client ends (Answered status) closed st counts it =
-    client_put streams s client ends (Answered status) closed st _ _ counts
+client_leaves : {R W : Type 0} (given : Option (List ℕ)) (streams : Streams R W) (s : OfficeState) (client ends : R × W) (served : Served) (closed : Bool) (st : State) → CountsAt streams client ends served
+    → Serves given (streams.held client.0) (streams.taken client.1) (streams.taken ends.1) s served closed st → ClientLeaves given streams s client closed st
+client_leaves given streams s client ends (Answered status) closed st counts it =
+    client_put given streams s client ends (Answered status) closed st _ _ counts
     (λ sent tells. record { response = it.response; ready = tells; put = it.put })
     (λ fails. record { response = it.response; ready = fails; put = it.put })
-    (ready_leaves (streams.held client.0) s it.response closed st it.ready)
-client_leaves streams s client ends ReadFailed closed st counts open_at = inl ([], record { served = ReadFailed; ends = ends; counts = counts; told = refl }, open_at)
-client_leaves streams s client ends WriteFailed closed st counts it =
-    client_put streams s client ends WriteFailed closed st _ _ counts
+    (ready_leaves given (streams.held client.0) s it.response closed st it.ready)
+client_leaves given streams s client ends ReadFailed closed st counts open_at = inl ([], record { served = ReadFailed; ends = ends; counts = counts; told = refl }, open_at)
+client_leaves given streams s client ends WriteFailed closed st counts it =
+    client_put given streams s client ends WriteFailed closed st _ _ counts
     (λ sent tells. record { response = it.response; ready = tells; put = it.put })
     (λ fails. record { response = it.response; ready = fails; put = it.put })
-    (ready_leaves (streams.held client.0) s it.response closed st it.ready)
+    (ready_leaves given (streams.held client.0) s it.response closed st it.ready)
 
 -- ---- all clients
 
@@ -189,17 +183,17 @@ closed_ends IsReady P old new (Answered status) it = it
 closed_ends IsReady P old new ReadFailed it = tt
 closed_ends IsReady P old new WriteFailed it = it
 
-module _ {R W S : Type 0} (streams : Streams R W) (state_of : Held S → State) where
-  cleans : (clients : List (R × W)) (old new : OfficeValue S) → FoldsTo (ServesClient streams state_of) old clients new → HasCleanDisk (state_of new.held) → HasCleanDisk (state_of old.held)
+module _ {R W S : Type 0} (given : Option (List ℕ)) (streams : Streams R W) (state_of : Held S → State) where
+  cleans : (clients : List (R × W)) (old new : OfficeValue S) → FoldsTo (ServesClient given streams state_of) old clients new → HasCleanDisk (state_of new.held) → HasCleanDisk (state_of old.held)
   cleans [] old new same clean = subst (λ (o : OfficeValue S). HasCleanDisk (state_of o.held)) (sym same) clean
   cleans (client ∷ clients) old new (mid, step, rest) clean = step.clean (cleans clients mid new rest clean)
 
-  turned_away : (clients : List (R × W)) (old new : OfficeValue S) → FoldsTo (ServesClient streams state_of) old clients new → old.closed ≡ true → AreTurnedAway streams clients × (new ≡ old)
+  turned_away : (clients : List (R × W)) (old new : OfficeValue S) → FoldsTo (ServesClient given streams state_of) old clients new → old.closed ≡ true → AreTurnedAway given streams clients × (new ≡ old)
   turned_away [] old new same closed = (tt, sym same)
   turned_away (client ∷ clients) old new (mid, step, rest) closed =
       let (away, stays) = step.turned_away closed in
       let others = turned_away clients mid new rest (ap (λ (o : OfficeValue S). o.closed) stays ∙ closed) in (
-        (record { served = step.served; ends = step.ends; counts = step.counts; told = closed_ends (ReadiesClosed (streams.held client.0)) _ _ _ step.served away }, others.0),
+        (record { served = step.served; ends = step.ends; counts = step.counts; told = closed_ends (ReadiesClosed given (streams.held client.0)) _ _ _ step.served away }, others.0),
         others.1 ∙ stays,
       )
 
@@ -207,7 +201,7 @@ module _ {R W S : Type 0} (streams : Streams R W) (state_of : Held S → State) 
   pub record Keeps (s : OfficeState) (clients : List (R × W)) (closed : Bool) (st : State) : Type 0 where
     pub answered : List Request
     pub last : List Request
-    pub in_turn : AnswersInTurn streams s clients answered last
+    pub in_turn : AnswersInTurn given streams s clients answered last
     pub open_at : closed ≡ false → IsOpenAt (after s answered) closed st
     pub leaves : LeavesState st (IsAfterSome s (answered ++ last) (length answered))
 
@@ -217,7 +211,7 @@ module _ {R W S : Type 0} (streams : Streams R W) (state_of : Held S → State) 
       let more = behind (after_one s r) sent rest n x it in
       (suc more.0, omega (arith, more.1), omega (arith, more.2), omega (arith, more.3), more.4)
 
-  keeps : (s : OfficeState) (clients : List (R × W)) (old new : OfficeValue S) → FoldsTo (ServesClient streams state_of) old clients new → HasCleanDisk (state_of new.held) → old.closed ≡ false
+  keeps : (s : OfficeState) (clients : List (R × W)) (old new : OfficeValue S) → FoldsTo (ServesClient given streams state_of) old clients new → HasCleanDisk (state_of new.held) → old.closed ≡ false
       → IsAt s (state_of old.held) → Keeps s clients new.closed (state_of new.held)
   keeps s [] old new same clean is_open at =
       subst (λ (o : OfficeValue S). Keeps s [] o.closed (state_of o.held)) same (record {
@@ -228,7 +222,7 @@ module _ {R W S : Type 0} (streams : Streams R W) (state_of : Held S → State) 
         leaves = leaves_as (state_of old.held) _ _ (before_last s []) at.leaves;
       })
   keeps s (client ∷ clients) old new (mid, step, rest) clean is_open at =
-      elim (client_leaves streams s client step.ends step.served mid.closed (state_of mid.held) step.counts (step.serves (cleans clients mid new rest clean) is_open s at)) [
+      elim (client_leaves given streams s client step.ends step.served mid.closed (state_of mid.held) step.counts (step.serves (cleans clients mid new rest clean) is_open s at)) [
         | inl (sent, ends, open_at) ↦
             let others = keeps (after s sent) clients mid new rest clean open_at.is_open open_at.at in
             record {
@@ -253,8 +247,8 @@ module _ {R W S : Type 0} (streams : Streams R W) (state_of : Held S → State) 
       ]
 
   -- the same after earlier requests
-  pub kept_of : (earlier : List Request) (clients : List (R × W)) (old new : OfficeValue S) → FoldsTo (ServesClient streams state_of) old clients new → HasCleanDisk (state_of new.held) → old.closed ≡ false
-      → IsAt (after empty_office earlier) (state_of old.held) → IsKeptOf streams earlier clients new.closed (state_of new.held)
+  pub kept_of : (earlier : List Request) (clients : List (R × W)) (old new : OfficeValue S) → FoldsTo (ServesClient given streams state_of) old clients new → HasCleanDisk (state_of new.held) → old.closed ≡ false
+      → IsAt (after empty_office earlier) (state_of old.held) → IsKeptOf given streams earlier clients new.closed (state_of new.held)
   kept_of earlier clients old new each clean is_open at =
       let it = keeps (after empty_office earlier) clients old new each clean is_open at in
       record {

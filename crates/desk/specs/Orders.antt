@@ -1,7 +1,9 @@
 -- The orders of the program: the name and the words of each, and the values that an order has.
-use Rattle.std.specs.Prelude.{ℕ, zero, suc, List, [], ◌∷◌, ◌++◌, Option, Some, codes, map, string_bytes}
+use Rattle.std.specs.Prelude.{ℕ, zero, suc, List, [], ◌∷◌, ◌++◌, Option, Some, codes, map, option_map, string_bytes}
 use Rattle.clap.specs.Words.{Text}
 use Rattle.office.specs.declared.sheets.Text.TheVariants as ward_text
+use Rattle.wire.specs.Origins.{origin_text}
+use Rattle.wire.specs.declared.origin.Origin.{Origin}
 use Rattle.desk.specs.Verdicts.{Judgement}
 use Rattle.desk.specs.Requests.{Asked, asked_by, batch_to_add, batch_to_key_again, batch_for_third_clerk, candidate_to_add, candidate_to_withdraw, keying_to_keep, lot_to_record, paper_to_judge, stage_to_count, ward_to_add, ward_to_close, ward_to_declare, ward_to_seal}
 use Rattle.desk.specs.declared.table.Kind.{Kind}
@@ -58,6 +60,10 @@ verdict name = record { name = name; kind = kind.Verdict }
 abbrev pub id : WordEntry
 id = record { name = codes "id"; kind = kind.Id }
 
+-- an origin, after `--` and its name, which may be left out
+abbrev pub origin : WordEntry
+origin = record { name = codes "origin"; kind = kind.Origin }
+
 -- an order of this name takes these words, in their sequence
 abbrev pub takes : Text → List WordEntry → OrderEntry
 takes name words = record { name = name; words = words }
@@ -83,7 +89,7 @@ orders =
     ∷ takes (codes "status") (number (codes "WARD") ∷ [])
     ∷ takes (codes "sheet") (number (codes "WARD") ∷ [])
     ∷ takes (codes "result") (number (codes "WARD") ∷ [])
-    ∷ takes (codes "serve") (port (codes "PORT") ∷ connections (codes "CONNECTIONS") ∷ [])
+    ∷ takes (codes "serve") (port (codes "PORT") ∷ connections (codes "CONNECTIONS") ∷ origin ∷ [])
     ∷ takes (codes "migrate") []
     ∷ takes (codes "wards") []
     ∷ takes (codes "batches") (number (codes "WARD") ∷ [])
@@ -97,12 +103,14 @@ orders =
     ∷ takes (codes "table") (number (codes "WARD") ∷ [])
     ∷ []
 
--- a value of an order; a number that may be left out is none then, and a verdict is none where its word says none
+-- a value of an order; a number or an origin that may be left out is none then, and a verdict is none where its word says none, as an origin
+-- that is given is
 pub data Value : Type 0 where
   numbered : ℕ → Value
   numbered_or_none : Option ℕ → Value
   worded : Text → Value
   judged : Option Judgement → Value
+  served_to : Option (Option Text) → Value
 
 -- the name of the order that sends a command of the office, and the values of the command in the sequence of the order's words; a keying is
 -- sent for a clerk, by none of these
@@ -130,6 +138,10 @@ abbrev pub words_sent : ℕ → Asked → Text → Text × List Value
 words_sent zero asked under = office_words_of asked under
 words_sent (suc clerk) asked under = ([], [])
 
+-- the origin whose pages are served through a proxy, if one was given
+abbrev pub origin_served : Option Origin → Option (Option Text)
+origin_served given = option_map (λ o. Some (origin_text o)) given
+
 -- an order's name, and its values in the sequence of its words
 abbrev pub told : Order → Text × List Value
 told order.Init = (codes "init", [])
@@ -150,4 +162,4 @@ told (order.Run (errand.Ask (question.Differences batch))) = (codes "differences
 told (order.Run (errand.Ask (question.Receipts actor))) = (codes "receipts", numbered_or_none actor ∷ [])
 told (order.Replay file) = (codes "replay", worded file.now ∷ [])
 told (order.Copy path) = (codes "copy", worded path.now ∷ [])
-told (order.Serve port connections) = (codes "serve", numbered port ∷ numbered connections ∷ [])
+told (order.Serve port connections origin) = (codes "serve", numbered port ∷ numbered connections ∷ served_to (origin_served origin) ∷ [])

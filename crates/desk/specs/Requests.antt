@@ -106,7 +106,7 @@ abbrev pub work_for : Folder → Order → Work
 work_for folder order.Init = making
 work_for folder order.Migrate = migrating
 work_for folder (order.Run errand) = running (errand_of errand)
-work_for folder (order.Serve port connections) = serving port connections
+work_for folder (order.Serve port connections origin) = serving port connections
 work_for folder (order.Replay file) = replaying folder
 work_for folder (order.Copy path) = copying
 

@@ -4,7 +4,7 @@ use Rattle.std.specs.List.{list_all, list_any}
 use Rattle.std.specs.Str.{is_utf8}
 use Rattle.clap.specs.Words.{Text, subcommand_of}
 use Rattle.desk.specs.Orders.{told}
-use Rattle.desk.specs.Words.{IsToldOf, meaning, office_words, status_of_kind, wrong_with}
+use Rattle.desk.specs.Words.{IsToldOf, bad_origin, meaning, office_words, status_of_kind, wrong_with}
 use Rattle.desk.specs.declared.orders.Errand.{Errand}
 use Rattle.desk.specs.declared.orders.Errand.TheVariants as errand
 use Rattle.desk.specs.declared.orders.Order.{Order}
@@ -159,6 +159,7 @@ abbrev pub line_flaw_text : LineFlaw → Text
 line_flaw_text (flaw.NoWords garbled.Quote) = codes "error: a quote is not closed\n"
 line_flaw_text (flaw.NoWords garbled.NotUtf8) = codes "error: a word is not UTF-8\n"
 line_flaw_text flaw.Verdict = codes "bad verdict word\n"
+line_flaw_text flaw.Origin = bad_origin
 line_flaw_text (flaw.Words text) = string_bytes text
 line_flaw_text flaw.Elsewhere = codes "error: this order stands in no script\n"
 
@@ -166,6 +167,7 @@ line_flaw_text flaw.Elsewhere = codes "error: this order stands in no script\n"
 abbrev pub IsFlawOfWords : List Text → LineFlaw → Type 0
 IsFlawOfWords words (flaw.NoWords why) = ⊥
 IsFlawOfWords words flaw.Verdict = IsToldOf (wrong_with words) words_fault.Verdict
+IsFlawOfWords words flaw.Origin = IsToldOf (wrong_with words) words_fault.Origin
 IsFlawOfWords words (flaw.Words text) = (status : ℕ) × (status ≢ 0) × IsToldOf (wrong_with words) (words_fault.Words text status)
 IsFlawOfWords words flaw.Elsewhere =
     (list_any (λ kind. status_of_kind kind == 0) (wrong_with words) ≡ true)

@@ -58,7 +58,7 @@ IsFresh client = (failed_calls client.0 ≡ 0) × (failed_calls client.1 ≡ 0)
 abbrev pub patience : ℕ
 patience = 30 * 1000000000
 
--- ---- one client
+-- ---- one client, of an office that was given the origin of a proxy or none
 
 -- his streams count as his connection ended: one failure more of the one that failed, which wrote nothing where it was the reader
 abbrev pub CountsAt : {R W : Type 0} → Streams R W → R × W → R × W → Served → Type 0
@@ -67,21 +67,21 @@ CountsAt streams old new ReadFailed = (streams.failed new.0 ≡ streams.failed o
 CountsAt streams old new WriteFailed = (streams.failed new.0 ≡ streams.failed old.0) × (streams.failed_writes new.1 ≡ streams.failed_writes old.1 + 1)
 
 -- a client was served by an office: what he was told and what that left, if it was open, and that it is closed, if it was
-pub record ServesClient {R W S : Type 0} (streams : Streams R W) (state_of : Held S → State) (old : OfficeValue S) (client : R × W) (new : OfficeValue S) : Type 0 where
+pub record ServesClient {R W S : Type 0} (given : Option (List ℕ)) (streams : Streams R W) (state_of : Held S → State) (old : OfficeValue S) (client : R × W) (new : OfficeValue S) : Type 0 where
   pub served : Served
   pub ends : R × W
   pub counts : CountsAt streams client ends served
   pub serves : HasCleanDisk (state_of new.held) → old.closed ≡ false → (s : OfficeState) → IsAt s (state_of old.held)
-      → Serves (streams.held client.0) (streams.taken client.1) (streams.taken ends.1) s served new.closed (state_of new.held)
-  pub turned_away : old.closed ≡ true → ServesClosed (streams.held client.0) (streams.taken client.1) (streams.taken ends.1) served × (new ≡ old)
+      → Serves given (streams.held client.0) (streams.taken client.1) (streams.taken ends.1) s served new.closed (state_of new.held)
+  pub turned_away : old.closed ≡ true → ServesClosed given (streams.held client.0) (streams.taken client.1) (streams.taken ends.1) served × (new ≡ old)
   pub clean : HasCleanDisk (state_of new.held) → HasCleanDisk (state_of old.held)
 
 -- ---- what is kept of clients who are served one after the other
 
 -- the last request is a clerk's keying, which these bytes ask; or there is none
-abbrev pub IsLastFor : Option (List ℕ) → List Request → Type 0
-IsLastFor bytes last =
-    (last ≡ []) ⊎ ((clerk batch : ℕ) × (entry : KeyingEntry) × (request : Request) × IfSome bytes (λ xs. Asks xs (keying clerk batch entry)) × IsHandedOn clerk batch entry request × (last ≡ request ∷ []))
+abbrev pub IsLastFor : Option (List ℕ) → Option (List ℕ) → List Request → Type 0
+IsLastFor given bytes last =
+    (last ≡ []) ⊎ ((clerk batch : ℕ) × (entry : KeyingEntry) × (request : Request) × IfSome bytes (λ xs. Asks given xs (keying clerk batch entry)) × IsHandedOn clerk batch entry request × (last ≡ request ∷ []))
 
 -- a client's connection ended so
 pub record EndsFor {R W : Type 0} (streams : Streams R W) (client : R × W) (IsEnd : Option (List ℕ) → Option (List ℕ) → Served → Type 0) : Type 0 where
@@ -91,36 +91,36 @@ pub record EndsFor {R W : Type 0} (streams : Streams R W) (client : R × W) (IsE
   pub told : IsEnd (streams.taken client.1) (streams.taken ends.1) served
 
 -- clients who find the office closed: each is told so, where he asks it anything
-abbrev pub AreTurnedAway : {R W : Type 0} → Streams R W → List (R × W) → Type 0
-AreTurnedAway streams [] = ⊤
-AreTurnedAway streams (client ∷ clients) = EndsFor streams client (EndsWith (ReadiesClosed (streams.held client.0)) ⊤) × AreTurnedAway streams clients
+abbrev pub AreTurnedAway : {R W : Type 0} → Option (List ℕ) → Streams R W → List (R × W) → Type 0
+AreTurnedAway given streams [] = ⊤
+AreTurnedAway given streams (client ∷ clients) = EndsFor streams client (EndsWith (ReadiesClosed given (streams.held client.0)) ⊤) × AreTurnedAway given streams clients
 
 -- Clients were answered in turn, each as the office's machine says where his turn comes, and these keyings were handed on for them: none or
 -- one for each, and one for each who was told what the office says to his keying. Or a fault, which is told, closed the office at one of them
 -- (his keying may be kept, or not), and everyone behind him is told that it is closed.
-abbrev pub AnswersInTurn : {R W : Type 0} → Streams R W → OfficeState → List (R × W) → List Request → List Request → Type 0
-AnswersInTurn streams s [] answered last = (answered ≡ []) × (last ≡ [])
-AnswersInTurn streams s (client ∷ clients) answered last =
-    ((sent : List Request) × (others : List Request) × EndsFor streams client (EndsWith (TellsFor (streams.held client.0) s sent) (sent ≡ [])) × (answered ≡ sent ++ others)
-    × AnswersInTurn streams (after s sent) clients others last)
-    ⊎ (EndsFor streams client (EndsWith TellsFault ⊥) × (answered ≡ []) × IsLastFor (streams.held client.0) last × AreTurnedAway streams clients)
+abbrev pub AnswersInTurn : {R W : Type 0} → Option (List ℕ) → Streams R W → OfficeState → List (R × W) → List Request → List Request → Type 0
+AnswersInTurn given streams s [] answered last = (answered ≡ []) × (last ≡ [])
+AnswersInTurn given streams s (client ∷ clients) answered last =
+    ((sent : List Request) × (others : List Request) × EndsFor streams client (EndsWith (TellsFor given (streams.held client.0) s sent) (sent ≡ [])) × (answered ≡ sent ++ others)
+    × AnswersInTurn given streams (after s sent) clients others last)
+    ⊎ (EndsFor streams client (EndsWith TellsFault ⊥) × (answered ≡ []) × IsLastFor given (streams.held client.0) last × AreTurnedAway given streams clients)
 
 -- What is kept of clients who were answered in turn, after earlier requests. An open office is at the state after all that were answered.
 -- Whatever a stop leaves is the state after the accepted requests of a beginning, which contains every earlier one, every keying that was
 -- answered, and at most one more.
-pub record IsKeptOf {R W : Type 0} (streams : Streams R W) (earlier : List Request) (clients : List (R × W)) (closed : Bool) (st : State) : Type 0 where
+pub record IsKeptOf {R W : Type 0} (given : Option (List ℕ)) (streams : Streams R W) (earlier : List Request) (clients : List (R × W)) (closed : Bool) (st : State) : Type 0 where
   pub answered : List Request
   pub last : List Request
-  pub in_turn : AnswersInTurn streams (after empty_office earlier) clients answered last
+  pub in_turn : AnswersInTurn given streams (after empty_office earlier) clients answered last
   pub open_at : closed ≡ false → IsOpenAt (after empty_office (earlier ++ answered)) closed st
   pub leaves : LeavesState st (IsAfterBeginning earlier (answered ++ last) (length answered))
 
 -- Clients came in, as many as were wanted, or none further came. Each was served by the office that those before him left, and this is kept
 -- of them.
-pub record ServesClients {R W S E I F : Type 0} (next : I → Option (Result (R × W) E) → I → Type 0) (streams : Streams R W) (state_of : Held S → State) (from to : I) (wanted : ℕ)
+pub record ServesClients {R W S E I F : Type 0} (given : Option (List ℕ)) (next : I → Option (Result (R × W) E) → I → Type 0) (streams : Streams R W) (state_of : Held S → State) (from to : I) (wanted : ℕ)
     (old new : OfficeValue S) (result : Result (Unit {0}) F) : Type 0 where
   pub clients : List (R × W)
   pub admits : AdmitsAll next from to clients wanted result
-  pub each : FoldsTo (ServesClient streams state_of) old clients new
+  pub each : FoldsTo (ServesClient given streams state_of) old clients new
   pub keeps : HasCleanDisk (state_of new.held) → old.closed ≡ false → (earlier : List Request) → IsAt (after empty_office earlier) (state_of old.held)
-      → IsKeptOf streams earlier clients new.closed (state_of new.held)
+      → IsKeptOf given streams earlier clients new.closed (state_of new.held)

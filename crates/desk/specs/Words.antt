@@ -14,8 +14,9 @@ use Rattle.desk.specs.declared.words.WordsFault.TheVariants as words_fault
 use Rattle.desk.specs.declared.table.Kind.{Kind}
 use Rattle.desk.specs.declared.table.Kind.TheVariants as kind
 use Rattle.desk.specs.Numbers.{number_if, number_of}
-use Rattle.desk.specs.Orders.{OrderEntry, Value, WordEntry, judged, numbered, numbered_or_none, orders, worded}
+use Rattle.desk.specs.Orders.{OrderEntry, Value, WordEntry, judged, numbered, numbered_or_none, orders, served_to, worded}
 use Rattle.desk.specs.Verdicts.{judgement_in}
+use Rattle.wire.specs.Origins.{origin_in}
 
 -- the numbers that a word may be
 abbrev pub any_number : ValueParser
@@ -43,6 +44,10 @@ text_rule name = record (new_rule name) { required = true }
 abbrev pub id_rule : Text → Rule
 id_rule name = record (new_rule name) { long = Some name; value_names = 1; required = true }
 
+-- the same, which may be left out
+abbrev pub option_rule : Text → Rule
+option_rule name = record (new_rule name) { long = Some name; value_names = 1 }
+
 -- what `clap` is told of a word
 abbrev pub rule_of_kind : Kind → Text → Rule
 rule_of_kind kind.Number = number_rule any_number
@@ -52,6 +57,7 @@ rule_of_kind kind.Connections = number_rule any_connections
 rule_of_kind kind.Text = text_rule
 rule_of_kind kind.Verdict = text_rule
 rule_of_kind kind.Id = id_rule
+rule_of_kind kind.Origin = option_rule
 
 -- a command, and these words more
 abbrev pub with_words : App → List WordEntry → App
@@ -97,6 +103,7 @@ value_of_kind kind.Connections rows name = numbered (number_at name rows)
 value_of_kind kind.Text rows name = worded (text_at name rows)
 value_of_kind kind.Verdict rows name = judged (judgement_in (text_at name rows))
 value_of_kind kind.Id rows name = worded (text_at name rows)
+value_of_kind kind.Origin rows name = served_to (option_map origin_in (first_of name rows))
 
 -- an order's name and the values that the matches give its words
 abbrev pub read_by : List Row → OrderEntry → Text × List Value
@@ -126,11 +133,25 @@ is_bad_verdict (numbered n) = false
 is_bad_verdict (numbered_or_none n) = false
 is_bad_verdict (worded t) = false
 is_bad_verdict (judged o) = is_none o
+is_bad_verdict (served_to o) = false
 
 -- the matches are an order with a verdict that says none
 abbrev pub has_bad_verdict : Option (Text × List Value) → Bool
 has_bad_verdict None = false
 has_bad_verdict (Some said) = list_any is_bad_verdict said.1
+
+-- a value is the word of an origin that is none
+abbrev pub is_bad_origin : Value → Bool
+is_bad_origin (numbered n) = false
+is_bad_origin (numbered_or_none n) = false
+is_bad_origin (worded t) = false
+is_bad_origin (judged o) = false
+is_bad_origin (served_to o) = option_map_or is_none o false
+
+-- the matches are an order with an origin that is none
+abbrev pub has_bad_origin : Option (Text × List Value) → Bool
+has_bad_origin None = false
+has_bad_origin (Some said) = list_any is_bad_origin said.1
 
 -- ---- words that are no order
 
@@ -143,11 +164,16 @@ abbrev pub status_of_kind : ErrorKind → ℕ
 status_of_kind DisplayHelp = 0
 status_of_kind _ = 2
 
--- what is told of words, by what is wrong with them: a text with that status, and not an empty one; or, where nothing is, that a verdict says none
+-- what is told of words, by what is wrong with them: a text with that status, and not an empty one; or, where nothing is, that a verdict says none, or an origin is none
 abbrev pub IsToldOf : Kinds → WordsFault → Type 0
 IsToldOf kinds words_fault.Memory = ⊤
 IsToldOf kinds words_fault.Verdict = kinds ≡ []
+IsToldOf kinds words_fault.Origin = kinds ≡ []
 IsToldOf kinds (words_fault.Words text status) = (list_any (λ kind. status_of_kind kind == status) kinds ≡ true) × (string_bytes text ≢ [])
+
+-- what is told of a word behind `--origin` that is none
+abbrev pub bad_origin : Text
+bad_origin = codes "error: an origin is http:// or https://, a host in small letters, and its port where it isn't the usual one, as https://count.example.org\n"
 
 -- the text is the own one of what displays itself, where that is known and not empty
 abbrev pub IsOwnText : Option Text → Text → Type 0
@@ -157,10 +183,12 @@ IsOwnText own text = IfSome own (λ bytes. bytes ≢ [] → text ≡ bytes)
 abbrev pub TellsRefusal : ErrorKind → WordsFault → Type 0
 TellsRefusal kind words_fault.Memory = ⊤
 TellsRefusal kind words_fault.Verdict = ⊥
+TellsRefusal kind words_fault.Origin = ⊥
 TellsRefusal kind (words_fault.Words text status) = (kind ≢ OutOfMemory) × (status ≡ status_of_kind kind) × (string_bytes text ≢ [])
 
 -- the text is that of what is told
 abbrev pub TellsOwnText : Option Text → WordsFault → Type 0
 TellsOwnText own words_fault.Memory = ⊤
 TellsOwnText own words_fault.Verdict = ⊥
+TellsOwnText own words_fault.Origin = ⊥
 TellsOwnText own (words_fault.Words text status) = IsOwnText own (string_bytes text)

@@ -5,7 +5,7 @@ ghost use Rattle.std.specs.List.{flat_map};
 ghost use Rattle.desk.specs.Pages.{IsErrorTold, IsPut, Shows, failed, failure_number, failure_of, failure_text, fronted, line_front, migrated_text, outputs_of, page_of, printed, refused, script_page, status_of_file, unread, words_page};
 
 use crate::scripts::ScriptFault;
-use crate::words::WordsFault;
+use crate::words::{BAD_ORIGIN, WordsFault};
 use itoa::Buffer;
 use keyfile::{FileFault, Flaw};
 use register::{Refusal, Reply};
@@ -267,6 +267,7 @@ pub fn tell_words<O: Sink, E: Sink>(fault: &WordsFault, out: &mut O, err: &mut E
     match fault {
         WordsFault::Memory => tell_failure(Failure::Office(Fault::Memory), err),
         WordsFault::Verdict => tell_error(None, &["bad verdict word\n"], 2, err),
+        WordsFault::Origin => tell_error(None, &[BAD_ORIGIN], 2, err),
         WordsFault::Words { text, status: 0 } => tell_text(&[text.as_str()], out, err),
         WordsFault::Words { text, status } => tell_error(None, &[text.as_str()], *status, err),
     }

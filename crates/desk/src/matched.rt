@@ -1,18 +1,19 @@
 //! The order that matched words mean.
 #![tactic(auto, unfolding(crate::specs::Orders::orders))]
 
-ghost use Rattle.std.specs.Prelude.{◌≡◌, ◌⊎◌, true, false, Err, Some, codes, IfErr, IfOk, string_bytes};
-ghost use Rattle.clap.specs.Words.{found_of, rows_of, subcommand_rows_of};
-ghost use Rattle.desk.specs.Orders.{office_words_of, told};
+ghost use Rattle.std.specs.Prelude.{◌≡◌, ◌⊎◌, true, false, Err, None, Some, codes, IfErr, IfOk, option_map, string_bytes};
+ghost use Rattle.clap.specs.Words.{first_of, found_of, rows_of, subcommand_rows_of};
+ghost use Rattle.desk.specs.Orders.{office_words_of, origin_served, told};
 ghost use Rattle.desk.specs.Requests.{asked_by, judgement_given};
 ghost use Rattle.desk.specs.Verdicts.{judgement_in};
-ghost use Rattle.desk.specs.Words.{has_bad_verdict, is_order_name, meaning, meaning_of, names_order, number_at, number_found, text_at};
+ghost use Rattle.wire.specs.Origins.{origin_in};
+ghost use Rattle.desk.specs.Words.{has_bad_origin, has_bad_verdict, is_order_name, meaning, meaning_of, names_order, number_at, number_found, text_at};
 
 use crate::orders::{Errand, KeyingFile, Order, Question};
 use crate::requests::by_office;
 use crate::table::{
-    ACTOR, BATCH, CANDIDATE, CLERK, CONNECTIONS, FILE, FIRST_CLERK, ID, NAME, NEW, PAPER, PORT,
-    ROUND, SCRIPT, SEATS, SECOND_CLERK, SIZE, STAGE, VERDICT, WARD, Word,
+    ACTOR, BATCH, CANDIDATE, CLERK, CONNECTIONS, FILE, FIRST_CLERK, ID, NAME, NEW, ORIGIN, PAPER,
+    PORT, ROUND, SCRIPT, SEATS, SECOND_CLERK, SIZE, STAGE, VERDICT, WARD, Word,
 };
 use crate::verdicts::verdict_in;
 use clap::ArgMatches;
@@ -21,6 +22,7 @@ use register::{
     BatchCommand, CandidateCommand, Command, CountCommand, VerdictCommand, WardCommand,
 };
 use std::alloc::{AllocError, Global};
+use wire::Origin;
 
 /// Why matched words mean no order.
 #[derive(Clone, Copy)]
@@ -29,6 +31,8 @@ pub(crate) enum NoOrder {
     Unknown,
     /// The word of a verdict says none.
     BadVerdict,
+    /// The word of an origin is none.
+    BadOrigin,
     /// Memory was wanting.
     Memory,
 }
@@ -61,6 +65,20 @@ fn text_in<'a>(matches: &ArgMatches<'a>, word: Word) -> &'a str
     match matches.get_str(word.name) {
         Some(text) => text,
         None => "",
+    }
+}
+
+/// The origin that was matched, if one was.
+fn origin_in<'a>(matches: &ArgMatches<'a>) -> Result<Option<Origin<'a>>, NoOrder>
+    ensures ok { IfOk result (λ found. option_map origin_in (first_of (codes "origin") (rows_of (found_of matches.now))) ≡ origin_served found) }
+    ensures err { IfErr result (λ why. (why ≡ NoOrder.BadOrigin) × (option_map origin_in (first_of (codes "origin") (rows_of (found_of matches.now))) ≡ Some None)) }
+{
+    let Some(text) = matches.get_str(ORIGIN.name) else {
+        return Ok(None);
+    };
+    match Origin::parse(text) {
+        Some(origin) => Ok(Some(origin)),
+        None => Err(NoOrder::BadOrigin),
     }
 }
 
@@ -343,13 +361,15 @@ fn copy<'a>(matches: &ArgMatches<'a>) -> Order<'a>
     }
 }
 
-fn serve<'a>(matches: &ArgMatches<'a>) -> Order<'a>
-    ensures { meaning_of (codes "serve") (rows_of (found_of matches.now)) ≡ Some (told result) }
+fn serve<'a>(matches: &ArgMatches<'a>) -> Result<Order<'a>, NoOrder>
+    ensures ok { IfOk result (λ o. meaning_of (codes "serve") (rows_of (found_of matches.now)) ≡ Some (told o)) }
+    ensures err { IfErr result (λ why. (why ≡ NoOrder.BadOrigin) × (has_bad_origin (meaning_of (codes "serve") (rows_of (found_of matches.now))) ≡ true)) }
 {
-    Order::Serve {
+    Ok(Order::Serve {
         port: number_in(matches, PORT),
         connections: number_in(matches, CONNECTIONS),
-    }
+        origin: origin_in(matches)?,
+    })
 }
 
 /// The order of this name, with the values that were matched.
@@ -361,6 +381,7 @@ fn order_named<'a>(
     ensures ok { IfOk result (λ o. meaning_of name.now (rows_of (found_of matches.now)) ≡ Some (told o)) }
     ensures unknown { result ≡ Err NoOrder.Unknown → is_order_name name.now ≡ false }
     ensures bad { result ≡ Err NoOrder.BadVerdict → has_bad_verdict (meaning_of name.now (rows_of (found_of matches.now))) ≡ true }
+    ensures bad_origin { result ≡ Err NoOrder.BadOrigin → has_bad_origin (meaning_of name.now (rows_of (found_of matches.now))) ≡ true }
 {
     match name {
         "init" => Ok(Order::Init),
@@ -382,7 +403,7 @@ fn order_named<'a>(
         "status" => Ok(status(matches)),
         "sheet" => Ok(sheet(matches)),
         "result" => Ok(result(matches)),
-        "serve" => Ok(serve(matches)),
+        "serve" => serve(matches),
         "wards" => Ok(Order::Run(Errand::Ask(Question::Wards))),
         "batches" => Ok(batches(matches)),
         "doubtful" => Ok(doubtful(matches)),
@@ -402,6 +423,7 @@ pub(crate) fn order_in<'a>(alloc: Global, matches: &ArgMatches<'a>) -> Result<Or
     ensures ok { IfOk result (λ o. meaning (subcommand_rows_of matches.now) ≡ Some (told o)) }
     ensures unknown { result ≡ Err NoOrder.Unknown → names_order (subcommand_rows_of matches.now) ≡ false }
     ensures bad { result ≡ Err NoOrder.BadVerdict → has_bad_verdict (meaning (subcommand_rows_of matches.now)) ≡ true }
+    ensures bad_origin { result ≡ Err NoOrder.BadOrigin → has_bad_origin (meaning (subcommand_rows_of matches.now)) ≡ true }
 {
     match matches.subcommand() {
         Some((name, inner)) => order_named(alloc, name, inner),

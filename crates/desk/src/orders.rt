@@ -6,6 +6,7 @@ ghost use Rattle.desk.specs.Scripts.{sends_requests};
 
 use office::Text;
 use register::Request;
+use wire::Origin;
 
 /// A clerk's keying of a batch, which a file holds.
 #[derive(Clone, Copy, Debug)]
@@ -81,13 +82,21 @@ pub enum Order<'a> {
     /// Open the office, and do this in it.
     Run(Errand<'a>),
     /// Open the office, and send the orders of a script in turn.
-    Replay { file: &'a str },
+    Replay {
+        file: &'a str,
+    },
     /// Make a copy of the office, in a file that isn't there yet.
-    Copy { path: &'a str },
+    Copy {
+        path: &'a str,
+    },
     /// Bring an office that an earlier program made over to this one.
     Migrate,
-    /// Answer so many connections on a port of this machine.
-    Serve { port: u32, connections: u32 },
+    /// Answer so many connections on a port of this machine, and pages of an origin through a proxy, if one is given.
+    Serve {
+        port: u32,
+        connections: u32,
+        origin: Option<Origin<'a>>,
+    },
 }
 
 impl<'a> Order<'a> {

@@ -6,7 +6,7 @@ ghost use Rattle.desk.specs.Scripts.{AreTurns, IsFlawOfWords, IsTurn, Means, lin
 
 use crate::cutting;
 use crate::orders::{Errand, Order};
-use crate::words::{WordsFault, order};
+use crate::words::{BAD_ORIGIN, WordsFault, order};
 use std::alloc::{AllocError, Global};
 use std::str;
 
@@ -26,6 +26,8 @@ pub(crate) enum LineFlaw {
     NoWords(Garbled),
     /// The word of a verdict says none.
     Verdict,
+    /// The word behind `--origin` is none.
+    Origin,
     /// The words are no order; this is told of them.
     Words(String),
     /// The order stands in no script.
@@ -41,6 +43,7 @@ impl LineFlaw {
             LineFlaw::NoWords(Garbled::Quote) => "error: a quote is not closed\n",
             LineFlaw::NoWords(Garbled::NotUtf8) => "error: a word is not UTF-8\n",
             LineFlaw::Verdict => "bad verdict word\n",
+            LineFlaw::Origin => BAD_ORIGIN,
             LineFlaw::Words(text) => text.as_str(),
             LineFlaw::Elsewhere => "error: this order stands in no script\n",
         }
@@ -152,6 +155,7 @@ fn errand_in<'a>(alloc: Global, words: &'a [&'a str]) -> Result<Errand<'a>, Opti
         Ok(_) => Err(Some(LineFlaw::Elsewhere)),
         Err(WordsFault::Memory) => Err(None),
         Err(WordsFault::Verdict) => Err(Some(LineFlaw::Verdict)),
+        Err(WordsFault::Origin) => Err(Some(LineFlaw::Origin)),
         Err(WordsFault::Words { status: 0, .. }) => Err(Some(LineFlaw::Elsewhere)),
         Err(WordsFault::Words { text, .. }) => Err(Some(LineFlaw::Words(text))),
     }

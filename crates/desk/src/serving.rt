@@ -1,13 +1,10 @@
 //! Clients, served one after the other.
 
-ghost use Rattle.std.specs.Prelude.{◌≡◌, ◌-◌, ◌^◌, ◌<◌, ◌≤◌, IfErr, IfOk, IfSome, List, OnOk, length, true, false};
+ghost use Rattle.std.specs.Prelude.{◌≡◌, ◌-◌, ◌^◌, ◌<◌, IfErr, IfOk, IfSome, OnOk, true};
 ghost use Rattle.sqlite.specs.State.{HasCleanDisk};
 ghost use Rattle.sqlite.specs.Held.{state};
-ghost use Rattle.register.specs.Machine.{after};
-ghost use Rattle.register.specs.Offices.{empty_office};
-ghost use Rattle.register.specs.declared.command.Request.{Request};
-ghost use Rattle.store.specs.Offices.{IsAt};
-ghost use Rattle.desk.specs.Serving.{Admits, CountFailures, IsFresh, IsKeptOf, ServesClients, streams_of};
+ghost use Rattle.wire.specs.Origins.{given_by};
+ghost use Rattle.desk.specs.Serving.{Admits, CountFailures, IsFresh, ServesClients, streams_of};
 
 use crate::lines::Failure;
 use crate::patience::Patient;
@@ -18,7 +15,7 @@ use std::io;
 use std::net::{Incoming, TcpListener, TcpStream};
 use std::time::Clock;
 use votes::{Counted, Sink, Source};
-use wire::serve_one;
+use wire::{Origin, serve_one};
 
 /// A client who was let in: what he sends, and where his answer goes.
 pub type Client<'a, C> = (
@@ -75,7 +72,7 @@ fn admit<R: Source + Drop, W: Sink + Drop, I: Iterator<Item = io::Result<(R, W)>
     }
 }
 
-/// Serves so many clients, one after the other.
+/// Serves so many clients, one after the other, and pages of an origin through a proxy, if one is given.
 ///
 /// A client who can't be read or written to the end counts, and so does one who is told a fault: after a
 /// fault that closed the office, each further one is told that it is closed. `Output` where fewer clients
@@ -88,6 +85,7 @@ pub fn serve_all<R, W, I, S>(
     alloc: Global,
     clients: &mut I,
     connections: u32,
+    origin: Option<Origin<'_>>,
     office: &mut Office<S>,
 ) -> Result<(), Failure>
 where
@@ -98,21 +96,22 @@ where
     requires can { I.can_next clients.old }
     requires counts { CountFailures I.next_gives (streams_of R.held R.failed W.taken W.failed) }
     ensures told { IfErr result (λ failure. failure ≡ Failure.Output) }
-    ensures served { ServesClients I.next_gives (streams_of R.held R.failed W.taken W.failed) (state S.Store) clients.old clients.new connections office.old office.new result }
+    ensures served { ServesClients (given_by origin.entry) I.next_gives (streams_of R.held R.failed W.taken W.failed) (state S.Store) clients.old clients.new connections office.old office.new result }
     ensures closed { office.old.closed ≡ true → office.new ≡ office.old }
     ensures clean { HasCleanDisk (state S.Store office.new.held) → HasCleanDisk (state S.Store office.old.held) }
 {
     for turn in 0..connections {
         let (mut reader, mut writer) = admit(clients)?;
-        let _ = serve_one(alloc, &mut reader, &mut writer, office);
+        let _ = serve_one(alloc, origin, &mut reader, &mut writer, office);
     }
     Ok(())
 }
 
 /// Serves so many clients of a listener, as `serve_all` does.
 ///
-/// A client has 30 seconds for his request, and as long to take his answer; then he is let go, as one whose line
-/// broke. What a real socket gives and takes no clause can tell. Of an open office, whatever a stop leaves is the state
+/// `Ok` where as many as were wanted came in; where fewer did, `Output`. A client has 30 seconds for his request, and
+/// as long to take his answer; then he is let go, as one whose line broke. What a real socket gives and takes no clause
+/// can tell. Of an open office, whatever a stop leaves is the state
 /// after the accepted requests of a beginning of all that were ever sent, of which those here are clerks'
 /// keyings, at most one a client.
 pub fn serve_on<'a, C: Clock, S: Alter>(
@@ -120,13 +119,13 @@ pub fn serve_on<'a, C: Clock, S: Alter>(
     clock: &'a C,
     listener: &'a TcpListener,
     connections: u32,
+    origin: Option<Origin<'_>>,
     office: &mut Office<S>,
 ) -> Result<(), Failure>
     ensures told { IfErr result (λ failure. failure ≡ Failure.Output) }
-    ensures kept { HasCleanDisk (state S.Store office.new.held) → office.old.closed ≡ false → (earlier : List Request) → IsAt (after empty_office earlier) (state S.Store office.old.held)
-        → (clients : _) × (length clients ≤ connections)
-        × IsKeptOf (streams_of ⟦<Counted<Patient<'a, TcpStream, C>> as Source>⟧.held ⟦<Counted<Patient<'a, TcpStream, C>> as Source>⟧.failed ⟦<Counted<Patient<'a, TcpStream, C>> as Sink>⟧.taken ⟦<Counted<Patient<'a, TcpStream, C>> as Sink>⟧.failed)
-        earlier clients office.new.closed (state S.Store office.new.held) }
+    ensures served { (from to : _) × ServesClients (given_by origin.entry) ⟦<Clients<'a, C> as Iterator>⟧.next_gives
+        (streams_of ⟦<Counted<Patient<'a, TcpStream, C>> as Source>⟧.held ⟦<Counted<Patient<'a, TcpStream, C>> as Source>⟧.failed ⟦<Counted<Patient<'a, TcpStream, C>> as Sink>⟧.taken ⟦<Counted<Patient<'a, TcpStream, C>> as Sink>⟧.failed)
+        (state S.Store) from to connections office.old office.new result }
     ensures closed { office.old.closed ≡ true → office.new ≡ office.old }
     ensures clean { HasCleanDisk (state S.Store office.new.held) → HasCleanDisk (state S.Store office.old.held) }
 {
@@ -134,6 +133,7 @@ pub fn serve_on<'a, C: Clock, S: Alter>(
         alloc,
         &mut Clients::new(listener, clock),
         connections,
+        origin,
         office,
     )
 }

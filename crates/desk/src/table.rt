@@ -25,6 +25,8 @@ pub(crate) enum Kind {
     Verdict,
     /// Any text, after `--id`.
     Id,
+    /// An origin as a browser writes it, after `--origin`; it may be left out.
+    Origin,
 }
 
 /// A word that an order takes, and its line of help.
@@ -181,6 +183,12 @@ pub(crate) const ID: Word = Word {
     help: "An id that you choose for this order, 1 to 40 of a-z, 0-9 and -;\nsent again under the same id, it does nothing twice",
 };
 
+pub(crate) const ORIGIN: Word = Word {
+    name: "origin",
+    kind: Kind::Origin,
+    help: "The origin of pages that ask through a proxy, as https://count.example.org;\nleft out, no page of another machine is answered",
+};
+
 /// All orders, in the sequence of an election; then the one that brings an older office over, those for the office
 /// alone, and those for everyone.
 const ORDERS: [Entry; 30] = [
@@ -294,7 +302,7 @@ const ORDERS: [Entry; 30] = [
     },
     Entry {
         name: "serve",
-        words: &[PORT, CONNECTIONS],
+        words: &[PORT, CONNECTIONS, ORIGIN],
         help: "Answers clerks over HTTP on this machine, so many connections:\ncount-office town.db serve 8080 1000",
         heading: Heading::Election,
     },

@@ -4,7 +4,7 @@ ghost use Rattle.std.specs.Prelude.{◌≡◌, ◌≢◌, ◌⊎◌, true, false
 ghost use Rattle.clap.specs.Words.{app_of, subcommand_of, takes, with_rule, with_subcommand};
 ghost use Rattle.clap.specs.declared.builder.command.Command.TheViews.{out-Command as fields_of};
 ghost use Rattle.desk.specs.Orders.{entry_of, told};
-ghost use Rattle.desk.specs.Words.{IsOwnText, IsToldOf, TellsOwnText, TellsRefusal, free_number_rule, has_bad_verdict, id_rule, meaning, number_rule, office_words, order_words, rule_of_kind, start_words, status_of_kind, text_rule, with_orders, wrong_with};
+ghost use Rattle.desk.specs.Words.{IsOwnText, IsToldOf, TellsOwnText, TellsRefusal, free_number_rule, has_bad_origin, has_bad_verdict, id_rule, meaning, number_rule, office_words, option_rule, order_words, rule_of_kind, start_words, status_of_kind, text_rule, with_orders, wrong_with};
 
 use crate::matched::{NoOrder, order_in};
 use crate::orders::Order;
@@ -53,6 +53,10 @@ refusal and each fault means, and what to do about it.";
 /// What is told of words that aren't understood, where nothing else is.
 const NOT_UNDERSTOOD: &str = "error: the words are not understood\n";
 
+/// What is told of a word behind `--origin` that is none.
+pub(crate) const BAD_ORIGIN: &str =
+    "error: an origin is http:// or https://, a host in small letters, and its port where it isn't the usual one, as https://count.example.org\n";
+
 /// Why the words are no order.
 #[derive(Drop)]
 pub enum WordsFault {
@@ -60,6 +64,8 @@ pub enum WordsFault {
     Memory,
     /// The word of a verdict says none.
     Verdict,
+    /// The word behind `--origin` is none.
+    Origin,
     /// The text to print, and the status to end with: 0 where help was asked for, and 2 where the
     /// words are not understood.
     Words { text: String, status: u8 },
@@ -130,6 +136,23 @@ fn with_id<'a>(
     Ok(command.arg(arg)?)
 }
 
+/// Adds an option with a value, which may be left out.
+fn with_option<'a>(
+    alloc: Global,
+    command: Command<'a>,
+    name: &'a str,
+    help: &'a str,
+) -> Result<Command<'a>, AllocError>
+    ensures app { IfOk result (λ c. app_of c ≡ with_rule (app_of command.entry) (option_rule name.entry.now)) }
+    ensures local { (fields_of command.entry).has_globals ≡ false → IfOk result (λ c. (fields_of c).has_globals ≡ false) }
+{
+    let arg = Arg::new(alloc, name)
+        .long(name)
+        .value_name("ORIGIN")
+        .help(help);
+    Ok(command.arg(arg)?)
+}
+
 fn with_word<'a>(alloc: Global, command: Command<'a>, word: Word) -> Result<Command<'a>, AllocError>
     ensures app { IfOk result (λ c. app_of c ≡ with_rule (app_of command.entry) (rule_of_kind word.kind word.name.now)) }
     ensures local { (fields_of command.entry).has_globals ≡ false → IfOk result (λ c. (fields_of c).has_globals ≡ false) }
@@ -149,6 +172,7 @@ fn with_word<'a>(alloc: Global, command: Command<'a>, word: Word) -> Result<Comm
         }
         Kind::Text | Kind::Verdict => with_text(alloc, command, word.name, word.help),
         Kind::Id => with_id(alloc, command, word.name, word.help),
+        Kind::Origin => with_option(alloc, command, word.name, word.help),
     }
 }
 
@@ -268,7 +292,8 @@ fn refused<D: Display>(alloc: Global, kind: ErrorKind, shown: &D) -> WordsFault
 /// Reads the words, of which the first is DB, to one order.
 ///
 /// The order and its values are those that `clap` matches in the words, read by the table of orders.
-/// Words that `clap` takes are refused for want of memory, and for a verdict whose word says none, alone.
+/// Words that `clap` takes are refused for want of memory, for a verdict whose word says none, and for an origin whose
+/// word is none, alone.
 /// Words that it doesn't take are no order: they are told, in a text that isn't empty, with status 0 where what
 /// is wrong with them first is that they ask for help, and else with 2, or want of memory is told.
 pub fn order<'a>(alloc: Global, words: &'a [&'a str]) -> Result<Order<'a>, WordsFault>
@@ -276,7 +301,8 @@ pub fn order<'a>(alloc: Global, words: &'a [&'a str]) -> Result<Order<'a>, Words
     ensures denies { IfErr result (IsToldOf (wrong_with (map (λ s. s.now) words.entry.now))) }
     ensures ok { IfOk result (λ o. meaning (subcommand_of office_words (map (λ s. s.now) words.entry.now)) ≡ Some (told o)) }
     ensures err { takes office_words (map (λ s. s.now) words.entry.now) ≡ true → IfErr result (λ e. (e ≡ WordsFault.Memory)
-        ⊎ ((e ≡ WordsFault.Verdict) × (has_bad_verdict (meaning (subcommand_of office_words (map (λ s. s.now) words.entry.now))) ≡ true))) }
+        ⊎ (((e ≡ WordsFault.Verdict) × (has_bad_verdict (meaning (subcommand_of office_words (map (λ s. s.now) words.entry.now))) ≡ true))
+        ⊎ ((e ≡ WordsFault.Origin) × (has_bad_origin (meaning (subcommand_of office_words (map (λ s. s.now) words.entry.now))) ≡ true)))) }
 {
     let command = match office_command(alloc) {
         Ok(command) => command,
@@ -290,6 +316,7 @@ pub fn order<'a>(alloc: Global, words: &'a [&'a str]) -> Result<Order<'a>, Words
         Ok(order) => Ok(order),
         Err(NoOrder::Memory) => Err(WordsFault::Memory),
         Err(NoOrder::BadVerdict) => Err(WordsFault::Verdict),
+        Err(NoOrder::BadOrigin) => Err(WordsFault::Origin),
         Err(NoOrder::Unknown) => Err(WordsFault::Words {
             text: String::new(alloc),
             status: 2,

@@ -9,7 +9,7 @@ use std::process::Abort;
 use std::test::Fail;
 use std::{fmt, io};
 use votes::{Counted, Source};
-use wire::{Asked, Denial, Unread, read_asked};
+use wire::{Asked, Denial, Origin, Unread, read_asked};
 
 /// How long a head may be, in bytes, how many headers it may have, and how long a body may be.
 const MAX_HEAD_BYTES: usize = 8192;
@@ -39,12 +39,16 @@ impl<'a> Read for Slow<'a> {
     }
 }
 
-/// What is asked, in short.
-fn asked_text<R: Source>(alloc: Global, reader: &mut R) -> Result<String, fmt::Error>
+/// What is asked, in short, of an office that was given the origin of a proxy or none.
+fn asked_text<R: Source>(
+    alloc: Global,
+    origin: Option<Origin<'_>>,
+    reader: &mut R,
+) -> Result<String, fmt::Error>
     requires { R.failed reader.old < 2 ^ 64 - 1 }
 {
     let mut text = String::new(alloc);
-    match read_asked(alloc, reader) {
+    match read_asked(alloc, origin, reader) {
         Ok(Asked::Keying(keying)) => {
             let (id, papers) = (keying.id.as_str(), &keying.papers);
             let (clerk, batch, round) = (keying.clerk, keying.batch, keying.round);
@@ -65,15 +69,31 @@ fn asked_text<R: Source>(alloc: Global, reader: &mut R) -> Result<String, fmt::E
 }
 
 /// Reads a request given at once, and one byte at a time.
-fn asks(rt: &(impl Abort + AllocGlobal), request: &[u8], asked: &str) -> Result<(), Fail> {
+fn asks_of(
+    rt: &(impl Abort + AllocGlobal),
+    origin: Option<Origin<'_>>,
+    request: &[u8],
+    asked: &str,
+) -> Result<(), Fail> {
     let mut reader = Counted::new(request);
-    assert_eq!(rt; asked_text(rt.alloc(), &mut reader)?.as_str(), asked);
+    assert_eq!(rt;
+        asked_text(rt.alloc(), origin, &mut reader)?.as_str(),
+        asked
+    );
     let mut reader = Counted::new(Slow {
         left: request,
         fails: false,
     });
-    assert_eq!(rt; asked_text(rt.alloc(), &mut reader)?.as_str(), asked);
+    assert_eq!(rt;
+        asked_text(rt.alloc(), origin, &mut reader)?.as_str(),
+        asked
+    );
     Ok(())
+}
+
+/// The same of an office that was given no origin.
+fn asks(rt: &(impl Abort + AllocGlobal), request: &[u8], asked: &str) -> Result<(), Fail> {
+    asks_of(rt, None, request, asked)
 }
 
 /// A keying with these headers and this body.
@@ -227,7 +247,10 @@ fn long_heads_and_bodies(rt: HostRuntime) -> Result<(), Fail> {
         spaces.push(' ')?;
     }
     let mut reader = Counted::new(spaces.as_bytes());
-    assert_eq!(&rt; asked_text(rt.alloc(), &mut reader)?.as_str(), "BadRequest");
+    assert_eq!(&rt;
+        asked_text(rt.alloc(), None, &mut reader)?.as_str(),
+        "BadRequest"
+    );
     Ok(())
 }
 
@@ -242,7 +265,7 @@ fn a_reader_that_fails(rt: HostRuntime) -> Result<(), Fail> {
             KEYED
         };
         let mut reader = Counted::new(Slow { left, fails: true });
-        assert_eq!(&rt; asked_text(rt.alloc(), &mut reader)?.as_str(), wanted);
+        assert_eq!(&rt; asked_text(rt.alloc(), None, &mut reader)?.as_str(), wanted);
         assert_eq!(&rt; reader.failures(), u64::from(length < request.len()));
         let wanted = if length < request.len() {
             "BadRequest"
@@ -250,6 +273,169 @@ fn a_reader_that_fails(rt: HostRuntime) -> Result<(), Fail> {
             KEYED
         };
         asks(&rt, left, wanted)?;
+    }
+    Ok(())
+}
+
+/// Headers that a browser sends for a page from elsewhere, or where the office was found by a foreign name.
+const FOREIGN: [&str; 35] = [
+    "Origin: http://evil.example",
+    "ORIGIN: http://evil.example",
+    "origin:\thttp://evil.example \t",
+    "Origin: null",
+    "Origin:",
+    "Origin: http://127.0.0.1.evil.example",
+    "Origin: http://127.0.0.1:",
+    "Origin: http://127.0.0.1:123456",
+    "Origin: http://127.0.0.1:80a",
+    "Origin: http://127.0.0.1:8080/",
+    "Origin: http://127.0.0.1 http://localhost",
+    "Origin: https://127.0.0.1",
+    "Origin: HTTP://127.0.0.1",
+    "Origin: http://LOCALHOST",
+    "Origin: http://localhost.evil.example",
+    "Origin: http://localhost:-1",
+    "Origin: http://[::1]",
+    "Origin: 127.0.0.1",
+    "Origin: http://127.0.0.1\r\nOrigin: http://evil.example",
+    "Origin: http://evil.example\r\nOrigin: http://127.0.0.1",
+    "Sec-Fetch-Site: cross-site",
+    "sec-fetch-SITE: same-site",
+    "Sec-Fetch-Site:",
+    "Sec-Fetch-Site: None",
+    "Sec-Fetch-Site: none, cross-site",
+    "Sec-Fetch-Site: none\r\nSec-Fetch-Site: cross-site",
+    "Host: evil.example",
+    "hOST: evil.example:8080",
+    "Host: localhost.",
+    "Host: 127.0.0.1.evil.example",
+    "Host: 127.0.0.1:",
+    "Host: 127.0.0.1:123456",
+    "Host: 127.0.0.2:8080",
+    "Host: 127.0.0.1\r\nHost: evil.example",
+    "Host: 127.0.0.1:8080\r\nOrigin: http://127.0.0.1:8080\r\nSec-Fetch-Site: cross-site",
+];
+
+/// Headers that none but this machine's own programs and pages send.
+const OWN: [&str; 20] = [
+    "X: y",
+    "Origin: http://127.0.0.1",
+    "oRIGIN: \t http://127.0.0.1:1 \t",
+    "Origin: http://127.0.0.1:99999",
+    "Origin: http://localhost",
+    "Origin: http://localhost:8080",
+    "Sec-Fetch-Site: same-origin",
+    "SEC-FETCH-SITE:none",
+    "Host:",
+    "Host: localhost",
+    "Host: localhost:8080",
+    "Host: LOCALHOST",
+    "Host: [::1]:8080",
+    "Host: evil",
+    "Host: 127.0.0.1",
+    "host:  127.0.0.1:00000 ",
+    "Host: 127.0.0.1:8080\r\nHost: localhost",
+    "X-Origin: http://evil.example\r\nOrigins: http://evil.example",
+    "X-Host: evil.example\r\nReferer: http://evil.example/",
+    "Host: 127.0.0.1:8080\r\nOrigin: http://127.0.0.1:8080\r\nSec-Fetch-Site: same-origin",
+];
+
+/// Reads a request with these headers more: it asks this, or is denied as foreign, a keying and a reading alike, and
+/// whatever else it would be denied for.
+fn asks_with(
+    rt: &(impl Abort + AllocGlobal),
+    origin: Option<Origin<'_>>,
+    headers: &str,
+    is_foreign: bool,
+) -> Result<(), Fail> {
+    let cases = [
+        (
+            "POST /clerks/4/batches/12/keying",
+            "Content-Length: 43",
+            KEYED,
+        ),
+        (
+            "POST /clerks/4/batches/12/keying",
+            "Content-Length: 42",
+            "BadRequest",
+        ),
+        (
+            "POST /clerks/4/batches/12/keying",
+            "Content-Length: 1048577",
+            "TooLarge",
+        ),
+        (
+            "GET /clerks/4/work",
+            "Content-Length: 43",
+            "Work { clerk: 4 }",
+        ),
+        ("PUT /clerks/4/work", "Content-Length: 43", "only Get"),
+        ("GET /nothing", "Transfer-Encoding: chunked", "NotFound"),
+    ];
+    for (line, length, asked) in cases {
+        for (first, second) in [(length, headers), (headers, length)] {
+            let request = format!(in rt.alloc();
+                "{line} HTTP/1.1\r\n{first}\r\n{second}\r\n\r\n{BODY}"
+            )?;
+            let asked = if is_foreign { "Forbidden" } else { asked };
+            asks_of(rt, origin, request.as_bytes(), asked)?;
+        }
+    }
+    Ok(())
+}
+
+#[test]
+fn pages_from_elsewhere(rt: HostRuntime) -> Result<(), Fail> {
+    let proxied = Origin::parse("https://count.example.org:8443");
+    assert!(rt; proxied.is_some());
+    for headers in FOREIGN {
+        asks_with(&rt, None, headers, true)?;
+        asks_with(&rt, proxied, headers, true)?;
+    }
+    for headers in OWN {
+        asks_with(&rt, None, headers, false)?;
+        asks_with(&rt, proxied, headers, false)?;
+    }
+    asks(
+        &rt,
+        b"GET /nothing\r\nOrigin: http://evil.example\r\n\r\n",
+        "BadRequest",
+    )?;
+    Ok(())
+}
+
+#[test]
+fn pages_through_a_proxy(rt: HostRuntime) -> Result<(), Fail> {
+    let with_port = Origin::parse("https://count.example.org:8443");
+    let without = Origin::parse("http://count.example.org");
+    // Which headers an office takes that was given the one origin, and which with the other.
+    let cases = [
+        ("Origin: https://count.example.org:8443", true, false),
+        ("Origin: https://count.example.org", false, false),
+        ("Origin: https://count.example.org:8444", false, false),
+        ("Origin: https://count.example.org:84430", false, false),
+        ("Origin: http://count.example.org:8443", false, false),
+        ("Origin: http://count.example.org", false, true),
+        ("Origin: http://count.example.org:80", false, false),
+        ("Origin: http://Count.example.org", false, false),
+        (
+            "Origin: http://count.example.org.evil.example",
+            false,
+            false,
+        ),
+        ("Host: count.example.org:8443", true, false),
+        ("Host: count.example.org", true, true),
+        ("Host: count.example.org:844", false, false),
+        ("Host: count.example.or", false, false),
+        ("Host: count.example.org:", false, false),
+        ("Host: example.org", false, false),
+        ("Host: .", false, false),
+        ("Host: https://count.example.org", false, false),
+    ];
+    for (headers, by_port, by_none) in cases {
+        asks_with(&rt, None, headers, true)?;
+        asks_with(&rt, with_port, headers, !by_port)?;
+        asks_with(&rt, without, headers, !by_none)?;
     }
     Ok(())
 }

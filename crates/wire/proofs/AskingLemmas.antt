@@ -9,9 +9,10 @@ use Rattle.httparse.specs.Spans.{IsRequestAt, IsRequestOf, header_bytes, name_an
 use Rattle.httparse.specs.declared.spans.HeaderSpan.{HeaderSpan}
 use Rattle.httparse.specs.declared.spans.RequestSpans.{RequestSpans}
 use Rattle.wire.proofs.HeadLemmas.{HasOneHead-all}
-use Rattle.wire.specs.Asking.{AskedEntry, Asks, AsksOneThing, FailsAfter, IsWanting, LacksAt, LacksBytes, asked_at, asked_by, asked_entry, asked_of, denied, wanted}
+use Rattle.wire.specs.Asking.{AskedEntry, Asks, AsksOneThing, DeniesForeign, FailsAfter, IsWanting, LacksAt, LacksBytes, TakesOwn, asked_at, asked_by, asked_entry, asked_of, denied, wanted}
 use Rattle.wire.specs.Heads.{BeginsWith, HasNoHead}
-use Rattle.wire.specs.Lengths.{body_length}
+use Rattle.wire.specs.Lengths.{NamedValue, body_length}
+use Rattle.wire.specs.Origins.{is_foreign}
 use Rattle.wire.specs.Targets.{named_by}
 use Rattle.wire.specs.declared.asked.Asked.{Asked}
 use Rattle.wire.specs.declared.denial.Denial.TheVariants.{BadRequest}
@@ -20,20 +21,32 @@ use Rattle.wire.specs.declared.unread.Unread.TheVariants.{Broken, Memory}
 
 -- ---- one thing is asked
 
-pub AsksOneThing-all : (bytes : List ℕ) → AsksOneThing bytes
-AsksOneThing-all bytes one two (inl (none, is)) (inl (none_too, is_too)) = is ∙ sym is_too
-AsksOneThing-all bytes one two (inl (none, is)) (inr (head, behind, begins, is_too)) = absurd (none head behind begins)
-AsksOneThing-all bytes one two (inr (head, behind, begins, is)) (inl (none, is_too)) = absurd (none head behind begins)
-AsksOneThing-all bytes one two (inr (head, behind, begins, is)) (inr (other, others, begins_too, is_too)) =
+pub AsksOneThing-all : (given : Option (List ℕ)) (bytes : List ℕ) → AsksOneThing given bytes
+AsksOneThing-all given bytes one two (inl (none, is)) (inl (none_too, is_too)) = is ∙ sym is_too
+AsksOneThing-all given bytes one two (inl (none, is)) (inr (head, behind, begins, is_too)) = absurd (none head behind begins)
+AsksOneThing-all given bytes one two (inr (head, behind, begins, is)) (inl (none, is_too)) = absurd (none head behind begins)
+AsksOneThing-all given bytes one two (inr (head, behind, begins, is)) (inr (other, others, begins_too, is_too)) =
     let (same_head, same_rest) = HasOneHead-all bytes head other behind others begins begins_too in
-    is ∙ ap (λ h. asked_by h behind) same_head ∙ ap (asked_by other) same_rest ∙ sym is_too
+    is ∙ ap (λ h. asked_by given h behind) same_head ∙ ap (asked_by given other) same_rest ∙ sym is_too
+
+-- ---- a page from elsewhere
+
+pub DeniesForeign-all : (given : Option (List ℕ)) (bytes : List ℕ) → DeniesForeign given bytes
+DeniesForeign-all given bytes head behind begins foreign asked asks =
+    AsksOneThing-all given bytes asked (asked_by given head behind) asks (inr (head, behind, begins, refl))
+    ∙ ap (λ b. asked_of (wanted b head.method (named_by head.target)) (body_length (map name_and_value head.fields)) behind) foreign
+
+pub TakesOwn-all : (given : Option (List ℕ)) (bytes : List ℕ) → TakesOwn given bytes
+TakesOwn-all given bytes head behind begins own asked asks =
+    AsksOneThing-all given bytes asked (asked_by given head behind) asks (inr (head, behind, begins, refl))
+    ∙ ap (λ b. asked_of (wanted b head.method (named_by head.target)) (body_length (map name_and_value head.fields)) behind) own
 
 -- ---- from what was read
 
 -- there is no head
-pub Asks-none : (old : Option (List ℕ)) → IfSome old HasNoHead → IfSome old (λ bytes. Asks bytes (denied BadRequest))
-Asks-none None none = tt
-Asks-none (Some bytes) none = inl (none, refl)
+pub Asks-none : (given old : Option (List ℕ)) → IfSome old HasNoHead → IfSome old (λ bytes. Asks given bytes (denied BadRequest))
+Asks-none given None none = tt
+Asks-none given (Some bytes) none = inl (none, refl)
 
 -- a head, what was read behind it, and what is left
 begins : (bytes got left : List ℕ) (headers : List HeaderSpan) (spans : RequestSpans) (head : RequestHead) → IsRequestAt got headers spans head → length got ≤ 8192 → length headers ≡ 32
@@ -46,45 +59,47 @@ begins bytes got left headers spans head is fits places e = record {
 }
 
 -- what a head asks, with what is left behind it
-Asks-entry : (old mid : Option (List ℕ)) (got : List ℕ) (headers : List HeaderSpan) (spans : RequestSpans) → IsRequestOf got headers spans → (asked : AskedEntry)
-    → length got ≤ 8192 → length headers ≡ 32 → Consumes old mid got → IfSome mid (λ left. asked ≡ asked_at got headers spans left) → IfSome old (λ bytes. Asks bytes asked)
-Asks-entry None mid got headers spans found asked fits places took is = tt
-Asks-entry (Some bytes) None got headers spans found asked fits places took is = absurd took
-Asks-entry (Some bytes) (Some left) got headers spans (head, there) asked fits places took is =
+Asks-entry : (given old mid : Option (List ℕ)) (got : List ℕ) (headers : List HeaderSpan) (spans : RequestSpans) → IsRequestOf got headers spans → (asked : AskedEntry)
+    → length got ≤ 8192 → length headers ≡ 32 → Consumes old mid got → IfSome mid (λ left. asked ≡ asked_at given got headers spans left) → IfSome old (λ bytes. Asks given bytes asked)
+Asks-entry given None mid got headers spans found asked fits places took is = tt
+Asks-entry given (Some bytes) None got headers spans found asked fits places took is = absurd took
+Asks-entry given (Some bytes) (Some left) got headers spans (head, there) asked fits places took is =
     let behind = drop spans.len got ++ left in
+    let fields = map (header_bytes got) (take spans.headers headers) in
     inr (
       head,
       behind,
       begins bytes got left headers spans head there fits places took,
-      is ∙ ap (λ m. asked_of (wanted m (named_by (span_bytes got spans.path))) (body_length (map (header_bytes got) (take spans.headers headers))) behind) there.method
-          ∙ ap (λ p. asked_of (wanted head.method (named_by p)) (body_length (map (header_bytes got) (take spans.headers headers))) behind) there.path
-          ∙ ap (λ fields. asked_of (wanted head.method (named_by head.target)) (body_length fields) behind) there.fields,
+      is ∙ ap (λ m. asked_of (wanted (is_foreign given fields) m (named_by (span_bytes got spans.path))) (body_length fields) behind) there.method
+          ∙ ap (λ p. asked_of (wanted (is_foreign given fields) head.method (named_by p)) (body_length fields) behind) there.path
+          ∙ ap (λ (f : List NamedValue). asked_of (wanted (is_foreign given f) head.method (named_by head.target)) (body_length f) behind) there.fields,
     )
 
-pub Asks-head : {E : Type 0} (old mid : Option (List ℕ)) (got : List ℕ) (headers : List HeaderSpan) (spans : RequestSpans) → IsRequestOf got headers spans → (r : Result Asked E)
-    → length got ≤ 8192 → length headers ≡ 32 → Consumes old mid got → IfSome mid (λ left. IfOk r (λ asked. asked_entry asked ≡ asked_at got headers spans left))
-    → IfSome old (λ bytes. IfOk r (λ asked. Asks bytes (asked_entry asked)))
-Asks-head None mid got headers spans found r fits places took is = tt
-Asks-head (Some bytes) mid got headers spans found (Err e) fits places took is = tt
-Asks-head (Some bytes) mid got headers spans found (Ok asked) fits places took is = Asks-entry (Some bytes) mid got headers spans found (asked_entry asked) fits places took is
+pub Asks-head : {E : Type 0} (given old mid : Option (List ℕ)) (got : List ℕ) (headers : List HeaderSpan) (spans : RequestSpans) → IsRequestOf got headers spans → (r : Result Asked E)
+    → length got ≤ 8192 → length headers ≡ 32 → Consumes old mid got → IfSome mid (λ left. IfOk r (λ asked. asked_entry asked ≡ asked_at given got headers spans left))
+    → IfSome old (λ bytes. IfOk r (λ asked. Asks given bytes (asked_entry asked)))
+Asks-head given None mid got headers spans found r fits places took is = tt
+Asks-head given (Some bytes) mid got headers spans found (Err e) fits places took is = tt
+Asks-head given (Some bytes) mid got headers spans found (Ok asked) fits places took is = Asks-entry given (Some bytes) mid got headers spans found (asked_entry asked) fits places took is
 
 -- ---- what doesn't say yet what is asked
 
 -- there is a whole head, and what it asks for isn't all there
-pub FailsAfter-behind : (old mid new : Option (List ℕ)) (got : List ℕ) (headers : List HeaderSpan) (spans : RequestSpans) → IsRequestOf got headers spans → (r : Result Asked Unread)
-    → length got ≤ 8192 → length headers ≡ 32 → Consumes old mid got → IfErr r (FailsAfter mid new (LacksAt got headers spans)) → IfErr r (FailsAfter old new IsWanting)
-FailsAfter-behind old mid new got headers spans found (Ok asked) fits places took after = tt
-FailsAfter-behind old mid new got headers spans found (Err Memory) fits places took after = tt
-FailsAfter-behind old mid new got headers spans (head, there) (Err Broken) fits places took (more, then, lacks) = (
-  got ++ more,
-  Consumes-trans old mid new got more took then,
-  inr (
-    head,
-    drop spans.len got ++ more,
-    begins (got ++ more) got more headers spans head there fits places refl,
-    subst (λ fields. LacksBytes (wanted head.method (named_by head.target)) (body_length fields) (drop spans.len got ++ more)) there.fields
-        (subst (λ p. LacksBytes (wanted head.method (named_by p)) (body_length (map (header_bytes got) (take spans.headers headers))) (drop spans.len got ++ more)) there.path
-        (subst (λ m. LacksBytes (wanted m (named_by (span_bytes got spans.path))) (body_length (map (header_bytes got) (take spans.headers headers))) (drop spans.len got ++ more)) there.method
-        lacks)),
-  ),
-)
+pub FailsAfter-behind : (given old mid new : Option (List ℕ)) (got : List ℕ) (headers : List HeaderSpan) (spans : RequestSpans) → IsRequestOf got headers spans → (r : Result Asked Unread)
+    → length got ≤ 8192 → length headers ≡ 32 → Consumes old mid got → IfErr r (FailsAfter mid new (LacksAt given got headers spans)) → IfErr r (FailsAfter old new (IsWanting given))
+FailsAfter-behind given old mid new got headers spans found (Ok asked) fits places took after = tt
+FailsAfter-behind given old mid new got headers spans found (Err Memory) fits places took after = tt
+FailsAfter-behind given old mid new got headers spans (head, there) (Err Broken) fits places took (more, then, lacks) =
+    let fields = map (header_bytes got) (take spans.headers headers) in (
+      got ++ more,
+      Consumes-trans old mid new got more took then,
+      inr (
+        head,
+        drop spans.len got ++ more,
+        begins (got ++ more) got more headers spans head there fits places refl,
+        subst (λ (f : List NamedValue). LacksBytes (wanted (is_foreign given f) head.method (named_by head.target)) (body_length f) (drop spans.len got ++ more)) there.fields
+            (subst (λ p. LacksBytes (wanted (is_foreign given fields) head.method (named_by p)) (body_length fields) (drop spans.len got ++ more)) there.path
+            (subst (λ m. LacksBytes (wanted (is_foreign given fields) m (named_by (span_bytes got spans.path))) (body_length fields) (drop spans.len got ++ more)) there.method
+            lacks)),
+      ),
+    )

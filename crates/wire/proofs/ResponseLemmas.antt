@@ -2,13 +2,17 @@
 use Rattle.std.proofs.Common.{◌≡◌, refl}
 use Rattle.std.specs.Fmt.{digits}
 use Rattle.wire.specs.Responses.{denied_response, fault_response, lines_and_body, response_bytes}
-use Rattle.wire.specs.declared.denial.Denial.TheVariants.{BadRequest, MethodNotAllowed, NotFound, TooLarge}
+use Rattle.wire.specs.declared.denial.Denial.TheVariants.{BadRequest, Forbidden, MethodNotAllowed, NotFound, TooLarge}
 use Rattle.wire.specs.declared.denial.Verb.TheVariants.{Get, Post}
-use Rattle.wire.specs.declared.response.TheConstants.{BAD_REQUEST, NOT_FOUND, NO_MEMORY, ONLY_GET, ONLY_POST, TOO_LARGE}
+use Rattle.wire.specs.declared.response.TheConstants.{BAD_REQUEST, FORBIDDEN, NOT_FOUND, NO_MEMORY, ONLY_GET, ONLY_POST, TOO_LARGE}
 
 pub bad_request-told : BAD_REQUEST.now ≡ response_bytes (denied_response BadRequest)
 unfolding digits lines_and_body
 bad_request-told = refl
+
+pub forbidden-told : FORBIDDEN.now ≡ response_bytes (denied_response Forbidden)
+unfolding digits lines_and_body
+forbidden-told = refl
 
 pub not_found-told : NOT_FOUND.now ≡ response_bytes (denied_response NotFound)
 unfolding digits lines_and_body

@@ -1,25 +1,30 @@
 -- What a connection tells and leaves.
-use Rattle.std.proofs.Common.{ℕ, Bool, List, Option, inl}
+use Rattle.std.proofs.Common.{ℕ, Bool, List, Option, inl, refl}
 use Rattle.std.specs.Prelude.{IfSome}
 use Rattle.sqlite.specs.State.{State}
 use Rattle.register.specs.Offices.{OfficeState}
 use Rattle.wire.specs.Asking.{AskedEntry, Asks}
-use Rattle.wire.specs.Serving.{IsPut, OnAnswered, OnReadFailed, OnWriteFailed, Readies, ReadiesFor, Serves}
+use Rattle.wire.specs.Serving.{IsDeniedAlike, IsPut, OnAnswered, OnReadFailed, OnWriteFailed, Readies, ReadiesFor, Serves}
+use Rattle.wire.specs.declared.denial.Denial.{Denial}
 use Rattle.wire.specs.declared.response.Response.{Response}
 use Rattle.wire.specs.declared.serving.Served.{Served}
 use Rattle.wire.specs.declared.serving.Served.TheVariants.{Answered, ReadFailed, WriteFailed}
 
 -- what was asked was answered
-pub ReadiesFor-asked : (bytes : Option (List ℕ)) (s : OfficeState) (asked : AskedEntry) (response : Response) (closed : Bool) (st : State) → IfSome bytes (λ xs. Asks xs asked)
-    → Readies s asked response closed st → ReadiesFor bytes s response closed st
-ReadiesFor-asked bytes s asked response closed st asks ready = inl (record { asked = asked; asks = asks; readies = ready })
+pub ReadiesFor-asked : (given bytes : Option (List ℕ)) (s : OfficeState) (asked : AskedEntry) (response : Response) (closed : Bool) (st : State) → IfSome bytes (λ xs. Asks given xs asked)
+    → Readies s asked response closed st → ReadiesFor given bytes s response closed st
+ReadiesFor-asked given bytes s asked response closed st asks ready = inl (record { asked = asked; asks = asks; readies = ready })
+
+-- what is denied is answered without a look at the state
+pub IsDeniedAlike-all : (why : Denial) → IsDeniedAlike why
+IsDeniedAlike-all why s t next answer is = (is.0, (refl, is.1), is.1)
 
 -- the answer that was ready was put
-pub Serves-put : (bytes old new : Option (List ℕ)) (s : OfficeState) (response : Response) (served : Served) (closed : Bool) (st : State) → ReadiesFor bytes s response closed st
-    → IsPut old new response served → Serves bytes old new s served closed st
-Serves-put bytes old new s response (Answered status) closed st ready put = record { response = response; ready = ready; put = put }
-Serves-put bytes old new s response ReadFailed closed st ready put = absurd put
-Serves-put bytes old new s response WriteFailed closed st ready put = record { response = response; ready = ready; put = put }
+pub Serves-put : (given bytes old new : Option (List ℕ)) (s : OfficeState) (response : Response) (served : Served) (closed : Bool) (st : State) → ReadiesFor given bytes s response closed st
+    → IsPut old new response served → Serves given bytes old new s served closed st
+Serves-put given bytes old new s response (Answered status) closed st ready put = record { response = response; ready = ready; put = put }
+Serves-put given bytes old new s response ReadFailed closed st ready put = absurd put
+Serves-put given bytes old new s response WriteFailed closed st ready put = record { response = response; ready = ready; put = put }
 
 -- what was put was no failure of the reader
 pub put-read : (old new : Option (List ℕ)) (response : Response) (served : Served) (P : Type 0) → IsPut old new response served → OnReadFailed served P

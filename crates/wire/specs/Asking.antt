@@ -1,5 +1,5 @@
 -- What a request asks, or why it is denied before the office is asked: by its head and the bytes behind it.
-use Rattle.std.specs.Prelude.{◌≡◌, ◌⊎◌, ◌+◌, ◌<◌, ◌++◌, ⊤, List, Option, Some, None, Result, Ok, Err, bytes_eq, codes, drop, if◌then◌else◌, length, map, option_and_then, string_bytes, take, ℕ}
+use Rattle.std.specs.Prelude.{◌≡◌, ◌⊎◌, ◌+◌, ◌<◌, ◌++◌, ⊤, Bool, List, Option, Some, None, Result, Ok, Err, bytes_eq, codes, drop, false, if◌then◌else◌, length, map, option_and_then, string_bytes, take, true, ℕ}
 use Rattle.std.specs.Io.KnownBytes.{Consumes}
 use Rattle.httparse.specs.Grammar.{RequestHead}
 use Rattle.httparse.specs.Spans.{header_bytes, name_and_value, span_bytes}
@@ -10,7 +10,7 @@ use Rattle.wire.specs.declared.asked.Asked.TheVariants.{Denied, Keying, Reading 
 use Rattle.wire.specs.declared.unread.Unread.{Unread}
 use Rattle.wire.specs.declared.unread.Unread.TheVariants.{Broken, Memory}
 use Rattle.wire.specs.declared.denial.Denial.{Denial}
-use Rattle.wire.specs.declared.denial.Denial.TheVariants.{BadRequest, MethodNotAllowed, NotFound}
+use Rattle.wire.specs.declared.denial.Denial.TheVariants.{BadRequest, Forbidden, MethodNotAllowed, NotFound}
 use Rattle.wire.specs.declared.denial.Verb.{Verb}
 use Rattle.wire.specs.declared.denial.Verb.TheVariants.{Get, Post}
 use Rattle.wire.specs.declared.target.Reading.{Reading}
@@ -19,6 +19,7 @@ use Rattle.wire.specs.declared.target.Target.TheVariants as target
 use Rattle.wire.specs.Bodies.{KeyingEntry, body_in, keying_of}
 use Rattle.wire.specs.Heads.{BeginsWith, HasNoHead, IsHeadWanting}
 use Rattle.wire.specs.Lengths.{body_length}
+use Rattle.wire.specs.Origins.{is_foreign}
 use Rattle.wire.specs.Targets.{named_by}
 
 -- what is asked: nothing, for it is denied; to keep a clerk's keying of a batch; or to read
@@ -58,10 +59,11 @@ abbrev pub asked_with : ℕ → ℕ → Result ℕ Denial → List ℕ → Asked
 asked_with clerk batch (Ok n) behind = asked_in clerk batch (option_and_then keying_of (body_in n behind))
 asked_with clerk batch (Err why) behind = denied why
 
--- what is asked for: what the target names, if it is asked for by its own verb
-abbrev pub wanted : List ℕ → Option Target → Result Target Denial
-wanted method None = Err NotFound
-wanted method (Some there) = if bytes_eq method (verb_text (verb_of there)) then Ok there else Err (MethodNotAllowed (verb_of there))
+-- what is asked for: what the target names, if it is asked for by its own verb; nothing, whatever it names, by a foreign request
+abbrev pub wanted : Bool → List ℕ → Option Target → Result Target Denial
+wanted true method there = Err Forbidden
+wanted false method None = Err NotFound
+wanted false method (Some there) = if bytes_eq method (verb_text (verb_of there)) then Ok there else Err (MethodNotAllowed (verb_of there))
 
 -- what is asked of it; of a reading neither the length of a body nor any byte behind the head counts
 abbrev pub asked_of : Result Target Denial → Result ℕ Denial → List ℕ → AskedEntry
@@ -69,23 +71,37 @@ asked_of (Ok (target.Keying clerk batch)) size behind = asked_with clerk batch s
 asked_of (Ok (target.Reading what)) size behind = reading what
 asked_of (Err why) size behind = denied why
 
--- what a head and the bytes behind it ask
-abbrev pub asked_by : RequestHead → List ℕ → AskedEntry
-asked_by head behind = asked_of (wanted head.method (named_by head.target)) (body_length (map name_and_value head.fields)) behind
+-- what a head and the bytes behind it ask, of an office that was given the origin of a proxy or none
+abbrev pub asked_by : Option (List ℕ) → RequestHead → List ℕ → AskedEntry
+asked_by given head behind =
+    asked_of (wanted (is_foreign given (map name_and_value head.fields)) head.method (named_by head.target)) (body_length (map name_and_value head.fields)) behind
 
 -- the same of a head that was found in what was read, and of what is left
-abbrev pub asked_at : List ℕ → List HeaderSpan → RequestSpans → List ℕ → AskedEntry
-asked_at got headers spans left =
-    asked_of (wanted (span_bytes got spans.method) (named_by (span_bytes got spans.path))) (body_length (map (header_bytes got) (take spans.headers headers))) (drop spans.len got ++ left)
+abbrev pub asked_at : Option (List ℕ) → List ℕ → List HeaderSpan → RequestSpans → List ℕ → AskedEntry
+asked_at given got headers spans left =
+    asked_of (wanted (is_foreign given (map (header_bytes got) (take spans.headers headers))) (span_bytes got spans.method) (named_by (span_bytes got spans.path)))
+    (body_length (map (header_bytes got) (take spans.headers headers))) (drop spans.len got ++ left)
 
 -- what the bytes that a client sends ask
-abbrev pub Asks : List ℕ → AskedEntry → Type 0
-Asks bytes asked =
-    (HasNoHead bytes × (asked ≡ denied BadRequest)) ⊎ ((head : RequestHead) × (behind : List ℕ) × BeginsWith bytes head behind × (asked ≡ asked_by head behind))
+abbrev pub Asks : Option (List ℕ) → List ℕ → AskedEntry → Type 0
+Asks given bytes asked =
+    (HasNoHead bytes × (asked ≡ denied BadRequest)) ⊎ ((head : RequestHead) × (behind : List ℕ) × BeginsWith bytes head behind × (asked ≡ asked_by given head behind))
 
 -- the same bytes ask one thing
-abbrev pub AsksOneThing : List ℕ → Type 0
-AsksOneThing bytes = (one two : AskedEntry) → Asks bytes one → Asks bytes two → one ≡ two
+abbrev pub AsksOneThing : Option (List ℕ) → List ℕ → Type 0
+AsksOneThing given bytes = (one two : AskedEntry) → Asks given bytes one → Asks given bytes two → one ≡ two
+
+-- a request that a page from elsewhere sent, or that came by a foreign name, asks nothing but to be denied, whatever else it says
+abbrev pub DeniesForeign : Option (List ℕ) → List ℕ → Type 0
+DeniesForeign given bytes =
+    (head : RequestHead) (behind : List ℕ) → BeginsWith bytes head behind → is_foreign given (map name_and_value head.fields) ≡ true
+    → (asked : AskedEntry) → Asks given bytes asked → asked ≡ denied Forbidden
+
+-- every other one asks what its target names, whatever origin was given
+abbrev pub TakesOwn : Option (List ℕ) → List ℕ → Type 0
+TakesOwn given bytes =
+    (head : RequestHead) (behind : List ℕ) → BeginsWith bytes head behind → is_foreign given (map name_and_value head.fields) ≡ false
+    → (asked : AskedEntry) → Asks given bytes asked → asked ≡ asked_of (wanted false head.method (named_by head.target)) (body_length (map name_and_value head.fields)) behind
 
 -- ---- what doesn't say yet what is asked
 
@@ -101,17 +117,18 @@ LacksBytes (Ok (target.Reading what)) size behind = ⊥
 LacksBytes (Err why) size behind = ⊥
 
 -- the same of a head and the bytes behind it
-abbrev pub LacksBehind : RequestHead → List ℕ → Type 0
-LacksBehind head behind = LacksBytes (wanted head.method (named_by head.target)) (body_length (map name_and_value head.fields)) behind
+abbrev pub LacksBehind : Option (List ℕ) → RequestHead → List ℕ → Type 0
+LacksBehind given head behind = LacksBytes (wanted (is_foreign given (map name_and_value head.fields)) head.method (named_by head.target)) (body_length (map name_and_value head.fields)) behind
 
 -- the same of a head that was found in what was read, and of what was read then
-abbrev pub LacksAt : List ℕ → List HeaderSpan → RequestSpans → List ℕ → Type 0
-LacksAt got headers spans more =
-    LacksBytes (wanted (span_bytes got spans.method) (named_by (span_bytes got spans.path))) (body_length (map (header_bytes got) (take spans.headers headers))) (drop spans.len got ++ more)
+abbrev pub LacksAt : Option (List ℕ) → List ℕ → List HeaderSpan → RequestSpans → List ℕ → Type 0
+LacksAt given got headers spans more =
+    LacksBytes (wanted (is_foreign given (map (header_bytes got) (take spans.headers headers))) (span_bytes got spans.method) (named_by (span_bytes got spans.path)))
+    (body_length (map (header_bytes got) (take spans.headers headers))) (drop spans.len got ++ more)
 
 -- what was read doesn't say yet what is asked: it has no whole head yet, or the head of a keying whose body isn't all there
-abbrev pub IsWanting : List ℕ → Type 0
-IsWanting got = IsHeadWanting got ⊎ ((head : RequestHead) × (behind : List ℕ) × BeginsWith got head behind × LacksBehind head behind)
+abbrev pub IsWanting : Option (List ℕ) → List ℕ → Type 0
+IsWanting given got = IsHeadWanting got ⊎ ((head : RequestHead) × (behind : List ℕ) × BeginsWith got head behind × LacksBehind given head behind)
 
 -- something of which P holds was read, and of known bytes just that
 abbrev pub HasRead : Option (List ℕ) → Option (List ℕ) → (List ℕ → Type 0) → Type 0

@@ -2,6 +2,7 @@
 pub mod Heads
 pub mod Targets
 pub mod Lengths
+pub mod Origins
 pub mod Bodies
 pub mod Asking
 pub mod Replies

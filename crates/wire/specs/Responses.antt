@@ -4,7 +4,7 @@ use Rattle.http.specs.StatusCode.{reason_phrase}
 use Rattle.wire.specs.Asking.{verb_text}
 use Rattle.wire.specs.Replies.{fault_body, refusal_body, reply_body}
 use Rattle.wire.specs.declared.denial.Denial.{Denial}
-use Rattle.wire.specs.declared.denial.Denial.TheVariants.{BadRequest, MethodNotAllowed, NotFound, TooLarge}
+use Rattle.wire.specs.declared.denial.Denial.TheVariants.{BadRequest, Forbidden, MethodNotAllowed, NotFound, TooLarge}
 use Rattle.wire.specs.declared.denial.Verb.{Verb}
 use Rattle.wire.specs.declared.response.Content.{Content}
 use Rattle.wire.specs.declared.response.Content.TheVariants.{Json, Text}
@@ -64,6 +64,7 @@ text_response text = record { status = 200; allowed = None; content = Text; body
 -- why a request is denied
 abbrev pub denied_response : Denial → ResponseEntry
 denied_response BadRequest = json_response 400 (codes "{\"error\":\"bad request\"}")
+denied_response Forbidden = json_response 403 (codes "{\"error\":\"forbidden\"}")
 denied_response NotFound = json_response 404 (codes "{\"error\":\"not found\"}")
 denied_response (MethodNotAllowed verb) = record { status = 405; allowed = Some verb; content = Json; body = codes "{\"error\":\"method not allowed\"}" }
 denied_response TooLarge = json_response 413 (codes "{\"error\":\"too large\"}")

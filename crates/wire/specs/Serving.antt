@@ -25,6 +25,7 @@ use Rattle.wire.specs.Bodies.{KeyingEntry}
 use Rattle.wire.specs.Replies.{work_body}
 use Rattle.wire.specs.Responses.{ResponseEntry, denied_response, fault_response, json_response, refusal_response, reply_response, text_response}
 use Rattle.wire.specs.Told.{IsTold, IsWritten, told_bytes}
+use Rattle.wire.specs.declared.denial.Denial.{Denial}
 use Rattle.wire.specs.declared.response.Response.{Response}
 use Rattle.wire.specs.declared.serving.Served.{Served}
 use Rattle.wire.specs.declared.serving.Served.TheVariants.{Answered, ReadFailed, WriteFailed}
@@ -124,8 +125,8 @@ abbrev pub TellsFault : Response → Type 0
 TellsFault response = (fault : Fault) × IsTold (fault_response (fault_number fault)) response
 
 -- what is asked is told; or a fault is, and nothing was handed on, or what was is as if it had never come
-abbrev pub TellsFor : Option (List ℕ) → OfficeState → List Request → Response → Type 0
-TellsFor bytes s sent response = ((asked : AskedEntry) × IfSome bytes (λ xs. Asks xs asked) × TellsAsked s asked response sent) ⊎ (TellsFault response × (sent ≡ []))
+abbrev pub TellsFor : Option (List ℕ) → Option (List ℕ) → OfficeState → List Request → Response → Type 0
+TellsFor given bytes s sent response = ((asked : AskedEntry) × IfSome bytes (λ xs. Asks given xs asked) × TellsAsked s asked response sent) ⊎ (TellsFault response × (sent ≡ []))
 
 -- ---- a closed office
 
@@ -135,27 +136,32 @@ closed_response (denied why) = denied_response why
 closed_response (reading what) = fault_response (fault_number Closed)
 closed_response (keying clerk batch entry) = fault_response (fault_number Closed)
 
+-- a request that is denied, as a page's from elsewhere, is answered the same at every state, and by a closed office too; it changes nothing
+abbrev pub IsDeniedAlike : Denial → Type 0
+IsDeniedAlike why =
+    (s t next : OfficeState) (answer : ResponseEntry) → IsAnswer s (denied why) next answer → (next ≡ s) × IsAnswer t (denied why) t answer × (answer ≡ closed_response (denied why))
+
 -- this answer is ready to be written, and where the client's bytes are known, they ask just that
-pub record TellsClosed (bytes : Option (List ℕ)) (response : Response) : Type 0 where
+pub record TellsClosed (given bytes : Option (List ℕ)) (response : Response) : Type 0 where
   pub asked : AskedEntry
-  pub asks : IfSome bytes (λ xs. Asks xs asked)
+  pub asks : IfSome bytes (λ xs. Asks given xs asked)
   pub tells : IsTold (closed_response asked) response
 
 -- that; or memory was wanting to read what he asks
-abbrev pub ReadiesClosed : Option (List ℕ) → Response → Type 0
-ReadiesClosed bytes response = TellsClosed bytes response ⊎ IsWritten (fault_response 101) response
+abbrev pub ReadiesClosed : Option (List ℕ) → Option (List ℕ) → Response → Type 0
+ReadiesClosed given bytes response = TellsClosed given bytes response ⊎ IsWritten (fault_response 101) response
 
 -- ---- one connection
 
 -- the answer to what a client asks is ready, with what it leaves, and where his bytes are known, they ask just that
-pub record ReadiesAsked (bytes : Option (List ℕ)) (s : OfficeState) (response : Response) (closed : Bool) (st : State) : Type 0 where
+pub record ReadiesAsked (given bytes : Option (List ℕ)) (s : OfficeState) (response : Response) (closed : Bool) (st : State) : Type 0 where
   pub asked : AskedEntry
-  pub asks : IfSome bytes (λ xs. Asks xs asked)
+  pub asks : IfSome bytes (λ xs. Asks given xs asked)
   pub readies : Readies s asked response closed st
 
 -- that; or memory was wanting to read what he asks, and nothing was handed on
-abbrev pub ReadiesFor : Option (List ℕ) → OfficeState → Response → Bool → State → Type 0
-ReadiesFor bytes s response closed st = ReadiesAsked bytes s response closed st ⊎ (IsWritten (fault_response 101) response × IsOpenAt s closed st)
+abbrev pub ReadiesFor : Option (List ℕ) → Option (List ℕ) → OfficeState → Response → Bool → State → Type 0
+ReadiesFor given bytes s response closed st = ReadiesAsked given bytes s response closed st ⊎ (IsWritten (fault_response 101) response × IsOpenAt s closed st)
 
 -- an answer was written whole, or, where the writer failed, a beginning of it
 abbrev pub IsPut : Option (List ℕ) → Option (List ℕ) → Response → Served → Type 0
@@ -176,12 +182,12 @@ EndsWith IsReady Unread old new ReadFailed = Unread
 EndsWith IsReady Unread old new WriteFailed = IsServed IsReady old new WriteFailed
 
 -- what each end of a connection tells and leaves: where the reader failed, nothing was handed on
-abbrev pub Serves : Option (List ℕ) → Option (List ℕ) → Option (List ℕ) → OfficeState → Served → Bool → State → Type 0
-Serves bytes old new s served closed st = EndsWith (λ response. ReadiesFor bytes s response closed st) (IsOpenAt s closed st) old new served
+abbrev pub Serves : Option (List ℕ) → Option (List ℕ) → Option (List ℕ) → Option (List ℕ) → OfficeState → Served → Bool → State → Type 0
+Serves given bytes old new s served closed st = EndsWith (λ response. ReadiesFor given bytes s response closed st) (IsOpenAt s closed st) old new served
 
 -- what each end of a connection tells where the office is closed: where the reader failed, nothing was written
-abbrev pub ServesClosed : Option (List ℕ) → Option (List ℕ) → Option (List ℕ) → Served → Type 0
-ServesClosed bytes old new served = EndsWith (ReadiesClosed bytes) (new ≡ old) old new served
+abbrev pub ServesClosed : Option (List ℕ) → Option (List ℕ) → Option (List ℕ) → Option (List ℕ) → Served → Type 0
+ServesClosed given bytes old new served = EndsWith (ReadiesClosed given bytes) (new ≡ old) old new served
 
 -- P, where an answer was written whole
 abbrev pub OnAnswered : Served → Type 0 → Type 0

@@ -1,14 +1,18 @@
 //! What a request asks.
 
-ghost use Rattle.std.specs.Prelude.{◌≡◌, ◌≢◌, ◌-◌, ◌^◌, ◌<◌, ◌++◌, IfErr, IfOk, IfSome, List, Ok, OnOk, ℕ};
-ghost use Rattle.wire.specs.Asking.{Asks, AsksOneThing, FailsAfter, IsUnread, IsWanting, LacksAt, LacksBody, asked_at, asked_entry, asked_with, verb_of, verb_text, wanted};
+ghost use Rattle.std.specs.Prelude.{◌≡◌, ◌≢◌, ◌-◌, ◌^◌, ◌<◌, ◌++◌, IfErr, IfOk, IfSome, List, Ok, OnOk, Option, map, take, ℕ};
+ghost use Rattle.wire.specs.Asking.{Asks, AsksOneThing, DeniesForeign, FailsAfter, IsUnread, IsWanting, LacksAt, LacksBody, TakesOwn, asked_at, asked_entry, asked_with, verb_of, verb_text, wanted};
 ghost use Rattle.wire.specs.Targets.{NamesItsOwn, named_by};
-ghost use Rattle.httparse.specs.Spans.{IsRequestWithin, span_bytes};
+ghost use Rattle.wire.specs.Origins.{given_by, is_foreign};
+ghost use Rattle.wire.specs.Serving.{IsDeniedAlike};
+ghost use Rattle.wire.specs.declared.denial.Denial.{Denial};
+ghost use Rattle.httparse.specs.Spans.{IsRequestWithin, header_bytes, span_bytes};
 
 use crate::body::{KeyingBody, keying_of, read_body};
 use crate::denial::{Denial, Verb};
 use crate::head::{MAX_HEAD_BYTES, MAX_HEADERS, read_head};
 use crate::length::body_length;
+use crate::origin::{Origin, is_foreign};
 use crate::target::{Reading, Target, named_by};
 use crate::unread::Unread;
 use httparse::spans::{EMPTY_HEADER_SPAN, HeaderSpan, RequestSpans};
@@ -96,11 +100,19 @@ fn read_keying<R: Source>(
     }
 }
 
-/// What is asked for: what a target names, if it is asked for by its own verb; or why it is denied. The
-/// only error is want of memory.
-fn wanted(alloc: Global, method: &[u8], target: &[u8]) -> Result<Result<Target, Denial>, AllocError>
-    ensures { IfOk result (λ found. found ≡ wanted method.now (named_by target.now)) }
+/// What is asked for: what a target names, if it is asked for by its own verb, and not by a page from elsewhere; or
+/// why it is denied. The only error is want of memory.
+fn wanted(
+    alloc: Global,
+    is_foreign: bool,
+    method: &[u8],
+    target: &[u8],
+) -> Result<Result<Target, Denial>, AllocError>
+    ensures { IfOk result (λ found. found ≡ wanted is_foreign method.now (named_by target.now)) }
 {
+    if is_foreign {
+        return Ok(Err(Denial::Forbidden));
+    }
     let Some(there) = named_by(alloc, target)? else {
         return Ok(Err(Denial::NotFound));
     };
@@ -115,6 +127,7 @@ fn wanted(alloc: Global, method: &[u8], target: &[u8]) -> Result<Result<Target, 
 /// Reads what a request asks whose head was read, and some bytes behind it.
 fn read_behind<R: Source>(
     alloc: Global,
+    origin: Option<Origin<'_>>,
     reader: &mut R,
     read: &[u8],
     headers: &[HeaderSpan],
@@ -122,15 +135,22 @@ fn read_behind<R: Source>(
 ) -> Result<Asked, Unread>
     requires within { IsRequestWithin read.now headers.now spans }
     requires failures { R.failed reader.old < 2 ^ 64 - 1 }
-    ensures asks { IfSome (R.held reader.old) (λ left. IfOk result (λ asked. asked_entry asked ≡ asked_at read.now headers.now spans left)) }
+    ensures asks { IfSome (R.held reader.old) (λ left. IfOk result (λ asked. asked_entry asked ≡ asked_at (given_by origin.entry) read.now headers.now spans left)) }
     ensures ok { OnOk result (R.failed reader.new ≡ R.failed reader.old) }
     ensures err { IfErr result (IsUnread (R.failed reader.old) (R.failed reader.new)) }
-    ensures wanting { IfErr result (FailsAfter (R.held reader.old) (R.held reader.new) (LacksAt read.now headers.now spans)) }
-    ensures untouched { ((clerk batch : ℕ) → wanted (span_bytes read.now spans.method) (named_by (span_bytes read.now spans.path)) ≢ Ok (Target.Keying clerk batch)) → reader.new ≡ reader.old }
+    ensures wanting { IfErr result (FailsAfter (R.held reader.old) (R.held reader.new) (LacksAt (given_by origin.entry) read.now headers.now spans)) }
+    ensures untouched { ((clerk batch : ℕ) → wanted (is_foreign (given_by origin.entry) (map (header_bytes read.now) (take spans.headers headers.now))) (span_bytes read.now spans.method) (named_by (span_bytes read.now spans.path)) ≢ Ok (Target.Keying clerk batch)) → reader.new ≡ reader.old }
 {
-    match wanted(alloc, spans.method.of(read), spans.path.of(read))? {
+    let headers = &headers[..spans.headers];
+    let is_foreign = is_foreign(origin, read, headers);
+    match wanted(
+        alloc,
+        is_foreign,
+        spans.method.of(read),
+        spans.path.of(read),
+    )? {
         Ok(Target::Keying { clerk, batch }) => {
-            let size = body_length(read, &headers[..spans.headers]);
+            let size = body_length(read, headers);
             read_keying(alloc, reader, size, &read[spans.len..], clerk, batch)
         }
         Ok(Target::Reading(what)) => Ok(Asked::Reading(what)),
@@ -139,12 +159,16 @@ fn read_behind<R: Source>(
 }
 
 /// Reads what a request asks.
-fn read_request<R: Source>(alloc: Global, reader: &mut R) -> Result<Asked, Unread>
+fn read_request<R: Source>(
+    alloc: Global,
+    origin: Option<Origin<'_>>,
+    reader: &mut R,
+) -> Result<Asked, Unread>
     requires { R.failed reader.old < 2 ^ 64 - 1 }
-    ensures asks { IfSome (R.held reader.old) (λ bytes. IfOk result (λ asked. Asks bytes (asked_entry asked))) }
+    ensures asks { IfSome (R.held reader.old) (λ bytes. IfOk result (λ asked. Asks (given_by origin.entry) bytes (asked_entry asked))) }
     ensures ok { OnOk result (R.failed reader.new ≡ R.failed reader.old) }
     ensures err { IfErr result (IsUnread (R.failed reader.old) (R.failed reader.new)) }
-    ensures wanting { IfErr result (FailsAfter (R.held reader.old) (R.held reader.new) IsWanting) }
+    ensures wanting { IfErr result (FailsAfter (R.held reader.old) (R.held reader.new) (IsWanting (given_by origin.entry))) }
 {
     let mut buffer = [0; MAX_HEAD_BYTES];
     let mut headers = [EMPTY_HEADER_SPAN; MAX_HEADERS];
@@ -153,6 +177,7 @@ fn read_request<R: Source>(alloc: Global, reader: &mut R) -> Result<Asked, Unrea
     };
     read_behind(
         alloc,
+        origin,
         reader,
         &buffer[..front.filled],
         &headers,
@@ -160,7 +185,11 @@ fn read_request<R: Source>(alloc: Global, reader: &mut R) -> Result<Asked, Unrea
     )
 }
 
-/// Reads what a request asks.
+/// Reads what a request asks of an office to which pages of an origin may come through a proxy, if one was given.
+///
+/// A request with a header which shows that a page from elsewhere sent it, or that it came by a foreign name, is
+/// `Forbidden`, whatever else it asks; every other one asks what it asks without such a check. What is denied is answered
+/// the same at every state of the office.
 ///
 /// `Broken` comes only from the source, which then counts one failure more, and only while what was read doesn't
 /// say yet what is asked: once it does, nothing more is read, for the client may wait for its answer. Of the
@@ -168,14 +197,21 @@ fn read_request<R: Source>(alloc: Global, reader: &mut R) -> Result<Asked, Unrea
 ///
 /// What is asked for hangs on the target alone, which names just what it is the path of: one of the four of this crate,
 /// with numbers of 1 to 5 digits in it, the first not 0. Any other target names nothing.
-pub fn read_asked<R: Source>(alloc: Global, reader: &mut R) -> Result<Asked, Unread>
+pub fn read_asked<R: Source>(
+    alloc: Global,
+    origin: Option<Origin<'_>>,
+    reader: &mut R,
+) -> Result<Asked, Unread>
     requires { R.failed reader.old < 2 ^ 64 - 1 }
-    ensures asks { IfSome (R.held reader.old) (λ bytes. IfOk result (λ asked. Asks bytes (asked_entry asked))) }
+    ensures asks { IfSome (R.held reader.old) (λ bytes. IfOk result (λ asked. Asks (given_by origin.entry) bytes (asked_entry asked))) }
     ensures ok { OnOk result (R.failed reader.new ≡ R.failed reader.old) }
     ensures err { IfErr result (IsUnread (R.failed reader.old) (R.failed reader.new)) }
-    ensures wanting { IfErr result (FailsAfter (R.held reader.old) (R.held reader.new) IsWanting) }
-    ensures one { (bytes : List ℕ) → AsksOneThing bytes }
+    ensures wanting { IfErr result (FailsAfter (R.held reader.old) (R.held reader.new) (IsWanting (given_by origin.entry))) }
+    ensures one { (bytes : List ℕ) → AsksOneThing (given_by origin.entry) bytes }
+    ensures foreign { (given : Option (List ℕ)) (bytes : List ℕ) → DeniesForeign given bytes }
+    ensures others { (given : Option (List ℕ)) (bytes : List ℕ) → TakesOwn given bytes }
+    ensures alike { (why : Denial) → IsDeniedAlike why }
     ensures targets { (target : List ℕ) → NamesItsOwn target }
 {
-    read_request(alloc, reader)
+    read_request(alloc, origin, reader)
 }

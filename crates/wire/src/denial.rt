@@ -12,6 +12,8 @@ pub enum Verb {
 pub enum Denial {
     /// It has no head that can be read, its body's length can't be told, or the body is no keying.
     BadRequest,
+    /// A page from elsewhere sent it, or it came by a foreign name.
+    Forbidden,
     /// Its target names nothing that is served.
     NotFound,
     /// What its target names is served by another method.

@@ -28,7 +28,7 @@ fn length_in(text: &[u8]) -> Result<usize, Denial>
 }
 
 /// Whether a header's name is another in any case of its letters.
-fn is_named(name: &[u8], other: &[u8]) -> bool
+pub(crate) fn is_named(name: &[u8], other: &[u8]) -> bool
     ensures { result ≡ str_eq_ignore_ascii_case name.now other.now }
 {
     name.eq_ignore_ascii_case(other)

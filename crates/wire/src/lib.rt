@@ -5,12 +5,16 @@
 //! `GET /wards/{w}/result`. [`read_asked`] reads what is asked, [`Asked`], or why it is denied before the
 //! office is asked, [`Denial`].
 //!
-//! `specs/Asking.antt` says what the bytes of a client ask, `specs/Targets.antt` which targets name what,
+//! A page from elsewhere in a browser of this machine asks nothing: each request with a header that shows one is
+//! denied. [`Origin`] is that of pages which may come through a proxy in front.
+//!
+//! `specs/Asking.antt` says what the bytes of a client ask, `specs/Origins.antt` what shows that a page from elsewhere
+//! sent them, `specs/Targets.antt` which targets name what,
 //! `specs/Responses.antt` which bytes an answer has, and `specs/Serving.antt` what is answered at a state of
 //! the office, and what each end of a connection leaves.
 //!
 //! ```text
-//! match serve_one(alloc, &mut reader, &mut writer, &mut office) {
+//! match serve_one(alloc, origin, &mut reader, &mut writer, &mut office) {
 //!     Served::Answered(status) => ..,
 //!     Served::ReadFailed => ..,       // nothing was handed on
 //!     Served::WriteFailed => ..,      // what the office answered stands
@@ -25,6 +29,7 @@ mod body;
 mod digits;
 mod head;
 mod length;
+pub mod origin;
 pub mod target;
 mod unread;
 // what is answered
@@ -37,6 +42,7 @@ mod serving;
 
 pub use asked::{Asked, Keying, read_asked};
 pub use denial::{Denial, Verb};
+pub use origin::Origin;
 pub use serving::{Served, serve_one};
 pub use target::Reading;
 pub use unread::Unread;

@@ -45,6 +45,9 @@ pub(crate) struct Response {
 const BAD_REQUEST: &str =
     "HTTP/1.1 400 Bad Request\r\nContent-Type: application/json\r\nContent-Length: 23\r\nConnection: close\r\n\r\n{\"error\":\"bad request\"}";
 
+const FORBIDDEN: &str =
+    "HTTP/1.1 403 Forbidden\r\nContent-Type: application/json\r\nContent-Length: 21\r\nConnection: close\r\n\r\n{\"error\":\"forbidden\"}";
+
 const NOT_FOUND: &str =
     "HTTP/1.1 404 Not Found\r\nContent-Type: application/json\r\nContent-Length: 21\r\nConnection: close\r\n\r\n{\"error\":\"not found\"}";
 
@@ -77,6 +80,7 @@ pub(crate) fn denied_text(why: Denial) -> &'static str
 {
     match why {
         Denial::BadRequest => BAD_REQUEST,
+        Denial::Forbidden => FORBIDDEN,
         Denial::NotFound => NOT_FOUND,
         Denial::MethodNotAllowed { allowed } => only_text(allowed),
         Denial::TooLarge => TOO_LARGE,
@@ -89,6 +93,7 @@ fn denied_status(why: Denial) -> u16
 {
     match why {
         Denial::BadRequest => 400,
+        Denial::Forbidden => 403,
         Denial::NotFound => 404,
         Denial::MethodNotAllowed { .. } => 405,
         Denial::TooLarge => 413,

@@ -96,7 +96,8 @@ const ASKED: &str = r#"> POST /clerks/4/batches/12/keying HTTP/1.1
 {"error":"method not allowed"}
 "#;
 
-/// What is no request: no head; a body a byte short; and one that is too long. (What else is none, layer_tests has.)
+/// What is no request: no head; a body a byte short; and one that is too long. Then a page from elsewhere, which keys,
+/// reads, and asks for nothing that is there. (What else is none, layer_tests has.)
 const BAD: &str = r#"> X
 >
 >
@@ -114,6 +115,26 @@ const BAD: &str = r#"> X
 >
 413 Payload Too Large
 {"error":"too large"}
+> POST /clerks/4/batches/12/keying HTTP/1.1
+> Origin: http://evil.example
+> Content-Length: 43
+>
+> {"id":"h1","round":1,"papers":["1,2,","D"]}
+403 Forbidden
+{"error":"forbidden"}
+> GET /clerks/4/work HTTP/1.1
+> Host: evil.example:8080
+>
+>
+403 Forbidden
+{"error":"forbidden"}
+> PUT /nothing HTTP/1.1
+> Sec-Fetch-Site: cross-site
+> Content-Length: 1048577
+>
+>
+403 Forbidden
+{"error":"forbidden"}
 "#;
 
 /// What is told of a ward that is declared.

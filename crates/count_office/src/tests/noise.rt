@@ -100,8 +100,9 @@ fn sent(alloc: Global, numbers: &mut Pcg32) -> Result<Vec<u8>, AllocError> {
 
 /// Whether a client who sends these bytes may be answered with this status.
 fn may_be_told(alloc: Global, bytes: &[u8], status: &str) -> bool {
-    match read_asked(alloc, &mut Counted::new(bytes)) {
+    match read_asked(alloc, None, &mut Counted::new(bytes)) {
         Ok(Asked::Denied(Denial::BadRequest)) => status == "400",
+        Ok(Asked::Denied(Denial::Forbidden)) => status == "403",
         Ok(Asked::Denied(Denial::NotFound)) => status == "404",
         Ok(Asked::Denied(Denial::MethodNotAllowed { .. })) => status == "405",
         Ok(Asked::Denied(Denial::TooLarge)) => status == "413",

@@ -248,7 +248,7 @@ fn serve<S: Alter + Drop>(
     let page = RefCell::new(Vec::new(alloc));
     let served = {
         let mut coming = Coming::new(clients, &page);
-        serve_all(alloc, &mut coming, connections, &mut office)
+        serve_all(alloc, &mut coming, connections, None, &mut office)
     };
     let conn = office.into_connection();
     let out = String::from_utf8(page.into_inner())?;
@@ -273,7 +273,7 @@ fn listen<S: Alter + Drop>(
         return Err(Fail::from("no office is opened"));
     };
     let clock = Jumping::by(0);
-    let served = serve_on(alloc, &clock, listener, connections, &mut office);
+    let served = serve_on(alloc, &clock, listener, connections, None, &mut office);
     let conn = office.into_connection();
     let text = format!(in alloc; "{served:?}")?;
     Ok((Said::quietly(alloc, text), conn))

@@ -11,6 +11,7 @@ fn read(alloc: Global, words: &[&str]) -> Result<String, AllocError> {
         Ok(order) => format!(in alloc; "{order:?}"),
         Err(WordsFault::Memory) => Err(AllocError),
         Err(WordsFault::Verdict) => String::from_str(alloc, "bad verdict word"),
+        Err(WordsFault::Origin) => String::from_str(alloc, "bad origin word"),
         Err(WordsFault::Words { text, status }) => format!(in alloc; "{status} {text}"),
     }
 }
@@ -69,7 +70,11 @@ Run(Ask(Receipts { actor: None }))
 $ receipts 0
 Run(Ask(Receipts { actor: Some(0) }))
 $ serve 8080 1000000
-Serve { port: 8080, connections: 1000000 }
+Serve { port: 8080, connections: 1000000, origin: None }
+$ serve --origin https://count.example.org 8080 1
+Serve { port: 8080, connections: 1, origin: Some(Origin { text: "https://count.example.org" }) }
+$ serve 8080 1 --origin http://a-b_c.example:8443
+Serve { port: 8080, connections: 1, origin: Some(Origin { text: "http://a-b_c.example:8443" }) }
 $ replay evening.txt
 Replay { file: "evening.txt" }
 $ copy evening.db
@@ -104,6 +109,24 @@ const NO_VERDICTS: [&str; 6] = [
     "reject:4294967296",
 ];
 
+/// Words that are no origin, or not as a browser writes it.
+const NO_ORIGINS: [&str; 14] = [
+    "",
+    "count.example.org",
+    "http://",
+    "https://:8443",
+    "ftp://count.example.org",
+    "HTTPS://count.example.org",
+    "https://Count.example.org",
+    "https://count.example.org/",
+    "https://count.example.org:",
+    "https://count.example.org:123456",
+    "https://count.example.org:443",
+    "http://count.example.org:80",
+    "https://clerk@count.example.org",
+    "https://count.example.org https://other.example",
+];
+
 #[test]
 fn words_are_read_to_orders(rt: HostRuntime) -> Result<(), Fail> {
     let alloc = rt.alloc();
@@ -113,6 +136,10 @@ fn words_are_read_to_orders(rt: HostRuntime) -> Result<(), Fail> {
     }
     for (words, wanted) in TAKEN_AS_ONE {
         assert_eq!(rt; read(alloc, words)?.as_str(), wanted);
+    }
+    for word in NO_ORIGINS {
+        let told = read(alloc, &["DB", "serve", "8080", "1", "--origin", word])?;
+        assert_eq!(rt; told.as_str(), "bad origin word", "{word}");
     }
     for word in NO_VERDICTS {
         let told = read(alloc, &["DB", "judge", "12", "2", word, "--id", "v1"])?;

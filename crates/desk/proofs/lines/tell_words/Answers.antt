@@ -1,9 +1,12 @@
 -- Why `tell_words` keeps its promise.
 use Rattle.std.proofs.Common.{refl}
 use Rattle.desk.specs.Pages.{words_page}
-use Rattle.desk.specs.declared.words.WordsFault.TheVariants.{Verdict}
+use Rattle.desk.specs.declared.words.WordsFault.TheVariants.{Origin, Verdict}
 use Rattle.desk.proofs.PageLemmas.{error_shown}
 use Rattle.desk.proofs.lines.tell_words.Goals as goal
 
 pub returns-in-Verdict : goal.returns-in-Verdict
 returns-in-Verdict g c = rw c.in-Verdict.is (error_shown g.O.Sink.taken g.O.Sink.failed g.E.Sink.taken g.E.Sink.failed _ _ _ (words_page Verdict) c.tell_error.result refl c.tell_error.ensures)
+
+pub returns-in-Origin : goal.returns-in-Origin
+returns-in-Origin g c = rw c.in-Origin.is (error_shown g.O.Sink.taken g.O.Sink.failed g.E.Sink.taken g.E.Sink.failed _ _ _ (words_page Origin) c.tell_error-in-Origin.result refl c.tell_error-in-Origin.ensures)

@@ -2,6 +2,7 @@
 use Rattle.std.proofs.Common.{◌∙◌, ◌<◌, [], ap, arith, length, refl}
 use Rattle.sqlite.specs.Held.{state}
 use Rattle.office.specs.Values.{OfficeValue}
+use Rattle.wire.specs.Origins.{given_by}
 use Rattle.desk.specs.Serving.{streams_of}
 use Rattle.desk.proofs.ServedLemmas.{admits_fewer, client_more, client_served, kept_of}
 use Rattle.desk.proofs.serving.serve_all.Goals as goal
@@ -26,7 +27,7 @@ loop-turn-preserved g c =
     record {
       can = c.in_ok-reader.ensures.can;
       so_far = client_more g.I.Iterator.next_gives _ _ c.loop-turn.clients _ _ c.loop-turn.office _ c.loop-turn.turn (c.in_ok-reader.reader, c.in_ok-reader.writer) so_far.so_far c.in_ok-reader.ensures.admits
-          (client_served (streams_of g.R.Source.held g.R.Source.failed g.W.Sink.taken g.W.Sink.failed) (state g.S.Store) c.loop-turn.office c.serve_one.new.office c.in_ok-reader.reader
+          (client_served (given_by c.args.origin) (streams_of g.R.Source.held g.R.Source.failed g.W.Sink.taken g.W.Sink.failed) (state g.S.Store) c.loop-turn.office c.serve_one.new.office c.in_ok-reader.reader
           c.serve_one.new.reader c.in_ok-reader.writer c.serve_one.new.writer c.serve_one.result _ did.answered did.read_failed did.write_failed did.served did.closed_served did.closed did.clean);
       closed = λ was. let same = so_far.closed was in did.closed (ap (λ (o : OfficeValue _). o.closed) same ∙ was) ∙ same;
       clean = λ clean. so_far.clean (did.clean clean);
@@ -39,7 +40,7 @@ returns-clause-served g c =
       clients = so_far.clients;
       admits = (so_far.came, omega (arith, so_far.count, c.loop-turn-test.false, c.loop-turn.auto.turn-end));
       each = so_far.each;
-      keeps = λ clean is_open earlier at. kept_of (streams_of g.R.Source.held g.R.Source.failed g.W.Sink.taken g.W.Sink.failed) (state g.S.Store) earlier so_far.clients _ _ so_far.each clean is_open at;
+      keeps = λ clean is_open earlier at. kept_of (given_by c.args.origin) (streams_of g.R.Source.held g.R.Source.failed g.W.Sink.taken g.W.Sink.failed) (state g.S.Store) earlier so_far.clients _ _ so_far.each clean is_open at;
     }
 
 pub returns-in_err-reader-clause-served : goal.returns-in_err-reader-clause-served
@@ -50,5 +51,5 @@ returns-in_err-reader-clause-served g c =
       clients = so_far.clients;
       admits = admits_fewer g.I.Iterator.next_gives _ c.loop-turn.clients _ so_far.clients c.args.connections c.from_residual.result c.from_residual.ensures.0 so_far.came c.in_err-reader.ensures.admits few;
       each = so_far.each;
-      keeps = λ clean is_open earlier at. kept_of (streams_of g.R.Source.held g.R.Source.failed g.W.Sink.taken g.W.Sink.failed) (state g.S.Store) earlier so_far.clients _ _ so_far.each clean is_open at;
+      keeps = λ clean is_open earlier at. kept_of (given_by c.args.origin) (streams_of g.R.Source.held g.R.Source.failed g.W.Sink.taken g.W.Sink.failed) (state g.S.Store) earlier so_far.clients _ _ so_far.each clean is_open at;
     }

@@ -1,7 +1,7 @@
-use Rattle.std.proofs.Common.{◌∙◌, refl, sym, ap, map, inr, Err}
+use Rattle.std.proofs.Common.{◌∙◌, refl, sym, ap, map, inl, inr, Err}
 use Rattle.std.proofs.lemmas.Bool.{false≢true}
 use Rattle.clap.specs.Words.{kind_of}
-use Rattle.desk.specs.Words.{has_bad_verdict, meaning}
+use Rattle.desk.specs.Words.{has_bad_origin, has_bad_verdict, meaning}
 use Rattle.desk.proofs.OrdersNamed.{matches_are_the_words, matches_name_an_order}
 use Rattle.desk.proofs.WordsRefused.{refusal_told, refused_is_wrong, taken_is_right}
 use Rattle.desk.proofs.words.order.Goals as goal
@@ -35,7 +35,16 @@ pub returns-in-Err-BadVerdict-clause-err : goal.returns-in-Err-BadVerdict-clause
 returns-in-Err-BadVerdict-clause-err c = λ taken.
     let parse = c.in-Ok-try_get_matches_from in
     let same = matches_are_the_words c.in-Ok.command parse.matches (map (λ s. s.now) c.args.words.now) c.in-Ok.ensures.app parse.ensures.matches in
-    inr (refl, ap (λ found. has_bad_verdict (meaning found)) (sym same) ∙ c.in-Err-BadVerdict.ensures.bad (ap Err c.in-Err-BadVerdict.field-0-is))
+    inr (inl (refl, ap (λ found. has_bad_verdict (meaning found)) (sym same) ∙ c.in-Err-BadVerdict.ensures.bad (ap Err c.in-Err-BadVerdict.field-0-is)))
+
+pub returns-in-Err-BadOrigin-clause-denies : goal.returns-in-Err-BadOrigin-clause-denies
+returns-in-Err-BadOrigin-clause-denies c = taken_is_right c.in-Ok.command (map (λ s. s.now) c.args.words.now) c.in-Ok.ensures.app c.in-Ok-try_get_matches_from.ensures.kinds
+
+pub returns-in-Err-BadOrigin-clause-err : goal.returns-in-Err-BadOrigin-clause-err
+returns-in-Err-BadOrigin-clause-err c = λ taken.
+    let parse = c.in-Ok-try_get_matches_from in
+    let same = matches_are_the_words c.in-Ok.command parse.matches (map (λ s. s.now) c.args.words.now) c.in-Ok.ensures.app parse.ensures.matches in
+    inr (inr (refl, ap (λ found. has_bad_origin (meaning found)) (sym same) ∙ c.in-Err-BadOrigin.ensures.bad_origin (ap Err c.in-Err-BadOrigin.field-0-is)))
 
 pub returns-clause-err : goal.returns-clause-err
 returns-clause-err c = λ taken.
