@@ -32,7 +32,7 @@ pub returns-in-Ok-copied_text-clause-copied : goal.returns-in-Ok-copied_text-cla
 returns-in-Ok-copied_text-clause-copied g c clean = record {
   in_office = λ db rests s left blank.
       let it = c.in-Ok.ensures.same clean db rests s left in
-      inl (ap replied (c.in-Ok-copied_text.ensures ∙ ap copied_text it.0), λ honest. it.1 honest blank);
+      inl (ap replied (c.in-Ok-copied_text.ensures ∙ ap copied_text it.0), refl, λ honest. it.1 honest blank);
   elsewhere = λ db ours rests none blank. let it = c.in-Ok.ensures.copied clean db ours rests in absurd (none it.0 it.1);
   taken = λ outside there. absurd (told_one c.copy.result c.in-Ok.is (c.copy.ensures.taken there outside).0);
   reads = c.copy.ensures.reads;
@@ -57,11 +57,10 @@ returns-in-Err-clause-copied g c clean =
       in_office = λ db rests s left blank.
           inr (failure_of c.in-Err.fault, refl, ends_copying c.in-Err.fault old new (c.in-Err.ensures.cause clean db rests s left blank), λ honest. c.copy.ensures.stops clean honest db rests s left blank);
       elsewhere = λ db ours rests none blank.
-          let it = none_copied db c.in-Err.fault old new none c.copy.ensures.reads (c.in-Err.ensures.told clean db ours rests blank) in
-          (it.0, subst (λ conn. OnlyReads copy (state g.T.Store conn)) (sym (c.in-Err.ensures.untouched it.1)) (only_reads_itself copy));
+          none_copied db c.in-Err.fault old new none (c.in-Err.ensures.told clean db ours rests blank);
       taken = λ outside there.
-          let it = c.copy.ensures.taken there outside in
-          (ap (λ why. failed (failure_of why)) (told_fault c.in-Err.fault Taken c.copy.result c.in-Err.is it.0), subst (λ conn. OnlyReads copy (state g.T.Store conn)) (sym it.1) (only_reads_itself copy));
+          let same = told_fault c.in-Err.fault Taken c.copy.result c.in-Err.is (c.copy.ensures.taken there outside).0 in
+          (ap (λ why. failed (failure_of why)) same, c.in-Err-state_behind.ensures ∙ ap state_behind same);
       reads = c.copy.ensures.reads;
       leaves = λ db rests earlier left. read_leaves (after empty_office earlier) db old new (λ trees is_open may. g.met.S.Store.settled c.args.conn.now.store trees is_open may) c.copy.ensures.reads clean rests left;
     }

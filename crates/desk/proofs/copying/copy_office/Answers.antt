@@ -9,5 +9,5 @@ returns-clause-copied g c =
       page = page_of c.copied-outcome.result.0;
       cut = told.0;
       shown = told.1;
-      is = λ clean. c.copied-outcome.ensures.copied clean;
+      is = (c.copied-outcome.ensures.holds, λ clean. c.copied-outcome.ensures.copied clean);
     }
