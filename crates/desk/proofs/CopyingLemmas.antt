@@ -8,9 +8,11 @@ use Rattle.tables.specs.declared.fault.Fault.TheVariants as fault
 use Rattle.store.specs.Copies.{IsToldInCopying, IsUnbegun, StopsInCopying}
 use Rattle.store.specs.declared.copying.CopyFault.{CopyFault}
 use Rattle.store.specs.declared.copying.CopyFault.TheVariants.{Office, Taken, Copy}
+use Rattle.tables.specs.Reading.{OnlyReads}
 use Rattle.store.specs.Offices.{StoresState}
 use Rattle.store.specs.Openings.{HoldsNoState, IsBlank}
 use Rattle.desk.specs.Copying.{EndsCopying, HoldsCopy, IsNoneCopied, state_behind}
+use Rattle.desk.specs.declared.copying.CopyState.TheVariants.{Untouched}
 use Rattle.desk.specs.Pages.{failed, failure_of}
 
 -- why a copy of an office that is there isn't made
@@ -32,8 +34,14 @@ none_copied db Taken old new none told = absurd told
 none_copied db (Copy f) old new none told = absurd (none told.1.0 told.1.1)
 
 -- what the other database holds is what is said of it
-pub holds_behind : (why : CopyFault) (copy_old copy_new : State) → (IsUnbegun why → copy_new ≡ copy_old)
+pub holds_behind : (why : CopyFault) (copy_old copy_new : State) → (IsUnbegun why → OnlyReads copy_old copy_new)
     → (HasCleanDisk copy_new → IsBlank copy_old → (trees : Trees) → copy_new.may_leave trees → copy_old.may_leave trees ⊎ ((s : OfficeState) × StoresState s trees)) → HoldsCopy (state_behind why) (failed (failure_of why)) copy_old copy_new
 holds_behind (Office f) copy_old copy_new untouched whole = (failure_of (Office f), refl, untouched tt)
 holds_behind Taken copy_old copy_new untouched whole = (failure_of Taken, refl, untouched tt)
 holds_behind (Copy f) copy_old copy_new untouched whole = (failure_of (Copy f), refl, whole)
+
+-- where it is as it was, nothing was begun
+pub unbegun_behind : (why : CopyFault) → state_behind why ≡ Untouched → IsUnbegun why
+unbegun_behind (Office f) same = tt
+unbegun_behind Taken same = tt
+unbegun_behind (Copy f) same = absurd (cc same)

@@ -47,7 +47,7 @@ state_behind (uncopied.Copy fault) = Unknown
 abbrev pub HoldsCopy : CopyState → Page → State → State → Type 0
 HoldsCopy Whole page copy_old copy_new =
     (h : Holdings) × (page ≡ replied (copied_text h)) × (HasCleanDisk copy_new → IsBlank copy_old → (s : OfficeState) × (h ≡ holdings_of s) × IsAt s copy_new)
-HoldsCopy Untouched page copy_old copy_new = (failure : Failure) × (page ≡ failed failure) × (copy_new ≡ copy_old)
+HoldsCopy Untouched page copy_old copy_new = (failure : Failure) × (page ≡ failed failure) × OnlyReads copy_old copy_new
 HoldsCopy Unknown page copy_old copy_new =
     (failure : Failure) × (page ≡ failed failure) × (HasCleanDisk copy_new → IsBlank copy_old → (trees : Trees) → copy_new.may_leave trees → copy_old.may_leave trees ⊎ ((s : OfficeState) × StoresState s trees))
 

@@ -57,6 +57,7 @@ fn copied<S: Alter, T: Alter>(
 ) -> (Outcome, CopyState)
     ensures holds { HoldsCopy result.1 (page_of result.0) (state T.Store copy.old) (state T.Store copy.new) }
     ensures copied { HasCleanDisk (state S.Store conn.new) → IsCopied (page_of result.0) result.1 (state S.Store conn.old) (state S.Store conn.new) (state T.Store copy.old) (state T.Store copy.new) }
+    ensures untouched { result.1 ≡ CopyState.Untouched → copy.new ≡ copy.old }
     ensures reads { OnlyReads (state S.Store conn.old) (state S.Store conn.new) }
     ensures wears { Wears (state T.Store copy.old) (state T.Store copy.new) }
     ensures clean { HasCleanDisk (state T.Store copy.new) → HasCleanDisk (state T.Store copy.old) }
@@ -93,6 +94,7 @@ pub fn copy_office<S: Alter, T: Alter, O: Sink, E: Sink>(
     ensures copied { let outputs = outputs_of O.taken O.failed E.taken E.failed in Tells (outputs out.old err.old) (outputs out.new err.new) result.0
         (λ _ page. HoldsCopy result.1 page (state T.Store copy.old) (state T.Store copy.new)
             × (HasCleanDisk (state S.Store conn.new) → IsCopied page result.1 (state S.Store conn.old) (state S.Store conn.new) (state T.Store copy.old) (state T.Store copy.new))) }
+    ensures untouched { result.1 ≡ CopyState.Untouched → copy.new ≡ copy.old }
     ensures reads { OnlyReads (state S.Store conn.old) (state S.Store conn.new) }
     ensures wears { Wears (state T.Store copy.old) (state T.Store copy.new) }
     ensures clean { HasCleanDisk (state T.Store copy.new) → HasCleanDisk (state T.Store copy.old) }
