@@ -14,6 +14,10 @@ ghost use Rattle.sqlite.specs.Held.{state};
 ghost use Rattle.tables.specs.Reading.{OnlyReads};
 ghost use Rattle.sqlite_wal.specs.Reads.{AreClean};
 ghost use Rattle.sqlite.specs.Closing.{IsCopied};
+ghost use Rattle.sqlite.specs.Files.{file_state};
+ghost use Rattle.register.specs.Offices.{OfficeState};
+ghost use Rattle.store.specs.Offices.{IsAt};
+ghost use Rattle.store.specs.Openings.{IsBlank};
 
 mod fresh;
 mod held;
@@ -158,7 +162,7 @@ fn copy<S: Alter, O: Sink, E: Sink>(
     };
     match Connection::open_from(rt, path, false, Wary) {
         Ok(made) => {
-            let status = fill(rt, &fresh, &mut conn, made, out, err);
+            let (status, _) = fill(rt, &fresh, &mut conn, made, out, err);
             (status, conn)
         }
         Err((error, left)) => {
@@ -188,7 +192,8 @@ fn failure_of(error: sqlite::Error) -> Failure {
 }
 
 /// Copies the office over an opened connection to files that were made for the copy, and closes them. Where no copy is
-/// told they are removed while they are held; and where another program has made an office there before, it is left.
+/// told they are removed while they are held; and where another program has made an office there before, it is left. With
+/// status 0 the database file alone is the copy.
 fn fill<S: Alter, D: Disk + Drop, O: Sink, E: Sink>(
     rt: &HostRuntime,
     fresh: &Fresh,
@@ -196,32 +201,31 @@ fn fill<S: Alter, D: Disk + Drop, O: Sink, E: Sink>(
     mut made: Connection<FileStore<D>>,
     out: &mut O,
     err: &mut E,
-) -> u8
+) -> (u8, Option<Files<D>>)
     requires out { O.failed out.old < 2 ^ 64 - 1 }
     requires err { E.failed err.old < 2 ^ 64 - 1 }
-    ensures { OnlyReads (state S.Store conn.old) (state S.Store conn.new) }
+    ensures reads { OnlyReads (state S.Store conn.old) (state S.Store conn.new) }
+    ensures whole { result.0 ≡ 0 → IsSomeAnd result.1 (λ files. AreClean D.Disk files.log files.db → IsBlank (file_state made)
+        → (last : _) × IsCopied last files × ((s : OfficeState) × IsAt s (file_state last))) }
 {
     match fresh.hold_none(rt) {
         Ok(true) => {}
-        Ok(false) => return tell_failure(Failure::CopyTaken, err),
+        Ok(false) => return (tell_failure(Failure::CopyTaken, err), None),
         Err(_) => {
             fresh.clear(rt);
-            return tell_failure(Failure::CopyFailed, err);
+            return (tell_failure(Failure::CopyFailed, err), None);
         }
     }
     let (status, state) = copy_office(rt.alloc(), conn, &mut made, out, err);
     match state {
-        CopyState::Whole if status == 0 => closed_copy(made, err).0,
-        CopyState::Whole => {
-            let _ = close(made);
-            status
-        }
-        CopyState::Untouched | CopyState::Unknown => {
-            fresh.remove(rt);
-            let _ = close(made);
-            status
-        }
+        CopyState::Whole => {}
+        CopyState::Untouched | CopyState::Unknown => fresh.remove(rt),
     }
+    if status != 0 {
+        let _ = close(made);
+        return (status, None);
+    }
+    closed_copy(made, err)
 }
 
 /// Closes a copy, so that it stands alone, and gives the status: 0, or 3 where its log can't be copied into it, which is

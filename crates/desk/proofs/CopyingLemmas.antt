@@ -1,5 +1,5 @@
 -- A copy of the office.
-use Rattle.std.proofs.Common.{◌≡◌, ◌⊎◌, inl, refl}
+use Rattle.std.proofs.Common.{◌≡◌, ◌⊎◌, inl, refl, ap, arith}
 use Rattle.sqlite.specs.Effect.{Database}
 use Rattle.sqlite.specs.State.{State, HasCleanDisk}
 use Rattle.sqlite.specs.Tree.{Trees}
@@ -9,11 +9,12 @@ use Rattle.store.specs.Copies.{IsToldInCopying, IsUnbegun, StopsInCopying}
 use Rattle.store.specs.declared.copying.CopyFault.{CopyFault}
 use Rattle.store.specs.declared.copying.CopyFault.TheVariants.{Office, Taken, Copy}
 use Rattle.tables.specs.Reading.{OnlyReads}
-use Rattle.store.specs.Offices.{StoresState}
+use Rattle.store.specs.Offices.{IsAt, StoresState}
 use Rattle.store.specs.Openings.{HoldsNoState, IsBlank}
 use Rattle.desk.specs.Copying.{EndsCopying, HoldsCopy, IsNoneCopied, state_behind}
-use Rattle.desk.specs.declared.copying.CopyState.TheVariants.{Untouched}
-use Rattle.desk.specs.Pages.{failed, failure_of}
+use Rattle.desk.specs.declared.copying.CopyState.{CopyState}
+use Rattle.desk.specs.declared.copying.CopyState.TheVariants.{Whole, Untouched, Unknown}
+use Rattle.desk.specs.Pages.{Page, failed, failure_of}
 
 -- why a copy of an office that is there isn't made
 pub ends_copying : (why : CopyFault) (old new : State) → StopsInCopying old new why → EndsCopying old new (failure_of why)
@@ -45,3 +46,10 @@ pub unbegun_behind : (why : CopyFault) → state_behind why ≡ Untouched → Is
 unbegun_behind (Office f) same = tt
 unbegun_behind Taken same = tt
 unbegun_behind (Copy f) same = absurd (cc same)
+
+-- with status 0 the copy is whole
+pub whole_told : (left : CopyState) (page : Page) (copy_old copy_new : State) → page.status ≡ 0 → HoldsCopy left page copy_old copy_new
+    → (left ≡ Whole) × (HasCleanDisk copy_new → IsBlank copy_old → (s : OfficeState) × IsAt s copy_new)
+whole_told Whole page copy_old copy_new zero it = (refl, λ honest blank. let made = it.2 honest blank in (made.0, made.2))
+whole_told Untouched page copy_old copy_new zero it = let three : page.status ≡ 3 = ap (λ (p : Page). p.status) it.1 in absurd (omega arith)
+whole_told Unknown page copy_old copy_new zero it = let three : page.status ≡ 3 = ap (λ (p : Page). p.status) it.1 in absurd (omega arith)

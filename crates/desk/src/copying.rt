@@ -4,7 +4,9 @@ ghost use Rattle.std.specs.Prelude.{◌≡◌, ◌-◌, ◌^◌, ◌<◌, IfOk, 
 ghost use Rattle.sqlite.specs.State.{HasCleanDisk};
 ghost use Rattle.sqlite.specs.Held.{state};
 ghost use Rattle.tables.specs.Reading.{OnlyReads};
-ghost use Rattle.store.specs.Offices.{Wears};
+ghost use Rattle.register.specs.Offices.{OfficeState};
+ghost use Rattle.store.specs.Offices.{IsAt, Wears};
+ghost use Rattle.store.specs.Openings.{IsBlank};
 ghost use Rattle.desk.specs.Copying.{HoldsCopy, IsCopied, copied_text, state_behind};
 ghost use Rattle.desk.specs.Pages.{Tells, outputs_of, page_of};
 
@@ -94,6 +96,8 @@ pub fn copy_office<S: Alter, T: Alter, O: Sink, E: Sink>(
     ensures copied { let outputs = outputs_of O.taken O.failed E.taken E.failed in Tells (outputs out.old err.old) (outputs out.new err.new) result.0
         (λ _ page. HoldsCopy result.1 page (state T.Store copy.old) (state T.Store copy.new)
             × (HasCleanDisk (state S.Store conn.new) → IsCopied page result.1 (state S.Store conn.old) (state S.Store conn.new) (state T.Store copy.old) (state T.Store copy.new))) }
+    ensures made { result.0 ≡ 0 → (result.1 ≡ CopyState.Whole)
+        × (HasCleanDisk (state T.Store copy.new) → IsBlank (state T.Store copy.old) → (s : OfficeState) × IsAt s (state T.Store copy.new)) }
     ensures untouched { result.1 ≡ CopyState.Untouched → copy.new ≡ copy.old }
     ensures reads { OnlyReads (state S.Store conn.old) (state S.Store conn.new) }
     ensures wears { Wears (state T.Store copy.old) (state T.Store copy.new) }
