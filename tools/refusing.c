@@ -8,6 +8,7 @@
  * REFUSING_WAY      how such a call is refused, as below
  * REFUSING_CALL     which call, from 1, of those that the way counts
  * REFUSING_ROOM     the bytes that each of these files has room for, where the way is `room`
+ * REFUSING_AWAITED  the path of the file that is awaited, where the way is `waits`
  *
  * once      of all calls, this one fails with EIO
  * gone      of all calls, this one and all after it fail with EIO
@@ -15,6 +16,7 @@
  * less      of reads of two bytes or more, this one gives a byte less
  * one       of reads of two bytes or more, this one gives one byte
  * written   of writes of two bytes or more, this one takes one byte
+ * waits     of all calls, this one waits until a file is there, and then goes on
  * room      no write or ftruncate leads past the room: ENOSPC, or as many bytes as fit
  *
  * The count begins as this library is made ready, behind the loader's own growths. The length that was asked for stands in the
@@ -37,7 +39,7 @@ void *__libc_realloc(void *block, size_t length);
 void *__libc_memalign(size_t alignment, size_t length);
 
 static const size_t NOTE = sizeof(size_t);
-static const char *told, *names = "", *way = "";
+static const char *told, *names = "", *way = "", *awaited = "";
 static long refused_growth, growths, refused_call, calls, room;
 static int is_ready, is_gone, is_torn;
 static char is_meant[1024];
@@ -51,6 +53,7 @@ __attribute__((constructor)) static void make_ready(void) {
     told = getenv("REFUSING_TOLD");
     if (getenv("REFUSING_NAMES")) names = getenv("REFUSING_NAMES");
     if (getenv("REFUSING_WAY")) way = getenv("REFUSING_WAY");
+    if (getenv("REFUSING_AWAITED")) awaited = getenv("REFUSING_AWAITED");
     refused_growth = number("REFUSING_GROWTH");
     refused_call = number("REFUSING_CALL");
     room = number("REFUSING_ROOM");
@@ -146,8 +149,14 @@ static int refused(int error) {
     return 1;
 }
 
+static void wait_now(void) {
+    tell();
+    while (syscall(SYS_faccessat, AT_FDCWD, awaited, F_OK)) usleep(200);
+}
+
 /* Whether a call of the files that are meant fails now. */
 static int fails(int is_meant_now) {
+    if (is_meant_now && is_way("waits") && ++calls == refused_call) wait_now();
     if (!is_meant_now || !(is_way("once") || is_way("gone"))) return 0;
     if (!is_gone && ++calls != refused_call) return 0;
     is_gone = is_way("gone");

@@ -1,23 +1,20 @@
 //! The file of a copy, made where there is nothing yet, and removed again where no copy came of it.
 
-use crate::traces::{MIN_OFFICE, length_at};
+use crate::held::Held;
+use crate::traces::{LOG_ENDINGS, MIN_OFFICE, is_no_file, length_at};
 use desk::Failure;
-use sqlite::{Connection, Wary};
-use std::fs::{self, OpenOptions, Permissions};
+use std::fs;
 use std::io::{self, ErrorKind};
-use std::os::unix::fs::{OpenOptionsExt, PermissionsExt};
+use std::os::unix::fs::PermissionsExt;
 use store::Fault;
 
-/// What stands behind the name of a database in those of its logs: such a name isn't taken for a copy, and
-/// a log that stands alone isn't taken for a copy's.
-const LOG_ENDINGS: [&str; 2] = ["-wal", "-journal"];
-
-/// The file of a copy, which was made here, and its log, which `sqlite` makes with the rights of the file as it opens
-/// it. Another program may have opened the file meanwhile: nothing is removed but while both are held.
+/// The file of a copy, which was made here and is held from then on, and its log, which `sqlite` makes with the rights of
+/// the file as it opens it.
 #[derive(Drop)]
 pub struct Fresh {
     database: String,
     log: String,
+    held: Held,
 }
 
 /// Why a file wasn't made.
@@ -51,9 +48,10 @@ fn rights_of(rt: &HostRuntime, office: &str) -> Result<u32, Failure> {
 
 impl Fresh {
     /// Makes the file of a copy at a path where there is nothing, not even a link, with the rights of the office's
-    /// file. Where something is there already (`CopyTaken`), or it can't be made, nothing is left.
+    /// file, for those alone whom they name. Where something is there already (`CopyTaken`), or it can't be made, nothing
+    /// is left. A name that `sqlite` takes for a log or for no file is none.
     pub fn make(rt: &HostRuntime, office: &str, path: &str) -> Result<Fresh, Failure> {
-        if LOG_ENDINGS.iter().any(|ending| path.ends_with(*ending)) {
+        if is_no_file(path) || LOG_ENDINGS.iter().any(|ending| path.ends_with(*ending)) {
             return Err(Failure::CopyFailed);
         }
         for ending in LOG_ENDINGS {
@@ -66,27 +64,21 @@ impl Fresh {
         ) else {
             return Err(Failure::Office(Fault::Memory));
         };
-        let fresh = Fresh { database, log };
-        fresh.make_file(rt, mode)?;
+        let held = Held::make(rt, path, mode).map_err(|error| failure_of(&error))?;
+        let fresh = Fresh {
+            database,
+            log,
+            held,
+        };
+        fresh.give_rights(rt, mode)?;
         Ok(fresh)
     }
 
-    /// Makes the file, for those alone whom the rights name.
-    fn make_file(&self, rt: &HostRuntime, mode: u32) -> Result<(), Failure> {
-        let file = match OpenOptions::new()
-            .write(true)
-            .create_new(true)
-            .mode(mode)
-            .open(rt, self.database.as_str())
-        {
-            Ok(file) => file,
-            Err(error) => return Err(failure_of(&error)),
-        };
-        // a file is made with no more rights than the system's mask lets
-        match file.set_permissions(Permissions::from_mode(mode)) {
+    /// Gives the file its rights: it is made with no more than the system's mask lets.
+    fn give_rights(&self, rt: &HostRuntime, mode: u32) -> Result<(), Failure> {
+        match self.held.set_mode(mode) {
             Ok(()) => Ok(()),
             Err(error) => {
-                drop(file);
                 self.clear(rt);
                 Err(failure_of(&error))
             }
@@ -101,30 +93,14 @@ impl Fresh {
         Ok(database.saturating_add(log) < MIN_OFFICE)
     }
 
-    /// Removes both. It is to be called while the database is held, and what is in them is known to be the copy's own.
+    /// Removes both. What is in them has to be known to be the copy's own.
     pub fn remove(&self, rt: &HostRuntime) {
         let _ = fs::remove_file(rt, self.log.as_str());
         let _ = fs::remove_file(rt, self.database.as_str());
     }
 
-    /// Opens the database, so that it is held, and removes both where no office is in them. Where another program
-    /// holds it, or it can't be opened, both are left.
-    pub fn clear(&self, rt: &HostRuntime) {
-        match Connection::open_from(rt, self.database.as_str(), false, Wary) {
-            Ok(held) => {
-                self.remove_empty(rt);
-                drop(held);
-            }
-            Err((_, Some(held))) => {
-                self.remove_empty(rt);
-                drop(held);
-            }
-            Err((_, None)) => {}
-        }
-    }
-
     /// Removes both where they are known to be too short for an office.
-    fn remove_empty(&self, rt: &HostRuntime) {
+    pub fn clear(&self, rt: &HostRuntime) {
         if matches!(self.hold_none(rt), Ok(true)) {
             self.remove(rt);
         }

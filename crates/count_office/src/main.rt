@@ -9,35 +9,40 @@
 //! ```
 #![tactic(auto)]
 
-ghost use Rattle.std.specs.Prelude.{◌≡◌, ◌+◌, ◌-◌, ◌^◌, ◌<◌, IfSome, IsSomeAnd};
+ghost use Rattle.std.specs.Prelude.{◌≡◌, ◌+◌, ◌-◌, ◌^◌, ◌<◌, false, IfSome, IsSomeAnd};
 ghost use Rattle.sqlite.specs.Held.{state};
 ghost use Rattle.tables.specs.Reading.{OnlyReads};
 ghost use Rattle.sqlite_wal.specs.Reads.{AreClean};
 ghost use Rattle.sqlite.specs.Closing.{IsCopied};
+ghost use Rattle.sqlite.specs.Files.{file_state};
+ghost use Rattle.register.specs.Offices.{OfficeState};
+ghost use Rattle.store.specs.Offices.{IsAt};
+ghost use Rattle.store.specs.Openings.{IsBlank};
 
 mod fresh;
+mod held;
 #[cfg(test)]
 mod tests;
 mod traces;
 
 use desk::perform::perform;
 use desk::{
-    Failure, Folder, Order, Progress, WordsFault, copy_office, order, serve_on, tell_failure,
-    tell_words,
+    CopyState, Failure, Folder, Order, Progress, WordsFault, copy_office, order, serve_on,
+    tell_failure, tell_words,
 };
 use fresh::Fresh;
 use office::Office;
-use sqlite::{Alter, Connection, FileStore, Files, Wary};
+use sqlite::{Alter, Connection, ErrorCode, FileStore, Files, Wary};
 use sqlite_disk::Disk;
 use std::alloc::Global;
 use std::fs::File;
-use std::io::IsTerminal;
+use std::io::{ErrorKind, IsTerminal};
 use std::net::{Ipv4Addr, TcpListener};
 use std::process::ExitCode;
 use std::{env, io};
 use store::Fault;
 use store::fault::fault_of;
-use traces::Found;
+use traces::{Found, Site};
 use votes::{Counted, Sink};
 use wire::Origin;
 
@@ -164,15 +169,25 @@ fn copy<S: Alter, O: Sink, E: Sink>(
     };
     match Connection::open_from(rt, path, false, Wary) {
         Ok(made) => {
-            let status = fill(rt, &fresh, &mut conn, made, out, err);
+            let (status, _) = fill(rt, &fresh, &mut conn, made, out, err);
             (status, conn)
         }
         Err((error, left)) => {
+            if !is_busy(&error) {
+                fresh.clear(rt);
+            }
             drop(left);
-            fresh.clear(rt);
             (tell_failure(failure_of(error), err), conn)
         }
     }
+}
+
+/// Another program of SQLite holds the file.
+fn is_busy(error: &sqlite::Error) -> bool {
+    matches!(
+        error,
+        sqlite::Error::SqliteFailure(ErrorCode::DatabaseBusy)
+    )
 }
 
 /// Why a copy can't be made: want of memory is told as ever.
@@ -183,8 +198,9 @@ fn failure_of(error: sqlite::Error) -> Failure {
     }
 }
 
-/// Copies the office over an opened connection to files that were made for the copy, and closes them. Where no copy was
-/// made they are removed while they are held; and where another program has made an office there before, it is left.
+/// Copies the office over an opened connection to files that were made for the copy, and closes them. Where no copy is
+/// told they are removed while they are held; and where another program has made an office there before, it is left. With
+/// status 0 the database file alone is the copy.
 fn fill<S: Alter, D: Disk + Drop, O: Sink, E: Sink>(
     rt: &HostRuntime,
     fresh: &Fresh,
@@ -192,29 +208,31 @@ fn fill<S: Alter, D: Disk + Drop, O: Sink, E: Sink>(
     mut made: Connection<FileStore<D>>,
     out: &mut O,
     err: &mut E,
-) -> u8
+) -> (u8, Option<Files<D>>)
     requires out { O.failed out.old < 2 ^ 64 - 1 }
     requires err { E.failed err.old < 2 ^ 64 - 1 }
-    ensures { OnlyReads (state S.Store conn.old) (state S.Store conn.new) }
+    ensures reads { OnlyReads (state S.Store conn.old) (state S.Store conn.new) }
+    ensures whole { result.0 ≡ 0 → IsSomeAnd result.1 (λ files. AreClean D.Disk files.log files.db → IsBlank (file_state made)
+        → (last : _) × IsCopied last files × ((s : OfficeState) × IsAt s (file_state last))) }
 {
     match fresh.hold_none(rt) {
         Ok(true) => {}
-        Ok(false) => return tell_failure(Failure::CopyTaken, err),
+        Ok(false) => return (tell_failure(Failure::CopyTaken, err), None),
         Err(_) => {
-            drop(made);
             fresh.clear(rt);
-            return tell_failure(Failure::CopyFailed, err);
+            return (tell_failure(Failure::CopyFailed, err), None);
         }
     }
-    let (status, is_made) = copy_office(rt.alloc(), conn, &mut made, out, err);
-    if !is_made {
-        fresh.remove(rt);
+    let (status, state) = copy_office(rt.alloc(), conn, &mut made, out, err);
+    match state {
+        CopyState::Whole => {}
+        CopyState::Untouched | CopyState::Unknown => fresh.remove(rt),
     }
     if status != 0 {
         let _ = close(made);
-        return status;
+        return (status, None);
     }
-    closed_copy(made, err).0
+    closed_copy(made, err)
 }
 
 /// Closes a copy, so that it stands alone, and gives the status: 0, or 3 where its log can't be copied into it, which is
@@ -246,11 +264,11 @@ fn close<D: Disk + Drop>(conn: Connection<FileStore<D>>) -> Option<Files<D>>
     }
 }
 
-/// Opens the database at a path, does an order over it, and closes it. Where the order failed, nothing is left
-/// that wasn't there.
+/// Opens the database at a path, which is held, does an order over it, and closes it. Where the order failed, nothing is
+/// left that wasn't there.
 ///
-/// Two stretches of writing rest on what `sqlite` states: `Connection::open_from` makes the files where they are
-/// missing and takes up what the log holds, and `close` copies the log; `perform` speaks of all between.
+/// Two stretches of writing rest on what `sqlite` states: `Connection::open_from` makes the log where it is
+/// missing and takes up what it holds, and `close` copies it; `perform` speaks of all between.
 fn perform_in<O: Sink, E: Sink>(
     rt: &HostRuntime,
     found: &Found,
@@ -272,16 +290,28 @@ fn perform_in<O: Sink, E: Sink>(
             status
         }
         Err((error, left)) => {
-            if left.is_some() {
+            if !is_busy(&error) {
                 found.leave(rt);
             }
+            drop(left);
             tell_failure(Failure::Office(fault_of(error)), err)
         }
     }
 }
 
-/// Does an order over the database at a path. `init` alone makes one where it is missing, or of an empty file:
-/// any other order finds no office there.
+/// Whether an order may open what is at a path. `init` alone makes an office, where no log holds anything: any other
+/// order finds no office there.
+fn may_open(site: Site, order: &Order<'_>) -> bool
+    ensures alone { site ≡ Site.LogAlone → result ≡ false }
+{
+    match site {
+        Site::Taken => true,
+        Site::Free | Site::Empty => matches!(order, Order::Init),
+        Site::LogAlone => false,
+    }
+}
+
+/// Does an order over the database at a path, and holds it meanwhile.
 fn perform_at<O: Sink, E: Sink>(
     rt: &HostRuntime,
     path: &str,
@@ -295,10 +325,20 @@ fn perform_at<O: Sink, E: Sink>(
     let Ok(found) = Found::at(rt, path) else {
         return tell_failure(Failure::Office(Fault::Memory), err);
     };
-    if found.is_nothing() && !matches!(order, Order::Init) {
+    if !may_open(found.site, order) {
         return tell_failure(Failure::Office(Fault::WrongDatabase), err);
     }
-    perform_in(rt, &found, path, order, out, err)
+    match found.hold(rt) {
+        Ok(held) => {
+            let status = perform_in(rt, &found, path, order, out, err);
+            drop(held);
+            status
+        }
+        Err(error) if error.kind() == ErrorKind::OutOfMemory => {
+            tell_failure(Failure::Office(Fault::Memory), err)
+        }
+        Err(_) => tell_failure(Failure::Office(Fault::Store), err),
+    }
 }
 
 /// Does what the words from DB on ask, and gives the status.

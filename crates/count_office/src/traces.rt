@@ -1,13 +1,21 @@
-//! What stood at a database's path before an order, and that an order which makes nothing leaves nothing there.
+//! What stands at a database's path before an order, and that an order which makes nothing leaves nothing there.
 //!
-//! `sqlite` makes both files as it opens them: DB, and its log beside it. Only `init` is to make them.
+//! `sqlite` makes both files as it opens them: DB, and its log beside it. Where DB is missing or empty, it makes the log
+//! anew, whatever is in it. So only `init` is to open such a file, and only where no log holds anything.
 
-use std::alloc::AllocError;
+ghost use Rattle.std.specs.Prelude.{◌≡◌, ◌≢◌, ◌≤◌, None, IfSome};
+
+use crate::held::Held;
+use std::alloc::{AllocError, Global};
 use std::fs;
 use std::io::{self, ErrorKind};
 
 /// A log of fewer bytes holds no page: the smallest has 512.
 const MIN_LOG: u64 = 512;
+
+/// The log that `sqlite` makes before it writes the first page of a database has no more bytes: an `init` that was
+/// stopped then may be given again.
+const MAX_BEGUN_LOG: u64 = 41;
 
 /// A database and its log of fewer bytes together hold no office: each of its eleven tables and of their
 /// keys has a page of 4096.
@@ -15,6 +23,22 @@ pub const MIN_OFFICE: u64 = 22 * 4096;
 
 /// `sqlite` takes a file of up to so many bytes for an empty one.
 const MAX_EMPTY: u64 = 1;
+
+/// The rights of a new database, as far as the system's mask lets.
+const RIGHTS: u32 = 0o644;
+
+/// What stands behind the name of a database in those of its logs: the one of `sqlite`, and the one that other programs
+/// of SQLite play back into a database.
+pub const LOG_ENDINGS: [&str; 2] = [LOG, JOURNAL];
+
+const LOG: &str = "-wal";
+
+const JOURNAL: &str = "-journal";
+
+/// Names that `sqlite` takes for no file.
+pub fn is_no_file(path: &str) -> bool {
+    path == ":memory:" || path.starts_with("file:")
+}
 
 /// The length of the file at a path, none where none is there. An error is that it can't be looked at.
 pub fn length_at(rt: &HostRuntime, path: &str) -> io::Result<Option<u64>> {
@@ -30,50 +54,100 @@ fn greatest_length_at(rt: &HostRuntime, path: &str) -> Option<u64> {
     length_at(rt, path).unwrap_or(Some(u64::MAX))
 }
 
-/// The path of a database file, where links lead, and that of its log; and how long each file was.
+/// The length of what has the name of a log, none where nothing has it. A link, a folder, or what can't be looked at has
+/// the greatest length.
+fn log_length_at(rt: &HostRuntime, path: &str) -> Option<u64> {
+    match fs::symlink_metadata(rt, path) {
+        Ok(found) if found.is_file() => Some(found.len()),
+        Ok(_) => Some(u64::MAX),
+        Err(error) if error.kind() == ErrorKind::NotFound => None,
+        Err(_) => Some(u64::MAX),
+    }
+}
+
+/// What an order finds at a database's path.
+#[derive(Clone, Copy)]
+pub enum Site {
+    /// Nothing, nor at the names of its logs.
+    Free,
+    /// A file that is taken for an empty one, and no log but one that `sqlite` began. No office can be in them.
+    Empty,
+    /// No file, or an empty one, and beside it a log in which something may be.
+    LogAlone,
+    /// A file in which an office may be, or what can't be looked at.
+    Taken,
+}
+
+/// What is at a path where a database has this length, and its logs have these.
+fn site_of(database: Option<u64>, log: Option<u64>, journal: Option<u64>) -> Site
+    ensures free { result ≡ Site.Free → (database ≡ None) × (log ≡ None) × (journal ≡ None) }
+    ensures empty { result ≡ Site.Empty → IfSome log (λ length. length ≤ 41) × (journal ≡ None) }
+    ensures none { IfSome database (λ length. length ≤ 1) → result ≢ Site.Taken }
+{
+    match (database, log, journal) {
+        (None, None, None) => Site::Free,
+        (None, _, _) => Site::LogAlone,
+        (Some(length), _, _) if length > MAX_EMPTY => Site::Taken,
+        (Some(_), None, None) => Site::Empty,
+        (Some(_), Some(begun), None) if begun <= MAX_BEGUN_LOG => Site::Empty,
+        (Some(_), _, _) => Site::LogAlone,
+    }
+}
+
+/// The path of a database file, where links lead, and that of its log; and what was there.
 #[derive(Drop)]
 pub struct Found {
     database: String,
     log: String,
-    database_length: Option<u64>,
-    log_length: Option<u64>,
+    has_log: bool,
+    pub site: Site,
+}
+
+/// The path where links lead; the path itself, where nothing is there.
+fn real_path(rt: &HostRuntime, alloc: Global, path: &str) -> Result<String, AllocError> {
+    match fs::canonicalize(rt, path) {
+        Ok(real) => String::from_str(alloc, real.as_str()),
+        Err(_) => String::from_str(alloc, path),
+    }
 }
 
 impl Found {
     /// What stands at a path now.
     pub fn at(rt: &HostRuntime, path: &str) -> Result<Found, AllocError> {
-        let database = match fs::canonicalize(rt, path) {
-            Ok(real) => String::from_str(rt.alloc(), real.as_str())?,
-            Err(_) => String::from_str(rt.alloc(), path)?,
-        };
-        let log = format!(in rt.alloc(); "{database}-wal")?;
-        let database_length = greatest_length_at(rt, database.as_str());
-        let log_length = greatest_length_at(rt, log.as_str());
+        let database = real_path(rt, rt.alloc(), path)?;
+        let log = format!(in rt.alloc(); "{database}{LOG}")?;
+        let journal = format!(in rt.alloc(); "{database}{JOURNAL}")?;
+        let log_length = log_length_at(rt, log.as_str());
+        let site = site_of(
+            greatest_length_at(rt, database.as_str()),
+            log_length,
+            log_length_at(rt, journal.as_str()),
+        );
         Ok(Found {
             database,
             log,
-            database_length,
-            log_length,
+            has_log: log_length.is_some(),
+            site,
         })
     }
 
-    /// No file is there, or one that is taken for empty, whose log is missing or empty too: nothing that an office
-    /// could be in.
-    pub fn is_nothing(&self) -> bool {
-        match self.database_length {
-            None => true,
-            Some(length) if length <= MAX_EMPTY => matches!(self.log_length, None | Some(0)),
-            Some(_) => false,
+    /// Holds the database. Where nothing was there, its file is made.
+    pub fn hold(&self, rt: &HostRuntime) -> io::Result<Held> {
+        let path = self.database.as_str();
+        match self.site {
+            Site::Free if is_no_file(path) => Err(ErrorKind::Unsupported.into()),
+            Site::Free => Held::make(rt, path, RIGHTS),
+            _ => Held::take(rt, path),
         }
     }
 
     /// Removes each of the two files that wasn't there, where nothing was kept in it. It is to be called while
-    /// the database is held, so that no other program has opened them.
+    /// the database is held, so that no other order has it.
     pub fn leave(&self, rt: &HostRuntime) {
         let database = greatest_length_at(rt, self.database.as_str()).unwrap_or(0);
-        let log = greatest_length_at(rt, self.log.as_str()).unwrap_or(0);
-        let is_made = self.database_length.is_none() && database.saturating_add(log) < MIN_OFFICE;
-        if is_made || (self.log_length.is_none() && log < MIN_LOG) {
+        let log = log_length_at(rt, self.log.as_str()).unwrap_or(0);
+        let is_made = matches!(self.site, Site::Free) && database.saturating_add(log) < MIN_OFFICE;
+        if is_made || (!self.has_log && log < MIN_LOG) {
             let _ = fs::remove_file(rt, self.log.as_str());
         }
         if is_made {

@@ -3,18 +3,23 @@ use Rattle.std.specs.Prelude.{◌≡◌, ◌⊎◌, ◌++◌, ⊤, true, false, 
 use Rattle.std.specs.Fmt.{decimal}
 use Rattle.clap.specs.Words.{Text}
 use Rattle.sqlite.specs.Effect.{Database}
+use Rattle.sqlite.specs.Tree.{Trees}
 use Rattle.sqlite.specs.State.{State, HasCleanDisk}
 use Rattle.register.specs.Machine.{after}
 use Rattle.register.specs.Offices.{OfficeState, empty_office}
 use Rattle.register.specs.declared.command.Request.{Request}
 use Rattle.tables.specs.Contents.{RestsAt}
 use Rattle.tables.specs.Presence.{IsOurs, has_some_table}
-use Rattle.tables.specs.Reading.{FailsBy, OnlyReads}
+use Rattle.tables.specs.Reading.{FailsBy, FailsToList, OnlyReads}
+use Rattle.tables.specs.declared.fault.Fault.{Fault}
 use Rattle.store.specs.Copies.{LeavesNoneOrAll, holdings_of}
 use Rattle.store.specs.declared.copying.Holdings.{Holdings}
-use Rattle.store.specs.Offices.{IsAt, LeavesState}
-use Rattle.store.specs.Openings.{HoldsNoState, IsBlank, IsLeftAt}
-use Rattle.desk.specs.Errands.{IsForeign}
+use Rattle.store.specs.declared.copying.CopyFault.{CopyFault}
+use Rattle.store.specs.declared.copying.CopyFault.TheVariants as uncopied
+use Rattle.store.specs.Offices.{IsAt, LeavesState, StoresState}
+use Rattle.store.specs.Openings.{HoldsNoState, IsBlank, IsLeftAt, IsToldBy}
+use Rattle.desk.specs.declared.copying.CopyState.{CopyState}
+use Rattle.desk.specs.declared.copying.CopyState.TheVariants.{Whole, Untouched, Unknown}
 use Rattle.desk.specs.Pages.{Page, failed, replied}
 use Rattle.desk.specs.declared.lines.Failure.{Failure}
 use Rattle.desk.specs.declared.lines.Failure.TheVariants.{Office, CopyTaken, CopyFailed, Output}
@@ -31,19 +36,43 @@ EndsCopying old new CopyTaken = ⊥
 EndsCopying old new CopyFailed = ⊤
 EndsCopying old new Output = ⊥
 
+-- what the other database holds where no copy is told: what it held before, but where writing it failed
+abbrev pub state_behind : CopyFault → CopyState
+state_behind (uncopied.Office fault) = Untouched
+state_behind uncopied.Taken = Untouched
+state_behind (uncopied.Copy fault) = Unknown
+
+-- What is told of the other database is so, whatever the office was. A copy that is told is there, whole, and is what the reply says. With any
+-- other page nothing was written; or a stop leaves what it could leave before, or a whole office.
+abbrev pub HoldsCopy : CopyState → Page → State → State → Type 0
+HoldsCopy Whole page copy_old copy_new =
+    (h : Holdings) × (page ≡ replied (copied_text h)) × (HasCleanDisk copy_new → IsBlank copy_old → (s : OfficeState) × (h ≡ holdings_of s) × IsAt s copy_new)
+HoldsCopy Untouched page copy_old copy_new = (failure : Failure) × (page ≡ failed failure) × OnlyReads copy_old copy_new
+HoldsCopy Unknown page copy_old copy_new =
+    (failure : Failure) × (page ≡ failed failure) × (HasCleanDisk copy_new → IsBlank copy_old → (trees : Trees) → copy_new.may_leave trees → copy_old.may_leave trees ⊎ ((s : OfficeState) × StoresState s trees))
+
 -- An office at a state is copied into a database with nothing in it, and it is told how much the copy has, which keeps that very state; or
 -- a failure is told, and a stop leaves of the copy what it could leave before, or the whole of it. Where the copy's disk isn't as `sqlite`
 -- states it, that is told all the same.
-abbrev pub IsCopiedAt : OfficeState → Page → State → State → State → State → Type 0
-IsCopiedAt s page old new copy_old copy_new =
-    ((page ≡ replied (copied_text (holdings_of s))) × (HasCleanDisk copy_new → IsAt s copy_new))
+abbrev pub IsCopiedAt : OfficeState → Page → CopyState → State → State → State → State → Type 0
+IsCopiedAt s page left old new copy_old copy_new =
+    ((page ≡ replied (copied_text (holdings_of s))) × (left ≡ Whole) × (HasCleanDisk copy_new → IsAt s copy_new))
     ⊎ ((failure : Failure) × (page ≡ failed failure) × EndsCopying old new failure × (HasCleanDisk copy_new → LeavesNoneOrAll s copy_old copy_new))
+
+-- At a database that holds the tables of no state the fault is told that an opening gives there, and as a failing store only what was one, or
+-- where rowids aren't the rows' own. Nothing is copied.
+pub record IsNoneCopied (db : Database) (page : Page) (left : CopyState) (old new : State) : Type 0 where
+  pub fault : Fault
+  pub told : page ≡ failed (Office fault)
+  pub given : IsToldBy db fault
+  pub cause : FailsToList db old new fault
+  pub untouched : left ≡ Untouched
 
 -- What comes of the order, by what its own connection rests at and where the copy is to be made: the office is copied; what an opening tells
 -- is told, and nothing is copied; or nothing is copied onto a table of our names. Its own office is only read, and a stop leaves it as it was.
-pub record IsCopied (page : Page) (old new copy_old copy_new : State) : Type 0 where
-  pub in_office : (db : Database) → RestsAt db old → (s : OfficeState) → IsLeftAt s db → IsBlank copy_old → IsCopiedAt s page old new copy_old copy_new
-  pub elsewhere : (db : Database) → IsOurs db.schema → RestsAt db old → HoldsNoState db → IsBlank copy_old → IsForeign db page old new × OnlyReads copy_old copy_new
-  pub taken : old.in_transaction ≡ false → has_some_table copy_old.now.schema ≡ true → (page ≡ failed CopyTaken) × OnlyReads copy_old copy_new
+pub record IsCopied (page : Page) (left : CopyState) (old new copy_old copy_new : State) : Type 0 where
+  pub in_office : (db : Database) → RestsAt db old → (s : OfficeState) → IsLeftAt s db → IsBlank copy_old → IsCopiedAt s page left old new copy_old copy_new
+  pub elsewhere : (db : Database) → IsOurs db.schema → RestsAt db old → HoldsNoState db → IsBlank copy_old → IsNoneCopied db page left old new
+  pub taken : old.in_transaction ≡ false → has_some_table copy_old.now.schema ≡ true → (page ≡ failed CopyTaken) × (left ≡ Untouched)
   pub reads : OnlyReads old new
   pub leaves : (db : Database) → RestsAt db old → (earlier : List Request) → IsLeftAt (after empty_office earlier) db → LeavesState new (λ x. x ≡ after empty_office earlier)

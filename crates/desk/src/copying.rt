@@ -1,20 +1,20 @@
 //! A copy of the office.
 
-ghost use Rattle.std.specs.Prelude.{◌≡◌, ◌-◌, ◌^◌, ◌<◌, true, IfOk, string_bytes};
+ghost use Rattle.std.specs.Prelude.{◌≡◌, ◌-◌, ◌^◌, ◌<◌, IfOk, string_bytes};
 ghost use Rattle.sqlite.specs.State.{HasCleanDisk};
 ghost use Rattle.sqlite.specs.Held.{state};
-ghost use Rattle.register.specs.Offices.{OfficeState};
 ghost use Rattle.tables.specs.Reading.{OnlyReads};
+ghost use Rattle.register.specs.Offices.{OfficeState};
 ghost use Rattle.store.specs.Offices.{IsAt, Wears};
 ghost use Rattle.store.specs.Openings.{IsBlank};
-ghost use Rattle.desk.specs.Copying.{IsCopied, copied_text};
+ghost use Rattle.desk.specs.Copying.{HoldsCopy, IsCopied, copied_text, state_behind};
 ghost use Rattle.desk.specs.Pages.{Tells, outputs_of, page_of};
 
 use crate::lines::{Outcome, tell};
 use office::{Holdings, Office};
 use sqlite::{Alter, Connection};
 use std::alloc::{AllocError, Global};
-use store::Fault;
+use store::{CopyFault, Fault};
 use votes::Sink;
 
 #[tactic(auto, unfolding(crate::specs::Copying::copied_text))]
@@ -29,30 +29,52 @@ fn copied_text(alloc: Global, holdings: Holdings) -> Result<String, AllocError>
     )
 }
 
-/// Copies the office, and says what came of it, and whether the copy is there.
+/// What the other database of a copy is known to hold once the order is over.
+#[derive(Clone, Copy)]
+pub enum CopyState {
+    /// The whole office, whose reply was told, or was to be: the output may have failed.
+    Whole,
+    /// What it held before: nothing was written.
+    Untouched,
+    /// What it held before or the whole office, of which no reply is told.
+    Unknown,
+}
+
+/// What the other database holds where no copy is told.
+fn state_behind(fault: CopyFault) -> CopyState
+    ensures { result ≡ state_behind fault }
+{
+    match fault {
+        CopyFault::Office(_) => CopyState::Untouched,
+        CopyFault::Taken => CopyState::Untouched,
+        CopyFault::Copy(_) => CopyState::Unknown,
+    }
+}
+
+/// Copies the office, and says what came of it, and what the other database holds.
 fn copied<S: Alter, T: Alter>(
     alloc: Global,
     conn: &mut Connection<S>,
     copy: &mut Connection<T>,
-) -> (Outcome, bool)
-    ensures copied { HasCleanDisk (state S.Store conn.new) → IsCopied (page_of result.0) (state S.Store conn.old) (state S.Store conn.new) (state T.Store copy.old) (state T.Store copy.new) }
-    ensures made { result.1 ≡ true → HasCleanDisk (state T.Store copy.new) → IsBlank (state T.Store copy.old) → (s : OfficeState) × IsAt s (state T.Store copy.new) }
+) -> (Outcome, CopyState)
+    ensures holds { HoldsCopy result.1 (page_of result.0) (state T.Store copy.old) (state T.Store copy.new) }
+    ensures copied { HasCleanDisk (state S.Store conn.new) → IsCopied (page_of result.0) result.1 (state S.Store conn.old) (state S.Store conn.new) (state T.Store copy.old) (state T.Store copy.new) }
+    ensures untouched { result.1 ≡ CopyState.Untouched → copy.new ≡ copy.old }
     ensures reads { OnlyReads (state S.Store conn.old) (state S.Store conn.new) }
     ensures wears { Wears (state T.Store copy.old) (state T.Store copy.new) }
     ensures clean { HasCleanDisk (state T.Store copy.new) → HasCleanDisk (state T.Store copy.old) }
 {
     match Office::copy(alloc, conn, copy) {
         Ok(holdings) => match copied_text(alloc, holdings) {
-            Ok(text) => (Outcome::Replied(text), true),
-            Err(_) => (Outcome::Failed(Fault::Memory), false),
+            Ok(text) => (Outcome::Replied(text), CopyState::Whole),
+            Err(_) => (Outcome::Failed(Fault::Memory), CopyState::Unknown),
         },
-        Err(fault) => (Outcome::Uncopied(fault), false),
+        Err(fault) => (Outcome::Uncopied(fault), state_behind(fault)),
     }
 }
 
 /// Makes a copy of the office that an opened connection has, over another, to a database with nothing in it, tells how
-/// much the copy has, and gives the status, and whether the copy is there: it is where the reply was told, or was to be.
-/// Neither is closed.
+/// much the copy has, and gives the status, and what the other database holds. Neither connection is closed.
 ///
 /// The copy is made whole in one transaction: after its reply it keeps the very state of the office, with every
 /// receipt, and whatever a stop leaves of it before is nothing or the whole of it. The office is only read,
@@ -68,16 +90,19 @@ pub fn copy_office<S: Alter, T: Alter, O: Sink, E: Sink>(
     copy: &mut Connection<T>,
     out: &mut O,
     err: &mut E,
-) -> (u8, bool)
+) -> (u8, CopyState)
     requires out { O.failed out.old < 2 ^ 64 - 1 }
     requires err { E.failed err.old < 2 ^ 64 - 1 }
     ensures copied { let outputs = outputs_of O.taken O.failed E.taken E.failed in Tells (outputs out.old err.old) (outputs out.new err.new) result.0
-        (λ _ page. HasCleanDisk (state S.Store conn.new) → IsCopied page (state S.Store conn.old) (state S.Store conn.new) (state T.Store copy.old) (state T.Store copy.new)) }
-    ensures made { result.1 ≡ true → HasCleanDisk (state T.Store copy.new) → IsBlank (state T.Store copy.old) → (s : OfficeState) × IsAt s (state T.Store copy.new) }
+        (λ _ page. HoldsCopy result.1 page (state T.Store copy.old) (state T.Store copy.new)
+            × (HasCleanDisk (state S.Store conn.new) → IsCopied page result.1 (state S.Store conn.old) (state S.Store conn.new) (state T.Store copy.old) (state T.Store copy.new))) }
+    ensures made { result.0 ≡ 0 → (result.1 ≡ CopyState.Whole)
+        × (HasCleanDisk (state T.Store copy.new) → IsBlank (state T.Store copy.old) → (s : OfficeState) × IsAt s (state T.Store copy.new)) }
+    ensures untouched { result.1 ≡ CopyState.Untouched → copy.new ≡ copy.old }
     ensures reads { OnlyReads (state S.Store conn.old) (state S.Store conn.new) }
     ensures wears { Wears (state T.Store copy.old) (state T.Store copy.new) }
     ensures clean { HasCleanDisk (state T.Store copy.new) → HasCleanDisk (state T.Store copy.old) }
 {
-    let (outcome, is_made) = copied(alloc, conn, copy);
-    (tell(None, &outcome, out, err), is_made)
+    let (outcome, state) = copied(alloc, conn, copy);
+    (tell(None, &outcome, out, err), state)
 }

@@ -41,7 +41,7 @@ mod sending;
 pub mod serving;
 mod standing;
 
-pub use copying::copy_office;
+pub use copying::{CopyState, copy_office};
 pub use folders::Folder;
 pub use lines::{Failure, tell_failure, tell_words};
 pub use orders::{Errand, KeyingFile, Order, Question};

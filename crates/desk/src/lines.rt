@@ -30,7 +30,7 @@ pub(crate) enum Outcome {
     Unread(FileFault),
     /// The office gave up.
     Failed(Fault),
-    /// No copy was made.
+    /// No copy is told.
     Uncopied(CopyFault),
 }
 

@@ -1,5 +1,9 @@
 -- Why `copy_office` keeps its promise.
-use Rattle.desk.specs.Pages.{page_of}
+use Rattle.std.specs.Prelude.{None}
+use Rattle.sqlite.specs.Held.{state}
+use Rattle.desk.specs.Pages.{outputs_of, page_of}
+use Rattle.desk.proofs.CopyingLemmas.{whole_told}
+use Rattle.desk.proofs.SentLemmas.{status_zero}
 use Rattle.desk.proofs.copying.copy_office.Goals as goal
 
 pub returns-clause-copied : goal.returns-clause-copied
@@ -9,5 +13,12 @@ returns-clause-copied g c =
       page = page_of c.copied-outcome.result.0;
       cut = told.0;
       shown = told.1;
-      is = λ clean. c.copied-outcome.ensures.copied clean;
+      is = (c.copied-outcome.ensures.holds, λ clean. c.copied-outcome.ensures.copied clean);
     }
+
+pub returns-clause-made : goal.returns-clause-made
+returns-clause-made g c zero =
+    let outputs = outputs_of g.O.Sink.taken g.O.Sink.failed g.E.Sink.taken g.E.Sink.failed in
+    let page = page_of c.copied-outcome.result.0 in
+    let none = status_zero None (outputs c.args.out.now c.args.err.now) (outputs c.tell.new.out c.tell.new.err) page c.tell.result zero c.tell.ensures in
+    whole_told c.copied-outcome.result.1 page (state g.T.Store c.args.copy.now) (state g.T.Store c.copied-outcome.new.copy) none c.copied-outcome.ensures.holds
