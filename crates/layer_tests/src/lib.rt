@@ -14,6 +14,8 @@ mod ballots;
 #[cfg(test)]
 mod counts;
 #[cfg(test)]
+mod elsewhere;
+#[cfg(test)]
 mod imports;
 #[cfg(test)]
 mod pages;

@@ -139,7 +139,8 @@ fn read_behind<R: Source>(
     ensures ok { OnOk result (R.failed reader.new ≡ R.failed reader.old) }
     ensures err { IfErr result (IsUnread (R.failed reader.old) (R.failed reader.new)) }
     ensures wanting { IfErr result (FailsAfter (R.held reader.old) (R.held reader.new) (LacksAt (given_by origin.entry) read.now headers.now spans)) }
-    ensures untouched { ((clerk batch : ℕ) → wanted (is_foreign (given_by origin.entry) (map (header_bytes read.now) (take spans.headers headers.now))) (span_bytes read.now spans.method) (named_by (span_bytes read.now spans.path)) ≢ Ok (Target.Keying clerk batch)) → reader.new ≡ reader.old }
+    ensures untouched { ((clerk batch : ℕ) → wanted (is_foreign (given_by origin.entry) (map (header_bytes read.now) (take spans.headers headers.now)))
+        (span_bytes read.now spans.method) (named_by (span_bytes read.now spans.path)) ≢ Ok (Target.Keying clerk batch)) → reader.new ≡ reader.old }
 {
     let headers = &headers[..spans.headers];
     let is_foreign = is_foreign(origin, read, headers);
