@@ -26,6 +26,6 @@ ends_copying (Copy fault.OlderSchema) old new stops = tt
 
 -- where there is no office, what an opening tells is told, and nothing was begun
 pub none_copied : (db : Database) (why : CopyFault) (old new : State) → HoldsNoState db → OnlyReads old new → IsToldInCopying db old new why → IsForeign db (failed (failure_of why)) old new × IsUnbegun why
-none_copied db (Office f) old new none reads told = (record { fault = f; told = refl; given = told.0; same = reads }, tt)
+none_copied db (Office f) old new none reads told = (record { fault = f; told = refl; given = told.0; cause = told.1; same = reads }, tt)
 none_copied db Taken old new none reads told = absurd told
 none_copied db (Copy f) old new none reads told = absurd (none told.1.0 told.1.1)
