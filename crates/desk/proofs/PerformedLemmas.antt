@@ -32,9 +32,7 @@ kept earlier (replaying folder) file cut old new page status begun st shown (inl
 
 -- a migration leaves the older office or the new one
 moved : (form : OlderForm) (s : OfficeState) (page : Page) (old new : State) → IsMigrated form s page old new → LeavesOldOrNew form s old new
-moved form s page old new (inl done) trees may =
-    let it = done.1.leaves trees may in
-    inr (subst (λ x. Stores (tables_of x) trees) it.1 it.2.stores)
+moved form s page old new (inl done) = λ trees may. let it = done.1.leaves trees may in inr (subst (λ x. Stores (tables_of x) trees) it.1 it.2.stores)
 moved form s page old new (inr ended) = ended.3
 
 -- what comes of an order, with what is kept of it

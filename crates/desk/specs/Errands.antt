@@ -187,8 +187,7 @@ Replies s [] said = said ≡ []
 Replies s (r ∷ rs) said = (rest : Text) × IsReplyAbove (told_of (step_of s r)) (printed rest) (printed said) × Replies (after_one s r) rs rest
 
 -- Turns taken one after the other: once all requests of one got replies, which were told whole, the next turn is taken, at the state after
--- them. The first other end is told behind the number of its line, and ends the script; and so does an output that fails. `old` is the
--- connection before the first of them.
+-- them. The first other end is told behind the number of its line, and ends the script; and so does an output that fails.
 abbrev pub IsReplayed : Folder → Cut → OfficeState → List Turn → Page → Bool → State → State → Type 0
 IsReplayed folder cut s [] page closed old st = (cut ≡ uncut) × (page ≡ empty_page) × IsOpenAt s closed st
 IsReplayed folder cut s (turn ∷ turns) page closed old st =
