@@ -135,22 +135,22 @@ whole_below text cut uncut is whole = refl
 whole_below text cut (cut_behind took) is whole = let bad : cut_behind (text ++ took) ≡ uncut = sym is ∙ whole in absurd (cc bad)
 whole_below text cut cut_error is whole = let bad : cut_error ≡ uncut = sym is ∙ whole in absurd (cc bad)
 
-last_leaves : (cut : Cut) (s : OfficeState) (r : Request) (rs : List Request) (page : Page) (closed : Bool) (st : State) → (page.status ≡ 0 → cut ≢ uncut) → IsAnswered s (step_of s r) page closed st → LeavesSome cut s (r ∷ rs) page st
-last_leaves cut s r rs page closed st ends (inl told) = (
+last_leaves : (cut : Cut) (s : OfficeState) (r : Request) (rs : List Request) (page : Page) (closed : Bool) (begun st : State) → (page.status ≡ 0 → cut ≢ uncut) → IsAnswered s (step_of s r) page closed begun st → LeavesSome cut s (r ∷ rs) page st
+last_leaves cut s r rs page closed begun st ends (inl told) = (
   1,
   omega arith,
   (λ trees may. let it = told.1.at.leaves trees may in (it.0, (1, omega arith, omega arith, omega arith, it.1), it.2)),
   (λ zero whole. absurd (ends zero whole)),
   last_told (told_of (step_of s r)) (TellsAnswers (after_one s r) rs 0) cut page told.0 ends,
 )
-last_leaves cut s r rs page closed st ends (inr (fault, is, inl kept)) = (
+last_leaves cut s r rs page closed begun st ends (inr (fault, is, cause, inl kept)) = (
   0,
   omega arith,
   (λ trees may. let it = kept.open_at.at.leaves trees may in (it.0, (0, omega arith, omega arith, omega arith, it.1), it.2)),
   (λ zero whole. let three : page.status ≡ 3 = ap (λ (p : Page). p.status) is in absurd (omega arith)),
   inr (fault, is),
 )
-last_leaves cut s r rs page closed st ends (inr (fault, is, inr shut)) = (
+last_leaves cut s r rs page closed begun st ends (inr (fault, is, cause, inr shut)) = (
   0,
   omega arith,
   (λ trees may. let it = shut.leaves trees may in elim it.1 [
@@ -161,19 +161,19 @@ last_leaves cut s r rs page closed st ends (inr (fault, is, inr shut)) = (
   inr (fault, is),
 )
 
-pub sent_leaves : (cut : Cut) (s : OfficeState) (rs : List Request) (page : Page) (closed : Bool) (st : State) → IsSent cut s rs page closed st → LeavesSome cut s rs page st
-sent_leaves cut s [] page closed st sent =
+pub sent_leaves : (cut : Cut) (s : OfficeState) (rs : List Request) (page : Page) (closed : Bool) (begun st : State) → IsSent cut s rs page closed begun st → LeavesSome cut s rs page st
+sent_leaves cut s [] page closed begun st sent =
     (0, omega arith, (λ trees may. let it = sent.2.at.leaves trees may in (it.0, (0, omega arith, omega arith, omega arith, it.1), it.2)), (λ zero whole. refl), inl (sent.0, sent.1))
-sent_leaves cut s (r ∷ rs) page closed st (inl goes) =
+sent_leaves cut s (r ∷ rs) page closed begun st (inl goes) =
     let t = told_of (step_of s r) in
-    let rest = sent_leaves goes.1 (after_one s r) rs goes.0 closed st goes.4 in (
+    let rest = sent_leaves goes.1 (after_one s r) rs goes.0 closed begun st goes.4 in (
       suc rest.0,
       omega arith,
       (λ trees may. let it = rest.2 trees may in (it.0, (suc it.1.0, omega arith, omega arith, omega arith, it.1.4), it.2)),
       (λ zero whole. ap suc (rest.3 (sym (reply_status t goes.0 page goes.2) ∙ zero) (whole_below (page_told t).out cut goes.1 goes.3 whole))),
       told_above t rest.0 (TellsAnswers (after_one s r) rs rest.0) goes.1 cut goes.0 page goes.2 goes.3 rest.4,
     )
-sent_leaves cut s (r ∷ rs) page closed st (inr last) = last_leaves cut s r rs page closed st last.0 last.1
+sent_leaves cut s (r ∷ rs) page closed begun st (inr last) = last_leaves cut s r rs page closed begun st last.0 last.1
 
 -- a status 0 comes of a page that was told whole
 pub shown_zero : (cut : Cut) (old new : Outputs) (page : Page) (status : ℕ) → IsShown cut old new page status → status ≡ 0 → (cut ≡ uncut) × (page.status ≡ 0)
@@ -186,19 +186,19 @@ sends_some s errand file [] sends = tt
 sends_some s errand file (r ∷ rs) sends = sends
 
 -- a fault is told where nothing was sent
-pub fault_other : (s : OfficeState) (work : Work) (file : File) (page : Page) (fault : Fault) → page ≡ failed (Office fault) → IsEndOf work fault → TellsOther s work file page
-fault_other s making file page fault is ends = (fault, is)
-fault_other s (serving port connections) file page fault is ends = absurd ends
-fault_other s copying file page fault is ends = absurd ends
-fault_other s (running errand) file page fault is ends = inr (fault, is)
-fault_other s (replaying folder) file page fault is ends = inr (inr (fault, is))
-fault_other s migrating file page fault is ends = inr (fault, is)
+pub fault_other : (s : OfficeState) (work : Work) (file : File) (page : Page) (fault : Fault) (begun st : State) → page ≡ failed (Office fault) → IsEndOf work begun st fault → TellsOther s work file page
+fault_other s making file page fault begun st is ends = (fault, is)
+fault_other s (serving port connections) file page fault begun st is ends = absurd ends
+fault_other s copying file page fault begun st is ends = absurd ends
+fault_other s (running errand) file page fault begun st is ends = inr (fault, is)
+fault_other s (replaying folder) file page fault begun st is ends = inr (inr (fault, is))
+fault_other s migrating file page fault begun st is ends = inr (fault, is)
 
 -- where there was nothing to send, nothing is told
-pub sent_other : (cut : Cut) (s : OfficeState) (errand : Errand) (file : File) (requests : List Request) (page : Page) (closed : Bool) (st : State) → Sends s errand file requests → IsSent cut s requests page closed st
+pub sent_other : (cut : Cut) (s : OfficeState) (errand : Errand) (file : File) (requests : List Request) (page : Page) (closed : Bool) (begun st : State) → Sends s errand file requests → IsSent cut s requests page closed begun st
     → requests ≡ [] → TellsOther s (running errand) file page
-sent_other cut s errand file [] page closed st sends sent none = inl (inl (sends, sent.1))
-sent_other cut s errand file (r ∷ rs) page closed st sends sent none = absurd (cc none)
+sent_other cut s errand file [] page closed begun st sends sent none = inl (inl (sends, sent.1))
+sent_other cut s errand file (r ∷ rs) page closed begun st sends sent none = absurd (cc none)
 
 -- nothing was sent, and a stop leaves the state as it was
 pub nothing_kept : (earlier : List Request) (work : Work) (file : File) (cut : Cut) (page : Page) (status : ℕ) (st : State) → TellsOther (after empty_office earlier) work file page → LeavesState st (λ x. x ≡ after empty_office earlier)
@@ -213,28 +213,28 @@ nothing_kept earlier work file cut page status st tells leaves = record {
   all = λ zero. refl;
 }
 
-pub stopped_tells : (s : OfficeState) (page : Page) (closed : Bool) (st : State) → IsStopped s page closed st → TellsFault page
-stopped_tells s page closed st stopped = (stopped.0, stopped.1)
+pub stopped_tells : (s : OfficeState) (page : Page) (closed : Bool) (begun st : State) → IsStopped s page closed begun st → TellsFault page
+stopped_tells s page closed begun st stopped = (stopped.0, stopped.1)
 
-pub stopped_leaves : (s : OfficeState) (page : Page) (closed : Bool) (st : State) → IsStopped s page closed st → LeavesState st (λ x. x ≡ s)
-stopped_leaves s page closed st (fault, is, inl kept) = kept.open_at.at.leaves
-stopped_leaves s page closed st (fault, is, inr shut) = shut.leaves
+pub stopped_leaves : (s : OfficeState) (page : Page) (closed : Bool) (begun st : State) → IsStopped s page closed begun st → LeavesState st (λ x. x ≡ s)
+stopped_leaves s page closed begun st (fault, is, cause, inl kept) = kept.open_at.at.leaves
+stopped_leaves s page closed begun st (fault, is, cause, inr shut) = shut.leaves
 
-pub run_kept : (earlier : List Request) (errand : Errand) (file : File) (cut : Cut) (old new : Outputs) (page : Page) (status : ℕ) (closed : Bool) (st : State) → IsShown cut old new page status
-    → IsRun cut (after empty_office earlier) errand file page closed st → IsKept earlier (running errand) file cut page status st
-run_kept earlier errand file cut old new page status closed st shown (inl sent) =
-    let it = sent_leaves cut (after empty_office earlier) sent.0 page closed st sent.2 in
+pub run_kept : (earlier : List Request) (errand : Errand) (file : File) (cut : Cut) (old new : Outputs) (page : Page) (status : ℕ) (closed : Bool) (begun st : State) → IsShown cut old new page status
+    → IsRun cut (after empty_office earlier) errand file page closed begun st → IsKept earlier (running errand) file cut page status st
+run_kept earlier errand file cut old new page status closed begun st shown (inl sent) =
+    let it = sent_leaves cut (after empty_office earlier) sent.0 page closed begun st sent.2 in
     record {
       requests = sent.0;
       sends = sends_some (after empty_office earlier) errand file sent.0 sent.1;
       answered = it.0;
       told = λ some. it.4;
-      other = sent_other cut (after empty_office earlier) errand file sent.0 page closed st sent.1 sent.2;
+      other = sent_other cut (after empty_office earlier) errand file sent.0 page closed begun st sent.1 sent.2;
       leaves = λ trees may. let x = it.2 trees may in (x.0, beginning earlier sent.0 it.0 x.1.0 x.1.1 x.1.2 x.1.3 x.0 x.1.4, x.2);
       all = λ zero. let whole = shown_zero cut old new page status shown zero in it.3 whole.1 whole.0;
     }
-run_kept earlier errand file cut old new page status closed st shown (inr (inl told)) =
+run_kept earlier errand file cut old new page status closed begun st shown (inr (inl told)) =
     nothing_kept earlier (running errand) file cut page status st (inl (inr told.0)) told.1.at.leaves
-run_kept earlier errand file cut old new page status closed st shown (inr (inr stopped)) =
-    let tells = stopped_tells (after empty_office earlier) page closed st stopped in
-    nothing_kept earlier (running errand) file cut page status st (inr tells) (stopped_leaves (after empty_office earlier) page closed st stopped)
+run_kept earlier errand file cut old new page status closed begun st shown (inr (inr stopped)) =
+    let tells = stopped_tells (after empty_office earlier) page closed begun st stopped in
+    nothing_kept earlier (running errand) file cut page status st (inr tells) (stopped_leaves (after empty_office earlier) page closed begun st stopped)

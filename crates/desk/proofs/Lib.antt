@@ -2,6 +2,7 @@ pub mod NumbersRead
 pub mod FrontsRead
 pub mod OrdersNamed
 pub mod PageLemmas
+pub mod CauseLemmas
 pub mod SentLemmas
 pub mod KeptLemmas
 pub mod ScriptLemmas

@@ -6,7 +6,7 @@ use Rattle.sqlite.specs.State.{State}
 use Rattle.register.specs.Offices.{OfficeState}
 use Rattle.register.specs.declared.refusal.Reason.{Reason}
 use Rattle.tables.specs.declared.fault.Fault.TheVariants.{Memory}
-use Rattle.office.specs.Reads.{Read}
+use Rattle.office.specs.Reads.{Read, StopsBy}
 use Rattle.office.specs.declared.answers.Stop.{Stop}
 use Rattle.office.specs.declared.answers.Stop.TheVariants.{Refused, Fault}
 use Rattle.desk.specs.Errands.{IsFound}
@@ -20,19 +20,20 @@ lines_viewed text view [] = refl
 lines_viewed text view (x ∷ xs) = ap (λ rest. line (text (view x)) ++ rest) (lines_viewed text view xs)
 
 -- lines of what was read, or why there are none, are what is told
-pub lines_found : {W X V : Type 0} (items : W → List X) (text : V → Text) (view : X → V) (s : OfficeState) (told : Result (List V) Reason) (found : Result W Stop) (page : Page) (closed : Bool) (st : State)
+pub lines_found : {W X V : Type 0} (items : W → List X) (text : V → Text) (view : X → V) (s : OfficeState) (told : Result (List V) Reason) (found : Result W Stop) (page : Page) (closed : Bool) (old st : State)
     → Read (λ w. map view (items w)) s told found closed st
     → IfOk found (λ w. (page ≡ printed (flat_map (λ x. line (text (view x))) (items w))) ⊎ (page ≡ failed (Office Memory)))
     → IfErr found (λ stop. page ≡ page_stopped stop)
-    → IsFound s (λ views. printed (lines_of text views)) told page closed st
-lines_found items text view s told (Ok w) page closed st read (inl is) stops =
+    → IfErr found (StopsBy old st)
+    → IsFound s (λ views. printed (lines_of text views)) told page closed old st
+lines_found items text view s told (Ok w) page closed old st read (inl is) stops cause =
     inl (is ∙ ap printed (lines_viewed text view (items w)) ∙ sym (ap (page_found (λ views. printed (lines_of text views))) read.0), read.1)
-lines_found items text view s told (Ok w) page closed st read (inr is) stops = inr (Memory, is, inl (record { memory = refl; open_at = read.1 }))
-lines_found items text view s told (Err (Refused why)) page closed st read lines is = inl (is ∙ sym (ap (page_found (λ views. printed (lines_of text views))) read.0), read.1)
-lines_found items text view s told (Err (Fault fault)) page closed st read lines is = inr (fault, is, read)
+lines_found items text view s told (Ok w) page closed old st read (inr is) stops cause = inr (Memory, is, inl refl, inl (record { memory = refl; open_at = read.1 }))
+lines_found items text view s told (Err (Refused why)) page closed old st read lines is cause = inl (is ∙ sym (ap (page_found (λ views. printed (lines_of text views))) read.0), read.1)
+lines_found items text view s told (Err (Fault fault)) page closed old st read lines is cause = inr (fault, is, cause, read)
 
 -- why nothing was found is told
-pub stop_found : {X Y : Type 0} (view : Y → X) (shown : X → Page) (s : OfficeState) (told : Result X Reason) (stop : Stop) (page : Page) (closed : Bool) (st : State) → Read view s told (Err stop) closed st → page ≡ page_stopped stop
-    → IsFound s shown told page closed st
-stop_found view shown s told (Refused why) page closed st read is = inl (is ∙ sym (ap (page_found shown) read.0), read.1)
-stop_found view shown s told (Fault fault) page closed st read is = inr (fault, is, read)
+pub stop_found : {X Y : Type 0} (view : Y → X) (shown : X → Page) (s : OfficeState) (told : Result X Reason) (stop : Stop) (page : Page) (closed : Bool) (old st : State) → Read view s told (Err stop) closed st → StopsBy old st stop
+    → page ≡ page_stopped stop → IsFound s shown told page closed old st
+stop_found view shown s told (Refused why) page closed old st read cause is = inl (is ∙ sym (ap (page_found shown) read.0), read.1)
+stop_found view shown s told (Fault fault) page closed old st read cause is = inr (fault, is, cause, read)

@@ -27,18 +27,18 @@ pub record LeavesTurn (folder : Folder) (cut : Cut) (s : OfficeState) (turn : Tu
 none_after : (s : OfficeState) (st : State) → LeavesState st (λ x. x ≡ s) → LeavesState st (IsAfterSome s [] 0)
 none_after s st leaves trees may = let it = leaves trees may in (it.0, (0, omega arith, omega arith, omega arith, it.1), it.2)
 
-turn_leaves : (folder : Folder) (cut : Cut) (s : OfficeState) (turn : Turn) (page : Page) (closed : Bool) (st : State) → (page.status ≡ 0 → cut ≢ uncut) → TurnRuns folder cut s turn page closed st → LeavesTurn folder cut s turn page st
-turn_leaves folder cut s turn page closed st ends ran = by ran.runs
+turn_leaves : (folder : Folder) (cut : Cut) (s : OfficeState) (turn : Turn) (page : Page) (closed : Bool) (begun st : State) → (page.status ≡ 0 → cut ≢ uncut) → TurnRuns folder cut s turn page closed begun st → LeavesTurn folder cut s turn page st
+turn_leaves folder cut s turn page closed begun st ends ran = by ran.runs
   where
-    by : IsRun cut s (errand_of turn.errand) ran.file page closed st → LeavesTurn folder cut s turn page st
+    by : IsRun cut s (errand_of turn.errand) ran.file page closed begun st → LeavesTurn folder cut s turn page st
     by (inl sent) =
-        let it = sent_leaves cut s sent.0 page closed st sent.2 in
+        let it = sent_leaves cut s sent.0 page closed begun st sent.2 in
         record {
           requests = sent.0;
           answered = it.0;
           within = it.1;
           leaves = it.2;
-          ends = record { file = ran.file; found = ran.found; sends = λ some. sent.1; told = λ some. it.4; other = sent_other cut s (errand_of turn.errand) ran.file sent.0 page closed st sent.1 sent.2; ends = ends };
+          ends = record { file = ran.file; found = ran.found; sends = λ some. sent.1; told = λ some. it.4; other = sent_other cut s (errand_of turn.errand) ran.file sent.0 page closed begun st sent.1 sent.2; ends = ends };
         }
     by (inr (inl told)) = record {
       requests = [];
@@ -51,8 +51,8 @@ turn_leaves folder cut s turn page closed st ends ran = by ran.runs
       requests = [];
       answered = 0;
       within = omega arith;
-      leaves = none_after s st (stopped_leaves s page closed st stopped);
-      ends = record { file = ran.file; found = ran.found; sends = λ some. absurd (some refl); told = λ some. absurd (some refl); other = λ none. inr (stopped_tells s page closed st stopped); ends = ends };
+      leaves = none_after s st (stopped_leaves s page closed begun st stopped);
+      ends = record { file = ran.file; found = ran.found; sends = λ some. absurd (some refl); told = λ some. absurd (some refl); other = λ none. inr (stopped_tells s page closed begun st stopped); ends = ends };
     }
 
 -- what turns leave
@@ -85,8 +85,8 @@ some_behind s own others n st leaves trees may =
     let both : length (own ++ others) ≡ length own + length others = length-append own others in
     (it.0, (length own + it.1.0, omega arith, omega arith, omega arith, it.1.4 ∙ after_both s own others it.1.0), it.2)
 
-replayed_leaves : (folder : Folder) (cut : Cut) (s : OfficeState) (turns : List Turn) (page : Page) (closed : Bool) (st : State) → IsReplayed folder cut s turns page closed st → LeavesTurns folder cut s turns page st
-replayed_leaves folder cut s [] page closed st replayed = record {
+replayed_leaves : (folder : Folder) (cut : Cut) (s : OfficeState) (turns : List Turn) (page : Page) (closed : Bool) (begun st : State) → IsReplayed folder cut s turns page closed begun st → LeavesTurns folder cut s turns page st
+replayed_leaves folder cut s [] page closed begun st replayed = record {
   requests = [];
   answered = 0;
   within = omega arith;
@@ -95,8 +95,8 @@ replayed_leaves folder cut s [] page closed st replayed = record {
   tells = (refl, refl, replayed.0, replayed.1);
   sends = refl;
 }
-replayed_leaves folder cut s (turn ∷ turns) page closed st (inl goes) =
-    let more = replayed_leaves folder goes.3 (after s goes.0) turns goes.2 closed st goes.8 in
+replayed_leaves folder cut s (turn ∷ turns) page closed begun st (inl goes) =
+    let more = replayed_leaves folder goes.3 (after s goes.0) turns goes.2 closed begun st goes.8 in
     let both : length (goes.0 ++ more.requests) ≡ length goes.0 + length more.requests = length-append goes.0 more.requests in
     let same : page.status ≡ goes.2.status = ap (λ (p : Page). p.status) goes.6 in
     record {
@@ -108,8 +108,8 @@ replayed_leaves folder cut s (turn ∷ turns) page closed st (inl goes) =
       tells = inl (goes.0, more.requests, goes.1, goes.2, goes.3, more.answered, refl, refl, goes.4, goes.5, goes.6, goes.7, more.tells);
       sends = inr (goes.0, more.requests, refl, goes.4, more.sends);
     }
-replayed_leaves folder cut s (turn ∷ turns) page closed st (inr last) =
-    let it = turn_leaves folder cut s turn last.0 closed st last.2 last.3 in
+replayed_leaves folder cut s (turn ∷ turns) page closed begun st (inr last) =
+    let it = turn_leaves folder cut s turn last.0 closed begun st last.2 last.3 in
     record {
       requests = it.requests;
       answered = it.answered;
@@ -129,11 +129,11 @@ none_told : (folder : Folder) (s : OfficeState) (file : File) (requests : List R
 none_told folder s file [] n cut page none within tells = let zero : n ≡ 0 = omega arith in subst (λ k. TellsScript folder s file [] k cut page) zero tells
 none_told folder s file (r ∷ rs) n cut page none within tells = absurd (cc none)
 
-pub replay_kept : (earlier : List Request) (folder : Folder) (file : File) (cut : Cut) (old new : Outputs) (page : Page) (status : ℕ) (closed : Bool) (st : State) → IsShown cut old new page status
-    → IsReplay folder cut (after empty_office earlier) file page closed st → IsKept earlier (replaying folder) file cut page status st
-replay_kept earlier folder file cut old new page status closed st shown (inl (turns, holds, replayed)) =
+pub replay_kept : (earlier : List Request) (folder : Folder) (file : File) (cut : Cut) (old new : Outputs) (page : Page) (status : ℕ) (closed : Bool) (begun st : State) → IsShown cut old new page status
+    → IsReplay folder cut (after empty_office earlier) file page closed begun st → IsKept earlier (replaying folder) file cut page status st
+replay_kept earlier folder file cut old new page status closed begun st shown (inl (turns, holds, replayed)) =
     let s = after empty_office earlier in
-    let it = replayed_leaves folder cut s turns page closed st replayed in
+    let it = replayed_leaves folder cut s turns page closed begun st replayed in
     record {
       requests = it.requests;
       sends = script_sends folder s file turns it.requests holds it.sends;
@@ -143,8 +143,8 @@ replay_kept earlier folder file cut old new page status closed st shown (inl (tu
       leaves = λ trees may. let x = it.leaves trees may in (x.0, beginning earlier it.requests it.answered x.1.0 x.1.1 x.1.2 x.1.3 x.0 x.1.4, x.2);
       all = λ zero. let whole = shown_zero cut old new page status shown zero in it.all whole.1 whole.0;
     }
-replay_kept earlier folder file cut old new page status closed st shown (inr (inl refused)) =
+replay_kept earlier folder file cut old new page status closed begun st shown (inr (inl refused)) =
     nothing_kept earlier (replaying folder) file cut page status st (inr (inl refused.0)) refused.1.at.leaves
-replay_kept earlier folder file cut old new page status closed st shown (inr (inr stopped)) =
+replay_kept earlier folder file cut old new page status closed begun st shown (inr (inr stopped)) =
     let s = after empty_office earlier in
-    nothing_kept earlier (replaying folder) file cut page status st (inr (inr (stopped_tells s page closed st stopped))) (stopped_leaves s page closed st stopped)
+    nothing_kept earlier (replaying folder) file cut page status st (inr (inr (stopped_tells s page closed begun st stopped))) (stopped_leaves s page closed begun st stopped)

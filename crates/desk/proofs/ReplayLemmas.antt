@@ -30,15 +30,15 @@ above_printed (again reply) rest page text is same = (is ∙ ap (below (replied 
 above_printed (no why) rest page text is same = absurd is
 
 -- requests of which all was told, with status 0, all got replies
-sent_replied : (cut : Cut) (s : OfficeState) (rs : List Request) (page : Page) (closed : Bool) (st : State) → IsSent cut s rs page closed st → page.status ≡ 0 → cut ≡ uncut
+sent_replied : (cut : Cut) (s : OfficeState) (rs : List Request) (page : Page) (closed : Bool) (begun st : State) → IsSent cut s rs page closed begun st → page.status ≡ 0 → cut ≡ uncut
     → (said : Text) × (page ≡ printed said) × Replies s rs said × IsOpenAt (after s rs) closed st
-sent_replied cut s [] page closed st sent zero whole = ([], sent.1, refl, sent.2)
-sent_replied cut s (r ∷ rs) page closed st (inl goes) zero whole =
+sent_replied cut s [] page closed begun st sent zero whole = ([], sent.1, refl, sent.2)
+sent_replied cut s (r ∷ rs) page closed begun st (inl goes) zero whole =
     let t = told_of (step_of s r) in
-    let rest = sent_replied goes.1 (after_one s r) rs goes.0 closed st goes.4 (sym (reply_status t goes.0 page goes.2) ∙ zero) (whole_below (page_told t).out cut goes.1 goes.3 whole) in
+    let rest = sent_replied goes.1 (after_one s r) rs goes.0 closed begun st goes.4 (sym (reply_status t goes.0 page goes.2) ∙ zero) (whole_below (page_told t).out cut goes.1 goes.3 whole) in
     let above = above_printed t goes.0 page rest.0 goes.2 rest.1 in
     ((page_told t).out ++ rest.0, above.0, (rest.0, above.1, rest.2), rest.3)
-sent_replied cut s (r ∷ rs) page closed st (inr last) zero whole = absurd (last.0 zero whole)
+sent_replied cut s (r ∷ rs) page closed begun st (inr last) zero whole = absurd (last.0 zero whole)
 
 -- a file that isn't taken is told with another status
 refused_file : {Row : Type 0} (format : Format Row) (file : File) (page : Page) → IsRefusedFile format file page → page.status ≢ 0
@@ -58,13 +58,13 @@ told_ends s (errand.Print ward text) file page sends told zero = absurd (cc send
 told_ends s (errand.Ask question) file page sends told zero = absurd (cc sends)
 
 -- what was told whole of a turn, with status 0, is the replies to its requests
-pub run_replied : (cut : Cut) (s : OfficeState) (e : Errand) (file : File) (page : Page) (closed : Bool) (st : State) → sends_requests e ≡ true → IsRun cut s (errand_of e) file page closed st → page.status ≡ 0 → cut ≡ uncut
+pub run_replied : (cut : Cut) (s : OfficeState) (e : Errand) (file : File) (page : Page) (closed : Bool) (begun st : State) → sends_requests e ≡ true → IsRun cut s (errand_of e) file page closed begun st → page.status ≡ 0 → cut ≡ uncut
     → (requests : List Request) × Sends s (errand_of e) file requests × Replies s requests page.out × IsOpenAt (after s requests) closed st
-run_replied cut s e file page closed st sends (inl sent) zero whole =
-    let it = sent_replied cut s sent.0 page closed st sent.2 zero whole in
+run_replied cut s e file page closed begun st sends (inl sent) zero whole =
+    let it = sent_replied cut s sent.0 page closed begun st sent.2 zero whole in
     (sent.0, sent.1, subst (Replies s sent.0) (sym (ap (λ (p : Page). p.out) it.1)) it.2, it.3)
-run_replied cut s e file page closed st sends (inr (inl told)) zero whole = absurd (told_ends s e file page sends told.0 zero)
-run_replied cut s e file page closed st sends (inr (inr stopped)) zero whole = let three : page.status ≡ 3 = ap (λ (p : Page). p.status) stopped.1 in absurd (omega arith)
+run_replied cut s e file page closed begun st sends (inr (inl told)) zero whole = absurd (told_ends s e file page sends told.0 zero)
+run_replied cut s e file page closed begun st sends (inr (inr stopped)) zero whole = let three : page.status ≡ 3 = ap (λ (p : Page). p.status) stopped.1 in absurd (omega arith)
 
 -- ---- the turns so far
 
@@ -103,11 +103,11 @@ replied_more folder s (t ∷ ts) said end turn requests own so sends replies = (
 )
 
 -- what comes of the turns that are left stands below the replies
-replied_then : (folder : Folder) (later : Cut) (s : OfficeState) (front left : List Turn) (said : Text) (end : OfficeState) (page : Page) (closed : Bool) (st : State) → TurnsReplied folder s front said end
-    → IsReplayed folder later end left page closed st → IsReplayed folder (cut_below said later) s (front ++ left) (below said page) closed st
-replied_then folder later s [] left said end page closed st so replayed =
-    rw so.0 (subst (λ c. IsReplayed folder c s left page closed st) (cut_none later) (subst (λ x. IsReplayed folder later x left page closed st) so.1 replayed))
-replied_then folder later s (turn ∷ turns) left said end page closed st so replayed = inl (
+replied_then : (folder : Folder) (later : Cut) (s : OfficeState) (front left : List Turn) (said : Text) (end : OfficeState) (page : Page) (closed : Bool) (begun st : State) → TurnsReplied folder s front said end
+    → IsReplayed folder later end left page closed begun st → IsReplayed folder (cut_below said later) s (front ++ left) (below said page) closed begun st
+replied_then folder later s [] left said end page closed begun st so replayed =
+    rw so.0 (subst (λ c. IsReplayed folder c s left page closed begun st) (cut_none later) (subst (λ x. IsReplayed folder later x left page closed begun st) so.1 replayed))
+replied_then folder later s (turn ∷ turns) left said end page closed begun st so replayed = inl (
   so.0,
   so.1,
   below so.2 page,
@@ -116,16 +116,16 @@ replied_then folder later s (turn ∷ turns) left said end page closed st so rep
   so.4,
   ap (λ text. below text page) so.5 ∙ ap (λ text. record { out = text; err = page.err; status = page.status }) (append_assoc so.1 so.2 page.out),
   ap (λ text. cut_below text later) so.5 ∙ cut_joined so.1 so.2 later,
-  replied_then folder later (after s so.0) turns left so.2 end page closed st so.6 replayed,
+  replied_then folder later (after s so.0) turns left so.2 end page closed begun st so.6 replayed,
 )
 
 -- all requests of the next turn got replies
-pub turn_more : (folder : Folder) (s : OfficeState) (turns : List Turn) (i : ℕ) (turn : Turn) (said : Text) (was : Bool) (before : State) (cut : Cut) (page : Page) (closed : Bool) (st : State)
-    → i < length turns → turn ≡ get_or turns i turn → sends_requests turn.errand ≡ true → (so : TurnsSo folder s (take i turns) said was before) → TurnRuns folder cut so.end turn page closed st → page.status ≡ 0 → cut ≡ uncut
+pub turn_more : (folder : Folder) (s : OfficeState) (turns : List Turn) (i : ℕ) (turn : Turn) (said : Text) (was : Bool) (before : State) (cut : Cut) (page : Page) (closed : Bool) (begun st : State)
+    → i < length turns → turn ≡ get_or turns i turn → sends_requests turn.errand ≡ true → (so : TurnsSo folder s (take i turns) said was before) → TurnRuns folder cut so.end turn page closed begun st → page.status ≡ 0 → cut ≡ uncut
     → TurnsSo folder s (take (i + 1) turns) (said ++ page.out) closed st
-turn_more folder s turns i turn said was before cut page closed st within is sends so ran zero whole =
+turn_more folder s turns i turn said was before cut page closed begun st within is sends so ran zero whole =
     let one_more : take (i + 1) turns ≡ take i turns ++ turn ∷ [] = take_more turns i turn within ∙ ap (λ x. take i turns ++ x ∷ []) (sym is) in
-    let it = run_replied cut so.end turn.errand ran.file page closed st sends ran.runs zero whole in
+    let it = run_replied cut so.end turn.errand ran.file page closed begun st sends ran.runs zero whole in
     record {
       end = after so.end it.0;
       replied = subst (λ front. TurnsReplied folder s front (said ++ page.out) (after so.end it.0)) (sym one_more)
@@ -137,17 +137,17 @@ turns_left : (turns : List Turn) (i : ℕ) (turn : Turn) → i < length turns �
 turns_left turns i turn within is = next_left turns i turn within is
 
 -- or it ended the script
-pub turn_last : (folder : Folder) (s : OfficeState) (turns : List Turn) (i : ℕ) (turn : Turn) (said : Text) (was : Bool) (before : State) (cut : Cut) (page : Page) (closed : Bool) (st : State)
-    → i < length turns → turn ≡ get_or turns i turn → (so : TurnsSo folder s (take i turns) said was before) → TurnRuns folder cut so.end turn page closed st → (page.status ≡ 0 → cut ≢ uncut)
-    → IsReplayed folder (cut_below said cut) s turns (below said (fronted (Some turn.line) page)) closed st
-turn_last folder s turns i turn said was before cut page closed st within is so ran ends =
-    let here : IsReplayed folder cut so.end (turn ∷ drop (i + 1) turns) (fronted (Some turn.line) page) closed st = inr (page, refl, ends, ran) in
-    let there = subst (λ left. IsReplayed folder cut so.end left (fronted (Some turn.line) page) closed st) (sym (turns_left turns i turn within is)) here in
-    subst (λ all. IsReplayed folder (cut_below said cut) s all (below said (fronted (Some turn.line) page)) closed st) (take-append-drop i turns)
-    (replied_then folder cut s (take i turns) (drop i turns) said so.end (fronted (Some turn.line) page) closed st so.replied there)
+pub turn_last : (folder : Folder) (s : OfficeState) (turns : List Turn) (i : ℕ) (turn : Turn) (said : Text) (was : Bool) (before : State) (cut : Cut) (page : Page) (closed : Bool) (begun st : State)
+    → i < length turns → turn ≡ get_or turns i turn → (so : TurnsSo folder s (take i turns) said was before) → TurnRuns folder cut so.end turn page closed begun st → (page.status ≡ 0 → cut ≢ uncut)
+    → IsReplayed folder (cut_below said cut) s turns (below said (fronted (Some turn.line) page)) closed begun st
+turn_last folder s turns i turn said was before cut page closed begun st within is so ran ends =
+    let here : IsReplayed folder cut so.end (turn ∷ drop (i + 1) turns) (fronted (Some turn.line) page) closed begun st = inr (page, refl, ends, ran) in
+    let there = subst (λ left. IsReplayed folder cut so.end left (fronted (Some turn.line) page) closed begun st) (sym (turns_left turns i turn within is)) here in
+    subst (λ all. IsReplayed folder (cut_below said cut) s all (below said (fronted (Some turn.line) page)) closed begun st) (take-append-drop i turns)
+    (replied_then folder cut s (take i turns) (drop i turns) said so.end (fronted (Some turn.line) page) closed begun st so.replied there)
 
 -- all requests of all turns got replies
-pub turns_all : (folder : Folder) (s : OfficeState) (turns front : List Turn) (said : Text) (closed : Bool) (st : State) → front ≡ turns → TurnsSo folder s front said closed st
-    → IsReplayed folder uncut s turns (below said empty_page) closed st
-turns_all folder s turns front said closed st all so =
-    subst (λ xs. IsReplayed folder uncut s xs (below said empty_page) closed st) (append-nil front ∙ all) (replied_then folder uncut s front [] said so.end empty_page closed st so.replied (refl, refl, so.open_at))
+pub turns_all : (folder : Folder) (s : OfficeState) (turns front : List Turn) (said : Text) (closed : Bool) (begun st : State) → front ≡ turns → TurnsSo folder s front said closed st
+    → IsReplayed folder uncut s turns (below said empty_page) closed begun st
+turns_all folder s turns front said closed begun st all so =
+    subst (λ xs. IsReplayed folder uncut s xs (below said empty_page) closed begun st) (append-nil front ∙ all) (replied_then folder uncut s front [] said so.end empty_page closed begun st so.replied (refl, refl, so.open_at))

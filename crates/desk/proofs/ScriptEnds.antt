@@ -36,14 +36,14 @@ refused_script None page (inl unread) = inl unread
 refused_script (Some told) page (inl unread) = inl (inl unread)
 refused_script file page (inr memory) = inr memory
 
-out_of_memory : (folder : Folder) (cut : Cut) (s : OfficeState) (file : File) (page : Page) (closed : Bool) (st : State) → page ≡ failed (Office Memory) → IsOpenAt s closed st → IsReplay folder cut s file page closed st
-out_of_memory folder cut s file page closed st is here = inr (inr (Memory, is, inl (record { memory = refl; open_at = here })))
+out_of_memory : (folder : Folder) (cut : Cut) (s : OfficeState) (file : File) (page : Page) (closed : Bool) (begun st : State) → page ≡ failed (Office Memory) → IsOpenAt s closed st → IsReplay folder cut s file page closed begun st
+out_of_memory folder cut s file page closed begun st is here = inr (inr (Memory, is, inl refl, inl (record { memory = refl; open_at = here })))
 
 -- a script that can't be read
-pub replay_unread : (folder : Folder) (cut : Cut) (s : OfficeState) (file : File) (page : Page) (closed : Bool) (st : State) → IsUnreadScript page → IsOpenAt s closed st → IsReplay folder cut s file page closed st
-replay_unread folder cut s file page closed st why here = elim (refused_script file page why) [
+pub replay_unread : (folder : Folder) (cut : Cut) (s : OfficeState) (file : File) (page : Page) (closed : Bool) (begun st : State) → IsUnreadScript page → IsOpenAt s closed st → IsReplay folder cut s file page closed begun st
+replay_unread folder cut s file page closed begun st why here = elim (refused_script file page why) [
   | inl refused ↦ inr (inl (refused, here))
-  | inr memory ↦ out_of_memory folder cut s file page closed st memory here
+  | inr memory ↦ out_of_memory folder cut s file page closed begun st memory here
 ]
 
 first_flaw : (file : File) (lines : List Typed) (number : ℕ) (flaw : LineFlaw) → IsFirstFlaw lines number flaw → HoldsText file (λ text. lines ≡ script_lines text) → IsRefusedScript file (script_page (script.Line number flaw))
@@ -52,17 +52,17 @@ first_flaw (Some None) lines number flaw is holds = inr (number, flaw, refl, tt)
 first_flaw (Some (Some text)) lines number flaw is holds = inr (number, flaw, refl, subst (λ ls. IsFirstFlaw ls number flaw) holds is)
 
 -- a line that isn't understood, or want of memory
-replay_fault : (folder : Folder) (cut : Cut) (s : OfficeState) (file : File) (lines : List Typed) (fault : ScriptFault) (closed : Bool) (st : State) → IsFaultOfLines lines fault → HoldsText file (λ text. lines ≡ script_lines text)
-    → IsOpenAt s closed st → IsReplay folder cut s file (script_page fault) closed st
-replay_fault folder cut s file lines script.Memory closed st is holds here = out_of_memory folder cut s file (script_page script.Memory) closed st refl here
-replay_fault folder cut s file lines (script.Line number flaw) closed st is holds here = inr (inl (first_flaw file lines number flaw is holds, here))
+replay_fault : (folder : Folder) (cut : Cut) (s : OfficeState) (file : File) (lines : List Typed) (fault : ScriptFault) (closed : Bool) (begun st : State) → IsFaultOfLines lines fault → HoldsText file (λ text. lines ≡ script_lines text)
+    → IsOpenAt s closed st → IsReplay folder cut s file (script_page fault) closed begun st
+replay_fault folder cut s file lines script.Memory closed begun st is holds here = out_of_memory folder cut s file (script_page script.Memory) closed begun st refl here
+replay_fault folder cut s file lines (script.Line number flaw) closed begun st is holds here = inr (inl (first_flaw file lines number flaw is holds, here))
 
 -- what comes of the lines of a script
-pub replay_of : (folder : Folder) (cut : Cut) (s : OfficeState) (file : File) (lines : List Typed) (page : Page) (closed : Bool) (st : State) → HoldsText file (λ text. lines ≡ script_lines text)
-    → IsReplayOf folder cut s lines page closed st → IsReplay folder cut s file page closed st
-replay_of folder cut s file lines page closed st holds (inl replayed) = inl (replayed.0, holds_turns file lines replayed.0 replayed.1 holds, replayed.2)
-replay_of folder cut s file lines page closed st holds (inr wrong) =
-    subst (λ p. IsReplay folder cut s file p closed st) (sym wrong.1) (replay_fault folder cut s file lines wrong.0 closed st wrong.2 holds wrong.3)
+pub replay_of : (folder : Folder) (cut : Cut) (s : OfficeState) (file : File) (lines : List Typed) (page : Page) (closed : Bool) (begun st : State) → HoldsText file (λ text. lines ≡ script_lines text)
+    → IsReplayOf folder cut s lines page closed begun st → IsReplay folder cut s file page closed begun st
+replay_of folder cut s file lines page closed begun st holds (inl replayed) = inl (replayed.0, holds_turns file lines replayed.0 replayed.1 holds, replayed.2)
+replay_of folder cut s file lines page closed begun st holds (inr wrong) =
+    subst (λ p. IsReplay folder cut s file p closed begun st) (sym wrong.1) (replay_fault folder cut s file lines wrong.0 closed begun st wrong.2 holds wrong.3)
 
 pub no_output : (fault : ScriptFault) → (script_page fault).out ≡ []
 no_output script.Memory = refl

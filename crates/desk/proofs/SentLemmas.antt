@@ -110,20 +110,20 @@ cut_joined above text (cut_behind took) = ap cut_behind (append_assoc above text
 cut_joined above text cut_error = refl
 
 -- what comes of the requests that are left stands below the replies
-replies_then : (cut : Cut) (s : OfficeState) (front left : List Request) (said : Text) (page : Page) (closed : Bool) (st : State) → Replies s front said → IsSent cut (after s front) left page closed st
-    → IsSent (cut_below said cut) s (front ++ left) (below said page) closed st
-replies_then cut s [] left said page closed st none sent = rw none (subst (λ c. IsSent c s left page closed st) (cut_none cut) sent)
-replies_then cut s (x ∷ rs) left said page closed st so sent =
+replies_then : (cut : Cut) (s : OfficeState) (front left : List Request) (said : Text) (page : Page) (closed : Bool) (begun st : State) → Replies s front said → IsSent cut (after s front) left page closed begun st
+    → IsSent (cut_below said cut) s (front ++ left) (below said page) closed begun st
+replies_then cut s [] left said page closed begun st none sent = rw none (subst (λ c. IsSent c s left page closed begun st) (cut_none cut) sent)
+replies_then cut s (x ∷ rs) left said page closed begun st so sent =
     let above = ap (λ text. cut_below text cut) (reply_text (told_of (step_of s x)) so.0 said so.1) ∙ cut_joined (page_told (told_of (step_of s x))).out so.0 cut in
-    inl (below so.0 page, cut_below so.0 cut, reply_joined (told_of (step_of s x)) so.0 said page so.1, above, replies_then cut (after_one s x) rs left so.0 page closed st so.2 sent)
+    inl (below so.0 page, cut_below so.0 cut, reply_joined (told_of (step_of s x)) so.0 said page so.1, above, replies_then cut (after_one s x) rs left so.0 page closed begun st so.2 sent)
 
 pub next_left : {X : Type 0} (rs : List X) (i : ℕ) (r : X) → i < length rs → r ≡ get_or rs i r → drop i rs ≡ r ∷ drop (i + 1) rs
 next_left rs i r within is = drop-cons rs i r within ∙ (ap (λ x. x ∷ drop (suc i) rs) (sym is) ∙ ap (λ n. r ∷ drop n rs) (sym (add-one i)))
 
 -- the first of the requests that are left got a reply
-pub sent_more : (s : OfficeState) (rs : List Request) (i : ℕ) (r : Request) (said : Text) (was : Bool) (before : State) (page : Page) (closed : Bool) (st : State) → i < length rs → r ≡ get_or rs i r
-    → SentSo s (take i rs) said was before → IsAnswered (after s (take i rs)) (step_of (after s (take i rs)) r) page closed st → page.status ≡ 0 → SentSo s (take (i + 1) rs) (said ++ page.out) closed st
-sent_more s rs i r said was before page closed st within is so answered zero = elim answered [
+pub sent_more : (s : OfficeState) (rs : List Request) (i : ℕ) (r : Request) (said : Text) (was : Bool) (before : State) (page : Page) (closed : Bool) (begun st : State) → i < length rs → r ≡ get_or rs i r
+    → SentSo s (take i rs) said was before → IsAnswered (after s (take i rs)) (step_of (after s (take i rs)) r) page closed begun st → page.status ≡ 0 → SentSo s (take (i + 1) rs) (said ++ page.out) closed st
+sent_more s rs i r said was before page closed begun st within is so answered zero = elim answered [
   | inl told ↦
       let one_more : take (i + 1) rs ≡ take i rs ++ r ∷ [] = take_more rs i r within ∙ ap (λ x. take i rs ++ x ∷ []) (sym is) in
       let there : after_one (after s (take i rs)) r ≡ after s (take (i + 1) rs) = ap (after_one (after s (take i rs))) is ∙ sym (after-more s rs i r within) in
@@ -141,18 +141,18 @@ ended_so line cut_error mid new page status ends shown zero is = absurd (cc is)
 ended_so line uncut mid new page status ends all zero is = ends (all.ends ∙ fronted_status line page ∙ zero)
 
 -- or it ended the sending
-pub sent_last : (line : Option ℕ) (s : OfficeState) (rs : List Request) (i : ℕ) (r : Request) (said : Text) (was : Bool) (before : State) (cut : Cut) (mid new : Outputs) (status : ℕ) (page : Page) (closed : Bool) (st : State)
-    → i < length rs → r ≡ get_or rs i r → SentSo s (take i rs) said was before → IsAnswered (after s (take i rs)) (step_of (after s (take i rs)) r) page closed st → status ≢ 0 → IsShown cut mid new (fronted line page) status
-    → IsSent (cut_below said cut) s rs (below said page) closed st
-sent_last line s rs i r said was before cut mid new status page closed st within is so answered ends shown =
-    let here : IsSent cut (after s (take i rs)) (r ∷ drop (i + 1) rs) page closed st = inr (ended_so line cut mid new page status ends shown, answered) in
-    let there = subst (λ left. IsSent cut (after s (take i rs)) left page closed st) (sym (next_left rs i r within is)) here in
-    subst (λ all. IsSent (cut_below said cut) s all (below said page) closed st) (take-append-drop i rs) (replies_then cut s (take i rs) (drop i rs) said page closed st so.replies there)
+pub sent_last : (line : Option ℕ) (s : OfficeState) (rs : List Request) (i : ℕ) (r : Request) (said : Text) (was : Bool) (before : State) (cut : Cut) (mid new : Outputs) (status : ℕ) (page : Page) (closed : Bool) (begun st : State)
+    → i < length rs → r ≡ get_or rs i r → SentSo s (take i rs) said was before → IsAnswered (after s (take i rs)) (step_of (after s (take i rs)) r) page closed begun st → status ≢ 0 → IsShown cut mid new (fronted line page) status
+    → IsSent (cut_below said cut) s rs (below said page) closed begun st
+sent_last line s rs i r said was before cut mid new status page closed begun st within is so answered ends shown =
+    let here : IsSent cut (after s (take i rs)) (r ∷ drop (i + 1) rs) page closed begun st = inr (ended_so line cut mid new page status ends shown, answered) in
+    let there = subst (λ left. IsSent cut (after s (take i rs)) left page closed begun st) (sym (next_left rs i r within is)) here in
+    subst (λ all. IsSent (cut_below said cut) s all (below said page) closed begun st) (take-append-drop i rs) (replies_then cut s (take i rs) (drop i rs) said page closed begun st so.replies there)
 
 -- all got replies
-pub sent_all : (s : OfficeState) (rs front : List Request) (said : Text) (closed : Bool) (st : State) → front ≡ rs → SentSo s front said closed st → IsSent uncut s rs (below said empty_page) closed st
-sent_all s rs front said closed st all so =
-    subst (λ xs. IsSent uncut s xs (below said empty_page) closed st) (append-nil front ∙ all) (replies_then uncut s front [] said empty_page closed st so.replies (refl, refl, so.open_at))
+pub sent_all : (s : OfficeState) (rs front : List Request) (said : Text) (closed : Bool) (begun st : State) → front ≡ rs → SentSo s front said closed st → IsSent uncut s rs (below said empty_page) closed begun st
+sent_all s rs front said closed begun st all so =
+    subst (λ xs. IsSent uncut s xs (below said empty_page) closed begun st) (append-nil front ∙ all) (replies_then uncut s front [] said empty_page closed begun st so.replies (refl, refl, so.open_at))
 
 pub told_all : (line : Option ℕ) (old new : Outputs) (said : Text) → IsWhole old new (printed said) 0 → IsWhole old new (fronted line (below said empty_page)) 0
 told_all None old new said all = record { out = rw (append-nil said) all.out; out_failed = all.out_failed; err = all.err; err_failed = all.err_failed; ends = refl }

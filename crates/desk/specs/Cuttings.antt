@@ -47,7 +47,7 @@ IsFaultOfLines lines fault.Memory = ⊤
 IsFaultOfLines lines (fault.Line number flaw) = IsFirstFlaw lines number flaw
 
 -- what comes of a script's lines: their turns are taken; or what is wrong with them is told, and nothing is sent
-abbrev pub IsReplayOf : Folder → Cut → OfficeState → List Typed → Page → Bool → State → Type 0
-IsReplayOf folder cut s lines page closed st =
-    ((turns : List Turn) × AreTurns lines turns × IsReplayed folder cut s turns page closed st)
+abbrev pub IsReplayOf : Folder → Cut → OfficeState → List Typed → Page → Bool → State → State → Type 0
+IsReplayOf folder cut s lines page closed old st =
+    ((turns : List Turn) × AreTurns lines turns × IsReplayed folder cut s turns page closed old st)
     ⊎ ((why : ScriptFault) × (page ≡ script_page why) × IsFaultOfLines lines why × IsOpenAt s closed st)

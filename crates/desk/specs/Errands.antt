@@ -3,7 +3,7 @@ use Rattle.std.specs.Prelude.{◌≡◌, ◌≢◌, zero, suc, ◌⊎◌, ◌+�
 use Rattle.clap.specs.Words.{Text}
 use Rattle.sqlite.specs.Tree.{Trees}
 use Rattle.sqlite.specs.State.{State, HasCleanDisk}
-use Rattle.register.specs.Machine.{Outcome as Ruled, after, after_one, state_after, step_of}
+use Rattle.register.specs.Machine.{Outcome as Ruled, after, after_one, is_accepted, state_after, step_of}
 use Rattle.register.specs.Offices.{OfficeState, empty_office}
 use Rattle.register.specs.declared.command.Request.{Request}
 use Rattle.register.specs.declared.refusal.Reason.{Reason}
@@ -12,7 +12,7 @@ use Rattle.tables.specs.declared.fault.Fault.TheVariants.{Memory, Store, WrongDa
 use Rattle.sqlite.specs.Effect.{Database}
 use Rattle.tables.specs.Contents.{RestsAt, Stores}
 use Rattle.tables.specs.Presence.{IsOurs, IsOlderSchema, has_some_table}
-use Rattle.tables.specs.Reading.{OnlyReads}
+use Rattle.tables.specs.Reading.{FailsBy, FailsToList, OnlyReads}
 use Rattle.store.specs.Openings.{HoldsNoState, IsBlank, IsLeftAt, IsToldBy}
 use Rattle.store.specs.declared.older.OlderForm.{OlderForm}
 use Rattle.store.specs.declared.migration.Migrated.TheVariants.{Done, Already}
@@ -69,12 +69,16 @@ Sends s (asking question) file requests = ⊥
 
 -- ---- what comes of the requests
 
--- a request is answered as the machine says, and that is told, at the state after it; or a fault is told, and a stop leaves the state before
--- or, of an accepted request, the one after
-abbrev pub IsAnswered : OfficeState → Ruled → Page → Bool → State → Type 0
-IsAnswered s ruled page closed st =
+-- A fault that a request met: memory was wanting, or the store failed since `old`. Why the writing of an accepted one failed isn't said.
+abbrev pub IsCausedIn : Ruled → State → State → Fault → Type 0
+IsCausedIn ruled old st fault = FailsBy old st fault ⊎ (is_accepted ruled ≡ true)
+
+-- a request is answered as the machine says, and that is told, at the state after it; or a fault is told, with its cause, and a stop leaves
+-- the state before or, of an accepted request, the one after
+abbrev pub IsAnswered : OfficeState → Ruled → Page → Bool → State → State → Type 0
+IsAnswered s ruled page closed old st =
     ((page ≡ page_told (told_of ruled)) × IsOpenAt (state_after s ruled) closed st)
-    ⊎ ((fault : Fault) × (page ≡ failed (Office fault)) × (IsKeptOpen s fault closed st ⊎ IsClosedIn s ruled fault closed st))
+    ⊎ ((fault : Fault) × (page ≡ failed (Office fault)) × IsCausedIn ruled old st fault × (IsKeptOpen s fault closed st ⊎ IsClosedIn s ruled fault closed st))
 
 -- one of the replies, above what comes of the other requests
 abbrev pub IsReplyAbove : Told → Page → Page → Type 0
@@ -83,12 +87,12 @@ IsReplyAbove (again reply) rest page = page ≡ below (replied reply).out rest
 IsReplyAbove (no why) rest page = ⊥
 
 -- Requests sent in turn: once a reply was told whole, the next request is sent. The first refusal or fault ends it, and so does an
--- output that fails.
-abbrev pub IsSent : Cut → OfficeState → List Request → Page → Bool → State → Type 0
-IsSent cut s [] page closed st = (cut ≡ uncut) × (page ≡ empty_page) × IsOpenAt s closed st
-IsSent cut s (r ∷ rs) page closed st =
-    ((rest : Page) × (later : Cut) × IsReplyAbove (told_of (step_of s r)) rest page × (cut ≡ cut_below (page_told (told_of (step_of s r))).out later) × IsSent later (after_one s r) rs rest closed st)
-    ⊎ ((page.status ≡ 0 → cut ≢ uncut) × IsAnswered s (step_of s r) page closed st)
+-- output that fails. `old` is the connection before the first of them.
+abbrev pub IsSent : Cut → OfficeState → List Request → Page → Bool → State → State → Type 0
+IsSent cut s [] page closed old st = (cut ≡ uncut) × (page ≡ empty_page) × IsOpenAt s closed st
+IsSent cut s (r ∷ rs) page closed old st =
+    ((rest : Page) × (later : Cut) × IsReplyAbove (told_of (step_of s r)) rest page × (cut ≡ cut_below (page_told (told_of (step_of s r))).out later) × IsSent later (after_one s r) rs rest closed old st)
+    ⊎ ((page.status ≡ 0 → cut ≢ uncut) × IsAnswered s (step_of s r) page closed old st)
 
 -- ---- what comes of an errand that sends nothing
 
@@ -111,32 +115,32 @@ IsTold s (telling_status ward) file page = page ≡ page_found (λ status. repli
 IsTold s (printing ward text) file page = page ≡ page_found printed (text_told text s ward)
 IsTold s (asking question) file page = page ≡ page_asked s question
 
--- a fault before anything was sent: nothing is changed
-abbrev pub IsStopped : OfficeState → Page → Bool → State → Type 0
-IsStopped s page closed st = (fault : Fault) × (page ≡ failed (Office fault)) × (IsKeptOpen s fault closed st ⊎ IsClosedReading s fault closed st)
+-- A fault before anything was sent: memory was wanting, or the store failed since `old`. Nothing is changed.
+abbrev pub IsStopped : OfficeState → Page → Bool → State → State → Type 0
+IsStopped s page closed old st = (fault : Fault) × (page ≡ failed (Office fault)) × FailsBy old st fault × (IsKeptOpen s fault closed st ⊎ IsClosedReading s fault closed st)
 
 -- what is found of a state is told, or why there is nothing; or a fault
-abbrev pub IsFound : {X : Type 0} → OfficeState → (X → Page) → Result X Reason → Page → Bool → State → Type 0
-IsFound s shown found page closed st = ((page ≡ page_found shown found) × IsOpenAt s closed st) ⊎ IsStopped s page closed st
+abbrev pub IsFound : {X : Type 0} → OfficeState → (X → Page) → Result X Reason → Page → Bool → State → State → Type 0
+IsFound s shown found page closed old st = ((page ≡ page_found shown found) × IsOpenAt s closed st) ⊎ IsStopped s page closed old st
 
 -- what is told of how all stands, or why that isn't; or a fault
-abbrev pub IsAskedOf : OfficeState → Question → Page → Bool → State → Type 0
-IsAskedOf s question page closed st = ((page ≡ page_asked s question) × IsOpenAt s closed st) ⊎ IsStopped s page closed st
+abbrev pub IsAskedOf : OfficeState → Question → Page → Bool → State → State → Type 0
+IsAskedOf s question page closed old st = ((page ≡ page_asked s question) × IsOpenAt s closed st) ⊎ IsStopped s page closed old st
 
 -- why a file that was read isn't taken, or want of memory
 abbrev pub IsUnread : {Row : Type 0} → Format Row → File → Page → Type 0
 IsUnread format file page = IsRefusedFile format file page ⊎ (page ≡ failed (Office Memory))
 
 -- the keying that a file holds, of a batch at a state; or why there is none
-abbrev pub IsKeyingRead : {O : Type 0} → OfficeState → KeyingFile → File → (O → Page) → Result Request O → Bool → State → Type 0
-IsKeyingRead s k file page_of (Ok request) closed st = HoldsKeying (columns_told s k.batch) (keyings_for k) file (request ∷ []) × IsOpenAt s closed st
-IsKeyingRead s k file page_of (Err outcome) closed st = (IsRefusedKeying (columns_told s k.batch) file (page_of outcome) × IsOpenAt s closed st) ⊎ IsStopped s (page_of outcome) closed st
+abbrev pub IsKeyingRead : {O : Type 0} → OfficeState → KeyingFile → File → (O → Page) → Result Request O → Bool → State → State → Type 0
+IsKeyingRead s k file page_of (Ok request) closed old st = HoldsKeying (columns_told s k.batch) (keyings_for k) file (request ∷ []) × IsOpenAt s closed st
+IsKeyingRead s k file page_of (Err outcome) closed old st = (IsRefusedKeying (columns_told s k.batch) file (page_of outcome) × IsOpenAt s closed st) ⊎ IsStopped s (page_of outcome) closed old st
 
 -- What comes of an errand in an open office: its requests are sent; or what is told of the state, or why nothing is sent; or a fault.
-abbrev pub IsRun : Cut → OfficeState → Errand → File → Page → Bool → State → Type 0
-IsRun cut s errand file page closed st =
-    ((requests : List Request) × Sends s errand file requests × IsSent cut s requests page closed st)
-    ⊎ ((IsTold s errand file page × IsOpenAt s closed st) ⊎ IsStopped s page closed st)
+abbrev pub IsRun : Cut → OfficeState → Errand → File → Page → Bool → State → State → Type 0
+IsRun cut s errand file page closed old st =
+    ((requests : List Request) × Sends s errand file requests × IsSent cut s requests page closed old st)
+    ⊎ ((IsTold s errand file page × IsOpenAt s closed st) ⊎ IsStopped s page closed old st)
 
 -- ---- what comes of a script
 
@@ -172,10 +176,10 @@ pub record TurnSends (folder : Folder) (s : OfficeState) (turn : Turn) (requests
   pub sends : Sends s (errand_of turn.errand) file requests
 
 -- what comes of a turn at a state
-pub record TurnRuns (folder : Folder) (cut : Cut) (s : OfficeState) (turn : Turn) (page : Page) (closed : Bool) (st : State) : Type 0 where
+pub record TurnRuns (folder : Folder) (cut : Cut) (s : OfficeState) (turn : Turn) (page : Page) (closed : Bool) (old st : State) : Type 0 where
   pub file : File
   pub found : IsFileAt folder (file_of_errand turn.errand) file
-  pub runs : IsRun cut s (errand_of turn.errand) file page closed st
+  pub runs : IsRun cut s (errand_of turn.errand) file page closed old st
 
 -- requests that all got replies, and these in lines
 abbrev pub Replies : OfficeState → List Request → Text → Type 0
@@ -184,18 +188,18 @@ Replies s (r ∷ rs) said = (rest : Text) × IsReplyAbove (told_of (step_of s r)
 
 -- Turns taken one after the other: once all requests of one got replies, which were told whole, the next turn is taken, at the state after
 -- them. The first other end is told behind the number of its line, and ends the script; and so does an output that fails.
-abbrev pub IsReplayed : Folder → Cut → OfficeState → List Turn → Page → Bool → State → Type 0
-IsReplayed folder cut s [] page closed st = (cut ≡ uncut) × (page ≡ empty_page) × IsOpenAt s closed st
-IsReplayed folder cut s (turn ∷ turns) page closed st =
+abbrev pub IsReplayed : Folder → Cut → OfficeState → List Turn → Page → Bool → State → State → Type 0
+IsReplayed folder cut s [] page closed old st = (cut ≡ uncut) × (page ≡ empty_page) × IsOpenAt s closed st
+IsReplayed folder cut s (turn ∷ turns) page closed old st =
     ((requests : List Request) × (said : Text) × (rest : Page) × (later : Cut) × TurnSends folder s turn requests × Replies s requests said × (page ≡ below said rest) × (cut ≡ cut_below said later)
-    × IsReplayed folder later (after s requests) turns rest closed st)
-    ⊎ ((own : Page) × (page ≡ fronted (Some turn.line) own) × (own.status ≡ 0 → cut ≢ uncut) × TurnRuns folder cut s turn own closed st)
+    × IsReplayed folder later (after s requests) turns rest closed old st)
+    ⊎ ((own : Page) × (page ≡ fronted (Some turn.line) own) × (own.status ≡ 0 → cut ≢ uncut) × TurnRuns folder cut s turn own closed old st)
 
 -- What comes of a script in an open office: its turns are taken; or what is wrong with it is told, and nothing is sent; or a fault.
-abbrev pub IsReplay : Folder → Cut → OfficeState → File → Page → Bool → State → Type 0
-IsReplay folder cut s file page closed st =
-    ((turns : List Turn) × HoldsScript file turns × IsReplayed folder cut s turns page closed st)
-    ⊎ ((IsRefusedScript file page × IsOpenAt s closed st) ⊎ IsStopped s page closed st)
+abbrev pub IsReplay : Folder → Cut → OfficeState → File → Page → Bool → State → State → Type 0
+IsReplay folder cut s file page closed old st =
+    ((turns : List Turn) × HoldsScript file turns × IsReplayed folder cut s turns page closed old st)
+    ⊎ ((IsRefusedScript file page × IsOpenAt s closed st) ⊎ IsStopped s page closed old st)
 
 -- ---- what comes of an order over a connection to an office at a state
 
@@ -203,31 +207,32 @@ IsReplay folder cut s file page closed st =
 abbrev pub IsPlain : Fault → Type 0
 IsPlain fault = (fault ≡ Memory) ⊎ (fault ≡ Store)
 
--- the faults that may end what is to be done before an office is open: none is made where one is, and for a socket or a copy none is opened
-abbrev pub IsEndOf : Work → Fault → Type 0
-IsEndOf making fault = IsPlain fault ⊎ (fault ≡ WrongDatabase)
-IsEndOf (serving port connections) fault = ⊥
-IsEndOf (running errand) fault = IsPlain fault
-IsEndOf (replaying folder) fault = IsPlain fault
-IsEndOf migrating fault = IsPlain fault
-IsEndOf copying fault = ⊥
+-- The faults that may end what is to be done before an office is open. Where one is, none is made, and that is told. An opening ends for
+-- want of memory, or where the store failed since `old`. For a socket or a copy none is opened.
+abbrev pub IsEndOf : Work → State → State → Fault → Type 0
+IsEndOf making old st fault = fault ≡ WrongDatabase
+IsEndOf (serving port connections) old st fault = ⊥
+IsEndOf (running errand) old st fault = FailsBy old st fault
+IsEndOf (replaying folder) old st fault = FailsBy old st fault
+IsEndOf migrating old st fault = IsPlain fault
+IsEndOf copying old st fault = ⊥
 
 -- a fault before an office was open: a stop leaves the state as it was
-abbrev pub IsUnopened : OfficeState → Work → Page → State → Type 0
-IsUnopened s work page st = (fault : Fault) × (page ≡ failed (Office fault)) × IsEndOf work fault × LeavesState st (λ x. x ≡ s)
+abbrev pub IsUnopened : OfficeState → Work → Page → State → State → Type 0
+IsUnopened s work page old st = (fault : Fault) × (page ≡ failed (Office fault)) × IsEndOf work old st fault × LeavesState st (λ x. x ≡ s)
 
 -- what comes of what is to be done: an errand is run; what needs a socket, or a second database, is told as a failed one
-abbrev pub IsDone : Cut → OfficeState → Work → File → Page → State → Type 0
-IsDone cut s making file page st = ⊥
-IsDone cut s migrating file page st = (page ≡ replied (migrated_text Already)) × LeavesState st (λ x. x ≡ s)
-IsDone cut s (serving port connections) file page st = (page ≡ failed Output) × LeavesState st (λ x. x ≡ s)
-IsDone cut s copying file page st = (page ≡ failed Output) × LeavesState st (λ x. x ≡ s)
-IsDone cut s (running errand) file page st = (closed : Bool) × IsRun cut s errand file page closed st
-IsDone cut s (replaying folder) file page st = (closed : Bool) × IsReplay folder cut s file page closed st
+abbrev pub IsDone : Cut → OfficeState → Work → File → Page → State → State → Type 0
+IsDone cut s making file page old st = ⊥
+IsDone cut s migrating file page old st = (page ≡ replied (migrated_text Already)) × LeavesState st (λ x. x ≡ s)
+IsDone cut s (serving port connections) file page old st = (page ≡ failed Output) × LeavesState st (λ x. x ≡ s)
+IsDone cut s copying file page old st = (page ≡ failed Output) × LeavesState st (λ x. x ≡ s)
+IsDone cut s (running errand) file page old st = (closed : Bool) × IsRun cut s errand file page closed old st
+IsDone cut s (replaying folder) file page old st = (closed : Bool) × IsReplay folder cut s file page closed old st
 
 -- that, or a fault before
-abbrev pub Performs : Cut → OfficeState → Work → File → Page → State → Type 0
-Performs cut s work file page st = IsDone cut s work file page st ⊎ IsUnopened s work page st
+abbrev pub Performs : Cut → OfficeState → Work → File → Page → State → State → Type 0
+Performs cut s work file page old st = IsDone cut s work file page old st ⊎ IsUnopened s work page old st
 
 -- An office that was to be made in an empty database is made; or want of memory or a failing store is told, and a stop leaves what it could
 -- leave before, or the empty office.
@@ -252,16 +257,17 @@ pub record IsUnmigrated (db : Database) (page : Page) (old new : State) : Type 0
   pub same : IsPlain fault ⊎ OnlyReads old new
   pub leaves : (trees : Trees) → new.may_leave trees → old.may_leave trees
 
--- None is made where a table has one of our names, whatever it holds: that is told, or want of memory, and nothing is changed.
+-- None is made where a table has one of our names, whatever it holds: that is told, and nothing is changed.
 abbrev pub IsTaken : Page → State → State → Type 0
-IsTaken page old new = ((page ≡ failed (Office WrongDatabase)) ⊎ (page ≡ failed (Office Memory))) × OnlyReads old new
+IsTaken page old new = (page ≡ failed (Office WrongDatabase)) × OnlyReads old new
 
--- At a database that holds the tables of no state the fault is told that it gives, or want of memory or a failing store, and nothing is
--- changed.
+-- At a database that holds the tables of no state the fault is told that it gives, or want of memory, or a failing store; and nothing is
+-- changed. A failing store is told only where it failed, or where rowids aren't the rows' own.
 pub record IsForeign (db : Database) (page : Page) (old new : State) : Type 0 where
   pub fault : Fault
   pub told : page ≡ failed (Office fault)
   pub given : IsToldBy db fault
+  pub cause : FailsToList db old new fault
   pub same : OnlyReads old new
 
 -- What needs a socket, or a second database, is told as a failed one, and nothing is changed.
@@ -283,7 +289,7 @@ NeedsMore other = ⊥
 -- what comes of what is to be done, by what the connection rests at: an office at a state, a database with nothing in it, an office that an
 -- earlier program made, one of neither, one with a table of our names, one of no office, or anything
 pub record IsPerformed (cut : Cut) (work : Work) (file : File) (page : Page) (old new : State) : Type 0 where
-  pub in_office : (db : Database) → RestsAt db old → (s : OfficeState) → IsLeftAt s db → Performs cut s work file page new
+  pub in_office : (db : Database) → RestsAt db old → (s : OfficeState) → IsLeftAt s db → Performs cut s work file page old new
   pub in_nothing : work ≡ making → IsBlank old → IsMade page old new
   pub in_older : work ≡ migrating → (form : OlderForm) (s : OfficeState) → RestsOlder form s old → IsMigrated form s page old new
   pub beyond : work ≡ migrating → (db : Database) → IsOurs db.schema → IsOlderSchema db.schema → RestsAt db old → HoldsNoState db → HoldsNoOlder db → IsUnmigrated db page old new
@@ -385,7 +391,9 @@ pub record IsKept (earlier : List Request) (work : Work) (file : File) (cut : Cu
   pub all : ends ≡ 0 → answered ≡ length requests
 
 -- What comes of an order, and what is kept of it, of one page and so much of it told: what the connection rests at decides what comes of it,
--- and at an office to which earlier requests led that is kept.
+-- and at an office to which earlier requests led that is kept. An earlier program's office to which they led is kept by a migration: a stop
+-- leaves its older tables, as it could before, or the tables of this version, at that very state.
 pub record IsPerformedAndKept (cut : Cut) (work : Work) (file : File) (page : Page) (ends : ℕ) (old new : State) : Type 0 where
   pub performed : IsPerformed cut work file page old new
   pub headline : (db : Database) → RestsAt db old → (earlier : List Request) → IsLeftAt (after empty_office earlier) db → IsKept earlier work file cut page ends new
+  pub migrated : work ≡ migrating → (form : OlderForm) (earlier : List Request) → RestsOlder form (after empty_office earlier) old → LeavesOldOrNew form (after empty_office earlier) old new

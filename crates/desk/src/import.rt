@@ -27,8 +27,8 @@ pub(crate) const UNOPENED: FileFault = FileFault {
     record_number: 0,
 };
 
-/// The requests that add the candidates of a file, None where it can't be opened; or why there are none.
-/// The file is read whole.
+/// The requests that add the candidates of a file; or why there are none. The file is None where it can't be opened,
+/// and is read to its end.
 pub(crate) fn candidate_requests<R: Read + Drop>(
     alloc: Global,
     id: &str,
@@ -50,8 +50,8 @@ pub(crate) fn candidate_requests<R: Read + Drop>(
     }
 }
 
-/// The request that keeps the keying that a file holds, None where it can't be opened, of papers with some
-/// columns; or why there is none. The file is read whole.
+/// The request that keeps the keying that a file holds, of papers with these columns; or why there is none. The file
+/// is None where it can't be opened, and is read to its end.
 fn keying_in<R: Read + Drop>(
     alloc: Global,
     keyed: KeyingFile<'_>,
@@ -74,8 +74,8 @@ fn keying_in<R: Read + Drop>(
     }
 }
 
-/// The request that keeps the keying of a batch that a file holds, None where it can't be opened; or why
-/// there is none.
+/// The request that keeps the keying of a batch that a file holds; or why there is none. The file is None where it
+/// can't be opened.
 ///
 /// The columns are those of the batch's ward; where there is no such batch, the file isn't read.
 pub(crate) fn keying_of<S: Alter, R: Read + Drop>(
@@ -85,7 +85,7 @@ pub(crate) fn keying_of<S: Alter, R: Read + Drop>(
     file: Option<R>,
 ) -> Result<Request, Outcome>
     ensures read { WhereOpen office.old.closed (state S.Store office.old.held) (state S.Store office.new.held)
-        (λ s. IsKeyingRead s keyed.entry (option_map R.remaining file) page_of result office.new.closed (state S.Store office.new.held)) }
+        (λ s. IsKeyingRead s keyed.entry (option_map R.remaining file) page_of result office.new.closed (state S.Store office.old.held) (state S.Store office.new.held)) }
     ensures same { OnlyReads (state S.Store office.old.held) (state S.Store office.new.held) }
 {
     match office.columns(keyed.batch) {

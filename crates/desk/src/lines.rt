@@ -20,7 +20,7 @@ pub(crate) enum Outcome {
     Ready,
     /// An office was brought over, or was at this program's version already.
     Migrated(Migrated),
-    /// This is replied: to a request that was accepted, now or before, or how a ward stands.
+    /// This is replied to a request that was accepted, now or before; or it tells how a ward stands.
     Replied(Reply),
     /// This text is told as it is, its lines ended.
     Printed(String),
@@ -93,7 +93,7 @@ fn tell_text<O: Sink, E: Sink>(pieces: &[&str], out: &mut O, err: &mut E) -> u8
     }
 }
 
-/// Puts the front of what is told of a script's line, if it is.
+/// Puts the front of what is told of a script's line, `line 3: `; nothing, where it is told of none.
 fn put_front<W: Sink>(line: Option<usize>, sink: &mut W) -> Result<(), Broken>
     requires { W.failed sink.old < 2 ^ 64 - 1 }
     ensures { IsPut W.taken W.failed sink.old sink.new (line_front line) result }
@@ -113,8 +113,8 @@ fn put_line<W: Sink>(line: Option<usize>, pieces: &[&str], sink: &mut W) -> Resu
     put_pieces(pieces, sink)
 }
 
-/// Tells a line in pieces on the error output, behind the number of the script's line that it is of, and gives the
-/// status: this one, or 3 where the error output fails.
+/// Tells a line in pieces on the error output, and gives the status: this one, or 3 where the error output fails. If
+/// it is told of a script's line, the number of that stands in front.
 fn tell_error<E: Sink>(line: Option<usize>, pieces: &[&str], status: u8, err: &mut E) -> u8
     requires { E.failed err.old < 2 ^ 64 - 1 }
     ensures { IsErrorTold E.taken E.failed err.old err.new (line_front line ++ flat_map (λ piece. piece.now) pieces.now) status result }
@@ -218,10 +218,10 @@ fn migrated_text(migrated: Migrated) -> &'static str
     }
 }
 
-/// Tells an outcome, and gives its status: 0 with a line on the output; 1 with a refusal of a request or a
-/// file, or 3 with a fault or a file that couldn't be read, on the error output; and 3 where one of the two
-/// fails, which has then taken a beginning. What goes to the error output begins with the number of the script's
-/// line that it is of, if it is of one.
+/// Tells an outcome, and gives its status. The status is 0 where it is told on the output. On the error output it is 1
+/// for a refusal of a request or a file, and 3 for a fault or a file that couldn't be read. Where one of the two fails
+/// it is 3, and that output has taken a beginning. If the outcome is that of a script's line, what goes to the error
+/// output begins with the number of that line.
 pub(crate) fn tell<O: Sink, E: Sink>(
     line: Option<usize>,
     outcome: &Outcome,
@@ -256,9 +256,8 @@ pub(crate) fn tell_script_fault<E: Sink>(fault: &ScriptFault, err: &mut E) -> u8
     }
 }
 
-/// Tells why the words are no order, and gives the status: 0 with help on the output, 2 with a text on
-/// the error output, and 3 for want of memory or where one of the two fails, which has then taken a
-/// beginning.
+/// Tells why the words are no order, and gives the status: 0 with help on the output, 2 with a text on the error
+/// output, and 3 for want of memory. Where one of the two fails it is 3, and that output has taken a beginning.
 pub fn tell_words<O: Sink, E: Sink>(fault: &WordsFault, out: &mut O, err: &mut E) -> u8
     requires out { O.failed out.old < 2 ^ 64 - 1 }
     requires err { E.failed err.old < 2 ^ 64 - 1 }

@@ -37,7 +37,7 @@ pub enum Question {
 /// not.
 #[derive(Debug, Drop)]
 pub enum Errand<'a> {
-    /// Send it this request, its own.
+    /// Send it this request, which is the office's own.
     Send(Request),
     /// Add the candidates of a file, each under this id, a hyphen, and its record's number.
     ImportCandidates { file: &'a str, id: &'a str },
@@ -47,7 +47,7 @@ pub enum Errand<'a> {
     TellStatus { ward: u32 },
     /// Print a text of a ward.
     Print { ward: u32, text: Text },
-    /// Tell how all stands.
+    /// Tell this of how all stands.
     Ask(Question),
 }
 
@@ -63,7 +63,7 @@ impl<'a> Errand<'a> {
         }
     }
 
-    /// It sends requests: no other stands in a script.
+    /// Whether it sends requests. One that sends none stands in no script.
     pub(crate) fn sends(&self) -> bool
         ensures { result ≡ sends_requests self.now }
     {

@@ -336,7 +336,7 @@ fn outcome_of<T: Lined + Drop>(alloc: Global, found: Result<Vec<T>, Stop>) -> Ou
 /// On which papers a batch differs, in a line; or why that isn't told.
 fn differences_of<S: Alter>(alloc: Global, office: &mut Office<S>, batch: u32) -> Outcome
     ensures found { WhereOpen office.old.closed (state S.Store office.old.held) (state S.Store office.new.held)
-        (λ s. IsAskedOf s (Question.Differences batch) (page_of result) office.new.closed (state S.Store office.new.held)) }
+        (λ s. IsAskedOf s (Question.Differences batch) (page_of result) office.new.closed (state S.Store office.old.held) (state S.Store office.new.held)) }
     ensures same { OnlyReads (state S.Store office.old.held) (state S.Store office.new.held) }
 {
     match office.differences(batch) {
@@ -355,7 +355,7 @@ pub(crate) fn answer_to<S: Alter>(
     question: Question,
 ) -> Outcome
     ensures found { WhereOpen office.old.closed (state S.Store office.old.held) (state S.Store office.new.held)
-        (λ s. IsAskedOf s question (page_of result) office.new.closed (state S.Store office.new.held)) }
+        (λ s. IsAskedOf s question (page_of result) office.new.closed (state S.Store office.old.held) (state S.Store office.new.held)) }
     ensures same { OnlyReads (state S.Store office.old.held) (state S.Store office.new.held) }
 {
     match question {

@@ -3,6 +3,7 @@
 ghost use Rattle.std.specs.Prelude.{◌-◌, ◌^◌, ◌<◌, option_map};
 ghost use Rattle.sqlite.specs.State.{HasCleanDisk};
 ghost use Rattle.sqlite.specs.Held.{state};
+ghost use Rattle.store.specs.Offices.{Wears};
 ghost use Rattle.desk.specs.Errands.{IsPerformed, IsPerformedAndKept, IsRun, WhereOpen};
 ghost use Rattle.desk.specs.Folders.{File};
 ghost use Rattle.desk.specs.Pages.{IsQuiet, Tells, TellsOf, outputs_of};
@@ -24,8 +25,8 @@ use std::io::Read;
 use std::slice;
 use votes::Sink;
 
-/// Does an errand in an opened office, tells what comes of it, as that of a script's line if it is of one, and gives
-/// the status.
+/// Does an errand in an opened office, tells what comes of it, and gives the status. Where the errand is that of a
+/// script's line, what `err` is told begins with the number of that line.
 pub(crate) fn run<S: Alter, R: Read + Drop, O: Sink, E: Sink>(
     alloc: Global,
     office: &mut Office<S>,
@@ -39,7 +40,8 @@ pub(crate) fn run<S: Alter, R: Read + Drop, O: Sink, E: Sink>(
     requires err { E.failed err.old < 2 ^ 64 - 1 }
     ensures ran { let outputs = outputs_of O.taken O.failed E.taken E.failed in TellsOf line (outputs out.old err.old) (outputs out.new err.new) result
         (λ cut page. IsQuiet page × WhereOpen office.old.closed (state S.Store office.old.held) (state S.Store office.new.held)
-        (λ s. IsRun cut s (errand_of errand.now) (option_map R.remaining file) page office.new.closed (state S.Store office.new.held))) }
+        (λ s. IsRun cut s (errand_of errand.now) (option_map R.remaining file) page office.new.closed (state S.Store office.old.held) (state S.Store office.new.held))) }
+    ensures wears { Wears (state S.Store office.old.held) (state S.Store office.new.held) }
     ensures clean { HasCleanDisk (state S.Store office.new.held) → HasCleanDisk (state S.Store office.old.held) }
 {
     match errand {
@@ -143,30 +145,34 @@ fn migrate_office<S: Alter, O: Sink, E: Sink>(
     }
 }
 
-/// Does an order over an opened connection, which it gives back, prints its lines, and gives the status.
+/// Does an order over an opened connection, prints its lines, and gives the status and the connection.
 ///
-/// `file` is the one that the order names, None where it can't be opened or none is named. It is read
-/// after the office was opened, and whole before anything is sent. `folder` opens the import files that a script names,
-/// each when its turn comes.
+/// `file` is the one that the order names; None, where none is named or where it can't be opened. It is read once the
+/// office is open, and to its end before anything is sent. `folder` opens the import files that a script names, each
+/// when its turn comes.
 ///
-/// The status is 0 where each reply, `office ready`, what a migration came to, how a ward or all stand, or a sheet or declaration went to
-/// `out`; 1 where a request or the file was refused and 3 at a fault, which `err` is told; and 3 where one of
-/// the two failed, which has then taken a beginning. What was replied before the first refusal or fault
-/// stands. Whatever a stop then leaves is the state after the accepted requests of a beginning of all that
-/// were ever sent, which contains every answered one and at most one more; with status 0 all of the order's
-/// were answered.
+/// The status is 0 where all that was to be told went to `out`: each reply, `office ready`, what a migration came to,
+/// how a ward or all stand, or a text of a ward. It is 1 where a request or the file was refused, and 3 at a fault;
+/// `err` is told which. It is 3 too where one of the two failed, which has then taken a beginning.
 ///
-/// Of a script all lines are understood before the first order is sent; else the first line that isn't is told, with
-/// status 2, and nothing is sent. A refusal or a fault of an order of it ends it, and is told behind the number of its
-/// line; its requests are those of its orders up to that one.
+/// What was replied before the first refusal or fault stands. Whatever a stop then leaves is the state after the
+/// accepted requests of a beginning of all that were ever sent. The beginning contains every answered request, and at
+/// most one more. With status 0 all requests of the order were answered.
 ///
-/// A database that holds no office, or a newer, an older or a damaged one, is told as that fault, and not
-/// changed. Where a table has one of our names, `init` makes no office: that is told (105), and nothing is
-/// changed. `migrate` alone takes an older one: after it a stop leaves the older office or the whole of the new
-/// one, at the very state of before.
+/// All lines of a script are understood before its first order is sent. Where one isn't, the first such line is told,
+/// with status 2, and nothing is sent. A refusal or a fault of one of its orders ends the script, and is told behind
+/// the number of its line. The requests of a script are those of its orders up to that one.
 ///
-/// An order to serve needs a socket, and one to copy a second database, which are none of these: `serve_on` and
-/// `copy_office` follow them, and here each is told as a failed one.
+/// A database that holds no office, or a newer, an older or a damaged one, is told as that fault, and isn't changed.
+/// Where a table has one of our names, `init` makes no office: fault 105 is told, and nothing is changed. `migrate`
+/// alone takes an older office. After it a stop leaves the older office or the whole of the new one, at the very state
+/// that it had.
+///
+/// Where an opening or a read is told as fault 102, the store failed; or, at the opening of a database that holds no
+/// state, rowids aren't the rows' own. So is it of a request that isn't accepted.
+///
+/// An order to serve needs a socket, and one to copy a second database. This function has neither: `serve_on` and
+/// `copy_office` follow such orders, and here each is told as fault 107, as if an output had failed.
 pub fn perform<S: Alter, R: Read + Drop, F: Folder, O: Sink, E: Sink>(
     alloc: Global,
     order: &Order<'_>,

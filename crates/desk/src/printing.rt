@@ -13,7 +13,7 @@ use sqlite::Alter;
 /// A text of a ward, or why it isn't told.
 pub(crate) fn text_of<S: Alter>(office: &mut Office<S>, ward: u32, text: Text) -> Outcome
     ensures found { WhereOpen office.old.closed (state S.Store office.old.held) (state S.Store office.new.held)
-        (λ s. IsFound s printed (text_told text s ward) (page_of result) office.new.closed (state S.Store office.new.held)) }
+        (λ s. IsFound s printed (text_told text s ward) (page_of result) office.new.closed (state S.Store office.old.held) (state S.Store office.new.held)) }
     ensures same { OnlyReads (state S.Store office.old.held) (state S.Store office.new.held) }
 {
     let told = match text {

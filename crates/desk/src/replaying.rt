@@ -4,6 +4,7 @@ ghost use Rattle.std.specs.Prelude.{◌≡◌, ◌-◌, ◌^◌, ◌<◌, true, 
 ghost use Rattle.std.specs.List.{list_all};
 ghost use Rattle.sqlite.specs.State.{HasCleanDisk};
 ghost use Rattle.sqlite.specs.Held.{state};
+ghost use Rattle.store.specs.Offices.{Wears};
 ghost use Rattle.desk.specs.Cuttings.{IsReplayOf, line_entry, said_entry};
 ghost use Rattle.desk.specs.Errands.{HoldsText, IsFileAt, IsReplay, IsReplayed, IsUnreadScript, WhereOpen};
 ghost use Rattle.desk.specs.Pages.{Tells, outputs_of, page_of};
@@ -32,9 +33,9 @@ fn opened<F: Folder>(folder: &F, turn: &Turn<'_>) -> Option<F::File>
     }
 }
 
-/// Sends the orders of a script in turn, and tells each reply, up to the first refusal or fault, which is told with the
-/// number of its line, or the first output that fails. A file is opened when its turn comes. The status is that of
-/// the last that was told.
+/// Sends the orders of a script in turn, and tells each reply. The first refusal or fault ends it, and is told behind
+/// the number of its line; so does the first output that fails. A file is opened when its turn comes. The status is
+/// that of the last that was told.
 fn send_turns<S: Alter, F: Folder, O: Sink, E: Sink>(
     alloc: Global,
     office: &mut Office<S>,
@@ -48,7 +49,8 @@ fn send_turns<S: Alter, F: Folder, O: Sink, E: Sink>(
     requires turns { list_all (λ turn. sends_requests turn.errand) turns.now ≡ true }
     ensures sent { let outputs = outputs_of O.taken O.failed E.taken E.failed in Tells (outputs out.old err.old) (outputs out.new err.new) result
         (λ cut page. WhereOpen office.old.closed (state S.Store office.old.held) (state S.Store office.new.held)
-        (λ s. IsReplayed (F.held folder.now) cut s turns.now page office.new.closed (state S.Store office.new.held))) }
+        (λ s. IsReplayed (F.held folder.now) cut s turns.now page office.new.closed (state S.Store office.old.held) (state S.Store office.new.held))) }
+    ensures wears { Wears (state S.Store office.old.held) (state S.Store office.new.held) }
     ensures clean { HasCleanDisk (state S.Store office.new.held) → HasCleanDisk (state S.Store office.old.held) }
 {
     for turn in turns {
@@ -61,8 +63,8 @@ fn send_turns<S: Alter, F: Folder, O: Sink, E: Sink>(
     0
 }
 
-/// Sends the orders that the lines of a script are, once each of them was understood; or tells what is wrong with the
-/// first that isn't, and sends none.
+/// Sends the orders that the lines of a script are, once each line was understood. Where one isn't, it tells what is
+/// wrong with the first such line, and sends none.
 fn send_lines<S: Alter, F: Folder, O: Sink, E: Sink>(
     alloc: Global,
     office: &mut Office<S>,
@@ -75,7 +77,8 @@ fn send_lines<S: Alter, F: Folder, O: Sink, E: Sink>(
     requires err { E.failed err.old < 2 ^ 64 - 1 }
     ensures sent { let outputs = outputs_of O.taken O.failed E.taken E.failed in Tells (outputs out.old err.old) (outputs out.new err.new) result
         (λ cut page. WhereOpen office.old.closed (state S.Store office.old.held) (state S.Store office.new.held)
-        (λ s. IsReplayOf (F.held folder.now) cut s (map said_entry lines.now) page office.new.closed (state S.Store office.new.held))) }
+        (λ s. IsReplayOf (F.held folder.now) cut s (map said_entry lines.now) page office.new.closed (state S.Store office.old.held) (state S.Store office.new.held))) }
+    ensures wears { Wears (state S.Store office.old.held) (state S.Store office.new.held) }
     ensures clean { HasCleanDisk (state S.Store office.new.held) → HasCleanDisk (state S.Store office.old.held) }
 {
     match turns_in(alloc, lines) {
@@ -84,7 +87,7 @@ fn send_lines<S: Alter, F: Folder, O: Sink, E: Sink>(
     }
 }
 
-/// The bytes of a script's file, None where it can't be opened; or why there are none.
+/// The bytes of a script's file; or why there are none. The file is None where it can't be opened.
 fn bytes_of<R: Read + Drop>(alloc: Global, file: Option<R>) -> Result<Vec<u8>, Outcome>
     ensures read { IfOk result (λ bytes. HoldsText (option_map R.remaining file) (λ text. bytes.items ≡ text)) }
     ensures unread { IfErr result (λ outcome. IsUnreadScript (page_of outcome)) }
@@ -129,7 +132,8 @@ pub(crate) fn replay<S: Alter, R: Read + Drop, F: Folder, O: Sink, E: Sink>(
     requires err { E.failed err.old < 2 ^ 64 - 1 }
     ensures ran { let outputs = outputs_of O.taken O.failed E.taken E.failed in Tells (outputs out.old err.old) (outputs out.new err.new) result
         (λ cut page. WhereOpen office.old.closed (state S.Store office.old.held) (state S.Store office.new.held)
-        (λ s. IsReplay (F.held folder.now) cut s (option_map R.remaining file) page office.new.closed (state S.Store office.new.held))) }
+        (λ s. IsReplay (F.held folder.now) cut s (option_map R.remaining file) page office.new.closed (state S.Store office.old.held) (state S.Store office.new.held))) }
+    ensures wears { Wears (state S.Store office.old.held) (state S.Store office.new.held) }
     ensures clean { HasCleanDisk (state S.Store office.new.held) → HasCleanDisk (state S.Store office.old.held) }
 {
     let lines = match script_of(alloc, file) {

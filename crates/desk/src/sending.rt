@@ -4,6 +4,7 @@ ghost use Rattle.std.specs.Prelude.{◌≡◌, ◌-◌, ◌^◌, ◌<◌};
 ghost use Rattle.sqlite.specs.State.{HasCleanDisk};
 ghost use Rattle.sqlite.specs.Held.{state};
 ghost use Rattle.register.specs.Machine.{step_of};
+ghost use Rattle.store.specs.Offices.{Wears};
 ghost use Rattle.desk.specs.Errands.{IsAnswered, IsSent, WhereOpen};
 ghost use Rattle.desk.specs.Pages.{IsQuiet, TellsOf, outputs_of, page_of};
 
@@ -16,7 +17,8 @@ use votes::Sink;
 /// What comes of one request to an office.
 fn outcome_of<S: Alter>(office: &mut Office<S>, request: &Request) -> Outcome
     ensures told { WhereOpen office.old.closed (state S.Store office.old.held) (state S.Store office.new.held)
-        (λ s. IsAnswered s (step_of s request.now) (page_of result) office.new.closed (state S.Store office.new.held)) }
+        (λ s. IsAnswered s (step_of s request.now) (page_of result) office.new.closed (state S.Store office.old.held) (state S.Store office.new.held)) }
+    ensures wears { Wears (state S.Store office.old.held) (state S.Store office.new.held) }
     ensures clean { HasCleanDisk (state S.Store office.new.held) → HasCleanDisk (state S.Store office.old.held) }
 {
     match office.handle(request.actor, request.id.as_str(), &request.command) {
@@ -26,9 +28,9 @@ fn outcome_of<S: Alter>(office: &mut Office<S>, request: &Request) -> Outcome
     }
 }
 
-/// Sends requests to an office in turn, and tells each reply, up to the first refusal or fault, which is
-/// told too, behind the number of the script's line that they are of, if they are of one; or the first output that
-/// fails. The status is that of the last that was told.
+/// Sends requests to an office in turn, and tells each reply. The first refusal or fault ends it, and is told too; so
+/// does the first output that fails. If the requests are those of a script's line, the refusal or fault is told behind
+/// the number of that line. The status is that of the last that was told.
 pub(crate) fn send_all<S: Alter, O: Sink, E: Sink>(
     office: &mut Office<S>,
     line: Option<usize>,
@@ -40,7 +42,8 @@ pub(crate) fn send_all<S: Alter, O: Sink, E: Sink>(
     requires err { E.failed err.old < 2 ^ 64 - 1 }
     ensures sent { let outputs = outputs_of O.taken O.failed E.taken E.failed in TellsOf line (outputs out.old err.old) (outputs out.new err.new) result
         (λ cut page. IsQuiet page × WhereOpen office.old.closed (state S.Store office.old.held) (state S.Store office.new.held)
-        (λ s. IsSent cut s requests.now page office.new.closed (state S.Store office.new.held))) }
+        (λ s. IsSent cut s requests.now page office.new.closed (state S.Store office.old.held) (state S.Store office.new.held))) }
+    ensures wears { Wears (state S.Store office.old.held) (state S.Store office.new.held) }
     ensures clean { HasCleanDisk (state S.Store office.new.held) → HasCleanDisk (state S.Store office.old.held) }
 {
     for request in requests {

@@ -69,7 +69,7 @@ pub(crate) fn status_text(alloc: Global, status: &Status) -> Result<String, Allo
 /// How a ward stands, in words; or why that isn't told.
 pub(crate) fn standing_of<S: Alter>(alloc: Global, office: &mut Office<S>, ward: u32) -> Outcome
     ensures found { WhereOpen office.old.closed (state S.Store office.old.held) (state S.Store office.new.held)
-        (λ s. IsFound s (λ status. replied (status_text status)) (status_told s ward) (page_of result) office.new.closed (state S.Store office.new.held)) }
+        (λ s. IsFound s (λ status. replied (status_text status)) (status_told s ward) (page_of result) office.new.closed (state S.Store office.old.held) (state S.Store office.new.held)) }
     ensures same { OnlyReads (state S.Store office.old.held) (state S.Store office.new.held) }
 {
     match office.status(ward) {

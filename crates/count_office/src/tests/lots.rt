@@ -370,7 +370,7 @@ $ import-keying 9 12 2 FILE --id k2
 batch 12 round 2 keyed
 $ seal 7 --id s1
 1| refused 24: not ready to seal
-$ judge 12 4 reject:3 --id j4
+$ judge 12 4 reject:+3 --id j4
 batch 12 paper 4 rejected 3
 $ judge 12 5 reject:4 --id j5
 batch 12 paper 5 rejected 4

@@ -47,9 +47,14 @@ const MADE: &[Act] = &[Act::Typed("$ init\noffice ready\n")];
 #[test]
 fn a_script_is_sent_and_sent_again(rt: HostRuntime) -> Result<(), Fail> {
     let told = (Step::Script(ELECTION, SHELF), (0, REPLIES, ""));
+    // The same below a note that is longer than what one read gives.
+    let mut long = vec![in rt.alloc(); b'#'; 10_000]?;
+    long.push(b'\n')?;
+    long.extend_from_slice(ELECTION)?;
+    let told_of_long = (Step::Script(&long, SHELF), (0, REPLIES, ""));
     play_acts(&rt, MADE)?
         .hear(&rt, &[told])?
-        .hear_unchanged(&rt, &[told, told])?;
+        .hear_unchanged(&rt, &[told, told_of_long])?;
     Ok(())
 }
 

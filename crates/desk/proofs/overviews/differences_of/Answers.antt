@@ -10,9 +10,9 @@ use Rattle.desk.proofs.OverviewLemmas.{stop_found}
 use Rattle.desk.proofs.overviews.differences_of.Goals as goal
 
 pub returns-in-Ok-clause-found : goal.returns-in-Ok-clause-found
-returns-in-Ok-clause-found g c = λ clean is_open s at. inr (Memory, refl, inl (record { memory = refl; open_at = (c.in-Ok.ensures.reads clean is_open s at).1 }))
+returns-in-Ok-clause-found g c = λ clean is_open s at. inr (Memory, refl, inl refl, inl (record { memory = refl; open_at = (c.in-Ok.ensures.reads clean is_open s at).1 }))
 
 pub returns-clause-found : goal.returns-clause-found
 returns-clause-found g c = λ clean is_open s at.
-    stop_found differences_view (λ found. replied (differences_line found)) s (differences_told s c.args.batch) c.in-Err.stop (page_of c.stopped.result) c.differences.new.self.closed (state g.S.Store c.differences.new.self.held)
-    (c.in-Err.ensures.reads clean is_open s at) c.stopped.ensures
+    stop_found differences_view (λ found. replied (differences_line found)) s (differences_told s c.args.batch) c.in-Err.stop (page_of c.stopped.result) c.differences.new.self.closed (state g.S.Store c.args.office.now.held) (state g.S.Store c.differences.new.self.held)
+    (c.in-Err.ensures.reads clean is_open s at) (c.in-Err.ensures.cause clean is_open s at) c.stopped.ensures

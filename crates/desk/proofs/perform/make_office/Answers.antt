@@ -48,10 +48,10 @@ returns-in-Err g c =
         taken = λ is db rests there.
             let st = state g.S.Store c.args.conn in
             let wrong = c.in-Err.ensures.wrong (table_rests db (state g.S.Store c.args.conn) rests there) rests.outside in
-            (inl (ap (λ fault. failed (Office fault)) wrong), subst (λ conn. OnlyReads st (state g.S.Store conn)) (sym (wrong_same c.in-Err.fault wrong c.in-Err.ensures.told)) (only_reads_itself st));
+            (ap (λ fault. failed (Office fault)) wrong, subst (λ conn. OnlyReads st (state g.S.Store conn)) (sym (wrong_same c.in-Err.fault wrong c.in-Err.ensures.told)) (only_reads_itself st));
         in_office = λ db rests s left.
             let wrong = c.in-Err.ensures.wrong (has_tables s db (state g.S.Store c.args.conn) rests left) rests.outside in
             let here = rests_leaves s db (state g.S.Store c.args.conn) (λ trees is_open may. g.met.S.Store.settled c.args.conn.store trees is_open may) rests left in
-            inr (c.in-Err.fault, refl, inr wrong, subst (λ conn. LeavesState (state g.S.Store conn) (λ x. x ≡ s)) (sym (wrong_same c.in-Err.fault wrong c.in-Err.ensures.told)) here);
+            inr (c.in-Err.fault, refl, wrong, subst (λ conn. LeavesState (state g.S.Store conn) (λ x. x ≡ s)) (sym (wrong_same c.in-Err.fault wrong c.in-Err.ensures.told)) here);
       };
     }

@@ -1,9 +1,11 @@
 -- Why `run` keeps its promise.
 use Rattle.std.proofs.Common.{◌∷◌, [], inl, inr, refl}
 use Rattle.sqlite.specs.Held.{state}
+use Rattle.store.proofs.KeepLemmas.{reads_wear}
 use Rattle.office.specs.Answers.{IsOpenAt}
 use Rattle.tables.specs.declared.fault.Fault.TheVariants.{Memory}
 use Rattle.desk.specs.Pages.{page_of}
+use Rattle.desk.proofs.CauseLemmas.{sent_since, since}
 use Rattle.desk.proofs.SentLemmas.{silent}
 use Rattle.desk.proofs.perform.run.Goals as goal
 
@@ -29,7 +31,7 @@ returns-in-Err-clause-ran g c =
         λ clean is_open s at.
             let here : IsOpenAt s c.args.office.now.closed (state g.S.Store c.args.office.now.held) = record { is_open = is_open; at = at } in
             rw c.in-ImportCandidates.is
-            (inr (elim c.in-Err.ensures.refused [ inl why ↦ inl (why, here) | inr memory ↦ inr (Memory, memory, inl (record { memory = refl; open_at = here })) ])),
+            (inr (elim c.in-Err.ensures.refused [ inl why ↦ inl (why, here) | inr memory ↦ inr (Memory, memory, inl refl, inl (record { memory = refl; open_at = here })) ])),
       );
     }
 
@@ -43,8 +45,14 @@ returns-in-Ok-keying_of-clause-ran g c =
       is = (
         told.is.0,
         λ clean is_open s at.
-            let read = c.in-Ok-keying_of.ensures.read (c.send_all-in-Ok-keying_of.ensures.clean clean) is_open s at in
-            rw c.in-ImportKeying.is (inl (c.in-Ok-keying_of.request ∷ [], read.0, told.is.1 clean read.1.is_open s read.1.at)),
+            let honest = c.send_all-in-Ok-keying_of.ensures.clean clean in
+            let read = c.in-Ok-keying_of.ensures.read honest is_open s at in
+            let first = state g.S.Store c.args.office.now.held in
+            let mid = state g.S.Store c.keying_of.new.office.held in
+            let next = state g.S.Store c.send_all-in-Ok-keying_of.new.office.held in
+            let tells = since first mid next honest (reads_wear first mid c.keying_of.ensures.same) c.send_all-in-Ok-keying_of.ensures.wears in
+            let sent = sent_since told.cut s (c.in-Ok-keying_of.request ∷ []) told.page c.send_all-in-Ok-keying_of.new.office.closed first mid next tells (told.is.1 clean read.1.is_open s read.1.at) in
+            rw c.in-ImportKeying.is (inl (c.in-Ok-keying_of.request ∷ [], read.0, sent)),
       );
     }
 

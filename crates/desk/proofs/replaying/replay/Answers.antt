@@ -16,7 +16,7 @@ returns-in-Err-clause-ran g c =
       cut = told.0;
       shown = told.1;
       is = λ clean is_open s at. replay_unread (g.F.Folder.held c.args.folder.now) told.0 s (option_map g.R.Read.remaining c.args.file) (page_of c.in-Err.outcome) c.args.office.now.closed
-          (state g.S.Store c.args.office.now.held) c.in-Err.ensures.unread (record { is_open = is_open; at = at });
+          (state g.S.Store c.args.office.now.held) (state g.S.Store c.args.office.now.held) c.in-Err.ensures.unread (record { is_open = is_open; at = at });
     }
 
 pub returns-in-Ok-all_said-clause-ran : goal.returns-in-Ok-all_said-clause-ran
@@ -29,7 +29,7 @@ returns-in-Ok-all_said-clause-ran g c =
       page = told.page;
       cut = told.cut;
       shown = told.shown;
-      is = λ clean is_open s at. replay_of (g.F.Folder.held c.args.folder.now) told.cut s file lines told.page c.send_lines.new.office.closed (state g.S.Store c.send_lines.new.office.held) holds
+      is = λ clean is_open s at. replay_of (g.F.Folder.held c.args.folder.now) told.cut s file lines told.page c.send_lines.new.office.closed (state g.S.Store c.args.office.now.held) (state g.S.Store c.send_lines.new.office.held) holds
           (rw c.deref-in-Ok-all_said.ensures.value at (told.is clean is_open s at));
     }
 
@@ -41,6 +41,6 @@ returns-clause-ran g c =
       page = page;
       cut = told.0;
       shown = told.1;
-      is = λ clean is_open s at. replay_unread (g.F.Folder.held c.args.folder.now) told.0 s (option_map g.R.Read.remaining c.args.file) page c.args.office.now.closed (state g.S.Store c.args.office.now.held) (inr refl)
+      is = λ clean is_open s at. replay_unread (g.F.Folder.held c.args.folder.now) told.0 s (option_map g.R.Read.remaining c.args.file) page c.args.office.now.closed (state g.S.Store c.args.office.now.held) (state g.S.Store c.args.office.now.held) (inr refl)
           (record { is_open = is_open; at = at });
     }

@@ -2,7 +2,9 @@
 use Rattle.std.proofs.Common.{◌<◌, ◌++◌, None, Some, length, take, refl, arith}
 use Rattle.std.proofs.lemmas.List.{take_all}
 use Rattle.sqlite.specs.Held.{state}
+use Rattle.store.proofs.KeepLemmas.{wears_itself, wears_then}
 use Rattle.desk.specs.Pages.{below, cut_below, uncut, empty_page, fronted}
+use Rattle.desk.proofs.CauseLemmas.{since, turn_since}
 use Rattle.desk.proofs.PageLemmas.{shown_below}
 use Rattle.desk.proofs.ReplayLemmas.{turn_last, turn_more, turns_all}
 use Rattle.desk.proofs.ScriptLemmas.{sends_at}
@@ -11,6 +13,7 @@ use Rattle.desk.proofs.replaying.send_turns.Goals as goal
 
 pub loop-turn-init : goal.loop-turn-init
 loop-turn-init g c = record {
+  wears = wears_itself (state g.S.Store c.args.office.now.held);
   clean = λ clean. clean;
   so_far = record { said = _; shown = nothing_told _; is = λ clean is_open s at. record { end = s; replied = (refl, refl); open_at = record { is_open = is_open; at = at } } };
 }
@@ -25,15 +28,18 @@ loop-turn-preserved g c =
     let told = c.run-status.ensures.ran in
     let zero = status_zero (Some turn.line) _ _ told.page c.run-status.result c.if-status-ne0.false (told.cut, told.shown) in
     let all = whole_cut told.cut _ _ (fronted (Some turn.line) told.page) c.run-status.result c.if-status-ne0.false told.shown in
+    let first = state g.S.Store c.args.office.now.held in
+    let mid = state g.S.Store c.loop-turn.office.held in
+    let next = state g.S.Store c.run-status.new.office.held in
     record {
+      wears = wears_then first mid next c.run-status.ensures.clean c.loop-turn.invariant.wears c.run-status.ensures.wears;
       clean = λ clean. c.loop-turn.invariant.clean (c.run-status.ensures.clean clean);
       so_far = record {
         said = so_far.said ++ told.page.out;
         shown = told_more (Some turn.line) _ _ _ so_far.said told.page c.run-status.result told.is.0 c.if-status-ne0.false so_far.shown (told.cut, told.shown);
         is = λ clean is_open s at.
             let so = so_far.is (c.run-status.ensures.clean clean) is_open s at in
-            turn_more (g.F.Folder.held c.args.folder.now) s turns i turn so_far.said c.loop-turn.office.closed (state g.S.Store c.loop-turn.office.held) told.cut told.page c.run-status.new.office.closed
-            (state g.S.Store c.run-status.new.office.held) within c.turn-item.is (sends_at turns i turn within c.turn-item.is c.requires.turns) so
+            turn_more (g.F.Folder.held c.args.folder.now) s turns i turn so_far.said c.loop-turn.office.closed mid told.cut told.page c.run-status.new.office.closed mid next within c.turn-item.is (sends_at turns i turn within c.turn-item.is c.requires.turns) so
             (record { file = _; found = c.opened-file.ensures; runs = told.is.1 clean so.open_at.is_open so.end so.open_at.at }) zero all;
       };
     }
@@ -46,17 +52,27 @@ returns-then-status-ne0-clause-sent g c =
     let turn = c.turn-item.result in
     let so_far = c.loop-turn.invariant.so_far in
     let told = c.run-status.ensures.ran in
+    let first = state g.S.Store c.args.office.now.held in
+    let mid = state g.S.Store c.loop-turn.office.held in
+    let next = state g.S.Store c.run-status.new.office.held in
+    let closed = c.run-status.new.office.closed in
+    let folder = g.F.Folder.held c.args.folder.now in
     record {
       page = below so_far.said (fronted (Some turn.line) told.page);
       cut = cut_below so_far.said told.cut;
       shown = shown_below told.cut _ _ _ so_far.said (fronted (Some turn.line) told.page) c.run-status.result so_far.shown told.shown;
       is = λ clean is_open s at.
-          let so = so_far.is (c.run-status.ensures.clean clean) is_open s at in
-          turn_last (g.F.Folder.held c.args.folder.now) s turns i turn so_far.said c.loop-turn.office.closed (state g.S.Store c.loop-turn.office.held) told.cut told.page c.run-status.new.office.closed
-          (state g.S.Store c.run-status.new.office.held) within c.turn-item.is so
-          (record { file = _; found = c.opened-file.ensures; runs = told.is.1 clean so.open_at.is_open so.end so.open_at.at })
+          let honest = c.run-status.ensures.clean clean in
+          let so = so_far.is honest is_open s at in
+          let tells = since first mid next honest c.loop-turn.invariant.wears c.run-status.ensures.wears in
+          let ran = turn_since folder told.cut so.end turn told.page closed first mid next tells (record { file = _; found = c.opened-file.ensures; runs = told.is.1 clean so.open_at.is_open so.end so.open_at.at }) in
+          turn_last folder s turns i turn so_far.said c.loop-turn.office.closed mid told.cut told.page closed first next within c.turn-item.is so ran
           (ended_so (Some turn.line) told.cut _ _ told.page c.run-status.result c.if-status-ne0.true told.shown);
     }
+
+pub returns-then-status-ne0-clause-wears : goal.returns-then-status-ne0-clause-wears
+returns-then-status-ne0-clause-wears g c = wears_then (state g.S.Store c.args.office.now.held) (state g.S.Store c.loop-turn.office.held) (state g.S.Store c.run-status.new.office.held) c.run-status.ensures.clean c.loop-turn.invariant.wears
+    c.run-status.ensures.wears
 
 pub returns-clause-sent : goal.returns-clause-sent
 returns-clause-sent g c =
@@ -66,6 +82,6 @@ returns-clause-sent g c =
       page = below so_far.said empty_page;
       cut = uncut;
       shown = told_all None _ _ so_far.said so_far.shown;
-      is = λ clean is_open s at. turns_all (g.F.Folder.held c.args.folder.now) s turns (take c.loop-turn.turn-index turns) so_far.said c.loop-turn.office.closed (state g.S.Store c.loop-turn.office.held)
-          (take_all _ _ c.loop-turn-test.false) (so_far.is clean is_open s at);
+      is = λ clean is_open s at. turns_all (g.F.Folder.held c.args.folder.now) s turns (take c.loop-turn.turn-index turns) so_far.said c.loop-turn.office.closed (state g.S.Store c.args.office.now.held)
+          (state g.S.Store c.loop-turn.office.held) (take_all _ _ c.loop-turn-test.false) (so_far.is clean is_open s at);
     }

@@ -2,6 +2,7 @@
 use Rattle.std.proofs.Common.{take}
 use Rattle.sqlite.specs.State.{HasCleanDisk}
 use Rattle.sqlite.specs.Held.{state}
+use Rattle.store.specs.Offices.{Wears}
 use Rattle.desk.specs.Errands.{WhereOpen}
 use Rattle.desk.specs.Pages.{outputs_of}
 use Rattle.desk.proofs.SentLemmas.{SentSo, ToldSo}
@@ -9,6 +10,7 @@ use Rattle.desk.proofs.sending.send_all.Given as goal
 
 abbrev pub invariant-loop-request : goal.invariant-loop-request
 invariant-loop-request g l = record {
+  wears : Wears (state g.S.Store l.initial.office.held) (state g.S.Store l.office.held);
   clean : HasCleanDisk (state g.S.Store l.office.held) → HasCleanDisk (state g.S.Store l.initial.office.held);
   so_far : ToldSo (outputs_of g.O.Sink.taken g.O.Sink.failed g.E.Sink.taken g.E.Sink.failed l.initial.out l.initial.err) (outputs_of g.O.Sink.taken g.O.Sink.failed g.E.Sink.taken g.E.Sink.failed l.out l.err)
       (λ said. WhereOpen l.initial.office.closed (state g.S.Store l.initial.office.held) (state g.S.Store l.office.held)
