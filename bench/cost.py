@@ -10,11 +10,13 @@ Nothing else should run: take the machine for a quarter of an hour.
 
 import os
 import re
+import subprocess
 import sys
 import tempfile
 
 import counting
 import keying
+import others
 import serving
 
 ROOT = keying.ROOT
@@ -36,7 +38,15 @@ def measured(count):
         rows.append(("a keying of 500 papers over HTTP, the office open", seconds, None))
     with tempfile.TemporaryDirectory() as folder:
         rows.append(("a sheet of 3 stages over HTTP, the office open", serving.sheets(folder, count)[0], None))
+    with tempfile.TemporaryDirectory() as folder:
+        rows += others.measure(folder, count)[others.COMPARED:]
     return rows
+
+
+def all_orders():
+    """The orders that the program tells of."""
+    told = subprocess.run([keying.PROGRAM, "--help"], capture_output=True, text=True, check=True).stdout
+    return set(re.findall(r"^  ([a-z]+(?:-[a-z]+)?)  ", told.partition("Commands:")[2], re.M)) - {"help"}
 
 
 def label(name):
@@ -64,13 +74,17 @@ def processor():
 
 def table(sizes):
     """The lines of the table."""
-    columns = [measured(size) for size in sizes]
+    columns = [measured(sizes[0])]
+    missing = all_orders() - {name.split()[0].rstrip(",") for name, *_ in columns[0]}
+    if missing:
+        sys.exit(f"cost: no line for {', '.join(sorted(missing))}")
+    columns += [measured(size) for size in sizes[1:]]
     # How many stages a ward's count has depends on its papers.
     stages = [next(m.group(1) for name, *_ in rows if (m := re.search(r"all (\d+) stages", name))) for rows in columns]
     lines = ["| Order | " + " | ".join(f"{size:,} papers, {count} stages" for size, count in zip(sizes, stages)) + " |", "|---|" + "---|" * len(sizes)]
     for place, (name, *_) in enumerate(columns[0]):
         lines.append(f"| {label(name)} | " + " | ".join(cell(*rows[place][1:]) for rows in columns) + " |")
-    return lines + ["", f"Measured on: {processor()}."]
+    return lines + ["", others.script_line(), "", f"Measured on: {processor()}."]
 
 
 def main():

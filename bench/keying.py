@@ -8,7 +8,8 @@ filled by the stock sqlite with the rows that the orders would have left, since 
 program judges them at each opening. Each order is timed on a copy of the file, as the
 shortest of several runs, beside the stock sqlite that Python has, which opens the same file, reads all rows of all its tables
 in the order of their keys, and judges nothing. Keying 500 papers is timed beside the same sqlite, which adds the same rows in
-one transaction. Peaks of memory are those of the program. It is built first where it has to be.
+one transaction. Peaks of memory are those of the program. It is built first where it has to be; where COUNT_OFFICE names a
+program, that one is taken.
 """
 
 import os
@@ -21,7 +22,8 @@ import tempfile
 import time
 
 ROOT = os.path.dirname(os.path.dirname(os.path.realpath(__file__)))
-PROGRAM = os.path.join(ROOT, "out", "count-office")
+# The program that COUNT_OFFICE names, or the one that the script count-office keeps.
+PROGRAM = os.path.realpath(os.environ.get("COUNT_OFFICE") or os.path.join(ROOT, "out", "count-office"))
 CANDIDATES = 10
 SEATS = 4
 BATCH = 500
@@ -29,7 +31,8 @@ RUNS = 5
 
 
 def build():
-    subprocess.run([os.path.join(ROOT, "count-office"), "--help"], stdout=subprocess.DEVNULL, check=True)
+    if "COUNT_OFFICE" not in os.environ:
+        subprocess.run([os.path.join(ROOT, "count-office"), "--help"], stdout=subprocess.DEVNULL, check=True)
 
 
 def run(words, status=0):
