@@ -1,0 +1,60 @@
+-- An office's own texts, checked without it: what a state tells of a ward, read and counted from the ward's ballots alone.
+use Rattle.std.specs.Prelude.{◌≡◌, ℕ, true, List, Some, Ok}
+use Rattle.register.specs.Offices.{OfficeState, WardEntry, ward_at}
+use Rattle.register.specs.Items.{IsState}
+use Rattle.register.specs.Elections.{ElectionEntry, due_of, election_of, is_declared, is_finished}
+use Rattle.recount.specs.Checks.{IsChecked, IsProblem}
+use Rattle.recount.specs.Reading.{Reading, read}
+use Rattle.recount.specs.Wards.{ward_told}
+use Rattle.recount.specs.declared.differences.Checked.{Checked}
+use Rattle.recount.specs.declared.differences.Checked.TheVariants.{Same}
+use Rattle.recount.specs.declared.problem.Problem.{Problem}
+use Rattle.recount.specs.declared.problem.Problem.TheVariants.{Memory}
+use Rattle.office.specs.Sheets.{bundles_shown, election_shown, lots_shown, text_told}
+use Rattle.office.specs.declared.sheets.Text.{Text}
+use Rattle.office.specs.declared.sheets.Text.TheVariants.{Ballots, Declaration, Sheet}
+
+-- a ward of a state of the office
+pub record IsWardOf (s : OfficeState) (w : WardEntry) : Type 0 where
+  pub state : IsState s
+  pub there : ward_at s w.number ≡ Some w
+
+-- a text that the office tells of a ward
+abbrev pub IsTold : OfficeState → WardEntry → Text → List ℕ → Type 0
+IsTold s w text told = text_told text s w.number ≡ Ok told
+
+-- nothing is left to do in the count of an election, or it is uncontested
+abbrev pub IsFinished : ElectionEntry → Type 0
+IsFinished e = is_finished (due_of e) ≡ true
+
+-- a file of ballots is read as an election: its ward with seats, candidates and poll, the bundles of its valid papers, and its lots
+pub record IsReadAs (file : List ℕ) (e : ElectionEntry) : Type 0 where
+  pub reading : Reading
+  pub understood : read file ≡ Ok reading
+  pub ward_is : ward_told reading ≡ election_shown e
+  pub bundles_are : reading.papers.bundles ≡ bundles_shown e
+  pub lots_are : reading.remarks.lots ≡ lots_shown e
+
+-- a file of ballots confirms a text: a check says yes to it, and says nothing else, and nothing but want of memory hinders it
+pub record IsConfirmed (file text : List ℕ) : Type 0 where
+  pub yes : IsChecked file text Same
+  pub alone : (told : Checked) → IsChecked file text told → told ≡ Same
+  pub unhindered : (why : Problem) → IsProblem file why → why ≡ Memory
+
+-- the ballots that an office tells of a ward are read as the ward's election
+abbrev pub OwnBallotsAreRead : Type 0
+OwnBallotsAreRead = (s : OfficeState) (w : WardEntry) (file : List ℕ) → IsWardOf s w → IsTold s w Ballots file → IsReadAs file (election_of s w)
+
+-- they confirm the stage sheet that it tells once the count is finished
+abbrev pub OwnSheetsAreConfirmed : Type 0
+OwnSheetsAreConfirmed =
+    (s : OfficeState) (w : WardEntry) (file sheet : List ℕ) → IsWardOf s w → IsFinished (election_of s w) → IsTold s w Ballots file → IsTold s w Sheet sheet → IsConfirmed file sheet
+
+-- and the declaration, which it tells of a declared ward alone
+abbrev pub OwnDeclarationsAreConfirmed : Type 0
+OwnDeclarationsAreConfirmed =
+    (s : OfficeState) (w : WardEntry) (file declaration : List ℕ) → IsWardOf s w → IsTold s w Ballots file → IsTold s w Declaration declaration → IsConfirmed file declaration
+
+-- whose count is finished, so that its sheet is confirmed too
+abbrev pub DeclaredAreFinished : Type 0
+DeclaredAreFinished = (s : OfficeState) (w : WardEntry) → IsWardOf s w → is_declared w.phase ≡ true → IsFinished (election_of s w)

@@ -1,0 +1,23 @@
+//! What a check says of the texts that an office tells.
+
+ghost use Rattle.own_texts.specs.OwnTexts.{DeclaredAreFinished, OwnBallotsAreRead, OwnDeclarationsAreConfirmed, OwnSheetsAreConfirmed};
+
+use office::texts_are_there;
+use recount::ballots_read_back;
+use register::marks::columns_of;
+
+/// The law of an office's own texts. At each state the ballots that the office tells of a ward are read as that
+/// ward's election: its number, name, seats and candidates, its valid and rejected papers, and its lots. Beside
+/// them `recount`'s `check` says yes to the stage sheet that the office tells once the count is finished, and to the
+/// declaration; it says nothing else, and only want of memory keeps it from saying so.
+pub fn own_texts_are_confirmed()
+    ensures read { OwnBallotsAreRead }
+    ensures sheets { OwnSheetsAreConfirmed }
+    ensures declarations { OwnDeclarationsAreConfirmed }
+    ensures finished { DeclaredAreFinished }
+{
+    // for their laws
+    texts_are_there();
+    ballots_read_back();
+    columns_of(&[]);
+}
