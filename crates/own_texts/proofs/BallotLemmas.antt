@@ -13,8 +13,7 @@ use Rattle.count.specs.Law.Contest.{AreForCandidates, In, IsContest}
 use Rattle.count.proofs.BundleLemmas.{bundles-with_papers}
 use Rattle.count.proofs.OrderLemmas.{bundled-length, lists-from}
 use Rattle.sheet.specs.Entries.{SheetEntry}
-use Rattle.sheet.specs.declared.ward.Poll.{Poll}
-use Rattle.recount.specs.ReadingBack.{AreCodes, AreOnce, AreSmall, CanBeReadBack, IsName, IsPollOf}
+use Rattle.recount.specs.ReadingBack.{AreCodes, AreOnce, AreSmall, CanBeReadBack, IsName}
 use Rattle.register.specs.Ranges.{is_name, is_seat_number, is_ward_number}
 use Rattle.register.specs.Offices.{BatchEntry, CandidateEntry, LotEntry, OfficeState, WardEntry, batch_cmp, candidates_of, lot_cmp, lots_of, ward_at, ward_compared}
 use Rattle.register.specs.Marks.{columns_of}
@@ -25,7 +24,7 @@ use Rattle.register.specs.Elections.{ElectionEntry, contest_of, election_of, has
 use Rattle.register.specs.Items.{IsState, is_batch, is_candidate, is_judged_paper, is_keyed_paper, is_lot, is_receipt, is_third, is_ward, item1}
 use Rattle.register.proofs.MapLemmas.{found_passes, kept_all}
 use Rattle.register.proofs.ContestLemmas.{columns_are_set, few_among, few_batches, papers_are_rankings, papers_have_some}
-use Rattle.office.specs.Sheets.{IsTextual, bundles_shown, candidate_shown, election_shown, lots_shown, poll_shown}
+use Rattle.office.specs.Sheets.{IsTextual, bundles_shown, candidate_shown, election_shown, lots_shown, shown_with}
 use Rattle.own_texts.proofs.RangeLemmas.{few_rejected, kept_pass, lots_once, lots_small, name_is, names_are}
 
 -- the numbers of candidates, as they are shown
@@ -93,56 +92,65 @@ in_range s fine =
     let g = and_parts (list_all is_judged_paper s.verdicts) last f.1 in
     record { wards = a.0; candidates = b.0; batches = c.0; lots = (and_parts (list_all is_lot s.lots) (list_all is_receipt s.receipts) g.1).0 }
 
+-- a ward of a state whose texts can be written, and whose columns are its candidates' numbers
 module _ (s : OfficeState) (w : WardEntry) (is : IsState s) (there : ward_at s w.number ≡ Some w) (columns : columns_of (candidates_of s w.number) ≡ map (λ c. c.number) (candidates_of s w.number)) (textual : IsTextual (election_of s w)) where
+  abbrev candidates : List CandidateEntry
+  candidates = candidates_of s w.number
+
+  abbrev papers : List (List ℕ)
+  papers = (election_of s w).ballots.papers
+
+  abbrev numbers : List ℕ
+  numbers = map (λ (candidate : ℕ × List ℕ). candidate.0) (map candidate_shown candidates)
+
   ranges : InRange s
   ranges = in_range s is.in_range
 
-  names_fine : (IsName w.name) × AllByRecursion (λ (candidate : ℕ × List ℕ). IsName candidate.1) (map candidate_shown (candidates_of s w.number))
+  names_fine : IsName w.name × AllByRecursion (λ (candidate : ℕ × List ℕ). IsName candidate.1) (map candidate_shown candidates)
   unfolding is_ward
   names_fine =
       let own = found_passes (ward_compared w.number) is_ward w s.wards ranges.wards there in
-      let named = (and_parts (is_seat_number w.seats) (is_name w.name) (and_parts (is_ward_number w.number) (is_seat_number w.seats && is_name w.name) own).1).1 in
-      (name_is w.name named, names_are (candidates_of s w.number) (kept_all is_candidate (λ c. c.ward == w.number) s.candidates ranges.candidates))
+      let named = and_parts (is_ward_number w.number) (is_seat_number w.seats && is_name w.name) own in
+      let name = (and_parts (is_seat_number w.seats) (is_name w.name) named.1).1 in
+      (name_is w.name name, names_are candidates (kept_all is_candidate (λ c. c.ward == w.number) s.candidates ranges.candidates))
 
   lots_fine : AreSmall (map lot_pair (lots_of s w.number)) × AreOnce (map lot_pair (lots_of s w.number))
   lots_fine =
       let of = λ (l : LotEntry). l.ward == w.number in
-      (lots_small (lots_of s w.number) (kept_all is_lot of s.lots ranges.lots), lots_once w.number (lots_of s w.number) (IsStrictlySortedBy-filter lot_cmp of s.lots is.rise.lots) (kept_pass of s.lots))
+      let up = IsStrictlySortedBy-filter lot_cmp of s.lots is.rise.lots in
+      (lots_small (lots_of s w.number) (kept_all is_lot of s.lots ranges.lots), lots_once w.number (lots_of s w.number) up (kept_pass of s.lots))
 
   pub own_lots_small : AreSmall (election_of s w).lots
   own_lots_small = lots_fine.0
 
+  pub own_numbers : numbers ≡ columns_of candidates
+  own_numbers = numbers_shown candidates ∙ sym columns
+
   codes_fine : AreCodes (election_of s w).ballots.rejected
   codes_fine =
-      let columns = columns_of (candidates_of s w.number) in
-      record {
-        five = refl;
-        fit = few_rejected (judgements columns (piles_of s w.number)) (1 ∷ 2 ∷ 3 ∷ 4 ∷ 5 ∷ []) (few_judged s columns w.number ranges.batches (and_parts _ _ is.keyed).1 is.rise.batches);
-      }
+      let few = few_judged s (columns_of candidates) w.number ranges.batches (and_parts _ _ is.keyed).1 is.rise.batches in
+      record { five = refl; fit = few_rejected (judgements (columns_of candidates) (piles_of s w.number)) (1 ∷ 2 ∷ 3 ∷ 4 ∷ 5 ∷ []) few }
 
-  own_numbers : columns_of (candidates_of s w.number) ≡ map (λ (candidate : ℕ × List ℕ). candidate.0) (map candidate_shown (candidates_of s w.number))
-  own_numbers = columns ∙ sym (numbers_shown (candidates_of s w.number))
-
-  papers_fine : has_count (election_of s w) ≡ true → AreForCandidates (map (λ (candidate : ℕ × List ℕ). candidate.0) (map candidate_shown (candidates_of s w.number))) (map (λ (b : Bundle). b.0) (bundled (election_of s w).ballots.papers))
+  papers_fine : has_count (election_of s w) ≡ true → AreForCandidates numbers (map (λ (b : Bundle). b.0) (bundled papers))
   papers_fine contested =
       let fair : IsContest (contest_of (election_of s w)) = textual.counted contested in
-      subst (λ cs. AreForCandidates cs (map (λ (b : Bundle). b.0) (bundled (election_of s w).ballots.papers))) own_numbers (bundles_for (columns_of (candidates_of s w.number)) (election_of s w).ballots.papers fair.for_candidates)
+      let own = bundles_for (columns_of candidates) papers fair.for_candidates in
+      subst (λ cs. AreForCandidates cs (map (λ (b : Bundle). b.0) (bundled papers))) (sym own_numbers) own
 
-  few_bundled : length (papers_of (bundled (election_of s w).ballots.papers)) ≤ max_papers
-  few_bundled = omega (arith, bundled-length (election_of s w).ballots.papers, textual.few_papers)
+  few_bundled : length (papers_of (bundled papers)) ≤ max_papers
+  few_bundled = omega (arith, bundled-length papers, textual.few_papers)
 
-  -- as an office has them
+  abbrev shown_by : Bool → SheetEntry
+  shown_by b = shown_with (cond b (Some (record { valid = length papers; rejected = (election_of s w).ballots.rejected })) None) (election_of s w)
+
+  -- its ballots can be read back: those of a contested ward, and those of an uncontested one
   pub can_be_read_back : CanBeReadBack (election_shown (election_of s w)) (bundles_shown (election_of s w)) (lots_shown (election_of s w))
   can_be_read_back = go (has_count (election_of s w)) refl
     where
-      set : IsColumnSet (map (λ (candidate : ℕ × List ℕ). candidate.0) (map candidate_shown (candidates_of s w.number)))
-      set = subst IsColumnSet (sym (numbers_shown (candidates_of s w.number))) textual.ascending
+      set : IsColumnSet numbers
+      set = subst IsColumnSet (sym (numbers_shown candidates)) textual.ascending
 
-      go : (b : Bool) → has_count (election_of s w) ≡ b →
-          CanBeReadBack
-          (record { number = w.number; name = w.name; seats = w.seats; candidates = map candidate_shown (candidates_of s w.number); poll = cond b (Some (record { valid = length (election_of s w).ballots.papers; rejected = (election_of s w).ballots.rejected })) None })
-          (cond b (bundled (election_of s w).ballots.papers) [])
-          (cond b (map lot_pair (lots_of s w.number)) [])
+      go : (b : Bool) → has_count (election_of s w) ≡ b → CanBeReadBack (shown_by b) (cond b (bundled papers) []) (cond b (election_of s w).lots [])
       go true contested = record {
         number = omega (arith, textual.number);
         some_seats = textual.some_seats;
@@ -153,7 +161,7 @@ module _ (s : OfficeState) (w : WardEntry) (is : IsState s) (there : ward_at s w
         bundles_are = election_bundles s w;
         few_papers = few_bundled;
         for_candidates = papers_fine contested;
-        poll = (sym (bundled-length (election_of s w).ballots.papers), codes_fine);
+        poll = (sym (bundled-length papers), codes_fine);
         lots_small = lots_fine.0;
         lots_once = lots_fine.1;
       }
@@ -167,7 +175,7 @@ module _ (s : OfficeState) (w : WardEntry) (is : IsState s) (there : ward_at s w
         bundles_are = no_bundles;
         few_papers = omega arith;
         for_candidates = tt;
-        poll = (refl, omega (arith, ltb-false w.seats (length (candidates_of s w.number)) uncontested, length-map (candidates_of s w.number) candidate_shown));
+        poll = (refl, omega (arith, ltb-false w.seats (length candidates) uncontested, length-map candidates candidate_shown));
         lots_small = tt;
         lots_once = tt;
       }

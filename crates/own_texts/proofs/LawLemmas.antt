@@ -6,13 +6,14 @@ use Rattle.register.specs.Elections.{election_of, is_counted, is_declared}
 use Rattle.register.specs.Items.{IsState}
 use Rattle.register.specs.declared.phase.Phase.{Phase}
 use Rattle.register.specs.declared.phase.Phase.TheVariants.{Nominations, Keying, Sealed, Declared}
-use Rattle.recount.specs.ReadingBack.{AreCheckedAsTold, AreHinderedAsTold, AreReadBack, IsReadBack}
-use Rattle.office.specs.Sheets.{IsTextual, ballots_of, bundles_shown, declaration_of, election_shown, lots_shown, sheet_of}
+use Rattle.recount.specs.ReadingBack.{AreCheckedAsTold, AreHinderedAsTold, AreReadBack, CanBeReadBack}
+use Rattle.office.specs.Sheets.{IsTextual, bundles_shown, declaration_of, election_shown, lots_shown, sheet_of}
 use Rattle.office.specs.declared.sheets.Text.TheVariants.{Ballots, Declaration, Sheet}
-use Rattle.own_texts.specs.OwnTexts.{DeclaredAreFinished, IsConfirmed, IsReadAs, IsWardOf, OwnBallotsAreRead, OwnDeclarationsAreConfirmed, OwnSheetsAreConfirmed}
-use Rattle.own_texts.proofs.BallotLemmas.{can_be_read_back}
-use Rattle.own_texts.proofs.StateLemmas.{declared_is_finished, texts_confirmed}
+use Rattle.own_texts.specs.OwnTexts.{DeclaredAreFinished, IsConfirmed, IsFinished, IsReadAs, IsTold, IsWardOf}
+use Rattle.own_texts.proofs.BallotLemmas.{can_be_read_back, own_lots_small, own_numbers}
+use Rattle.own_texts.proofs.StateLemmas.{counted_right, declared_is_finished, own_yes}
 use Rattle.own_texts.proofs.ToldLemmas.{told_of}
+use Rattle.own_texts.proofs.YesLemmas.{confirmed}
 
 -- a declared ward is one that was sealed
 declared_is_sealed : (phase : Phase) → is_declared phase ≡ true → is_counted phase ≡ true
@@ -22,30 +23,40 @@ declared_is_sealed Sealed is = refl
 declared_is_sealed Declared is = refl
 
 pub declared_finished : DeclaredAreFinished
-declared_finished s w of declared = declared_is_finished s w of.state of.there declared (declared_is_sealed w.phase declared)
+declared_finished s w of declared = declared_is_finished (election_of s w) (declared_is_sealed w.phase declared) (counted_right s w of.state of.there) declared
 
--- by the laws of the ballots and of the texts, and that a ward's columns are its candidates' numbers
-module _ (read_back : AreReadBack) (checked_so : AreCheckedAsTold) (hindered_so : AreHinderedAsTold)
-    (textual : (s : OfficeState) (w : WardEntry) → IsState s → ward_at s w.number ≡ Some w → IsTextual (election_of s w))
-    (columns : (s : OfficeState) (ward : ℕ) → IsState s → columns_of (candidates_of s ward) ≡ map (λ c. c.number) (candidates_of s ward)) where
-  pub ballots_read : OwnBallotsAreRead
-  ballots_read s w file of told =
+-- by the laws of reading back, of the texts, and of a ward's columns
+module _
+    (read_back : AreReadBack) (checked_so : AreCheckedAsTold) (hindered_so : AreHinderedAsTold) (textual : (s : OfficeState) (w : WardEntry) → IsState s → ward_at s w.number ≡ Some w → IsTextual (election_of s w))
+    (columns : (s : OfficeState) (ward : ℕ) → IsState s → columns_of (candidates_of s ward) ≡ map (λ c. c.number) (candidates_of s ward)) (s : OfficeState) (w : WardEntry)
+    where
+  can : IsWardOf s w → CanBeReadBack (election_shown (election_of s w)) (bundles_shown (election_of s w)) (lots_shown (election_of s w))
+  can of = can_be_read_back s w of.state of.there (columns s w.number of.state) (textual s w of.state of.there)
+
+  pub ballots_read : (file : List ℕ) → IsWardOf s w → IsTold s w Ballots file → IsReadAs file (election_of s w)
+  ballots_read file of told =
       let is = told_of Ballots s w file of.there told in
-      let can = can_be_read_back s w of.state of.there (columns s w.number of.state) (textual s w of.state of.there) in
-      let back : IsReadBack (election_shown (election_of s w)) (bundles_shown (election_of s w)) (lots_shown (election_of s w)) = read_back (election_shown (election_of s w)) (bundles_shown (election_of s w)) (lots_shown (election_of s w)) can in
+      let back = read_back _ _ _ (can of) in
       subst (λ (f : List ℕ). IsReadAs f (election_of s w)) (sym is.is)
       (record { reading = back.reading; understood = back.understood; ward_is = back.ward_is; bundles_are = back.bundles_are; lots_are = back.lots_are })
 
-  pub sheets_confirmed : OwnSheetsAreConfirmed
-  sheets_confirmed s w file text of finished told shown =
+  confirms : (file text : List ℕ) → IsWardOf s w → IsFinished (election_of s w) → IsTold s w Ballots file → (text ≡ sheet_of (election_of s w)) ⊎ (text ≡ declaration_of (election_of s w)) → IsConfirmed file text
+  confirms file text of finished told one =
       let is = told_of Ballots s w file of.there told in
-      let own = told_of Sheet s w text of.there shown in
-      subst (λ (f : List ℕ). IsConfirmed f text) (sym is.is)
-      (texts_confirmed s w of.state of.there (columns s w.number of.state) (textual s w of.state of.there) is.in_phase finished read_back checked_so hindered_so text (inl own.is))
+      let fine = textual s w of.state of.there in
+      let numbers = columns s w.number of.state in
+      let small = own_lots_small s w of.state of.there numbers fine in
+      let own = own_numbers s w of.state of.there numbers fine in
+      let right = counted_right s w of.state of.there in
+      let yes = own_yes (election_of s w) is.in_phase right own fine.counted small finished text one in
+      subst (λ (f : List ℕ). IsConfirmed f text) (sym is.is) (confirmed _ _ _ text read_back checked_so hindered_so (can of) yes)
 
-  pub declarations_confirmed : OwnDeclarationsAreConfirmed
-  declarations_confirmed s w file text of told shown =
-      let is = told_of Ballots s w file of.there told in
+  pub sheet_confirmed : (file text : List ℕ) → IsWardOf s w → IsFinished (election_of s w) → IsTold s w Ballots file → IsTold s w Sheet text → IsConfirmed file text
+  sheet_confirmed file text of finished told shown =
+      let own = told_of Sheet s w text of.there shown in
+      confirms file text of finished told (inl own.is)
+
+  pub declaration_confirmed : (file text : List ℕ) → IsWardOf s w → IsTold s w Ballots file → IsTold s w Declaration text → IsConfirmed file text
+  declaration_confirmed file text of told shown =
       let own = told_of Declaration s w text of.there shown in
-      subst (λ (f : List ℕ). IsConfirmed f text) (sym is.is)
-      (texts_confirmed s w of.state of.there (columns s w.number of.state) (textual s w of.state of.there) is.in_phase (declared_finished s w of own.in_phase) read_back checked_so hindered_so text (inr own.is))
+      confirms file text of (declared_finished s w of own.in_phase) told (inr own.is)

@@ -39,8 +39,8 @@ confirmed ward bundles lots text read_back checked_so hindered_so can has =
         reading = back.reading;
         understood = back.understood;
         compared = subst (λ (w : SheetEntry). IsWardCheck w.poll w back.reading.papers.bundles back.reading.remarks.lots text checked.Same) (sym back.ward_is)
-          (subst (λ bs. IsWardCheck ward.poll ward bs back.reading.remarks.lots text checked.Same) (sym back.bundles_are)
-          (subst (λ ls. IsWardCheck ward.poll ward bundles ls text checked.Same) (sym back.lots_are) has.yes));
+            (subst (λ bs. IsWardCheck ward.poll ward bs back.reading.remarks.lots text checked.Same) (sym back.bundles_are)
+            (subst (λ ls. IsWardCheck ward.poll ward bundles ls text checked.Same) (sym back.lots_are) has.yes));
       };
       alone = λ told is. has.alone told (checked_so ward bundles lots can text told is);
       unhindered = λ why is. has.unhindered why (hindered_so ward bundles lots can why is);
@@ -50,7 +50,7 @@ confirmed ward bundles lots text read_back checked_so hindered_so can has =
 
 pub uncontested_alone : (ward : SheetEntry) (text : List ℕ) → (text ≡ sheet ward []) ⊎ (text ≡ declaration ward (numbers_of ward)) → (bundles : List Bundle) (lots : List (ℕ × ℕ)) (told : Checked) → IsWardCheck None ward bundles lots text told → told ≡ checked.Same
 uncontested_alone ward text is bundles lots checked.Same told = refl
-uncontested_alone ward text is bundles lots (checked.Differs line should_be) told = elim is [ | inl same ↦ absurd (told.0 same) | inr same ↦ absurd (told.1 same) ]
+uncontested_alone ward text is bundles lots (checked.Differs line should_be) told = elim is [ inl same ↦ absurd (told.0 same) | inr same ↦ absurd (told.1 same) ]
 
 -- ---- a contested ward whose count is finished
 
