@@ -1,5 +1,5 @@
 -- The texts of each finished ward of a state are confirmed by its ballots.
-use Rattle.std.proofs.Common.{◌≡◌, ◌⊎◌, inl, inr, ℕ, ◌+◌, ◌&&◌, ◌||◌, ◌==◌, Bool, true, false, not, cond, List, [], length, map, reverse, Option, Some, None, refl, sym, ap, ◌∙◌}
+use Rattle.std.proofs.Common.{◌≡◌, ℕ, ◌+◌, ◌&&◌, ◌||◌, ◌==◌, Bool, true, false, not, cond, List, [], length, map, reverse, Option, Some, None, refl, sym, ap, subst, ◌∙◌}
 use Rattle.std.specs.List.{list_all}
 use Rattle.std.proofs.lemmas.Bool.{and_parts, cond-false, cond-true, eqb-true}
 use Rattle.count.specs.Bundles.{bundled}
@@ -11,8 +11,10 @@ use Rattle.count.specs.declared.stages.Due.TheVariants.{Act, Lot, Finished}
 use Rattle.sheet.specs.Entries.{SheetEntry}
 use Rattle.sheet.specs.Sheet.{declaration, sheet}
 use Rattle.sheet.specs.declared.ward.Poll.{Poll}
+use Rattle.recount.specs.Differences.{IsComparison}
 use Rattle.recount.specs.ReadingBack.{AreSmall}
 use Rattle.recount.specs.Wards.{numbers_of}
+use Rattle.recount.specs.declared.differences.Checked.{Checked}
 use Rattle.register.specs.Marks.{columns_of}
 use Rattle.register.specs.Offices.{OfficeState, WardEntry, ward_at, ward_compared}
 use Rattle.register.specs.Elections.{ElectionEntry, contest_of, due_of, elected_of, election_of, has_count, is_counted}
@@ -22,7 +24,7 @@ use Rattle.register.proofs.MapLemmas.{found_passes}
 use Rattle.office.specs.Sheets.{bundles_shown, candidate_shown, declaration_of, election_shown, lots_shown, sheet_of, shown_with}
 use Rattle.own_texts.specs.OwnTexts.{IsFinished}
 use Rattle.own_texts.proofs.FinishedLemmas.{same_elected}
-use Rattle.own_texts.proofs.YesLemmas.{HasYes, counted_has, uncontested_alone}
+use Rattle.own_texts.proofs.YesLemmas.{HasYes, IsYes, counted_has, uncontested_has}
 
 -- the count of each ward of a state is right
 pub counted_right : (s : OfficeState) (w : WardEntry) → IsState s → ward_at s w.number ≡ Some w → is_counted_right (election_of s w) ≡ true
@@ -69,28 +71,24 @@ module _ (e : ElectionEntry) (sealed : is_counted e.ward.phase ≡ true) (right 
 
   module _
       (columns : map (λ (candidate : ℕ × List ℕ). candidate.0) (map candidate_shown e.candidates) ≡ columns_of e.candidates) (fair : has_count e ≡ true → IsContest (contest_of e)) (small : AreSmall e.lots) (finished : IsFinished e)
-      where
-    abbrev shown_by : Bool → SheetEntry
-    shown_by b = shown_with (cond b (Some (record { valid = length e.ballots.papers; rejected = e.ballots.rejected })) None) e
+    where
+      abbrev shown_by : Bool → SheetEntry
+      shown_by b = shown_with (cond b (Some (record { valid = length e.ballots.papers; rejected = e.ballots.rejected })) None) e
 
-    abbrev IsOneOf : Bool → List ℕ → Type 0
-    IsOneOf b text = (text ≡ sheet (shown_by b) (reverse (stages_of e))) ⊎ (text ≡ declaration (shown_by b) (elected_of e))
+      abbrev IsCompared : Bool → List ℕ → Checked → Type 0
+      IsCompared b text told = IsComparison text (sheet (shown_by b) (reverse (stages_of e))) (declaration (shown_by b) (elected_of e)) told
 
-    -- what is told of a text that is the sheet or the declaration
-    by_contest : (text : List ℕ) (b : Bool) → has_count e ≡ b → IsOneOf b text → HasYes (shown_by b) (cond b (bundled e.ballots.papers) []) (cond b e.lots []) text
-    by_contest text true contested one =
-        let poll : Poll = record { valid = length e.ballots.papers; rejected = e.ballots.rejected } in
-        counted_has e poll columns contested finished (fair contested) (drawn_and_ended contested).0 small text (elim one [
-          | inl same ↦ inl same
-          | inr same ↦ inr (same ∙ ap (declaration (shown_by true)) (sym (same_elected e (Some poll) columns contested finished)))
-        ])
-    by_contest text false uncontested one = record { yes = either; alone = uncontested_alone (shown_by false) text either [] []; unhindered = λ why none. none }
-      where
-        either : (text ≡ sheet (shown_by false) []) ⊎ (text ≡ declaration (shown_by false) (numbers_of (shown_by false)))
-        either = elim one [
-          | inl same ↦ inl (same ∙ ap (λ (h : History). sheet (shown_by false) (reverse h)) (no_stages uncontested))
-          | inr same ↦ inr (same ∙ ap (declaration (shown_by false)) (cond-false (has_count e) _ _ uncontested ∙ sym columns))
-        ]
+      -- what is told of a text that is the sheet or the declaration
+      by_contest : (text : List ℕ) (answer : Checked) → IsYes answer → (b : Bool) → has_count e ≡ b → IsCompared b text answer → HasYes (shown_by b) (cond b (bundled e.ballots.papers) []) (cond b e.lots []) text answer
+      by_contest text answer is_yes true contested is =
+          let poll : Poll = record { valid = length e.ballots.papers; rejected = e.ballots.rejected } in
+          let elected = sym (same_elected e (Some poll) columns contested finished) in
+          let own = subst (λ (cs : List ℕ). IsComparison text (sheet (shown_by true) (reverse (stages_of e))) (declaration (shown_by true) cs) answer) elected is in
+          counted_has e poll columns contested finished (fair contested) (drawn_and_ended contested).0 small text answer is_yes own
+      by_contest text answer is_yes false uncontested is =
+          let all : elected_of e ≡ numbers_of (shown_by false) = cond-false (has_count e) _ _ uncontested ∙ sym columns in
+          let own = subst (λ (h : History). IsComparison text (sheet (shown_by false) (reverse h)) (declaration (shown_by false) (elected_of e)) answer) (no_stages uncontested) is in
+          uncontested_has (shown_by false) text answer refl is_yes (subst (λ (cs : List ℕ). IsComparison text (sheet (shown_by false) []) (declaration (shown_by false) cs) answer) all own)
 
-    pub own_yes : (text : List ℕ) → (text ≡ sheet_of e) ⊎ (text ≡ declaration_of e) → HasYes (election_shown e) (bundles_shown e) (lots_shown e) text
-    own_yes text one = by_contest text (has_count e) refl one
+      pub own_yes : (text : List ℕ) (answer : Checked) → IsYes answer → IsComparison text (sheet_of e) (declaration_of e) answer → HasYes (election_shown e) (bundles_shown e) (lots_shown e) text answer
+      own_yes text answer is_yes is = by_contest text answer is_yes (has_count e) refl is

@@ -7,7 +7,7 @@ use Rattle.recount.specs.Checks.{IsChecked, IsProblem}
 use Rattle.recount.specs.Reading.{Reading, read}
 use Rattle.recount.specs.Wards.{ward_told}
 use Rattle.recount.specs.declared.differences.Checked.{Checked}
-use Rattle.recount.specs.declared.differences.Checked.TheVariants.{Same}
+use Rattle.recount.specs.declared.differences.Checked.TheVariants as checked
 use Rattle.recount.specs.declared.problem.Problem.{Problem}
 use Rattle.recount.specs.declared.problem.Problem.TheVariants.{Memory}
 use Rattle.office.specs.Sheets.{bundles_shown, election_shown, lots_shown, text_told}
@@ -35,26 +35,29 @@ pub record IsReadAs (file : List ℕ) (e : ElectionEntry) : Type 0 where
   pub bundles_are : reading.papers.bundles ≡ bundles_shown e
   pub lots_are : reading.remarks.lots ≡ lots_shown e
 
--- a file of ballots confirms a text: a check says yes to it, and says nothing else, and nothing but want of memory hinders it
-pub record IsConfirmed (file text : List ℕ) : Type 0 where
-  pub yes : IsChecked file text Same
-  pub alone : (told : Checked) → IsChecked file text told → told ≡ Same
+-- a file of ballots confirms a text: this is told of it, that it is the sheet or that it is the declaration, and nothing else; and
+-- nothing but want of memory hinders the check
+pub record IsConfirmed (file text : List ℕ) (answer : Checked) : Type 0 where
+  pub told : IsChecked file text answer
+  pub alone : (other : Checked) → IsChecked file text other → other ≡ answer
   pub unhindered : (why : Problem) → IsProblem file why → why ≡ Memory
 
 -- the ballots that an office tells of a ward are read as the ward's election
 abbrev pub OwnBallotsAreRead : Type 0
 OwnBallotsAreRead = (s : OfficeState) (w : WardEntry) (file : List ℕ) → IsWardOf s w → IsTold s w Ballots file → IsReadAs file (election_of s w)
 
--- they confirm the stage sheet that it tells once the count is finished
+-- beside them the stage sheet that it tells of a finished count is confirmed to be the sheet
 abbrev pub OwnSheetsAreConfirmed : Type 0
 OwnSheetsAreConfirmed =
-    (s : OfficeState) (w : WardEntry) (file sheet : List ℕ) → IsWardOf s w → IsFinished (election_of s w) → IsTold s w Ballots file → IsTold s w Sheet sheet → IsConfirmed file sheet
+    (s : OfficeState) (w : WardEntry) (file sheet : List ℕ) → IsWardOf s w → IsFinished (election_of s w) → IsTold s w Ballots file →
+    IsTold s w Sheet sheet → IsConfirmed file sheet checked.Sheet
 
--- and the declaration, which it tells of a declared ward alone
+-- and the declaration, which it tells of a declared ward alone, to be the declaration
 abbrev pub OwnDeclarationsAreConfirmed : Type 0
 OwnDeclarationsAreConfirmed =
-    (s : OfficeState) (w : WardEntry) (file declaration : List ℕ) → IsWardOf s w → IsTold s w Ballots file → IsTold s w Declaration declaration → IsConfirmed file declaration
+    (s : OfficeState) (w : WardEntry) (file declaration : List ℕ) → IsWardOf s w → IsTold s w Ballots file →
+    IsTold s w Declaration declaration → IsConfirmed file declaration checked.Declaration
 
--- whose count is finished, so that its sheet is confirmed too
+-- the count of a declared ward is finished, so that its sheet is confirmed too
 abbrev pub DeclaredAreFinished : Type 0
 DeclaredAreFinished = (s : OfficeState) (w : WardEntry) → IsWardOf s w → is_declared w.phase ≡ true → IsFinished (election_of s w)

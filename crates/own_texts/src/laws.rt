@@ -8,8 +8,9 @@ use register::marks::columns_of;
 
 /// The law of an office's own texts. At each state the ballots that the office tells of a ward are read as that
 /// ward's election: its number, name, seats and candidates, its valid and rejected papers, and its lots. Beside
-/// them `recount`'s `check` says yes to the stage sheet that the office tells once the count is finished, and to the
-/// declaration; it says nothing else, and only want of memory keeps it from saying so.
+/// them `recount`'s `check` tells of the stage sheet of a finished count that it is the sheet, and of the
+/// declaration that it is the declaration. It tells nothing else of them, and only want of memory keeps it from
+/// telling so. The count of a declared ward is finished.
 pub fn own_texts_are_confirmed()
     ensures read { OwnBallotsAreRead }
     ensures sheets { OwnSheetsAreConfirmed }
