@@ -46,7 +46,7 @@ def measured(count):
 def all_orders():
     """The orders that the program tells of."""
     told = subprocess.run([keying.PROGRAM, "--help"], capture_output=True, text=True, check=True).stdout
-    return set(re.findall(r"^  ([a-z]+(?:-[a-z]+)?)  ", told.partition("Commands:")[2], re.M)) - {"help"}
+    return set(re.findall(r"^  ([a-z]+(?:-[a-z]+)?)(?: \[?[A-Z]+\]?)?  +[A-Z]", told, re.M))
 
 
 def label(name):
