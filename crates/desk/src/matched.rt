@@ -68,12 +68,18 @@ fn text_in<'a>(matches: &ArgMatches<'a>, word: Word) -> &'a str
     }
 }
 
+fn text_found_in<'a>(matches: &ArgMatches<'a>, word: Word) -> Option<&'a str>
+    ensures { option_map (λ t. t.now) result ≡ first_of word.name.now (rows_of (found_of matches.now)) }
+{
+    matches.get_str(word.name)
+}
+
 /// The origin that was matched, if one was.
 fn origin_in<'a>(matches: &ArgMatches<'a>) -> Result<Option<Origin<'a>>, NoOrder>
     ensures ok { IfOk result (λ found. option_map origin_in (first_of (codes "origin") (rows_of (found_of matches.now))) ≡ origin_served found) }
     ensures err { IfErr result (λ why. (why ≡ NoOrder.BadOrigin) × (option_map origin_in (first_of (codes "origin") (rows_of (found_of matches.now))) ≡ Some None)) }
 {
-    let Some(text) = matches.get_str(ORIGIN.name) else {
+    let Some(text) = text_found_in(matches, ORIGIN) else {
         return Ok(None);
     };
     match Origin::parse(text) {
