@@ -1,5 +1,5 @@
 -- The ballots of each ward of a state can be read back.
-use Rattle.std.proofs.Common.{◌≡◌, ℕ, ◌≤◌, ◌*◌, ◌==◌, ◌&&◌, nat_lt, Bool, true, false, cond, List, [], ◌∷◌, length, map, fold, Option, Some, None, refl, sym, ap, subst, ◌∙◌, arith}
+use Rattle.std.proofs.Common.{◌≡◌, ℕ, ◌≤◌, ◌==◌, ◌&&◌, Bool, true, false, cond, List, [], ◌∷◌, length, map, fold, Some, None, refl, sym, ap, subst, ◌∙◌, arith}
 use Rattle.std.specs.List.{AllByRecursion, list_all}
 use Rattle.std.specs.List.Sorted.{IsStrictlySortedBy}
 use Rattle.std.proofs.lemmas.Bool.{and_parts, ltb-false}
@@ -19,8 +19,8 @@ use Rattle.register.specs.Offices.{BatchEntry, CandidateEntry, LotEntry, OfficeS
 use Rattle.register.specs.Marks.{columns_of}
 use Rattle.register.specs.Papers.{batches_of}
 use Rattle.register.specs.Keyed.{are_rounds_to}
-use Rattle.register.specs.Polls.{judgements, pile_of, piles_of}
-use Rattle.register.specs.Elections.{ElectionEntry, contest_of, election_of, has_count, lot_pair}
+use Rattle.register.specs.Polls.{judgements, piles_of}
+use Rattle.register.specs.Elections.{contest_of, election_of, has_count, lot_pair}
 use Rattle.register.specs.Items.{IsState, is_batch, is_candidate, is_judged_paper, is_keyed_paper, is_lot, is_receipt, is_third, is_ward, item1}
 use Rattle.register.proofs.MapLemmas.{found_passes, kept_all}
 use Rattle.register.proofs.ContestLemmas.{columns_are_set, few_among, few_batches, papers_are_rankings, papers_have_some}

@@ -1,19 +1,18 @@
 -- A finished count comes out the same where it is held on the bundles of its papers, and is its only count.
-use Rattle.std.proofs.Common.{◌≡◌, ◌⊎◌, inl, inr, ℕ, ◌+◌, ◌-◌, ◌<◌, ◌≤◌, ◌&&◌, nat_eq, nat_le, Bool, true, false, not, cond, get_or, List, [], ◌∷◌, ◌++◌, length, map, reverse, Option, Some, None, refl, sym, ap, subst, ◌∙◌, arith}
-use Rattle.std.specs.List.{AllByRecursion, find, list_all, list_any, range_with_len}
-use Rattle.std.specs.List.Sorted.{IsPermutation}
+use Rattle.std.proofs.Common.{◌≡◌, ℕ, ◌+◌, ◌-◌, ◌≤◌, nat_le, true, not, get_or, List, [], ◌∷◌, length, map, reverse, Option, Some, None, refl, sym, ap, subst, ◌∙◌, arith}
+use Rattle.std.specs.List.{find, list_all, range_with_len}
 use Rattle.std.specs.Option.{option_map}
 use Rattle.std.proofs.lemmas.Bool.{and_parts, cond-true}
 use Rattle.std.proofs.lemmas.List.{reverse-reverse}
 use Rattle.std.proofs.lemmas.List.FromFn.{get_or-map-range_with_len}
 use Rattle.std.proofs.lemmas.List.Sorted.{IsPermutation-refl}
 use Rattle.count.specs.Advance.{end_after, end_of}
-use Rattle.count.specs.Bundles.{Bundle, bundled, papers_of}
-use Rattle.count.specs.Law.Contest.{Contest, History, IsContest, contest_for}
+use Rattle.count.specs.Bundles.{bundled}
+use Rattle.count.specs.Law.Contest.{Contest, History, IsContest}
 use Rattle.count.specs.Law.Count.{due_by, due_or, stages_to}
 use Rattle.count.specs.Law.Due.{due_after, lot_for, next_action}
 use Rattle.count.specs.Law.Elected.{elected_after}
-use Rattle.count.specs.Law.Right.{IsCount, IsRight, IsWholeCount, reordered}
+use Rattle.count.specs.Law.Right.{IsCount, IsRight, IsWholeCount}
 use Rattle.count.specs.declared.run.CountEnd.{CountEnd}
 use Rattle.count.specs.declared.run.CountEnd.TheVariants as end
 use Rattle.count.specs.declared.stages.Action.{Action}
@@ -22,7 +21,6 @@ use Rattle.count.specs.declared.stages.Due.TheVariants.{Act, Lot, Finished}
 use Rattle.count.specs.declared.stages.Stage.{Stage}
 use Rattle.count.proofs.Law.CountLemmas.{stages_right}
 use Rattle.count.proofs.Law.RightLemmas.{whole_count}
-use Rattle.sheet.specs.Entries.{SheetEntry}
 use Rattle.sheet.specs.declared.ward.Poll.{Poll}
 use Rattle.recount.specs.Checks.{EndsAt, dues_of, is_drawn_by, is_lot, undrawn}
 use Rattle.recount.specs.ReadingBack.{AreSmall}

@@ -1,5 +1,5 @@
 -- Each text that an office tells of a ward, beside the ballots that it tells.
-use Rattle.std.proofs.Common.{◌≡◌, ℕ, Bool, true, false, List, map, Some, refl, sym, ap, subst, ◌∙◌}
+use Rattle.std.proofs.Common.{◌≡◌, ℕ, true, List, map, Some, refl, sym, subst}
 use Rattle.register.specs.Marks.{columns_of}
 use Rattle.register.specs.Offices.{OfficeState, WardEntry, candidates_of, ward_at}
 use Rattle.register.specs.Elections.{election_of, is_counted, is_declared}

@@ -1,5 +1,5 @@
 -- The texts of each finished ward of a state are confirmed by its ballots.
-use Rattle.std.proofs.Common.{◌≡◌, ℕ, ◌+◌, ◌&&◌, ◌||◌, ◌==◌, Bool, true, false, not, cond, List, [], length, map, reverse, Option, Some, None, refl, sym, ap, subst, ◌∙◌}
+use Rattle.std.proofs.Common.{◌≡◌, ℕ, ◌+◌, ◌||◌, ◌==◌, Bool, true, false, not, cond, List, [], length, map, reverse, Option, Some, None, refl, sym, ap, subst, ◌∙◌}
 use Rattle.std.specs.List.{list_all}
 use Rattle.std.proofs.lemmas.Bool.{and_parts, cond-false, cond-true, eqb-true}
 use Rattle.count.specs.Bundles.{bundled}
@@ -17,7 +17,7 @@ use Rattle.recount.specs.Wards.{numbers_of}
 use Rattle.recount.specs.declared.differences.Checked.{Checked}
 use Rattle.register.specs.Marks.{columns_of}
 use Rattle.register.specs.Offices.{OfficeState, WardEntry, ward_at, ward_compared}
-use Rattle.register.specs.Elections.{ElectionEntry, contest_of, due_of, elected_of, election_of, has_count, is_counted}
+use Rattle.register.specs.Elections.{ElectionEntry, contest_of, elected_of, election_of, has_count, is_counted}
 use Rattle.register.specs.Elections.{is_counted_right, is_declared, is_drawn_for, is_finished, is_in_count, is_right_so_far, is_uncounted, stages_of}
 use Rattle.register.specs.Items.{IsState, item7}
 use Rattle.register.proofs.MapLemmas.{found_passes}

@@ -1,6 +1,5 @@
 -- What is told where a text of a ward is asked for.
-use Rattle.std.proofs.Common.{◌≡◌, ℕ, Bool, true, false, cond, List, Option, Some, Result, Ok, Err, refl, sym, ap, subst, ◌∙◌}
-use Rattle.register.specs.declared.refusal.Reason.{Reason}
+use Rattle.std.proofs.Common.{◌≡◌, ℕ, Bool, true, false, cond, List, Some, Ok, Err, refl, sym, ap, ◌∙◌}
 use Rattle.register.specs.declared.refusal.Reason.TheVariants.{NumberOutOfRange, WrongPhase}
 use Rattle.register.specs.Ranges.{is_ward_number}
 use Rattle.register.specs.Offices.{OfficeState, WardEntry, ward_at}

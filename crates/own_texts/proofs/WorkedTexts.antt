@@ -1,5 +1,5 @@
 -- The texts of a small ward, by hand: two papers, a number at which nobody stands, a name with quotation marks, and a lot.
-use Rattle.std.proofs.Common.{◌≡◌, ◌++◌, List, [], ◌∷◌, Ok, refl}
+use Rattle.std.proofs.Common.{◌++◌, [], ◌∷◌, refl}
 use Rattle.std.specs.Fmt.{digits}
 use Rattle.std.specs.List.Sorted.{IsStrictlySortedBy}
 use Rattle.std.specs.Char.{encode_utf8}
@@ -16,7 +16,6 @@ use Rattle.register.specs.Elections.{election_of}
 use Rattle.register.specs.declared.phase.Phase.TheVariants.{Declared}
 use Rattle.register.specs.WorkedOffice.{batch_in, keyed}
 use Rattle.paper.specs.Preferences.{preferences_from}
-use Rattle.office.specs.Sheets.{text_told}
 use Rattle.office.specs.declared.sheets.Text.TheVariants.{Ballots, Declaration, Sheet}
 use Rattle.own_texts.specs.OwnTexts.{IsFinished, IsTold, IsWardOf}
 
