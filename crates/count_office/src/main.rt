@@ -173,10 +173,7 @@ fn copy<S: Alter, O: Sink, E: Sink>(
 
 /// Another program of SQLite holds the file.
 fn is_busy(error: &sqlite::Error) -> bool {
-    matches!(
-        error,
-        sqlite::Error::SqliteFailure(ErrorCode::DatabaseBusy)
-    )
+    matches!(error, sqlite::Error::SqliteFailure(ErrorCode::DatabaseBusy))
 }
 
 /// Why a copy can't be made: want of memory is told as ever.
