@@ -82,7 +82,8 @@ impl Held {
 
     /// Removes the file from the path where it was made, if it can be locked after all and nothing is in it.
     fn remove_empty(&self, rt: &HostRuntime, path: &str) {
-        let is_empty = self.lock().is_ok() && self.file.metadata().is_ok_and(|found| found.len() == 0);
+        let is_empty = self.lock().is_ok()
+            && self.file.metadata().is_ok_and(|found| found.len() == 0);
         if is_empty {
             let _ = fs::remove_file(rt, path);
         }

@@ -14,10 +14,6 @@ ghost use Rattle.sqlite.specs.Held.{state};
 ghost use Rattle.tables.specs.Reading.{OnlyReads};
 ghost use Rattle.sqlite_wal.specs.Reads.{AreClean};
 ghost use Rattle.sqlite.specs.Closing.{IsCopied};
-ghost use Rattle.sqlite.specs.Files.{file_state};
-ghost use Rattle.register.specs.Offices.{OfficeState};
-ghost use Rattle.store.specs.Offices.{IsAt};
-ghost use Rattle.store.specs.Openings.{IsBlank};
 
 mod fresh;
 mod held;
@@ -169,7 +165,7 @@ fn copy<S: Alter, O: Sink, E: Sink>(
     };
     match Connection::open_from(rt, path, false, Wary) {
         Ok(made) => {
-            let (status, _) = fill(rt, &fresh, &mut conn, made, out, err);
+            let status = fill(rt, &fresh, &mut conn, made, out, err);
             (status, conn)
         }
         Err((error, left)) => {
@@ -184,10 +180,7 @@ fn copy<S: Alter, O: Sink, E: Sink>(
 
 /// Another program of SQLite holds the file.
 fn is_busy(error: &sqlite::Error) -> bool {
-    matches!(
-        error,
-        sqlite::Error::SqliteFailure(ErrorCode::DatabaseBusy)
-    )
+    matches!(error, sqlite::Error::SqliteFailure(ErrorCode::DatabaseBusy))
 }
 
 /// Why a copy can't be made: want of memory is told as ever.
@@ -208,19 +201,17 @@ fn fill<S: Alter, D: Disk + Drop, O: Sink, E: Sink>(
     mut made: Connection<FileStore<D>>,
     out: &mut O,
     err: &mut E,
-) -> (u8, Option<Files<D>>)
+) -> u8
     requires out { O.failed out.old < 2 ^ 64 - 1 }
     requires err { E.failed err.old < 2 ^ 64 - 1 }
-    ensures reads { OnlyReads (state S.Store conn.old) (state S.Store conn.new) }
-    ensures whole { result.0 ≡ 0 → IsSomeAnd result.1 (λ files. AreClean D.Disk files.log files.db → IsBlank (file_state made)
-        → (last : _) × IsCopied last files × ((s : OfficeState) × IsAt s (file_state last))) }
+    ensures { OnlyReads (state S.Store conn.old) (state S.Store conn.new) }
 {
     match fresh.hold_none(rt) {
         Ok(true) => {}
-        Ok(false) => return (tell_failure(Failure::CopyTaken, err), None),
+        Ok(false) => return tell_failure(Failure::CopyTaken, err),
         Err(_) => {
             fresh.clear(rt);
-            return (tell_failure(Failure::CopyFailed, err), None);
+            return tell_failure(Failure::CopyFailed, err);
         }
     }
     let (status, state) = copy_office(rt.alloc(), conn, &mut made, out, err);
@@ -230,9 +221,9 @@ fn fill<S: Alter, D: Disk + Drop, O: Sink, E: Sink>(
     }
     if status != 0 {
         let _ = close(made);
-        return (status, None);
+        return status;
     }
-    closed_copy(made, err)
+    closed_copy(made, err).0
 }
 
 /// Closes a copy, so that it stands alone, and gives the status: 0, or 3 where its log can't be copied into it, which is
