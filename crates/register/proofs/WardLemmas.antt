@@ -14,7 +14,7 @@ use Rattle.register.specs.Offices.{WardEntry, CandidateEntry, OfficeState, ward_
 use Rattle.register.specs.Nominations.{is_contested, is_stood_in}
 use Rattle.register.specs.Items.{is_ward, IsState}
 use Rattle.register.specs.Effects.{in_phase, with_effect}
-use Rattle.register.specs.Wards.{part_of, is_in_range, objections, is_polled, closed_phase, subject_of, reply_to, effect_of}
+use Rattle.register.specs.Wards.{part_of, is_in_range, objections, is_to_be_polled, closed_phase, subject_of, reply_to, effect_of}
 use Rattle.register.proofs.LineLemmas.{is_plain-decimal, IsLine, words, line_append, line_number, line_reply, line_text}
 use Rattle.register.proofs.ObjectionLemmas.{none_objects, asked, absent, there}
 use Rattle.register.proofs.MapLemmas.{found_passes, found_number}
@@ -94,5 +94,5 @@ ward_fits s actor (Close ward) is none =
       tabulated = tabulation_moved s ward (closed_phase part);
       about = office_about actor _ range.0 (close_about ward range.1);
       text = line_text (line_append (words (codes "close ") (search rules) refl) digits);
-      line = line_reply (line_append (words (codes "ward ") (search rules) refl) (line_append digits (told (is_polled part.ward part.candidates)))) (omega arith);
+      line = line_reply (line_append (words (codes "ward ") (search rules) refl) (line_append digits (told (is_to_be_polled part.ward part.candidates)))) (omega arith);
     }

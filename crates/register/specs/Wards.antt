@@ -32,17 +32,17 @@ objections actor (Close ward) part =
     objection (not (is_in_range actor (Close ward))) NumberOutOfRange ∷ phase_objections Nominations part.ward ++ (objection (not (is_stood_in part.candidates)) NoCandidates ∷ [])
 
 -- the ward is to be polled: it is there, and contested
-abbrev pub is_polled : Option WardEntry → List CandidateEntry → Bool
-is_polled None candidates = false
-is_polled (Some w) candidates = is_contested w candidates
+abbrev pub is_to_be_polled : Option WardEntry → List CandidateEntry → Bool
+is_to_be_polled None candidates = false
+is_to_be_polled (Some w) candidates = is_contested w candidates
 
 -- the phase that closed nominations lead to
 abbrev pub closed_phase : PartEntries → Phase
-closed_phase part = if is_polled part.ward part.candidates then Keying else Sealed
+closed_phase part = if is_to_be_polled part.ward part.candidates then Keying else Sealed
 
 -- what is told of a ward whose nominations are closed
 abbrev pub closed_word : PartEntries → List ℕ
-closed_word part = if is_polled part.ward part.candidates then codes " polled" else codes " uncontested"
+closed_word part = if is_to_be_polled part.ward part.candidates then codes " polled" else codes " uncontested"
 
 -- what the receipt is about: the same for two commands that an id may stand for only once
 unfoldable pub subject_of : WardCommand → List ℕ

@@ -6,7 +6,7 @@ ghost use Rattle.register.specs.Offices.{ward_entry, candidate_entry};
 ghost use Rattle.register.specs.Parts.{part_entries, is_in_phase, phase_objections};
 ghost use Rattle.register.specs.Effects.{effect_entry};
 ghost use Rattle.register.specs.Nominations.{is_contested};
-ghost use Rattle.register.specs.Wards.{is_in_range, is_polled, objections, subject_of, reply_to, effect_of};
+ghost use Rattle.register.specs.Wards.{is_in_range, is_to_be_polled, objections, subject_of, reply_to, effect_of};
 
 use crate::candidates::Candidate;
 use crate::decision::Effect;
@@ -84,8 +84,8 @@ pub fn is_contested(ward: &Ward, candidates: &[Candidate]) -> bool
 }
 
 /// Whether the ward is to be polled: it is there, and contested.
-fn is_polled(ward: &Option<Ward>, candidates: &[Candidate]) -> bool
-    ensures { result ≡ is_polled (option_map ward_entry ward.now) (map candidate_entry candidates.now) }
+fn is_to_be_polled(ward: &Option<Ward>, candidates: &[Candidate]) -> bool
+    ensures { result ≡ is_to_be_polled (option_map ward_entry ward.now) (map candidate_entry candidates.now) }
 {
     match ward {
         Some(ward) => is_contested(ward, candidates),
@@ -145,7 +145,7 @@ pub(crate) fn reply_to(
     match command {
         WardCommand::Add { ward, .. } => format!(in alloc; "ward {ward} added"),
         WardCommand::Close { ward } => {
-            if is_polled(&part.ward, &part.candidates) {
+            if is_to_be_polled(&part.ward, &part.candidates) {
                 return format!(in alloc; "ward {ward} polled");
             }
             format!(in alloc; "ward {ward} uncontested")
@@ -166,7 +166,7 @@ pub(crate) fn effect_of(command: &WardCommand, part: &Part) -> Result<Effect, Al
             name: name.clone()?,
         })),
         WardCommand::Close { ward } => {
-            let polled = is_polled(&part.ward, &part.candidates);
+            let polled = is_to_be_polled(&part.ward, &part.candidates);
             Ok(Effect::WardMoved {
                 ward: *ward,
                 phase: if polled { Phase::Keying } else { Phase::Sealed },

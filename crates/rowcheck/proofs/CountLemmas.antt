@@ -20,7 +20,7 @@ use Rattle.register.specs.Offices.{WardEntry, CandidateEntry}
 use Rattle.register.specs.Marks.{columns_of}
 use Rattle.register.specs.Elections.{ElectionEntry, IsMadeOf, contest_of, is_finished, has_finished, is_declared, is_drawn_for, is_right_so_far, stages_of}
 use Rattle.register.proofs.BundledLemmas.{other_order, stages-alike, due-alike}
-use Rattle.rowcheck.specs.Walks.Counts.{is_drawn_by, IsCountOf}
+use Rattle.rowcheck.specs.Walks.Counts.{is_drawn_by, IsOnBundlesOf}
 use Rattle.rowcheck.proofs.RunLemmas.{less_differs}
 
 -- ---- how many stages there are
@@ -60,7 +60,7 @@ map-alike f g [] alike = refl
 map-alike f g (x ∷ xs) alike = rw (alike x, map-alike f g xs alike) refl
 
 -- A count of an election, on the bundles of its papers,
-module _ (e : ElectionEntry) (ward : WardEntry) (lots : List (ℕ × ℕ)) (contest : Contest) (of : IsCountOf e ward lots contest) where
+module _ (e : ElectionEntry) (ward : WardEntry) (lots : List (ℕ × ℕ)) (contest : Contest) (of : IsOnBundlesOf e ward lots contest) where
   -- is one of this election, with that ward and those lots,
   pub count-same : (let one : ElectionEntry = record { ward = ward; candidates = e.candidates; ballots = e.ballots; lots = lots } in one) ≡ e
   count-same =
@@ -81,7 +81,7 @@ module _ (e : ElectionEntry) (ward : WardEntry) (lots : List (ℕ × ℕ)) (cont
 
 -- what is made of the entries of an election has such a count
 pub made-count : (e : ElectionEntry) (ward : WardEntry) (candidates : List CandidateEntry) (ballots : Ballots (List Bundle)) (lots : List (ℕ × ℕ)) (columns : List ℕ) (contest : Contest) → IsMadeOf e ward candidates ballots lots → IsContest (contest_of e) →
-    columns ≡ columns_of candidates → contest ≡ contest_for columns ward.seats (papers_of ballots.papers) → IsCountOf e ward lots contest
+    columns ≡ columns_of candidates → contest ≡ contest_for columns ward.seats (papers_of ballots.papers) → IsOnBundlesOf e ward lots contest
 made-count e ward candidates ballots lots columns contest made fair are on = record {
   fair = fair;
   ward_is = made.ward_is;

@@ -12,7 +12,7 @@ ghost use Rattle.register.specs.Elections.{is_declared, has_finished, is_among, 
 ghost use Rattle.register.specs.Items.{is_lot, item1, item4, item7};
 ghost use Rattle.register.specs.Tabulated.{bundles_in, figures_in, tabulation_of, tabulation_entries};
 ghost use Rattle.rowcheck.specs.States.{state_of};
-ghost use Rattle.rowcheck.specs.Walks.Counts.{IsFair, is_drawn_by, IsCountOf, HasCounted, IsAdded};
+ghost use Rattle.rowcheck.specs.Walks.Counts.{IsFair, is_drawn_by, IsOnBundlesOf, HasCounted, IsAdded};
 
 use crate::finding::{candidates_of, has_ward, lots_of};
 use crate::polls::{ballots_of, is_in_count};
@@ -92,8 +92,8 @@ fn count_done(
 ) -> Result<bool, AllocError>
     requires { book.old.history ≡ [] }
     ensures same { book.new.contest ≡ book.old.contest }
-    ensures is { IfOk result (λ yes. (e : ElectionEntry) → IsCountOf e (ward_entry ward.now) lots.now book.old.contest → yes ≡ is_right_so_far e) }
-    ensures counted { IfOk result (λ yes. (e : ElectionEntry) → IsCountOf e (ward_entry ward.now) lots.now book.old.contest → yes ≡ true → book.new.history ≡ stages_of e) }
+    ensures is { IfOk result (λ yes. (e : ElectionEntry) → IsOnBundlesOf e (ward_entry ward.now) lots.now book.old.contest → yes ≡ is_right_so_far e) }
+    ensures counted { IfOk result (λ yes. (e : ElectionEntry) → IsOnBundlesOf e (ward_entry ward.now) lots.now book.old.contest → yes ≡ true → book.new.history ≡ stages_of e) }
 {
     let asked = stages_asked(ward.done);
     let dues = dues_to(alloc, book, lots, asked as usize)?;

@@ -23,7 +23,7 @@ abbrev pub contest_on_bundles : ElectionEntry → Contest
 contest_on_bundles e = contest_for (columns_of e.candidates) e.ward.seats (papers_of (bundled e.ballots.papers))
 
 -- a count is that of an election, on the bundles of its papers
-pub record IsCountOf (e : ElectionEntry) (ward : WardEntry) (lots : List (ℕ × ℕ)) (contest : Contest) : Type 0 where
+pub record IsOnBundlesOf (e : ElectionEntry) (ward : WardEntry) (lots : List (ℕ × ℕ)) (contest : Contest) : Type 0 where
   pub fair : IsContest (contest_of e)
   pub ward_is : ward ≡ e.ward
   pub lots_are : lots ≡ e.lots

@@ -5,7 +5,7 @@ use Rattle.count.specs.Law.Contest.{contest_for, IsContest}
 use Rattle.register.specs.Marks.{columns_of}
 use Rattle.register.specs.Offices.{WardEntry, ward_entry, candidate_entry}
 use Rattle.register.proofs.BundledLemmas.{fair-alike}
-use Rattle.rowcheck.specs.Walks.Counts.{IsCountOf}
+use Rattle.rowcheck.specs.Walks.Counts.{IsOnBundlesOf}
 use Rattle.rowcheck.proofs.CountLemmas.{made-count}
 use Rattle.rowcheck.proofs.counts.add_from_ballots.Goals as goal
 
@@ -21,7 +21,7 @@ pub returns-clause-added : goal.returns-clause-added
 returns-clause-added c e made fair contested right =
     let ward = ward_entry c.args.ward.now in
     let candidates = map candidate_entry c.args.candidates.now in
-    let counts : IsCountOf e ward c.args.lots.now c.in-Some.book.contest =
+    let counts : IsOnBundlesOf e ward c.args.lots.now c.in-Some.book.contest =
     made-count e ward candidates c.args.ballots.now c.args.lots.now c.columns_of-columns.result c.in-Some.book.contest made fair c.columns_of-columns.ensures.is (search rules) in
     c.in_ok-add_stages.ensures e (record {
       contested = contested;
