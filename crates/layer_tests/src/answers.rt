@@ -48,7 +48,7 @@ impl Folder for Shelf<'_> {
 /// Asks the checker by some words, and compares what it tells on the output and the error output, and its status.
 fn asks(
     rt: &(impl Abort + AllocGlobal),
-    words: Result<&[&str], WordsFault>,
+    words: Result<&str, WordsFault>,
     (ballots, text): (&str, &str),
     told: (&str, &str, u8),
 ) -> Result<(), Fail> {
@@ -56,7 +56,7 @@ fn asks(
     let words = match words {
         Ok(words) => {
             let mut all = Vec::new(alloc);
-            for word in words {
+            for word in words.split_whitespace() {
                 all.push(String::from_str(alloc, word)?)?;
             }
             Ok(all)
@@ -86,36 +86,32 @@ fn asks(
 fn words(rt: HostRuntime) -> Result<(), Fail> {
     let files = (BALLOTS, SHEET);
     let unasked = "error: give the path of the ballots, and that of the sheet; --help tells more\n";
-    for words in [
-        [].as_slice(),
-        ["text"].as_slice(),
-        ["ballots", "text", "text"].as_slice(),
-    ] {
+    for words in ["", "text", "ballots text text"] {
         asks(&rt, Ok(words), files, ("", unasked, 2))?;
     }
     let not_text = ("", "error: a word is not UTF-8\n", 2);
     asks(&rt, Err(WordsFault::NotUtf8), files, not_text)?;
     let memory = ("", "error: memory is wanting\n", 3);
     asks(&rt, Err(WordsFault::Memory), files, memory)?;
-    asks(&rt, Ok(&["large", "text"]), files, memory)?;
-    asks(&rt, Ok(&["ballots", "large"]), files, memory)?;
-    for words in [["no\u{1b}ne", "nothing"], ["ballots", "no\u{1b}ne"]] {
+    asks(&rt, Ok("large text"), files, memory)?;
+    asks(&rt, Ok("ballots large"), files, memory)?;
+    for words in ["no\u{1b}ne nothing", "ballots no\u{1b}ne"] {
         let unread = ("", "error: no?ne can't be read: there is none\n", 3);
-        asks(&rt, Ok(&words), files, unread)?;
+        asks(&rt, Ok(words), files, unread)?;
     }
-    asks(&rt, Ok(&["ballots", "text"]), files, (IS_SHEET, "", 0))?;
+    asks(&rt, Ok("ballots text"), files, (IS_SHEET, "", 0))?;
     asks(
         &rt,
-        Ok(&["ballots", "text"]),
+        Ok("ballots text"),
         (BALLOTS, DECLARATION),
         (IS_DECLARATION, "", 0),
     )?;
     // the two swapped, and the ballots beside themselves
     let swapped =
         "error: line 1 of the ballots: not the highest number of a candidate, and the seats\n";
-    asks(&rt, Ok(&["text", "ballots"]), files, ("", swapped, 2))?;
+    asks(&rt, Ok("text ballots"), files, ("", swapped, 2))?;
     let itself = "line 1 differs, and should be:\nWard 7 Harbour\n";
-    asks(&rt, Ok(&["ballots", "ballots"]), files, ("", itself, 1))?;
+    asks(&rt, Ok("ballots ballots"), files, ("", itself, 1))?;
     Ok(())
 }
 
@@ -152,7 +148,7 @@ fn differences(rt: HostRuntime) -> Result<(), Fail> {
         let told = format!(in rt.alloc(); "{line}{hint}")?;
         asks(
             &rt,
-            Ok(&["ballots", "text"]),
+            Ok("ballots text"),
             (BALLOTS, text),
             ("", told.as_str(), 1),
         )?;
@@ -164,7 +160,7 @@ fn differences(rt: HostRuntime) -> Result<(), Fail> {
     let told = "line 1 differs, and should be:\nWard 7 H?[2J???????ü\u{a0}\n";
     asks(
         &rt,
-        Ok(&["ballots", "text"]),
+        Ok("ballots text"),
         (ballots.as_str(), SHEET),
         ("", told, 1),
     )?;
@@ -199,7 +195,7 @@ fn hindrances(rt: HostRuntime) -> Result<(), Fail> {
         let told = format!(in rt.alloc(); "error: {why}\n")?;
         asks(
             &rt,
-            Ok(&["ballots", "text"]),
+            Ok("ballots text"),
             (ballots, SHEET),
             ("", told.as_str(), 2),
         )?;
@@ -208,7 +204,7 @@ fn hindrances(rt: HostRuntime) -> Result<(), Fail> {
     let told = "error: a lot is recorded for stage 255, and none is drawn there\n";
     asks(
         &rt,
-        Ok(&["ballots", "text"]),
+        Ok("ballots text"),
         (both.as_str(), SHEET),
         ("", told, 2),
     )?;
