@@ -222,8 +222,8 @@ def killed(place, _):
     # A copy can't be removed by what is killed.
     for name in os.listdir(place.tmp):
         shutil.rmtree(os.path.join(place.tmp, name))
-    time.sleep(0.2)
-    place.must(next_one.process.poll() is None and len(place.built()) == 3, "the next call built beside its builders")
+    time.sleep(1)
+    place.must("building" not in next_one.texts()[1] and len(place.built()) == 3, "the next call built beside its builders")
     place.note("go", "")
     next_one.ended().must_have_printed()
     return ended
