@@ -95,7 +95,7 @@ pub fn copy_office<S: Alter, T: Alter, O: Sink, E: Sink>(
     requires err { E.failed err.old < 2 ^ 64 - 1 }
     ensures copied { let outputs = outputs_of O.taken O.failed E.taken E.failed in Tells (outputs out.old err.old) (outputs out.new err.new) result.0
         (λ _ page. HoldsCopy result.1 page (state T.Store copy.old) (state T.Store copy.new)
-            × (HasCleanDisk (state S.Store conn.new) → IsCopied page result.1 (state S.Store conn.old) (state S.Store conn.new) (state T.Store copy.old) (state T.Store copy.new))) }
+        × (HasCleanDisk (state S.Store conn.new) → IsCopied page result.1 (state S.Store conn.old) (state S.Store conn.new) (state T.Store copy.old) (state T.Store copy.new))) }
     ensures made { result.0 ≡ 0 → (result.1 ≡ CopyState.Whole)
         × (HasCleanDisk (state T.Store copy.new) → IsBlank (state T.Store copy.old) → (s : OfficeState) × IsAt s (state T.Store copy.new)) }
     ensures untouched { result.1 ≡ CopyState.Untouched → copy.new ≡ copy.old }

@@ -50,8 +50,8 @@ returns-in-Err-clause-holds g c =
     let copy_old = state g.T.Store c.args.copy.now in
     let copy_new = state g.T.Store c.copy.new.copy in
     let kept = holds_behind c.in-Err.fault copy_old copy_new
-        (λ unbegun. subst (λ conn. OnlyReads copy_old (state g.T.Store conn)) (sym (c.in-Err.ensures.untouched unbegun)) (only_reads_itself copy_old))
-        (λ honest blank. c.copy.ensures.whole honest blank) in
+    (λ unbegun. subst (λ conn. OnlyReads copy_old (state g.T.Store conn)) (sym (c.in-Err.ensures.untouched unbegun)) (only_reads_itself copy_old))
+    (λ honest blank. c.copy.ensures.whole honest blank) in
     subst (λ known. HoldsCopy known (failed (failure_of c.in-Err.fault)) copy_old copy_new) (sym c.state_behind.ensures) kept
 
 pub returns-in-Err-clause-untouched : goal.returns-in-Err-clause-untouched
