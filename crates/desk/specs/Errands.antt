@@ -249,11 +249,12 @@ IsMigrated form s page old new =
     ⊎ ((fault : Fault) × (page ≡ failed (Office fault)) × IsPlain fault × LeavesOldOrNew form s old new)
 
 -- At a database that holds no office of this version or an earlier one the fault is told that it gives, or want of memory or a failing store,
--- and a stop leaves what it could leave before.
+-- and a stop leaves what it could leave before. A failing store is told only where it failed, or where rowids aren't the rows' own.
 pub record IsUnmigrated (db : Database) (page : Page) (old new : State) : Type 0 where
   pub fault : Fault
   pub told : page ≡ failed (Office fault)
   pub given : IsToldInMigration db fault
+  pub cause : FailsToList db old new fault
   pub same : IsPlain fault ⊎ OnlyReads old new
   pub leaves : (trees : Trees) → new.may_leave trees → old.may_leave trees
 

@@ -9,7 +9,8 @@ use Rattle.tables.specs.declared.fault.Fault.{Fault}
 use Rattle.tables.specs.declared.fault.Fault.TheVariants.{Memory, Store}
 use Rattle.store.specs.declared.migration.Migrated.{Migrated}
 use Rattle.store.specs.declared.migration.Migrated.TheVariants.{Done, Already}
-use Rattle.store.specs.Migrations.{HoldsNoOlder, WasAt, LeavesOlderOr}
+use Rattle.tables.specs.Reading.{FailsToList}
+use Rattle.store.specs.Migrations.{FailsToMigrate, HoldsNoOlder, WasAt, LeavesOlderOr}
 use Rattle.store.specs.Openings.{HoldsNoState}
 use Rattle.store.proofs.ReopenLemmas.{left_holds, left_ours}
 use Rattle.desk.specs.Errands.{IsPlain}
@@ -30,6 +31,11 @@ none_moved db old new none leaves trees may = elim (leaves trees may) [
   | inl was ↦ was
   | inr made ↦ absurd (none made.1 made.0 made.2)
 ]
+
+-- where no older office was, a migration fails as a listing does
+only_listed : (db : Database) (old new : State) (fault : Fault) → HoldsNoOlder db → FailsToMigrate db old new fault → FailsToList db old new fault
+only_listed db old new fault none (inl listed) = listed
+only_listed db old new fault none (inr held) = absurd (none held.0 held.1 held.2)
 
 -- a fault that leaves something is want of memory or a failing store
 plain_or : {P : Type 0} (fault : Fault) → (fault ≡ Memory) ⊎ ((fault ≡ Store) ⊎ P) → IsPlain fault ⊎ P
@@ -74,7 +80,7 @@ returns-in-Err g c =
             );
         in_nothing = λ is. absurd (cc is);
         in_older = λ is form s at. inr (c.in-Err.fault, refl, c.in-Err.ensures.refuses clean form s at, c.migrate.ensures.stops clean form s at);
-        beyond = λ is db ours older rests none no_older. record { fault = c.in-Err.fault; told = refl; given = c.in-Err.ensures.told clean db ours older rests; same = plain_or c.in-Err.fault c.in-Err.ensures.unchanged; leaves = none_moved db (state g.S.Store c.args.conn) (state g.S.Store c.migrate.new.conn) no_older (c.migrate.ensures.leaves clean db ours older rests) };
+        beyond = λ is db ours older rests none no_older. record { fault = c.in-Err.fault; told = refl; given = c.in-Err.ensures.told clean db ours older rests; cause = only_listed db (state g.S.Store c.args.conn) (state g.S.Store c.migrate.new.conn) c.in-Err.fault no_older (c.in-Err.ensures.fails clean db ours older rests); same = plain_or c.in-Err.fault c.in-Err.ensures.unchanged; leaves = none_moved db (state g.S.Store c.args.conn) (state g.S.Store c.migrate.new.conn) no_older (c.migrate.ensures.leaves clean db ours older rests) };
         taken = λ is. absurd (cc is);
         elsewhere = λ needs. absurd needs;
         anywhere = λ needs. absurd needs;
