@@ -251,9 +251,6 @@ class Trial:
         """Those of some faults that may be told behind an output: of a script with the line that was under way."""
         if self.is_copy and out:
             return [fault for fault in faults if fault == NOT_WRITTEN]
-        if self.order.words == ["init"]:
-            # what stands at the log's name, where it can't be looked at, may be a log
-            return [*faults, NO_OFFICE.strip()]
         if self.is_script:
             line = f"line {2 + self.order.answered(out)}: "
             return [line + fault for fault in faults] + ([] if out else faults)

@@ -9,7 +9,7 @@
 //! ```
 #![tactic(auto)]
 
-ghost use Rattle.std.specs.Prelude.{◌≡◌, ◌+◌, ◌-◌, ◌^◌, ◌<◌, false, IfSome, IsSomeAnd};
+ghost use Rattle.std.specs.Prelude.{◌≡◌, ◌+◌, ◌-◌, ◌^◌, ◌<◌, IfSome, IsSomeAnd, Some};
 ghost use Rattle.sqlite.specs.Held.{state};
 ghost use Rattle.tables.specs.Reading.{OnlyReads};
 ghost use Rattle.sqlite_wal.specs.Reads.{AreClean};
@@ -290,15 +290,17 @@ fn perform_in<O: Sink, E: Sink>(
     }
 }
 
-/// Whether an order may open what is at a path. `init` alone makes an office, where no log holds anything: any other
-/// order finds no office there.
-fn may_open(site: Site, order: &Order<'_>) -> bool
-    ensures alone { site ≡ Site.LogAlone → result ≡ false }
+/// Why an order opens nothing at a path, if it doesn't. `init` alone makes an office, where no log holds anything: any
+/// other order finds no office there.
+fn why_unopened(site: Site, order: &Order<'_>) -> Option<Fault>
+    ensures alone { site ≡ Site.LogAlone → result ≡ Some Fault.WrongDatabase }
+    ensures unseen { site ≡ Site.LogUnseen → result ≡ Some Fault.Store }
 {
     match site {
-        Site::Taken => true,
-        Site::Free | Site::Empty => matches!(order, Order::Init),
-        Site::LogAlone => false,
+        Site::Taken => None,
+        Site::Free | Site::Empty if matches!(order, Order::Init) => None,
+        Site::Free | Site::Empty | Site::LogAlone => Some(Fault::WrongDatabase),
+        Site::LogUnseen => Some(Fault::Store),
     }
 }
 
@@ -316,8 +318,8 @@ fn perform_at<O: Sink, E: Sink>(
     let Ok(found) = Found::at(rt, path) else {
         return tell_failure(Failure::Office(Fault::Memory), err);
     };
-    if !may_open(found.site, order) {
-        return tell_failure(Failure::Office(Fault::WrongDatabase), err);
+    if let Some(fault) = why_unopened(found.site, order) {
+        return tell_failure(Failure::Office(fault), err);
     }
     match found.hold(rt) {
         Ok(held) => {

@@ -54,14 +54,14 @@ fn greatest_length_at(rt: &HostRuntime, path: &str) -> Option<u64> {
     length_at(rt, path).unwrap_or(Some(u64::MAX))
 }
 
-/// The length of what has the name of a log, none where nothing has it. A link, a folder, or what can't be looked at has
-/// the greatest length.
-fn log_length_at(rt: &HostRuntime, path: &str) -> Option<u64> {
+/// The length of what has the name of a log, none where nothing has it. A link or a folder has the greatest length. An
+/// error is that it can't be looked at.
+fn log_length_at(rt: &HostRuntime, path: &str) -> io::Result<Option<u64>> {
     match fs::symlink_metadata(rt, path) {
-        Ok(found) if found.is_file() => Some(found.len()),
-        Ok(_) => Some(u64::MAX),
-        Err(error) if error.kind() == ErrorKind::NotFound => None,
-        Err(_) => Some(u64::MAX),
+        Ok(found) if found.is_file() => Ok(Some(found.len())),
+        Ok(_) => Ok(Some(u64::MAX)),
+        Err(error) if error.kind() == ErrorKind::NotFound => Ok(None),
+        Err(error) => Err(error),
     }
 }
 
@@ -74,6 +74,8 @@ pub enum Site {
     Empty,
     /// No file, or an empty one, and beside it a log in which something may be.
     LogAlone,
+    /// No file, or an empty one, and what has the name of its log can't be looked at.
+    LogUnseen,
     /// A file in which an office may be, or what can't be looked at.
     Taken,
 }
@@ -91,6 +93,23 @@ fn site_of(database: Option<u64>, log: Option<u64>, journal: Option<u64>) -> Sit
         (Some(_), None, None) => Site::Empty,
         (Some(_), Some(begun), None) if begun <= MAX_BEGUN_LOG => Site::Empty,
         (Some(_), _, _) => Site::LogAlone,
+    }
+}
+
+/// The same, where what has the names of its logs may not have been looked at.
+fn site_beside(
+    database: Option<u64>,
+    log: &io::Result<Option<u64>>,
+    journal: &io::Result<Option<u64>>,
+) -> Site
+    ensures none { IfSome database (λ length. length ≤ 1) → result ≢ Site.Taken }
+{
+    match (log, journal) {
+        (Ok(log), Ok(journal)) => site_of(database, *log, *journal),
+        _ => match database {
+            Some(length) if length > MAX_EMPTY => Site::Taken,
+            _ => Site::LogUnseen,
+        },
     }
 }
 
@@ -118,15 +137,15 @@ impl Found {
         let log = format!(in rt.alloc(); "{database}{LOG}")?;
         let journal = format!(in rt.alloc(); "{database}{JOURNAL}")?;
         let log_length = log_length_at(rt, log.as_str());
-        let site = site_of(
+        let site = site_beside(
             greatest_length_at(rt, database.as_str()),
-            log_length,
-            log_length_at(rt, journal.as_str()),
+            &log_length,
+            &log_length_at(rt, journal.as_str()),
         );
         Ok(Found {
             database,
             log,
-            has_log: log_length.is_some(),
+            has_log: !matches!(log_length, Ok(None)),
             site,
         })
     }
@@ -145,7 +164,10 @@ impl Found {
     /// the database is held, so that no other order has it.
     pub fn leave(&self, rt: &HostRuntime) {
         let database = greatest_length_at(rt, self.database.as_str()).unwrap_or(0);
-        let log = log_length_at(rt, self.log.as_str()).unwrap_or(0);
+        let log = match log_length_at(rt, self.log.as_str()) {
+            Ok(length) => length.unwrap_or(0),
+            Err(_) => u64::MAX,
+        };
         let is_made = matches!(self.site, Site::Free) && database.saturating_add(log) < MIN_OFFICE;
         if is_made || (!self.has_log && log < MIN_LOG) {
             let _ = fs::remove_file(rt, self.log.as_str());
