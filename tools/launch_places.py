@@ -12,6 +12,7 @@ import time
 # What the script may call, besides `rt` and what bash has itself.
 ALWAYS = ["readlink", "find", "sort", "xargs", "sha256sum"]
 BUILDING = ["flock", "setsid", "nproc", "mktemp", "mkdir", "cp", "mv", "rm", "sed", "cut", "cat", "wc", "grep", "tail", "sleep"]
+UNPACKING = ["tar", "xz", "chmod"]
 # Those of them that write: they note their words, and fail where a case says so.
 WRITERS = ["mktemp", "mkdir", "cp", "mv", "rm"]
 CRATES = "# made up\nlow:\nleft: low\nright: low\ncount_office: left right\ncheck_count: low\n"
@@ -104,7 +105,7 @@ class Place:
         self.write(self.source("count_office", "main.rt"), "office\n")
         self.write(self.source("check_count", "main.rt"), "checker\n")
         self.note("version", VERSION + "\n")
-        for name in {"bash", "sh", "chmod", *ALWAYS, *BUILDING} - {"nproc", *WRITERS}:
+        for name in {"bash", "sh", *ALWAYS, *BUILDING, *UNPACKING} - {"nproc", *WRITERS}:
             os.symlink(found(name), os.path.join(self.bin, name))
         for name in WRITERS:
             self.command(name, WRITER.replace("TRUE", found(name)))
