@@ -1,0 +1,101 @@
+"""What a shell offers behind `count-office`, made from the program's own help."""
+from releasing import help as helps
+
+FILE_WORDS = ('FILE', 'NEW')
+
+
+def takes_file(order):
+    return any(word.name.strip('<>[]') in FILE_WORDS for word in order.words)
+
+
+def options_of(order):
+    return [option.name.split()[0].rstrip(',') for option in order.options if option.name.startswith('--')] + ['--help']
+
+
+def bash(orders):
+    cases = ''.join('        %s) options="%s" files=%s ;;\n' % (order.name, ' '.join(options_of(order)), 'yes' if takes_file(order) else '')
+                    for order in orders)
+    return '''# What bash offers behind `count-office`: the path of an office, an order, and the order's options or files.
+_count_office() {
+    local word=${COMP_WORDS[COMP_CWORD]} options='' files=''
+    COMPREPLY=()
+    if ((COMP_CWORD == 1)); then
+        compopt -o filenames
+        mapfile -t COMPREPLY < <(compgen -f -- "$word"; compgen -W '--help --version' -- "$word")
+        return
+    fi
+    if [[ ${COMP_WORDS[1]} == - ]]; then
+        if ((COMP_CWORD == 2)); then
+            mapfile -t COMPREPLY < <(compgen -W check -- "$word")
+        else
+            compopt -o filenames
+            mapfile -t COMPREPLY < <(compgen -f -- "$word")
+        fi
+        return
+    fi
+    if ((COMP_CWORD == 2)); then
+        mapfile -t COMPREPLY < <(compgen -W '%s' -- "$word")
+        return
+    fi
+    case ${COMP_WORDS[2]} in
+%s    esac
+    if [[ $word == -* ]]; then
+        mapfile -t COMPREPLY < <(compgen -W "$options" -- "$word")
+    elif [[ -n $files ]]; then
+        compopt -o filenames
+        mapfile -t COMPREPLY < <(compgen -f -- "$word")
+    fi
+}
+complete -F _count_office count-office
+''' % (' '.join(order.name for order in orders), cases)
+
+
+def quoted(text):
+    """A text in the single quotes of zsh and fish."""
+    return "'" + text.replace('\\', '\\\\').replace("'", "'\\''") + "'"
+
+
+def zsh(orders):
+    names = ''.join('        %s\n' % quoted('%s:%s' % (order.name, order.about.replace(':', '\\:'))) for order in orders)
+    filed = '|'.join(order.name for order in orders if takes_file(order))
+    with_id = '|'.join(order.name for order in orders if '--id' in options_of(order))
+    return '''#compdef count-office
+# What zsh offers behind `count-office`: the path of an office, an order, and the order's options or files.
+_count_office() {
+    local -a orders
+    orders=(
+%s    )
+    if ((CURRENT == 2)); then
+        _files
+    elif [[ $words[2] == - ]]; then
+        if ((CURRENT == 3)); then compadd check; else _files; fi
+    elif ((CURRENT == 3)); then
+        _describe order orders
+    elif [[ $PREFIX == -* ]]; then
+        compadd -- --help
+        case $words[3] in (%s) compadd -- --id ;; esac
+    else
+        case $words[3] in (%s) _files ;; esac
+    fi
+}
+_count_office "$@"
+''' % (names, with_id, filed)
+
+
+def fish(orders):
+    lines = ['# What fish offers behind `count-office`: the path of an office, an order, and the order\'s options or files.',
+             'function __count_office_words', '    count (commandline -opc)', 'end']
+    for order in orders:
+        lines.append("complete -c count-office -n 'test (__count_office_words) -eq 2' -f -a %s -d %s" % (order.name, quoted(order.about)))
+    for order in orders:
+        seen = "-n '__fish_seen_subcommand_from %s'" % order.name
+        lines.append('complete -c count-office %s %s -l help -d %s' % (seen, '-F' if takes_file(order) else '-f', quoted('Print help')))
+        if '--id' in options_of(order):
+            lines.append('complete -c count-office %s -l id -x -d %s' % (seen, quoted('An id that you choose for this order')))
+    return '\n'.join(lines) + '\n'
+
+
+def completions(program):
+    """{shell: the text of its completions}"""
+    orders = helps.orders(program)
+    return {'bash': bash(orders), 'zsh': zsh(orders), 'fish': fish(orders)}

@@ -1,0 +1,68 @@
+"""A Debian package of a release's files."""
+import os
+import subprocess
+import tempfile
+
+CONTROL = """Package: count-office
+Version: {version}
+Architecture: {architecture}
+Maintainer: Gambrelsa <count-office@gambrelsa.example>
+Installed-Size: {size}
+Section: misc
+Priority: optional
+Description: office of an election by the single transferable vote of Scotland
+ It takes nominations, has each ballot paper keyed by two clerks who do not see one another's
+ work, counts, and prints stage sheets and declarations that anyone can check.
+"""
+
+# The user as whom an office is served, where systemd is there.
+AFTER_INSTALL = """#!/bin/sh
+set -e
+if [ "$1" = configure ] && command -v systemd-sysusers >/dev/null; then
+    systemd-sysusers count-office.conf
+fi
+"""
+
+# Nothing of the package is left but the files of offices.
+AFTER_REMOVAL = """#!/bin/sh
+set -e
+if [ "$1" = remove ] || [ "$1" = purge ]; then
+    if [ -z "$(ls -A /var/lib/count-office 2>/dev/null)" ]; then
+        rmdir /var/lib/count-office 2>/dev/null || true
+        if command -v userdel >/dev/null && getent passwd count-office >/dev/null; then userdel count-office; fi
+    fi
+fi
+"""
+
+
+def write(path, text, mode, time):
+    os.makedirs(os.path.dirname(path), exist_ok=True)
+    with open(path, 'wb') as file:
+        file.write(text)
+    os.chmod(path, mode)
+
+
+def same_time(folder, time):
+    for place, folders, names in os.walk(folder):
+        for name in folders + names:
+            os.utime(os.path.join(place, name), (time, time))
+        os.chmod(place, 0o755)
+
+
+def package(files, version, architecture, time):
+    """The package's bytes: {path: (mode, bytes)} below /usr, at one time."""
+    with tempfile.TemporaryDirectory() as room:
+        root = os.path.join(room, 'root')
+        for path, (mode, text) in files.items():
+            write(os.path.join(root, 'usr', path), text, mode, time)
+        size = sum(len(text) for _, text in files.values()) // 1024 + 1
+        control = CONTROL.format(version=version, architecture=architecture, size=size).encode()
+        write(os.path.join(root, 'DEBIAN', 'control'), control, 0o644, time)
+        write(os.path.join(root, 'DEBIAN', 'postinst'), AFTER_INSTALL.encode(), 0o755, time)
+        write(os.path.join(root, 'DEBIAN', 'postrm'), AFTER_REMOVAL.encode(), 0o755, time)
+        same_time(root, time)
+        made = os.path.join(room, 'made.deb')
+        subprocess.run(['dpkg-deb', '--root-owner-group', '--build', '-Zxz', root, made], check=True,
+                       stdout=subprocess.DEVNULL, env={**os.environ, 'SOURCE_DATE_EPOCH': str(time)})
+        with open(made, 'rb') as file:
+            return file.read()
