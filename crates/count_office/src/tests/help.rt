@@ -190,11 +190,15 @@ Usage: count-office DB result <WARD>
 Arguments:
   <WARD>  The ward's number, 1 to 99
 $ serve --help
-Usage: count-office DB serve <PORT> <CONNECTIONS>
+Usage: count-office DB serve [OPTIONS] <PORT> <CONNECTIONS>
 
 Arguments:
   <PORT>         The port of this machine, 1 to 65535
   <CONNECTIONS>  How many connections are answered, 1 to 1000000
+
+Options:
+      --origin <ORIGIN>  The origin of pages that ask through a proxy, as https://count.example.org;
+                         left out, no page of another machine is answered
 $ migrate --help
 Usage: count-office DB migrate
 $ wards --help
