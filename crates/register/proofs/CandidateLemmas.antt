@@ -16,7 +16,8 @@ use Rattle.register.specs.Candidates.{part_of, is_in_range, objections, subject_
 use Rattle.register.proofs.LineLemmas.{are_plain-decimals, IsLine, words, line_append, line_number, line_reply, line_text}
 use Rattle.register.proofs.ObjectionLemmas.{none_objects, asked, absent, there}
 use Rattle.register.proofs.ItemLemmas.{IsFit, office_about}
-use Rattle.register.proofs.NominationLemmas.{candidate_stays, withdrawn_stays, candidate_tabulated, withdrawn_tabulated}
+use Rattle.register.proofs.NominationLemmas.{added_before, withdrawn_before, candidate_stays, withdrawn_stays}
+use Rattle.register.proofs.TabulationLemmas.{tabulation_kept}
 
 -- what the receipt of a candidate's command may be about
 candidate_about : (m n : ℕ) → is_ward_number m ≡ true → is_candidate_number n ≡ true → is_office_subject (codes "candidate " ++ (decimal m ++ (codes " " ++ decimal n))) ≡ true
@@ -50,8 +51,8 @@ candidate_fits s actor (Add ward candidate name) is none =
     let found = there Nominations (ward_at s ward) WrongPhase (others.1).0 in
     let new = absent (candidate_at s ward candidate) CandidateExists ((others.1).1).0 in
     record {
-      state = candidate_stays s _ found.ward (and_from _ _ numbers.0 (and_from _ _ numbers.1 good)) new found.is found.phased is;
-      tabulated = candidate_tabulated s _ found.ward found.is found.phased is;
+      state = candidate_stays s _ (and_from _ _ numbers.0 (and_from _ _ numbers.1 good)) new found is;
+      tabulated = tabulation_kept s _ is (added_before s _ found);
       about = office_about actor _ range.0 (candidate_about ward candidate numbers.0 numbers.1);
       text = line_text (line_append (words (codes "candidate ") (search rules) refl) (both ward candidate numbers.0 numbers.1));
       line = told ward candidate numbers.0 numbers.1 (words (codes " added") (search rules) refl) (omega arith);
@@ -63,8 +64,8 @@ candidate_fits s actor (Withdraw ward candidate) is none =
     let numbers = and_parts (is_ward_number ward) (is_candidate_number candidate) range.1 in
     let found = there Nominations (ward_at s ward) WrongPhase (others.1).0 in
     record {
-      state = withdrawn_stays s ward candidate found.ward found.is found.phased is;
-      tabulated = withdrawn_tabulated s ward candidate found.ward found.is found.phased is;
+      state = withdrawn_stays s ward candidate found is;
+      tabulated = tabulation_kept s _ is (withdrawn_before s ward candidate found);
       about = office_about actor _ range.0 (withdraw_about ward candidate numbers.0 numbers.1);
       text = line_text (line_append (words (codes "withdraw ") (search rules) refl) (both ward candidate numbers.0 numbers.1));
       line = told ward candidate numbers.0 numbers.1 (words (codes " withdrawn") (search rules) refl) (omega arith);

@@ -38,10 +38,11 @@ use Rattle.register.specs.Tabulated.{bundles_in, figures_in, tabulation_of}
 use Rattle.register.specs.Counts.{poll_for, due_for, elected_for, part_of, is_in_range, is_ready, lot_objection, waits_at, objections, subject_of, next_stage, poll_told, action_told, reply_to, effect_of}
 use Rattle.register.proofs.LineLemmas.{upper, is_plain-decimal, are_plain-from, IsLine, given, line_append, line_decimal, line_number, line_within, line_reply, line_text}
 use Rattle.register.proofs.ObjectionLemmas.{none_objects, asked, unasked, there}
-use Rattle.register.proofs.MapLemmas.{put_all, put_is_map, filter_put, filter_put_in, found_filter, found_key, found_passes, found_number, changed_at, same_number, both_equal, kept_all, all_but_number}
+use Rattle.register.proofs.MapLemmas.{put_all, put_is_map, filter_put_in, found_filter, found_key, found_passes, found_number, changed_at, same_number, both_equal, kept_all, all_but_number}
 use Rattle.register.proofs.ElectionLemmas.{is_sound, sound_of, lots_placed_of, right_in}
 use Rattle.register.proofs.StageLemmas.{acted, stage_added, stage_more}
 use Rattle.register.proofs.ProgressLemmas.{with_lots, held, in_count, sound_sealed, sound_advanced, sound_declared, lot_new, stages_still, sound_drawn}
+use Rattle.register.proofs.ElsewhereLemmas.{election_elsewhere}
 use Rattle.register.proofs.ItemLemmas.{MapName, lot_map, Holds, maps_of, state_from, rounds_still, lot_total, are_placed, are_all, has_enough, IsFit, office_about}
 use Rattle.register.proofs.NominationLemmas.{moved, staged, changed_stays}
 use Rattle.register.proofs.TabulationLemmas.{IsOfCount, bundles_of_count, figures_of_count, told_by, told_but_one, same_tabulation, tabulation_moved, wards_split}
@@ -252,7 +253,7 @@ drawn_stays s l w good found phased due is =
         ap (λ (ls : List LotEntry). is_sound (with_lots ls (election_of s w))) in_place ∙ sound_drawn (election_of s w) (lots_of s w.number) l due.kind due.tied refl phased due.is own due.among
 
     there_too : (x : WardEntry) → (l.ward == x.number) ≡ false → is_sound (election_of s x) ≡ true → is_sound (election_of (with_effect (lot_drawn l) s) x) ≡ true
-    there_too x other sound = ap (λ (ls : List LotEntry). is_sound (with_lots ls (election_of s x))) (filter_put lot_cmp (λ (y : LotEntry). y.ward == x.number) l s.lots other) ∙ sound
+    there_too x other sound = ap is_sound (election_elsewhere s l.ward is x other (lot_drawn l) refl) ∙ sound
 
     -- no lot of its ward and stage is there
     new : entry_at (lot_cmp l) s.lots ≡ None
@@ -284,7 +285,7 @@ drawn_tabulated s l w found phased due is = same_tabulation s (with_effect (lot_
         let still = stages_still (election_of s w) (lots_of s w.number) l due.kind due.tied refl phased due.is (own_sound s l.ward w is found) in
         told_but_one told of s (with_effect (lot_drawn l) s) l.ward w refl (wards_split s l.ward w is found)
         (ap (λ (ls : List LotEntry). told (with_lots ls (election_of s w))) in_place ∙ of.of_lots (election_of s w) _ still)
-        (λ x other. ap (λ (ls : List LotEntry). told (with_lots ls (election_of s x))) (filter_put lot_cmp (λ (y : LotEntry). y.ward == x.number) l s.lots other))
+        (λ x other. ap told (election_elsewhere s l.ward is x other (lot_drawn l) refl))
 
 -- ---- each command
 

@@ -111,17 +111,10 @@ module _ (s : OfficeState) (actor : ℕ) (is : IsState s) (receipt : ReceiptEntr
 
   -- and any other command nothing
   added : (command : Command) → first_reason (objections actor command (part_of s actor command)) ≡ None → IsCountFor s command shown → IsAddedFor command shown addition → IsAddedAt s command addition
-  added (Ward command) free count adds = adds
-  added (Candidate command) free count adds = adds
-  added (Batch command) free count adds = adds
-  added (Keying command) free count adds = adds
-  added (Verdict command) free count adds = adds
-  added (Count (Seal ward)) free count adds = adds
   added (Count (Advance ward)) free count adds =
       let due = advance_due s actor ward is free in
       record { own = due.own; found = due.found; action = due.action; due = due.due.next; adds = stage_alone ward count adds due }
-  added (Count (Lot ward stage candidate)) free count adds = adds
-  added (Count (Declare ward)) free count adds = adds
+  added command free count adds = adds
 
   told : (command : Command) → first_reason (objections actor command (part_of s actor command)) ≡ None → IsCountFor s command shown → IsAddedFor command shown addition → IsTold (effect_of actor command (part_of s actor command))
   told (Ward (ward_add ward seats name)) free count adds = stays (Ward (ward_add ward seats name)) adds (fits s actor (Ward (ward_add ward seats name)) is free).tabulated

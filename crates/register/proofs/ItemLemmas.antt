@@ -13,7 +13,7 @@ use Rattle.register.specs.Offices.{put, WardEntry, CandidateEntry, BatchEntry, T
 use Rattle.register.specs.Keyed.{is_polled, is_given_out, is_round_of, are_rounds_to}
 use Rattle.register.specs.Items.{is_ward, is_candidate, is_batch, is_third, is_keyed_paper, is_judged_paper, is_lot, is_about, is_receipt, item2, item3, item4, item5, IsState}
 use Rattle.register.specs.Elections.{election_of, is_uncounted}
-use Rattle.register.specs.Effects.{EffectEntry, ward_added, ward_moved, candidate_added, candidate_withdrawn, batch_added, batch_reopened, third_set, papers_keyed, paper_judged, stage_counted, lot_drawn, with_effect, with_receipt}
+use Rattle.register.specs.Effects.{EffectEntry, ward_added, with_effect, with_receipt}
 use Rattle.register.proofs.MapLemmas.{IsMap, list_all_weaker, put_all, put_is_map, found_put_too, found_put_still}
 use Rattle.register.proofs.ElectionLemmas.{is_sound, are_sound, are_lots_placed, sound_of, lots_placed_of, agreed_from, counted_from, no_lots_of, sound_before, unsealed}
 use Rattle.register.proofs.KeyedLemmas.{rounds_from, with_nominations, IsStill, given_out_still, keyed_still, judged_still}
@@ -197,16 +197,7 @@ pub record IsFit (s : OfficeState) (actor : ℕ) (effect : EffectEntry) (subject
 -- no effect changes the receipts
 pub same_receipts : (effect : EffectEntry) (s : OfficeState) → (with_effect effect s).receipts ≡ s.receipts
 same_receipts (ward_added w) s = refl
-same_receipts (ward_moved ward phase) s = refl
-same_receipts (candidate_added c) s = refl
-same_receipts (candidate_withdrawn ward candidate) s = refl
-same_receipts (batch_added b) s = refl
-same_receipts (batch_reopened batch round) s = refl
-same_receipts (third_set t) s = refl
-same_receipts (papers_keyed papers) s = refl
-same_receipts (paper_judged v) s = refl
-same_receipts (stage_counted ward done) s = refl
-same_receipts (lot_drawn l) s = refl
+same_receipts effect s = refl
 
 -- what a receipt of the office may be about
 pub office_about : (actor : ℕ) (subject : List ℕ) → is_office actor ≡ true → is_office_subject subject ≡ true → is_about actor subject ≡ true

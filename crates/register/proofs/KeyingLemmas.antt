@@ -1,5 +1,5 @@
 -- The command of a clerk, where nothing stands against it, leads from a state to a state, and leaves a receipt in range.
-use Rattle.std.proofs.Common.{rules, inl, inr, ◌≡◌, ◌⊎◌, ℕ, suc, ◌+◌, ◌<◌, ◌≤◌, Bool, true, false, not, ◌&&◌, ◌||◌, ◌==◌, ◌++◌, nat_le, codes, List, [], ◌∷◌, length, map, filter, Option, Some, None, Result, Ok, Err, string_bytes, refl, sym, ap, ◌∙◌, arith}
+use Rattle.std.proofs.Common.{rules, inl, inr, ◌≡◌, ◌⊎◌, ℕ, suc, ◌+◌, ◌<◌, ◌≤◌, Bool, true, false, not, ◌&&◌, ◌||◌, ◌==◌, ◌++◌, nat_le, codes, List, [], ◌∷◌, length, map, filter, Option, Some, None, Result, Ok, Err, string_bytes, refl, sym, ap, subst, ◌∙◌, arith}
 use Rattle.std.specs.Fmt.{decimal}
 use Rattle.std.specs.List.{AllByRecursion, list_all}
 use Rattle.std.specs.Str.{is_utf8}
@@ -26,23 +26,21 @@ use Rattle.register.specs.Parts.{passes}
 use Rattle.register.specs.Verdicts.{is_rejection_code}
 use Rattle.register.specs.Marks.{columns_of, is_read, is_readable, is_valid, fault_told, marks_objection, first_bad_marks, or_reason}
 use Rattle.register.specs.Ranges.{last_batch, last_round, most_papers, is_clerk, is_batch_number, is_paper_number, is_round}
-use Rattle.register.specs.Offices.{WardEntry, BatchEntry, KeyedEntry, JudgedEntry, OfficeState, put, put_each, entry_at, keyed_cmp, batch_compared, ward_at, candidates_of, batch_at, third_at, keying_of, verdicts_of, lots_of}
-use Rattle.register.specs.Polls.{Pile, pile_of}
-use Rattle.register.specs.Elections.{election_of, is_counted}
+use Rattle.register.specs.Offices.{BatchEntry, KeyedEntry, JudgedEntry, OfficeState, put, put_each, entry_at, keyed_cmp, batch_compared, batch_at, third_at, keying_of, verdicts_of}
 use Rattle.register.specs.Papers.{is_keyed, of_three, agreed, differ, has_doubtful, is_its_clerk, clerks_of, keyings_in, keyings_now, taken_papers}
-use Rattle.register.specs.Keyed.{columns_for, is_keyed_for, are_numbered, is_whole, is_round_of, are_rounds_to, is_verdict_on, is_verdict_for, is_judged}
+use Rattle.register.specs.Keyed.{columns_for, is_keyed_for, are_numbered, is_whole, is_round_of, are_rounds_to, is_verdict_for, is_judged}
 use Rattle.register.specs.Items.{is_keyed_paper, IsState}
 use Rattle.register.specs.Effects.{papers_keyed, with_effect}
 use Rattle.register.specs.Tabulated.{tabulation_of}
 use Rattle.register.specs.Keyings.{texts_of, part_of, is_in_range, objections, subject_of, reply_to, papers_from, effect_of}
 use Rattle.register.proofs.LineLemmas.{lower, upper, are_plain-decimals, words, line_append, line_number, line_reply, line_text}
-use Rattle.register.proofs.ObjectionLemmas.{none_objects, asked, unasked, present, there}
+use Rattle.register.proofs.ObjectionLemmas.{none_objects, asked, unasked, IsThere, present, there}
 use Rattle.register.proofs.MapLemmas.{list_all_weaker, IsMap, put_each_all, put_is_map, filter_put_in, filter_put_each, put_last, found_filter, found_none, each_weaker, found_passes, found_number, same_number, both_equal, all_but_number}
-use Rattle.register.proofs.ElectionLemmas.{lots_placed_of, same_election}
-use Rattle.register.proofs.ElsewhereLemmas.{sound_elsewhere, batches_elsewhere, piles_elsewhere}
-use Rattle.register.proofs.TabulationLemmas.{tabulation_elsewhere}
+use Rattle.register.proofs.ElectionLemmas.{lots_placed_of}
+use Rattle.register.proofs.ElsewhereLemmas.{IsOfBatch, file_elsewhere, IsBeforeCount, batch_in_keying, sound_kept}
+use Rattle.register.proofs.TabulationLemmas.{tabulation_kept}
 use Rattle.register.proofs.ClerkLemmas.{not_keyed, keyed_alike, all_grown, of_one, are_three, Grows, doubtful_still}
-use Rattle.register.proofs.KeyedLemmas.{rounds_from, round_at}
+use Rattle.register.proofs.KeyedLemmas.{HasSameFile, rounds_kept, judged_kept, rounds_from, round_at}
 use Rattle.register.proofs.ItemLemmas.{MapName, keyed_map, Holds, maps_of, state_from, keyed_total, IsFit, clerk_about}
 use Rattle.register.proofs.BatchLemmas.{found_in_range}
 
@@ -69,11 +67,11 @@ module _ (batch round clerk : ℕ) where
   numbered paper [] = refl
   numbered paper (marks ∷ others) = and_from _ _ (eq-eqb paper paper refl) (numbered (paper + 1) others)
 
-  -- none of them of another keying,
-  pub of_no_other : (test : ℕ → ℕ → ℕ → Bool) → test batch round clerk ≡ false → (paper : ℕ) (texts : List (List ℕ)) → list_all (λ k. not (test k.batch k.round k.clerk)) (papers_from batch round clerk paper texts) ≡ true
+  -- each of them of it,
+  each_of : (test : ℕ → ℕ → ℕ → Bool) → test batch round clerk ≡ true → (paper : ℕ) (texts : List (List ℕ)) → list_all (λ k. test k.batch k.round k.clerk) (papers_from batch round clerk paper texts) ≡ true
   unfolding papers_from
-  of_no_other test other paper [] = refl
-  of_no_other test other paper (marks ∷ others) = and_from _ _ (ap not other) (of_no_other test other (paper + 1) others)
+  each_of test own paper [] = refl
+  each_of test own paper (marks ∷ others) = and_from _ _ own (each_of test own (paper + 1) others)
 
   -- in range,
   papers_in_range : is_batch_number batch ≡ true → is_round round ≡ true → is_clerk clerk ≡ true → (paper : ℕ) (texts : List (List ℕ)) → 1 ≤ paper → paper + length texts ≤ suc most_papers → list_all is_utf8 texts ≡ true
@@ -183,32 +181,17 @@ module _ (s : OfficeState) (b : BatchEntry) (actor : ℕ) (texts : List (List �
   -- each other keying is as it was
   other_keying : (n m clerk : ℕ) → ((b.number == n) && ((b.round == m) && (actor == clerk))) ≡ false → keying_of (with_papers s b actor texts) n m clerk ≡ keying_of s n m clerk
   other_keying n m clerk other =
-      filter_put_each keyed_cmp (is_of n m clerk) (papers_for b actor texts) s.keyings (of_no_other b.number b.round actor (λ x y z. (x == n) && ((y == m) && (z == clerk))) other 1 texts)
+      filter_put_each keyed_cmp (is_of n m clerk) (papers_for b actor texts) s.keyings (each_of b.number b.round actor (λ x y z. not ((x == n) && ((y == m) && (z == clerk)))) (ap not other) 1 texts)
 
-  -- so those of each other batch are, with its rounds, its verdicts and its pile
-  other_keyings : (x : BatchEntry) → (b.number == x.number) ≡ false → (m : ℕ) → keyings_in (with_papers s b actor texts) x m ≡ keyings_in s x m
-  other_keyings x other m = keyed_alike (keying_of (with_papers s b actor texts) x.number m) (keying_of s x.number m) (clerks_of s x) (λ clerk. other_keying x.number m clerk (and_left _ _ other))
+  -- and so is the file of each other batch
+  of_batch : IsOfBatch b.number (papers_keyed (papers_for b actor texts))
+  of_batch = each_of b.number b.round actor (λ x y z. x == b.number) (eq-eqb b.number b.number refl) 1 texts
 
-  other_round : (x : BatchEntry) → (b.number == x.number) ≡ false → (m : ℕ) → is_round_of s x m ≡ true → is_round_of (with_papers s b actor texts) x m ≡ true
-  other_round x other m holds = ap (λ (ks : List (List KeyedEntry)). list_all (is_whole x.size) ks && (nat_le x.round m || differ ks)) (other_keyings x other m) ∙ holds
+  other_file : (x : BatchEntry) → (b.number == x.number) ≡ false → HasSameFile s (with_papers s b actor texts) x
+  other_file x other = file_elsewhere s (papers_keyed (papers_for b actor texts)) b.number of_batch x other
 
-  other_judged : (x : BatchEntry) → (b.number == x.number) ≡ false → (vs : List JudgedEntry) → is_judged s x vs ≡ true → is_judged (with_papers s b actor texts) x vs ≡ true
-  other_judged x other vs judged = ap (λ (ks : List (List KeyedEntry)). list_all (is_verdict_on (columns_for s x) (agreed ks)) vs) (other_keyings x other x.round) ∙ judged
-
-  other_pile : (x : BatchEntry) → (b.number == x.number) ≡ false → pile_of (with_papers s b actor texts) x ≡ pile_of s x
-  other_pile x other = ap pile_with (other_keyings x other x.round)
-    where
-      pile_with : List (List KeyedEntry) → Pile
-      pile_with keyings = record { keyings = keyings; verdicts = verdicts_of s x.number }
-
-  -- the elections of other wards are as they were,
-  keyed_elsewhere : (x : WardEntry) → (b.ward == x.number) ≡ false → election_of (with_papers s b actor texts) x ≡ election_of s x
-  keyed_elsewhere x other =
-      same_election x _ (candidates_of s x.number) _ _ _ (lots_of s x.number) refl (piles_elsewhere s (with_papers s b actor texts) b.number x.number s.batches other_pile (batches_elsewhere s b.number b x.number is found other)) refl
-
-  -- and so is the tabulation
-  pub keyed_tabulated : (w : WardEntry) → ward_at s b.ward ≡ Some w → is_counted w.phase ≡ false → tabulation_of (with_papers s b actor texts) ≡ tabulation_of s
-  keyed_tabulated w its_ward open_ = tabulation_elsewhere s b.ward w s.candidates s.batches (put_each keyed_cmp (papers_for b actor texts) s.keyings) s.verdicts its_ward open_ keyed_elsewhere is
+  pub keyed_before : IsThere Keying (ward_for s (batch_at s b.number)) → IsBeforeCount s (papers_keyed (papers_for b actor texts))
+  keyed_before its = batch_in_keying s b.number b (papers_keyed (papers_for b actor texts)) found its of_batch (λ own. own) refl refl
 
   module _ (clerk : is_clerk actor ≡ true) (written : list_all is_utf8 texts ≡ true) where
     papers_good : list_all is_keyed_paper (papers_for b actor texts) ≡ true
@@ -300,8 +283,8 @@ module _ (s : OfficeState) (b : BatchEntry) (actor : ℕ) (texts : List (List �
         and_from _ _ (rw found (and_from _ _ (le-leb b.round b.round (le_refl b.round)) (and_from _ _ its parts.0))) (keyed_for_each (paper + 1) others parts.1)
 
     -- the state with a whole keying of the batch's round, by a clerk of it who had none there
-    pub keyed_stays : (w : WardEntry) → ward_at s b.ward ≡ Some w → is_counted w.phase ≡ false → first_bad_marks (columns_for s b) 1 texts ≡ None → IsState (with_papers s b actor texts)
-    keyed_stays w its_ward open_ none =
+    pub keyed_stays : IsBeforeCount s (papers_keyed (papers_for b actor texts)) → first_bad_marks (columns_for s b) 1 texts ≡ None → IsState (with_papers s b actor texts)
+    keyed_stays before none =
         let keyed = and_parts _ _ is.keyed in
         let judged = and_parts _ _ is.judged in
         let read = papers_read b.number b.round actor (columns_for s b) 1 texts none in
@@ -315,14 +298,14 @@ module _ (s : OfficeState) (b : BatchEntry) (actor : ℕ) (texts : List (List �
               _
               _
               (put_each_all keyed_cmp (λ k. is_keyed_for s k (batch_at s k.batch)) (papers_for b actor texts) s.keyings (keyed_for_each 1 texts read) keyed.0)
-              (still (λ x. are_rounds_to s x x.round) (λ x. are_rounds_to (with_papers s b actor texts) x x.round) (rounds_from s (with_papers s b actor texts) b b b.round own_round) (λ x other rounds. rounds_from s (with_papers s b actor texts) x x x.round (other_round x other) rounds) keyed.1);
+              (still (λ x. are_rounds_to s x x.round) (λ x. are_rounds_to (with_papers s b actor texts) x x.round) (rounds_from s (with_papers s b actor texts) b b b.round own_round) (λ x other. rounds_kept s (with_papers s b actor texts) x (other_file x other)) keyed.1);
           judged = and_from
               _
               _
               judged.0
-              (still (λ x. is_judged s x (verdicts_of s x.number)) (λ x. is_judged (with_papers s b actor texts) x (verdicts_of s x.number)) own_judged (λ x other verdicts. other_judged x other (verdicts_of s x.number) verdicts) judged.1);
+              (still (λ x. is_judged s x (verdicts_of s x.number)) (λ x. is_judged (with_papers s b actor texts) x (verdicts_of s x.number)) own_judged (λ x other. judged_kept s (with_papers s b actor texts) x (other_file x other)) judged.1);
           lots_placed = lots_placed_of is;
-          sound = sound_elsewhere s b.ward w s.candidates s.batches (put_each keyed_cmp (papers_for b actor texts) s.keyings) s.verdicts its_ward open_ keyed_elsewhere is;
+          sound = sound_kept s (papers_keyed (papers_for b actor texts)) is before;
         })
       where
         whole : list_all (is_whole b.size) (keyings_now s b) ≡ true
@@ -384,9 +367,7 @@ record IsKeying (s : OfficeState) (actor : ℕ) (command : KeyingCommand) : Type
   unkeyed : keying_of s batch.number batch.round actor ≡ []
   size : batch.size ≡ length (texts_of command)
   read : first_bad_marks (columns_for s batch) 1 (texts_of command) ≡ None
-  ward : WardEntry
-  its_ward : ward_at s batch.ward ≡ Some ward
-  phased : ward.phase ≡ Keying
+  in_ward : IsThere Keying (ward_for s (batch_at s batch.number))
 
 is_keying : (s : OfficeState) (actor : ℕ) (command : KeyingCommand) → first_reason (objections actor command (part_of s actor command)) ≡ None → IsKeying s actor command
 is_keying s actor command none =
@@ -418,9 +399,7 @@ is_keying s actor command none =
       unkeyed = ap (λ (n : ℕ). keying_of s n b.round actor) (sym number) ∙ ap (λ (r : ℕ). keying_of s command.batch r actor) (sym round) ∙ none_own;
       size = eqb-true b.size (length (texts_of command)) long;
       read = ap (λ (o : Option BatchEntry). first_bad_marks (columns_of (candidates_for s o)) 1 (texts_of command)) (sym found.is) ∙ ((((others.1).1).1).1).0;
-      ward = in_ward.ward;
-      its_ward = ap (ward_for s) (sym found.is) ∙ in_ward.is;
-      phased = in_ward.phased;
+      in_ward = subst (λ (n : ℕ). IsThere Keying (ward_for s (batch_at s n))) number in_ward;
     }
 
 among_same : (s : OfficeState) (b : BatchEntry) (actor : ℕ) (texts : List (List ℕ)) (test : KeyedEntry → Bool) (n round : ℕ) → n ≡ b.number → round ≡ b.round
@@ -441,11 +420,12 @@ pub keying_fits : (s : OfficeState) (actor : ℕ) (command : KeyingCommand) → 
 unfolding subject_of reply_to
 keying_fits s actor command is none =
     let k = is_keying s actor command none in
+    let before = keyed_before s k.batch actor (texts_of command) is k.found k.its k.unkeyed k.size k.in_ward in
     let digits = line_number last_batch command.batch (omega arith) k.batch_number in
     let rounds = line_number last_round command.round (omega arith) k.round_number in
     record {
-      state = under_same IsState s k.batch actor (texts_of command) command.batch command.round k.number k.round (keyed_stays s k.batch actor (texts_of command) is k.found k.its k.unkeyed k.size k.clerk (all_written command.papers.items) k.ward k.its_ward (rw k.phased refl) k.read);
-      tabulated = under_same (λ t. tabulation_of t ≡ tabulation_of s) s k.batch actor (texts_of command) command.batch command.round k.number k.round (keyed_tabulated s k.batch actor (texts_of command) is k.found k.its k.unkeyed k.size k.ward k.its_ward (rw k.phased refl));
+      state = under_same IsState s k.batch actor (texts_of command) command.batch command.round k.number k.round (keyed_stays s k.batch actor (texts_of command) is k.found k.its k.unkeyed k.size k.clerk (all_written command.papers.items) before k.read);
+      tabulated = under_same (λ t. tabulation_of t ≡ tabulation_of s) s k.batch actor (texts_of command) command.batch command.round k.number k.round (tabulation_kept s _ is before);
       about = clerk_about actor _ k.clerk (key_about command.batch command.round k.batch_number k.round_number);
       text = line_text (line_append (words (codes "key ") (search rules) refl) (line_append digits (line_append (words (codes " ") (search rules) refl) rounds)));
       line = line_reply (line_append (words (codes "batch ") (search rules) refl) (line_append digits (line_append (words (codes " round ") (search rules) refl) (line_append rounds (words (codes " keyed") (search rules) refl))))) (omega arith);

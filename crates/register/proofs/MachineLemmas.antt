@@ -10,7 +10,7 @@ use Rattle.register.specs.declared.refusal.Reason.TheVariants.{BadId, IdUsed}
 use Rattle.register.specs.declared.command.Command.{Command}
 use Rattle.register.specs.declared.command.Request.{Request}
 use Rattle.register.specs.declared.command.Command.TheVariants.{Ward, Candidate, Batch, Keying, Verdict, Count}
-use Rattle.register.specs.declared.counts.CountCommand.TheVariants.{Seal, Advance, Lot, Declare}
+use Rattle.register.specs.declared.counts.CountCommand.TheVariants.{Advance, Lot, Declare}
 use Rattle.register.specs.Reasons.{first_reason}
 use Rattle.register.specs.Ranges.{is_id}
 use Rattle.register.specs.Offices.{OfficeState, ReceiptEntry, receipt_at, entry_at}
@@ -156,12 +156,7 @@ module _ (s : OfficeState) (actor : ℕ) (id : List ℕ) where
   advances (Count (Lot ward stage candidate)) is =
       advances_where (Count (Lot ward stage candidate)) (λ reply. tt) (λ why. tt) (λ none. lot_keeps s actor ward stage candidate (own_receipt (Count (Lot ward stage candidate))) is none)
   advances (Count (Declare ward)) is = advances_where (Count (Declare ward)) (λ reply. tt) (λ why. tt) (λ none. declare_keeps s actor ward (own_receipt (Count (Declare ward))) is none)
-  advances (Count (Seal ward)) is = tt
-  advances (Ward command) is = tt
-  advances (Candidate command) is = tt
-  advances (Batch command) is = tt
-  advances (Keying command) is = tt
-  advances (Verdict command) is = tt
+  advances command is = tt
 
 -- ---- what a clerk is told
 
@@ -178,8 +173,4 @@ told_alike actor id (Keying command) receipt part = go (is_id id) receipt
     go false o = tt
     go true (Some r) = elim (bytes_eq r.subject (subject_of (Keying command))) as (λ b. IsToldAlike (Keying command) (cond b (keeps r.reply) (refuses IdUsed))) [ true ↦ tt | false ↦ tt ]
     go true None = alike (first_reason (objections actor (Keying command) part))
-told_alike actor id (Ward command) receipt part = tt
-told_alike actor id (Candidate command) receipt part = tt
-told_alike actor id (Batch command) receipt part = tt
-told_alike actor id (Verdict command) receipt part = tt
-told_alike actor id (Count command) receipt part = tt
+told_alike actor id command receipt part = tt
