@@ -255,17 +255,13 @@ accepts_reference WardOfBatch _ kind rest others views = absurd (true≢false (s
 -- a query of the rowids is accepted
 accepts_rowids : (t : Table) → changes_rows t ≡ true → (rest : List Definition) (others : List Index) (views : List View)
     → accepts_program (schema_from (1 + place_of t) rest others views) [] (query (tree_of t) [] (col 1 0 ∷ []) ((col 1 0, ascending Binary) ∷ [])) [] ≡ true
-accepts_rowids Office changes rest others views = refl
-accepts_rowids Ward changes rest others views = refl
-accepts_rowids Candidate changes rest others views = refl
-accepts_rowids Batch changes rest others views = refl
 accepts_rowids Keying changes rest others views = absurd (true≢false (sym changes))
 accepts_rowids Verdict changes rest others views = absurd (true≢false (sym changes))
 accepts_rowids Lot changes rest others views = absurd (true≢false (sym changes))
 accepts_rowids Receipt changes rest others views = absurd (true≢false (sym changes))
-accepts_rowids Bundle changes rest others views = refl
 accepts_rowids Vote changes rest others views = absurd (true≢false (sym changes))
 accepts_rowids Third changes rest others views = absurd (true≢false (sym changes))
+accepts_rowids t changes rest others views = refl
 
 -- ---- the queries of a table
 

@@ -36,9 +36,7 @@ set_terms g = col 1 0 ∷ col 1 0 ∷ map (λ p. cond (p == place_set g) (col 0 
 
 pub setting_changes : (g : Setting) → changes_rows (table_set g) ≡ true
 setting_changes VersionOfOffice = refl
-setting_changes PhaseOfWard = refl
-setting_changes DoneOfWard = refl
-setting_changes RoundOfBatch = refl
+setting_changes g = refl
 
 module _ (rest : List Definition) (others : List Index) (views : List View) where
   abbrev schema : Schema
@@ -56,17 +54,13 @@ module _ (rest : List Definition) (others : List Index) (views : List View) wher
 
   pub edits_row : (t : Table) → changes_rows t ≡ true → EditsRow t
   unfolding understood everything update_text delete_text
-  edits_row Office changes = record { place = refl; updates = refl; plain_update = (refl, refl); deletes = refl; plain_delete = (refl, refl); low = λ db. refl; alone = λ free olds news. none_from schema 0 olds news rest free }
-  edits_row Ward changes = record { place = refl; updates = refl; plain_update = (refl, refl); deletes = refl; plain_delete = (refl, refl); low = λ db. refl; alone = λ free olds news. none_from schema 2 olds news rest free }
-  edits_row Candidate changes = record { place = refl; updates = refl; plain_update = (refl, refl); deletes = refl; plain_delete = (refl, refl); low = λ db. refl; alone = λ free olds news. none_from schema 4 olds news rest free }
-  edits_row Batch changes = record { place = refl; updates = refl; plain_update = (refl, refl); deletes = refl; plain_delete = (refl, refl); low = λ db. refl; alone = λ free olds news. none_from schema 6 olds news rest free }
   edits_row Keying changes = absurd (true≢false (sym changes))
   edits_row Verdict changes = absurd (true≢false (sym changes))
   edits_row Lot changes = absurd (true≢false (sym changes))
   edits_row Receipt changes = absurd (true≢false (sym changes))
-  edits_row Bundle changes = record { place = refl; updates = refl; plain_update = (refl, refl); deletes = refl; plain_delete = (refl, refl); low = λ db. refl; alone = λ free olds news. none_from schema 16 olds news rest free }
   edits_row Vote changes = absurd (true≢false (sym changes))
   edits_row Third changes = absurd (true≢false (sym changes))
+  edits_row t changes = record { place = refl; updates = refl; plain_update = (refl, refl); deletes = refl; plain_delete = (refl, refl); low = λ db. refl; alone = λ free olds news. none_from schema (tree_of t) olds news rest free }
 
   -- what the statement has to be that sets one column
   pub record SetsValue (g : Setting) : Type 0 where
@@ -76,6 +70,4 @@ module _ (rest : List Definition) (others : List Index) (views : List View) wher
   pub sets_value : (g : Setting) → SetsValue g
   unfolding understood everything set_text
   sets_value VersionOfOffice = record { sets = refl; plain = (refl, refl) }
-  sets_value PhaseOfWard = record { sets = refl; plain = (refl, refl) }
-  sets_value DoneOfWard = record { sets = refl; plain = (refl, refl) }
-  sets_value RoundOfBatch = record { sets = refl; plain = (refl, refl) }
+  sets_value g = record { sets = refl; plain = (refl, refl) }

@@ -50,14 +50,5 @@ module _ (rest : List Definition) (others : List Index) (views : List View) wher
 
   pub inserts_row : (t : Table) → InsertsRow t
   unfolding understood everything insert_text
-  inserts_row Office = record { place = refl; is = refl; plain = (refl, refl); shows = λ _. refl; alone = λ free olds news. none_from schema 0 olds news rest free }
-  inserts_row Ward = record { place = refl; is = refl; plain = (refl, refl); shows = λ _. refl; alone = λ free olds news. none_from schema 2 olds news rest free }
-  inserts_row Candidate = record { place = refl; is = refl; plain = (refl, refl); shows = λ _. refl; alone = λ free olds news. none_from schema 4 olds news rest free }
-  inserts_row Batch = record { place = refl; is = refl; plain = (refl, refl); shows = λ _. refl; alone = λ free olds news. none_from schema 6 olds news rest free }
-  inserts_row Keying = record { place = refl; is = refl; plain = (refl, refl); shows = λ _. refl; alone = λ free olds news. none_from schema 8 olds news rest free }
-  inserts_row Verdict = record { place = refl; is = refl; plain = (refl, refl); shows = λ _. refl; alone = λ free olds news. none_from schema 10 olds news rest free }
-  inserts_row Lot = record { place = refl; is = refl; plain = (refl, refl); shows = λ _. refl; alone = λ free olds news. none_from schema 12 olds news rest free }
-  inserts_row Receipt = record { place = refl; is = refl; plain = (refl, refl); shows = λ _. refl; alone = λ free olds news. none_from schema 14 olds news rest free }
-  inserts_row Bundle = record { place = refl; is = refl; plain = (refl, refl); shows = λ _. refl; alone = λ free olds news. none_from schema 16 olds news rest free }
-  inserts_row Vote = record { place = refl; is = refl; plain = (refl, refl); shows = λ _. refl; alone = λ free olds news. none_from schema 18 olds news rest free }
-  inserts_row Third = record { place = refl; is = refl; plain = (refl, refl); shows = λ _. refl; alone = λ free olds news. none_from schema 20 olds news rest free }
+  inserts_row Office = record { place = refl; is = refl; plain = (refl, refl); shows = λ _. refl; alone = λ free olds news. none_from schema (tree_of Office) olds news rest free }
+  inserts_row t = record { place = refl; is = refl; plain = (refl, refl); shows = λ _. refl; alone = λ free olds news. none_from schema (tree_of t) olds news rest free }

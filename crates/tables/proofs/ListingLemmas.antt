@@ -31,30 +31,12 @@ use Rattle.tables.proofs.Queries.{Reads, selects_rowids}
 
 -- a schema that begins with all tables begins with those up to each
 pub begins_to : (t : Table) (s : Schema) → IsOfficeSchema s → BeginsTo t s
-begins_to Office s h = record { rest = map definition (drop 1 all_tables) ++ h.rest; others = map key_index (drop 1 all_tables) ++ h.others; views = h.views; is = h.is }
-begins_to Ward s h = record { rest = map definition (drop 2 all_tables) ++ h.rest; others = map key_index (drop 2 all_tables) ++ h.others; views = h.views; is = h.is }
-begins_to Candidate s h = record { rest = map definition (drop 3 all_tables) ++ h.rest; others = map key_index (drop 3 all_tables) ++ h.others; views = h.views; is = h.is }
-begins_to Batch s h = record { rest = map definition (drop 4 all_tables) ++ h.rest; others = map key_index (drop 4 all_tables) ++ h.others; views = h.views; is = h.is }
-begins_to Keying s h = record { rest = map definition (drop 5 all_tables) ++ h.rest; others = map key_index (drop 5 all_tables) ++ h.others; views = h.views; is = h.is }
-begins_to Verdict s h = record { rest = map definition (drop 6 all_tables) ++ h.rest; others = map key_index (drop 6 all_tables) ++ h.others; views = h.views; is = h.is }
-begins_to Lot s h = record { rest = map definition (drop 7 all_tables) ++ h.rest; others = map key_index (drop 7 all_tables) ++ h.others; views = h.views; is = h.is }
-begins_to Receipt s h = record { rest = map definition (drop 8 all_tables) ++ h.rest; others = map key_index (drop 8 all_tables) ++ h.others; views = h.views; is = h.is }
-begins_to Bundle s h = record { rest = map definition (drop 9 all_tables) ++ h.rest; others = map key_index (drop 9 all_tables) ++ h.others; views = h.views; is = h.is }
-begins_to Vote s h = record { rest = map definition (drop 10 all_tables) ++ h.rest; others = map key_index (drop 10 all_tables) ++ h.others; views = h.views; is = h.is }
-begins_to Third s h = record { rest = map definition (drop 11 all_tables) ++ h.rest; others = map key_index (drop 11 all_tables) ++ h.others; views = h.views; is = h.is }
+begins_to Office s h = record { rest = map definition (drop (1 + place_of Office) all_tables) ++ h.rest; others = map key_index (drop (1 + place_of Office) all_tables) ++ h.others; views = h.views; is = h.is }
+begins_to t s h = record { rest = map definition (drop (1 + place_of t) all_tables) ++ h.rest; others = map key_index (drop (1 + place_of t) all_tables) ++ h.others; views = h.views; is = h.is }
 
 pub key_within : (t : Table) → (shape t).key ≤ length (columns_of t)
 key_within Office = omega arith
-key_within Ward = omega arith
-key_within Candidate = omega arith
-key_within Batch = omega arith
-key_within Keying = omega arith
-key_within Verdict = omega arith
-key_within Lot = omega arith
-key_within Receipt = omega arith
-key_within Bundle = omega arith
-key_within Vote = omega arith
-key_within Third = omega arith
+key_within t = omega arith
 
 -- keys are compared by the first places alone
 same_keys : (k n : ℕ) (a b x y : Row) → ((j : ℕ) → j < k + n → column a j ≡ column x j) → ((j : ℕ) → j < k + n → column b j ≡ column y j) → key_cmp k (ascending_keys n) a b ≡ key_cmp k (ascending_keys n) x y

@@ -53,16 +53,7 @@ record MakesTable (t : Table) : Type 0 where
 makes_table : (t : Table) → MakesTable t
 unfolding understood everything create_text
 makes_table Office = record { is = refl; plain = (refl, refl); whole = refl; defined = refl; uncounted = refl; next = refl; tree = refl }
-makes_table Ward = record { is = refl; plain = (refl, refl); whole = refl; defined = refl; uncounted = refl; next = refl; tree = refl }
-makes_table Candidate = record { is = refl; plain = (refl, refl); whole = refl; defined = refl; uncounted = refl; next = refl; tree = refl }
-makes_table Batch = record { is = refl; plain = (refl, refl); whole = refl; defined = refl; uncounted = refl; next = refl; tree = refl }
-makes_table Keying = record { is = refl; plain = (refl, refl); whole = refl; defined = refl; uncounted = refl; next = refl; tree = refl }
-makes_table Verdict = record { is = refl; plain = (refl, refl); whole = refl; defined = refl; uncounted = refl; next = refl; tree = refl }
-makes_table Lot = record { is = refl; plain = (refl, refl); whole = refl; defined = refl; uncounted = refl; next = refl; tree = refl }
-makes_table Receipt = record { is = refl; plain = (refl, refl); whole = refl; defined = refl; uncounted = refl; next = refl; tree = refl }
-makes_table Bundle = record { is = refl; plain = (refl, refl); whole = refl; defined = refl; uncounted = refl; next = refl; tree = refl }
-makes_table Vote = record { is = refl; plain = (refl, refl); whole = refl; defined = refl; uncounted = refl; next = refl; tree = refl }
-makes_table Third = record { is = refl; plain = (refl, refl); whole = refl; defined = refl; uncounted = refl; next = refl; tree = refl }
+makes_table t = record { is = refl; plain = (refl, refl); whole = refl; defined = refl; uncounted = refl; next = refl; tree = refl }
 
 -- ---- one table more
 
@@ -74,16 +65,7 @@ taken_has (y ∷ ys) (suc n) (suc k) x low at = inr (taken_has ys n k x (omega (
 
 at_place : (t : Table) → slice_get all_tables (place_of t) ≡ Some t
 at_place Office = refl
-at_place Ward = refl
-at_place Candidate = refl
-at_place Batch = refl
-at_place Keying = refl
-at_place Verdict = refl
-at_place Lot = refl
-at_place Receipt = refl
-at_place Bundle = refl
-at_place Vote = refl
-at_place Third = refl
+at_place t = refl
 
 has_before : (n : ℕ) (u : Table) → place_of u < n → Has (schema_from n [] [] []).tables (definition u)
 has_before n u low = front_has (map definition (take n all_tables)) [] (definition u) (mapped_has definition (take n all_tables) u (taken_has all_tables n (place_of u) u low (at_place u)))

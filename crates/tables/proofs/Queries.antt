@@ -27,49 +27,18 @@ pub record Reads (t : Table) (sql : List ℕ) (tests : List Term) : Type 0 where
 
 pub selects : (t : Table) (n : ℕ) → n ≤ (shape t).key → Reads t (select_text t n) (tests_from 0 n)
 unfolding understood everything select_text
-selects Office zero low = record { query = refl; select = λ rest others views. record { is = refl; unlisted = refl; plain = (refl, refl); low = λ db. refl; whole = refl; given = refl } }
-selects Office (suc zero) low = record { query = refl; select = λ rest others views. record { is = refl; unlisted = refl; plain = (refl, refl); low = λ db. refl; whole = refl; given = refl } }
 selects Office (suc (suc n)) low = absurd (omega (arith, low))
-selects Ward zero low = record { query = refl; select = λ rest others views. record { is = refl; unlisted = refl; plain = (refl, refl); low = λ db. refl; whole = refl; given = refl } }
-selects Ward (suc zero) low = record { query = refl; select = λ rest others views. record { is = refl; unlisted = refl; plain = (refl, refl); low = λ db. refl; whole = refl; given = refl } }
 selects Ward (suc (suc n)) low = absurd (omega (arith, low))
-selects Candidate zero low = record { query = refl; select = λ rest others views. record { is = refl; unlisted = refl; plain = (refl, refl); low = λ db. refl; whole = refl; given = refl } }
-selects Candidate (suc zero) low = record { query = refl; select = λ rest others views. record { is = refl; unlisted = refl; plain = (refl, refl); low = λ db. refl; whole = refl; given = refl } }
-selects Candidate (suc (suc zero)) low = record { query = refl; select = λ rest others views. record { is = refl; unlisted = refl; plain = (refl, refl); low = λ db. refl; whole = refl; given = refl } }
 selects Candidate (suc (suc (suc n))) low = absurd (omega (arith, low))
-selects Batch zero low = record { query = refl; select = λ rest others views. record { is = refl; unlisted = refl; plain = (refl, refl); low = λ db. refl; whole = refl; given = refl } }
-selects Batch (suc zero) low = record { query = refl; select = λ rest others views. record { is = refl; unlisted = refl; plain = (refl, refl); low = λ db. refl; whole = refl; given = refl } }
 selects Batch (suc (suc n)) low = absurd (omega (arith, low))
-selects Keying zero low = record { query = refl; select = λ rest others views. record { is = refl; unlisted = refl; plain = (refl, refl); low = λ db. refl; whole = refl; given = refl } }
-selects Keying (suc zero) low = record { query = refl; select = λ rest others views. record { is = refl; unlisted = refl; plain = (refl, refl); low = λ db. refl; whole = refl; given = refl } }
-selects Keying (suc (suc zero)) low = record { query = refl; select = λ rest others views. record { is = refl; unlisted = refl; plain = (refl, refl); low = λ db. refl; whole = refl; given = refl } }
-selects Keying (suc (suc (suc zero))) low = record { query = refl; select = λ rest others views. record { is = refl; unlisted = refl; plain = (refl, refl); low = λ db. refl; whole = refl; given = refl } }
-selects Keying (suc (suc (suc (suc zero)))) low = record { query = refl; select = λ rest others views. record { is = refl; unlisted = refl; plain = (refl, refl); low = λ db. refl; whole = refl; given = refl } }
 selects Keying (suc (suc (suc (suc (suc n))))) low = absurd (omega (arith, low))
-selects Verdict zero low = record { query = refl; select = λ rest others views. record { is = refl; unlisted = refl; plain = (refl, refl); low = λ db. refl; whole = refl; given = refl } }
-selects Verdict (suc zero) low = record { query = refl; select = λ rest others views. record { is = refl; unlisted = refl; plain = (refl, refl); low = λ db. refl; whole = refl; given = refl } }
-selects Verdict (suc (suc zero)) low = record { query = refl; select = λ rest others views. record { is = refl; unlisted = refl; plain = (refl, refl); low = λ db. refl; whole = refl; given = refl } }
 selects Verdict (suc (suc (suc n))) low = absurd (omega (arith, low))
-selects Lot zero low = record { query = refl; select = λ rest others views. record { is = refl; unlisted = refl; plain = (refl, refl); low = λ db. refl; whole = refl; given = refl } }
-selects Lot (suc zero) low = record { query = refl; select = λ rest others views. record { is = refl; unlisted = refl; plain = (refl, refl); low = λ db. refl; whole = refl; given = refl } }
-selects Lot (suc (suc zero)) low = record { query = refl; select = λ rest others views. record { is = refl; unlisted = refl; plain = (refl, refl); low = λ db. refl; whole = refl; given = refl } }
 selects Lot (suc (suc (suc n))) low = absurd (omega (arith, low))
-selects Receipt zero low = record { query = refl; select = λ rest others views. record { is = refl; unlisted = refl; plain = (refl, refl); low = λ db. refl; whole = refl; given = refl } }
-selects Receipt (suc zero) low = record { query = refl; select = λ rest others views. record { is = refl; unlisted = refl; plain = (refl, refl); low = λ db. refl; whole = refl; given = refl } }
-selects Receipt (suc (suc zero)) low = record { query = refl; select = λ rest others views. record { is = refl; unlisted = refl; plain = (refl, refl); low = λ db. refl; whole = refl; given = refl } }
 selects Receipt (suc (suc (suc n))) low = absurd (omega (arith, low))
-selects Bundle zero low = record { query = refl; select = λ rest others views. record { is = refl; unlisted = refl; plain = (refl, refl); low = λ db. refl; whole = refl; given = refl } }
-selects Bundle (suc zero) low = record { query = refl; select = λ rest others views. record { is = refl; unlisted = refl; plain = (refl, refl); low = λ db. refl; whole = refl; given = refl } }
-selects Bundle (suc (suc zero)) low = record { query = refl; select = λ rest others views. record { is = refl; unlisted = refl; plain = (refl, refl); low = λ db. refl; whole = refl; given = refl } }
 selects Bundle (suc (suc (suc n))) low = absurd (omega (arith, low))
-selects Vote zero low = record { query = refl; select = λ rest others views. record { is = refl; unlisted = refl; plain = (refl, refl); low = λ db. refl; whole = refl; given = refl } }
-selects Vote (suc zero) low = record { query = refl; select = λ rest others views. record { is = refl; unlisted = refl; plain = (refl, refl); low = λ db. refl; whole = refl; given = refl } }
-selects Vote (suc (suc zero)) low = record { query = refl; select = λ rest others views. record { is = refl; unlisted = refl; plain = (refl, refl); low = λ db. refl; whole = refl; given = refl } }
-selects Vote (suc (suc (suc zero))) low = record { query = refl; select = λ rest others views. record { is = refl; unlisted = refl; plain = (refl, refl); low = λ db. refl; whole = refl; given = refl } }
 selects Vote (suc (suc (suc (suc n)))) low = absurd (omega (arith, low))
-selects Third zero low = record { query = refl; select = λ rest others views. record { is = refl; unlisted = refl; plain = (refl, refl); low = λ db. refl; whole = refl; given = refl } }
-selects Third (suc zero) low = record { query = refl; select = λ rest others views. record { is = refl; unlisted = refl; plain = (refl, refl); low = λ db. refl; whole = refl; given = refl } }
 selects Third (suc (suc n)) low = absurd (omega (arith, low))
+selects t n low = record { query = refl; select = λ rest others views. record { is = refl; unlisted = refl; plain = (refl, refl); low = λ db. refl; whole = refl; given = refl } }
 
 pub selects_by_reference : (r : Reference) → Reads (table_sought r) (select_by_reference_text r) (op2 (Compare Eq Binary) (col 1 (suc (place_sought r))) (col 0 0) ∷ [])
 unfolding understood everything select_by_reference_text
@@ -82,17 +51,13 @@ pub record ReadsRowids (t : Table) : Type 0 where
 
 pub selects_rowids : (t : Table) → changes_rows t ≡ true → ReadsRowids t
 unfolding understood everything select_rowids_text
-selects_rowids Office changes = record { query = refl; select = λ rest others views. record { is = refl; unlisted = refl; plain = (refl, refl); low = λ db. refl; whole = refl; given = refl } }
-selects_rowids Ward changes = record { query = refl; select = λ rest others views. record { is = refl; unlisted = refl; plain = (refl, refl); low = λ db. refl; whole = refl; given = refl } }
-selects_rowids Candidate changes = record { query = refl; select = λ rest others views. record { is = refl; unlisted = refl; plain = (refl, refl); low = λ db. refl; whole = refl; given = refl } }
-selects_rowids Batch changes = record { query = refl; select = λ rest others views. record { is = refl; unlisted = refl; plain = (refl, refl); low = λ db. refl; whole = refl; given = refl } }
 selects_rowids Keying changes = absurd (true≢false (sym changes))
 selects_rowids Verdict changes = absurd (true≢false (sym changes))
 selects_rowids Lot changes = absurd (true≢false (sym changes))
 selects_rowids Receipt changes = absurd (true≢false (sym changes))
-selects_rowids Bundle changes = record { query = refl; select = λ rest others views. record { is = refl; unlisted = refl; plain = (refl, refl); low = λ db. refl; whole = refl; given = refl } }
 selects_rowids Vote changes = absurd (true≢false (sym changes))
 selects_rowids Third changes = absurd (true≢false (sym changes))
+selects_rowids t changes = record { query = refl; select = λ rest others views. record { is = refl; unlisted = refl; plain = (refl, refl); low = λ db. refl; whole = refl; given = refl } }
 
 pub selects_query : (t : Table) (n : ℕ) → n ≤ (shape t).key → IsQuery (select_text t n)
 selects_query t n low = query_text (select_text t n) (selects t n low).query
