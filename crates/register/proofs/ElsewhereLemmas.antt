@@ -4,18 +4,20 @@ use Rattle.std.specs.List.{list_all}
 use Rattle.std.specs.Ordering.{nat_cmp, is_eq}
 use Rattle.std.specs.Cmp.{unsigned_tied}
 use Rattle.std.proofs.lemmas.Bool.{and_parts, or_right, not-true, both_ways, eqb-true, eq-eqb, ne_eqb}
-use Rattle.register.specs.Offices.{WardEntry, CandidateEntry, BatchEntry, ThirdEntry, KeyedEntry, JudgedEntry, LotEntry, OfficeState, changed, candidate_cmp, batch_cmp, third_cmp, keyed_cmp, judged_cmp, lot_cmp, ward_compared, candidate_compared, batch_compared, third_compared, ward_at, candidates_of, batch_at, third_at, keying_of, lots_of}
+use Rattle.register.specs.Offices.{WardEntry, CandidateEntry, BatchEntry, ThirdEntry, KeyedEntry, JudgedEntry, LotEntry, OfficeState, changed, candidate_cmp, batch_cmp, third_cmp, keyed_cmp}
+use Rattle.register.specs.Offices.{judged_cmp, lot_cmp, ward_compared, candidate_compared, batch_compared, third_compared, ward_at, candidates_of, batch_at, third_at, keying_of, verdicts_of, lots_of}
 use Rattle.register.specs.declared.phase.Phase.TheVariants.{Keying}
 use Rattle.register.specs.Batches.{ward_for}
 use Rattle.register.specs.Papers.{batches_of, clerks, clerks_of}
 use Rattle.register.specs.Polls.{Pile, pile_of, piles_of}
-use Rattle.register.specs.Keyed.{is_given_out}
+use Rattle.register.specs.Keyed.{is_given_out, are_rounds_to, is_judged}
 use Rattle.register.specs.Elections.{lot_pair, election_of, is_counted}
 use Rattle.register.specs.Items.{IsState}
-use Rattle.register.specs.Effects.{EffectEntry, ward_added, ward_moved, candidate_added, candidate_withdrawn, batch_added, batch_reopened, third_set, papers_keyed, paper_judged, stage_counted, lot_drawn, in_round, with_effect}
+use Rattle.register.specs.Effects.{EffectEntry, ward_added, ward_moved, candidate_added, candidate_withdrawn, batch_added, batch_reopened, third_set, papers_keyed, paper_judged}
+use Rattle.register.specs.Effects.{stage_counted, lot_drawn, in_round, with_effect}
 use Rattle.register.proofs.MapLemmas.{list_all_weaker, filter_put, filter_put_each, filter_without, found_put_other, found_passes, same_number, both_equal, all_but_number}
-use Rattle.register.proofs.ClerkLemmas.{keyed_by, keyed_alike}
-use Rattle.register.proofs.KeyedLemmas.{HasSameFile, pile_kept}
+use Rattle.register.proofs.ThreeKeyingsLemmas.{keyed_by, keyed_alike}
+use Rattle.register.proofs.KeyedLemmas.{HasSameFile, pile_kept, rounds_kept, judged_kept}
 use Rattle.register.proofs.ObjectionLemmas.{IsThere}
 use Rattle.register.proofs.ElectionLemmas.{is_sound, are_sound, sound_of, same_election, sound_before, uncounted_before, unsealed}
 
@@ -28,7 +30,8 @@ is_elsewhere n m x = not (n == x.number) || not (x.ward == m)
 -- a batch of one ward is none of another one's
 pub batches_elsewhere : (s : OfficeState) (n : ℕ) (b : BatchEntry) (m : ℕ) → IsState s → batch_at s n ≡ Some b → (b.ward == m) ≡ false → list_all (is_elsewhere n m) s.batches ≡ true
 batches_elsewhere s n b m is found apart =
-    all_but_number (λ (x : BatchEntry). x.number) s.batches n b (is_given_out s) (is_elsewhere n m) is.rise.batches found (λ same. or_right (not (n == b.number)) _ (ap not apart)) (λ x other out. rw other refl) (and_parts _ _ is.given_out).0
+    all_but_number (λ (x : BatchEntry). x.number) s.batches n b (is_given_out s) (is_elsewhere n m) is.rise.batches found (λ same. or_right (not (n == b.number)) _ (ap not apart))
+    (λ x other out. rw other refl) (and_parts _ _ is.given_out).0
 
 -- the piles of a ward's batches are as they were, where those of each batch but one of another ward are
 pub piles_elsewhere : (s t : OfficeState) (n m : ℕ) (bs : List BatchEntry) → ((x : BatchEntry) → (n == x.number) ≡ false → pile_of t x ≡ pile_of s x) → list_all (is_elsewhere n m) bs ≡ true
@@ -43,7 +46,8 @@ piles_elsewhere s t n m (x ∷ bs) same all =
     other false is = refl
 
     go : (b : Bool) → (not (n == x.number) || not b) ≡ true → map (pile_of t) (filter (λ (y : BatchEntry). y.ward == m) bs) ≡ map (pile_of s) (filter (λ (y : BatchEntry). y.ward == m) bs)
-        → map (pile_of t) (cond b (x ∷ filter (λ (y : BatchEntry). y.ward == m) bs) (filter (λ (y : BatchEntry). y.ward == m) bs)) ≡ map (pile_of s) (cond b (x ∷ filter (λ (y : BatchEntry). y.ward == m) bs) (filter (λ (y : BatchEntry). y.ward == m) bs))
+        → map (pile_of t) (cond b (x ∷ filter (λ (y : BatchEntry). y.ward == m) bs) (filter (λ (y : BatchEntry). y.ward == m) bs))
+        ≡ map (pile_of s) (cond b (x ∷ filter (λ (y : BatchEntry). y.ward == m) bs) (filter (λ (y : BatchEntry). y.ward == m) bs))
     go false away later = later
     go true away later = ap (λ (p : Pile). p ∷ map (pile_of t) (filter (λ (y : BatchEntry). y.ward == m) bs)) (same x (other (n == x.number) away)) ∙ ap (λ (ps : List Pile). pile_of s x ∷ ps) later
 
@@ -55,7 +59,8 @@ changed_elsewhere n m change ward (x ∷ bs) all =
     let parts = and_parts (is_elsewhere n m x) (list_all (is_elsewhere n m) bs) all in
     go (n == x.number) refl parts.0 (changed_elsewhere n m change ward bs parts.1)
   where
-    go : (b : Bool) → (n == x.number) ≡ b → (not b || not (x.ward == m)) ≡ true → filter (λ (y : BatchEntry). y.ward == m) (changed (batch_compared n) change bs) ≡ filter (λ (y : BatchEntry). y.ward == m) bs
+    go : (b : Bool) → (n == x.number) ≡ b → (not b || not (x.ward == m)) ≡ true
+        → filter (λ (y : BatchEntry). y.ward == m) (changed (batch_compared n) change bs) ≡ filter (λ (y : BatchEntry). y.ward == m) bs
         → filter (λ (y : BatchEntry). y.ward == m) (changed (batch_compared n) change (x ∷ bs)) ≡ filter (λ (y : BatchEntry). y.ward == m) (x ∷ bs)
     go false other away later = rw (unsigned_tied n x.number ∙ other) (ap (λ (ys : List BatchEntry). cond (x.ward == m) (x ∷ ys) ys) later)
     go true same away later =
@@ -102,9 +107,16 @@ file_elsewhere s (batch_reopened batch round) n of b other = record { candidates
 file_elsewhere s (third_set t) n of b other = record { candidates = refl; keyings = λ round. ap (λ (o : Option ThirdEntry). keyed_by (keying_of s b.number round) (clerks b o)) third; verdicts = refl }
   where
     third : third_at (with_effect (third_set t) s) b.number ≡ third_at s b.number
-    third = found_put_other third_cmp (third_compared b.number) t s.thirds (unsigned_tied b.number t.batch ∙ ne_eqb b.number t.batch (λ same. both_ways (n == b.number) other (eq-eqb n b.number (sym (same ∙ of)))))
+    third =
+        found_put_other third_cmp (third_compared b.number) t s.thirds
+        (unsigned_tied b.number t.batch ∙ ne_eqb b.number t.batch (λ same. both_ways (n == b.number) other (eq-eqb n b.number (sym (same ∙ of)))))
 file_elsewhere s (papers_keyed papers) n of b other =
-    record { candidates = refl; keyings = λ round. keyed_alike (keying_of (with_effect (papers_keyed papers) s) b.number round) (keying_of s b.number round) (clerks_of s b) (keying round); verdicts = refl }
+    record {
+      candidates = refl;
+      keyings = λ round. keyed_alike (keying_of (with_effect (papers_keyed papers) s) b.number round) (keying_of s b.number round) (clerks_of s b)
+          (keying round);
+      verdicts = refl;
+    }
   where
     none : (round clerk : ℕ) (k : KeyedEntry) → (k.batch == n) ≡ true → not ((k.batch == b.number) && ((k.round == round) && (k.clerk == clerk))) ≡ true
     none round clerk k its = let away : (k.batch == b.number) ≡ false = ap (λ (m : ℕ). m == b.number) (eqb-true k.batch n its) ∙ other in rw away refl
@@ -115,6 +127,24 @@ file_elsewhere s (papers_keyed papers) n of b other =
 file_elsewhere s (paper_judged v) n of b other =
     record { candidates = refl; keyings = λ round. refl; verdicts = filter_put judged_cmp (λ (x : JudgedEntry). x.batch == b.number) v s.verdicts (ap (λ (m : ℕ). m == b.number) of ∙ other) }
 file_elsewhere s effect n of b other = absurd of
+
+module _ (s : OfficeState) (effect : EffectEntry) (n : ℕ) (b : BatchEntry) (is : IsState s) (found : batch_at s n ≡ Some b) (of : IsOfBatch n effect) where
+  -- so where it leaves the rounds of its batch right, those of all are,
+  pub rounds_elsewhere : (are_rounds_to s b b.round ≡ true → are_rounds_to (with_effect effect s) b b.round ≡ true) → list_all (λ x. are_rounds_to (with_effect effect s) x x.round) s.batches ≡ true
+  rounds_elsewhere own =
+      let test : BatchEntry → Bool = λ x. are_rounds_to s x x.round in
+      let was : list_all test s.batches ≡ true = (and_parts _ _ is.keyed).1 in
+      all_but_number (λ (x : BatchEntry). x.number) s.batches n b test (λ x. are_rounds_to (with_effect effect s) x x.round) is.rise.batches found (λ same. own (found_passes (batch_compared n) test b s.batches was found))
+      (λ x other. rounds_kept s (with_effect effect s) x (file_elsewhere s effect n of x other)) was
+
+  -- and so are the verdicts
+  pub judged_elsewhere : (is_judged s b (verdicts_of s b.number) ≡ true → is_judged (with_effect effect s) b (verdicts_of (with_effect effect s) b.number) ≡ true)
+      → list_all (λ x. is_judged (with_effect effect s) x (verdicts_of (with_effect effect s) x.number)) s.batches ≡ true
+  judged_elsewhere own =
+      let test : BatchEntry → Bool = λ x. is_judged s x (verdicts_of s x.number) in
+      let was : list_all test s.batches ≡ true = (and_parts _ _ is.judged).1 in
+      all_but_number (λ (x : BatchEntry). x.number) s.batches n b test (λ x. is_judged (with_effect effect s) x (verdicts_of (with_effect effect s) x.number)) is.rise.batches found
+      (λ same. own (found_passes (batch_compared n) test b s.batches was found)) (λ x other. judged_kept s (with_effect effect s) x (file_elsewhere s effect n of x other)) was
 
 -- an effect of a ward leaves the candidates of each other one,
 pub candidates_elsewhere : (s : OfficeState) (effect : EffectEntry) (n : ℕ) → IsOfWard s n effect → (m : ℕ) → (n == m) ≡ false → candidates_of (with_effect effect s) m ≡ candidates_of s m
@@ -189,7 +219,8 @@ batch_in_keying s n b effect found its of own wards lots = record {
 pub sound_kept : (s : OfficeState) (effect : EffectEntry) → IsState s → IsBeforeCount s effect → are_sound (with_effect effect s) ≡ true
 sound_kept s effect is before =
     ap (list_all (λ x. is_sound (election_of (with_effect effect s) x))) before.wards
-    ∙ all_but_number (λ (x : WardEntry). x.number) s.wards before.number before.ward (λ x. is_sound (election_of s x)) (λ x. is_sound (election_of (with_effect effect s) x)) is.rise.wards before.found (λ same. own)
+    ∙ all_but_number (λ (x : WardEntry). x.number) s.wards before.number before.ward (λ x. is_sound (election_of s x))
+    (λ x. is_sound (election_of (with_effect effect s) x)) is.rise.wards before.found (λ same. own)
     (λ x other sound. ap is_sound (election_elsewhere s before.number is x other effect before.own) ∙ sound) (sound_of is)
   where
     own : is_sound (election_of (with_effect effect s) before.ward) ≡ true

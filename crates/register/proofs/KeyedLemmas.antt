@@ -8,8 +8,9 @@ use Rattle.register.specs.Marks.{columns_of, is_readable}
 use Rattle.register.specs.Papers.{agreed, differ, has_doubtful, is_its_clerk, is_taken, keyings_in, keyings_now, taken_papers}
 use Rattle.register.specs.Polls.{Pile, pile_of}
 use Rattle.register.specs.Keyed.{is_given_out, is_keyed_for, is_whole, is_round_of, are_rounds_to, is_verdict_on, is_judged}
-use Rattle.register.specs.Items.{item3, item4, item5, IsState}
-use Rattle.register.proofs.ClerkLemmas.{not_keyed}
+use Rattle.register.specs.Ranges.{is_clerk, is_ward_number, is_batch_number, is_paper_number, is_round}
+use Rattle.register.specs.Items.{is_batch, item3, item4, item5, IsState}
+use Rattle.register.proofs.ThreeKeyingsLemmas.{not_keyed}
 use Rattle.register.proofs.MapLemmas.{list_all_weaker, list_all_both, found_passes}
 
 -- rounds that are those of a batch one by one are so together
@@ -45,6 +46,25 @@ round_at s b (suc n) low all = (and_parts _ _ (sym (rounds_more s b n) ∙ all))
 pub no_rounds : (s : OfficeState) (b : BatchEntry) → are_rounds_to s b 0 ≡ true
 unfolding are_rounds_to
 no_rounds s b = refl
+
+-- the numbers of a batch, each in range
+pub record BatchParts (b : BatchEntry) : Type 0 where
+  pub number : is_batch_number b.number ≡ true
+  pub ward : is_ward_number b.ward ≡ true
+  pub size : is_paper_number b.size ≡ true
+  pub first_clerk : is_clerk b.first_clerk ≡ true
+  pub second_clerk : is_clerk b.second_clerk ≡ true
+  pub round : is_round b.round ≡ true
+
+pub batch_parts : (b : BatchEntry) → is_batch b ≡ true → BatchParts b
+unfolding is_batch
+batch_parts b good =
+    let number = and_parts (is_batch_number b.number) (is_ward_number b.ward && (is_paper_number b.size && (is_clerk b.first_clerk && (is_clerk b.second_clerk && is_round b.round)))) good in
+    let ward = and_parts _ _ number.1 in
+    let size = and_parts _ _ ward.1 in
+    let first_clerk = and_parts _ _ size.1 in
+    let clerk_and_round = and_parts _ _ first_clerk.1 in
+    record { number = number.0; ward = ward.0; size = size.0; first_clerk = first_clerk.0; second_clerk = clerk_and_round.0; round = clerk_and_round.1 }
 
 -- a batch that is found is given out
 pub found_given_out : {s : OfficeState} → IsState s → (n : ℕ) (b : BatchEntry) → batch_at s n ≡ Some b → is_given_out s b ≡ true

@@ -5,7 +5,7 @@ mod ObjectionLemmas
 mod ElectionLemmas
 mod StageLemmas
 mod ProgressLemmas
-mod ClerkLemmas
+mod ThreeKeyingsLemmas
 pub mod KeyedLemmas
 mod ElsewhereLemmas
 mod TabulationLemmas

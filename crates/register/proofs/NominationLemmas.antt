@@ -112,7 +112,8 @@ pub record KeepsWards (change : WardEntry → WardEntry) : Type 0 where
 -- in whichever phase past nominations, and with however many stages done
 pub moved : (phase : Phase) → (phase_number phase == phase_number Nominations) ≡ false → KeepsWards (in_phase phase)
 unfolding is_ward
-moved phase beyond = record { map = record { passes = λ x h. h; before = λ x y. refl; behind = λ x y. refl }; compared = λ m x. refl; polled = λ x cs was. and_from _ _ (ap not beyond) (and_parts _ _ was).1 }
+moved phase beyond =
+    record { map = record { passes = λ x h. h; before = λ x y. refl; behind = λ x y. refl }; compared = λ m x. refl; polled = λ x cs was. and_from _ _ (ap not beyond) (and_parts _ _ was).1 }
 
 pub staged : (done : ℕ) → KeepsWards (at_stage done)
 unfolding is_ward

@@ -95,7 +95,8 @@ module _ {X : Type 0} (told : ElectionEntry → List X) (of : IsOfCount told) (s
       ∙ sym (flat_map-append was split.front (w ∷ split.back))
       ∙ sym (ap (flat_map was) split.is)
     where
-      elsewhere : (xs : List WardEntry) → are_others (λ (x : WardEntry). x.number) n xs ≡ true → flat_map (λ (x : WardEntry). told (election_of t x)) xs ≡ flat_map (λ (x : WardEntry). told (election_of s x)) xs
+      elsewhere : (xs : List WardEntry) → are_others (λ (x : WardEntry). x.number) n xs ≡ true
+          → flat_map (λ (x : WardEntry). told (election_of t x)) xs ≡ flat_map (λ (x : WardEntry). told (election_of s x)) xs
       elsewhere [] all = refl
       elsewhere (x ∷ xs) all =
           let parts = and_parts (not (n == x.number)) (are_others (λ (y : WardEntry). y.number) n xs) all in

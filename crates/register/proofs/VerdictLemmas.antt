@@ -24,11 +24,10 @@ use Rattle.register.specs.Effects.{paper_judged, with_effect}
 use Rattle.register.specs.Batches.{ward_for, candidates_for, keyings_for}
 use Rattle.register.specs.Verdicts.{part_of, is_in_range, is_verdict, objections, subject_of, verdict_word, reply_to, judged_as, effect_of}
 use Rattle.register.proofs.LineLemmas.{lower, upper, are_plain-decimals, IsLine, words, line_append, line_number, line_reply, line_text}
-use Rattle.register.proofs.ObjectionLemmas.{none_objects, asked, absent, present, there}
+use Rattle.register.proofs.ObjectionLemmas.{no_objection, asked, absent, present, there}
 use Rattle.register.proofs.MapLemmas.{put_all, put_is_map, found_passes, all_but_number}
 use Rattle.register.proofs.ElectionLemmas.{lots_placed_of}
-use Rattle.register.proofs.ElsewhereLemmas.{IsBeforeCount, file_elsewhere, batch_in_keying, sound_kept}
-use Rattle.register.proofs.KeyedLemmas.{judged_kept}
+use Rattle.register.proofs.ElsewhereLemmas.{judged_elsewhere, IsBeforeCount, batch_in_keying, sound_kept}
 use Rattle.register.proofs.TabulationLemmas.{tabulation_kept}
 use Rattle.register.proofs.ItemLemmas.{MapName, judged_map, Holds, maps_of, state_from, rounds_still, judged_total, IsFit, office_about}
 
@@ -63,15 +62,11 @@ judged_stays s v b good found on new before is =
           _
           _
           (put_all judged_cmp (λ x. is_some (batch_at s x.batch)) v s.verdicts belongs judged.0)
-          (all_but_number (λ (x : BatchEntry). x.number) s.batches v.batch b (λ x. is_judged s x (verdicts_of s x.number)) (λ x. is_judged s x (verdicts_of (with_effect (paper_judged v) s) x.number)) is.rise.batches found (here judged.1) (λ x other. judged_kept s (with_effect (paper_judged v) s) x (file_elsewhere s (paper_judged v) v.batch refl x other)) judged.1);
+          (judged_elsewhere s (paper_judged v) v.batch b is found refl (put_kept judged_cmp (is_verdict_for s b) (λ (x : JudgedEntry). x.batch == b.number) v s.verdicts on));
       lots_placed = lots_placed_of is;
       sound = sound_kept s (paper_judged v) is before;
     })
   where
-    here : list_all (λ x. is_judged s x (verdicts_of s x.number)) s.batches ≡ true → v.batch ≡ b.number → is_judged s b (verdicts_of (with_effect (paper_judged v) s) b.number) ≡ true
-    here all same =
-        put_kept judged_cmp (is_verdict_for s b) (λ (x : JudgedEntry). x.batch == b.number) v s.verdicts on (found_passes (batch_compared v.batch) (λ x. is_judged s x (verdicts_of s x.number)) b s.batches all found)
-
     maps : (m : MapName) → Holds m (with_effect (paper_judged v) s)
     maps judged_map = put_is_map judged_total v s.verdicts good new (maps_of is judged_map)
     maps m = maps_of is m
@@ -80,7 +75,8 @@ judged_stays s v b good found on new before is =
 
 -- a verdict as it is kept leads to a state
 verdict_stays : (s : OfficeState) (batch paper : ℕ) (verdict : Verdict) (b : BatchEntry) → is_batch_number batch ≡ true → is_paper_number paper ≡ true → batch_at s batch ≡ Some b
-    → has_doubtful (taken_papers s b) paper ≡ true → is_verdict (columns_for s b) verdict ≡ true → verdict_at s batch paper ≡ None → IsBeforeCount s (paper_judged (judged_as batch paper verdict)) → IsState s
+    → has_doubtful (taken_papers s b) paper ≡ true → is_verdict (columns_for s b) verdict ≡ true → verdict_at s batch paper ≡ None
+    → IsBeforeCount s (paper_judged (judged_as batch paper verdict)) → IsState s
     → IsState (with_effect (paper_judged (judged_as batch paper verdict)) s)
 unfolding is_judged_paper
 verdict_stays s batch paper (Accept marks) b number numbered found doubtful valid new before is =
@@ -113,21 +109,22 @@ pub verdict_fits : (s : OfficeState) (actor : ℕ) (command : VerdictCommand) �
 unfolding subject_of reply_to
 verdict_fits s actor command is none =
     let part = part_of s actor command in
-    let each = none_objects (objections actor command part) none in
-    let range = and_parts (is_office actor) (is_batch_number command.batch && is_paper_number command.paper) (asked (is_in_range actor command) NumberOutOfRange each.0) in
+    let met = no_objection (objections actor command part) none in
+    let range = and_parts (is_office actor) (is_batch_number command.batch && is_paper_number command.paper) (asked (is_in_range actor command) NumberOutOfRange (met 0)) in
     let numbers = and_parts (is_batch_number command.batch) (is_paper_number command.paper) range.1 in
-    let found = present (batch_at s command.batch) NoSuchBatch (each.1).0 in
+    let found = present (batch_at s command.batch) NoSuchBatch (met 1) in
     let b = found.it in
-    let others = (((each.1).1).1).1 in
     let before =
-    batch_in_keying s command.batch b (effect_of command) found.is (there Keying (ward_for s (batch_at s command.batch)) WrongPhase ((each.1).1).0) (judged_batch command.batch command.paper command.verdict) (λ own. own) refl refl
+    batch_in_keying s command.batch b (effect_of command) found.is (there Keying (ward_for s (batch_at s command.batch)) WrongPhase (met 2))
+    (judged_batch command.batch command.paper command.verdict) (λ own. own) refl refl
     in
     let doubtful : has_doubtful (taken_papers s b) command.paper ≡ true =
-    ap (λ (o : Option BatchEntry). has_doubtful (agreed (keyings_for s o)) command.paper) (sym found.is) ∙ asked (has_doubtful (agreed part.keyings) command.paper) NotDoubtful (others.1).0
+    ap (λ (o : Option BatchEntry). has_doubtful (agreed (keyings_for s o)) command.paper) (sym found.is) ∙ asked (has_doubtful (agreed part.keyings) command.paper) NotDoubtful (met 5)
     in
-    let new = absent part.verdict AlreadyJudged ((others.1).1).0 in
+    let new = absent part.verdict AlreadyJudged (met 6) in
     let valid : is_verdict (columns_for s b) command.verdict ≡ true =
-    ap (λ (o : Option BatchEntry). is_verdict (columns_of (candidates_for s o)) command.verdict) (sym found.is) ∙ asked (is_verdict (columns_of part.candidates) command.verdict) BadVerdict (((others.1).1).1).0
+    ap (λ (o : Option BatchEntry). is_verdict (columns_of (candidates_for s o)) command.verdict) (sym found.is)
+    ∙ asked (is_verdict (columns_of part.candidates) command.verdict) BadVerdict (met 7)
     in
     let digits = line_number last_batch command.batch (omega arith) numbers.0 in
     let papers = line_number most_papers command.paper (omega arith) numbers.1 in
@@ -136,5 +133,7 @@ verdict_fits s actor command is none =
       tabulated = tabulation_kept s _ is before;
       about = office_about actor _ range.0 (judge_about command.batch command.paper numbers.0 numbers.1);
       text = line_text (line_append (words (codes "judge ") (search rules) refl) (line_append digits (line_append (words (codes " ") (search rules) refl) papers)));
-      line = line_reply (line_append (words (codes "batch ") (search rules) refl) (line_append digits (line_append (words (codes " paper ") (search rules) refl) (line_append papers (told (columns_for s b) command.verdict valid))))) (omega arith);
+      line =
+          line_reply (line_append (words (codes "batch ") (search rules) refl)
+          (line_append digits (line_append (words (codes " paper ") (search rules) refl) (line_append papers (told (columns_for s b) command.verdict valid))))) (omega arith);
     }

@@ -47,7 +47,7 @@ pub enum BatchCommand {
         first_clerk: u32,
         second_clerk: u32,
     },
-    /// The batch, whose keyings differ, is keyed again in a round more.
+    /// The batch, whose keyings differ, is keyed again in one more round.
     Again {
         batch: u32,
     },

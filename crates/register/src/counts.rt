@@ -327,8 +327,8 @@ pub(crate) fn effect_of(command: &CountCommand, part: &Part) -> Effect
 }
 
 /// What the command adds to the tabulation where it is accepted: an Advance the stage that is due in the count
-/// shown, another command nothing. Nothing where no count is shown, as one always is where a stage is due. An
-/// error is want of memory.
+/// shown, another command nothing. Where a stage is due a count is always shown; where none is, nothing is
+/// added. An error is want of memory.
 pub(crate) fn addition_of(
     alloc: Global,
     command: &CountCommand,

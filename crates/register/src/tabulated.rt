@@ -78,7 +78,7 @@ impl Addition {
 }
 
 impl Tabulation {
-    /// Of no count. Takes no memory.
+    /// What is tabulated of no count. Takes no memory.
     pub fn empty(alloc: Global) -> Tabulation
         ensures bundles { result.bundles.items ≡ [] }
         ensures figures { result.figures.items ≡ [] }
@@ -210,7 +210,7 @@ pub fn tabulations_are_ordered()
 {}
 
 /// Adds a bundle to others, and says whether it could: whether its list is one of preferences, it has a paper,
-/// and they are of `MAX_PAPERS` papers at most with it. An error is want of memory.
+/// and with it there are at most `MAX_PAPERS` papers. An error is want of memory.
 fn add_bundle(bundles: &mut Bundles, bundle: &PlacedBundle) -> Result<bool, AllocError>
     ensures ok { IfOk result (λ added. added ≡ true → bundles.new ≡ with_papers bundles.old bundle.now.list.items bundle.now.papers) }
     ensures fits { IfOk result (λ added. IsBundle (bundle_of (placed_entry bundle.now)) → length (papers_of bundles.old) + bundle.now.papers ≤ max_papers → added ≡ true) }

@@ -14,7 +14,8 @@ pub keyed_by_clerks : (s : OfficeState) (batch round : ℕ) (c : Clerks)
 keyed_by_clerks s batch round c = go c.third
   where
     go : (third : Option ℕ)
-        → of_three (keying_of s batch round c.first) (keying_of s batch round c.second) (keying_by s batch round third) ≡ filter is_keyed (map (keying_of s batch round) (c.first ∷ c.second ∷ third_listed third))
+        → of_three (keying_of s batch round c.first) (keying_of s batch round c.second) (keying_by s batch round third)
+        ≡ filter is_keyed (map (keying_of s batch round) (c.first ∷ c.second ∷ third_listed third))
     go None = refl
     go (Some clerk) = refl
 
@@ -29,5 +30,6 @@ each_if {X} p q (x ∷ xs) = go (q x) (each_if p q xs)
 
 -- each of three is whole, if it is there
 pub whole_if_keyed : (size : ℕ) (first second third : List KeyedEntry)
-    → list_all (is_whole size) (of_three first second third) ≡ ((not (is_keyed first) || is_whole size first) && ((not (is_keyed second) || is_whole size second) && (not (is_keyed third) || is_whole size third)))
+    → list_all (is_whole size) (of_three first second third) ≡ ((not (is_keyed first) || is_whole size first)
+    && ((not (is_keyed second) || is_whole size second) && (not (is_keyed third) || is_whole size third)))
 whole_if_keyed size first second third = each_if (is_whole size) is_keyed (first ∷ second ∷ third ∷ []) ∙ rw and-true refl

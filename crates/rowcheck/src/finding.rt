@@ -2,7 +2,8 @@
 
 ghost use Rattle.std.specs.Prelude.{◌≡◌, map, is_some, option_map, option_copied};
 ghost use Rattle.std.specs.Ordering.{nat_cmp, ordering_then};
-ghost use Rattle.register.specs.Offices.{MapsRise, ward_entry, candidate_entry, batch_entry, third_entry, keyed_entry, judged_entry, lot_entry, ward_at, candidates_of, batch_at, third_at, keying_of, verdicts_of, lots_of};
+ghost use Rattle.register.specs.Offices.{MapsRise, ward_entry, candidate_entry, batch_entry, third_entry, keyed_entry, judged_entry, lot_entry, ward_at, candidates_of, batch_at, third_at};
+ghost use Rattle.register.specs.Offices.{keying_of, verdicts_of, lots_of};
 ghost use Rattle.register.specs.Papers.{of_three, keyings_in};
 ghost use Rattle.rowcheck.specs.States.{state_of};
 ghost use Rattle.rowcheck.specs.Walks.Keyings.{papers_of, keying_by};
