@@ -60,11 +60,22 @@ module _ (rest : List Definition) (others : List Index) (views : List View) wher
   edits_row Receipt changes = absurd (true≢false (sym changes))
   edits_row Vote changes = absurd (true≢false (sym changes))
   edits_row Third changes = absurd (true≢false (sym changes))
-  edits_row t changes = record { place = refl; updates = refl; plain_update = (refl, refl); deletes = refl; plain_delete = (refl, refl); low = λ db. refl; alone = λ free olds news. none_from schema (tree_of t) olds news rest free }
+  edits_row t changes =
+      record {
+        place = refl;
+        updates = refl;
+        plain_update = (refl, refl);
+        deletes = refl;
+        plain_delete = (refl, refl);
+        low = λ db. refl;
+        alone = λ free olds news. none_from schema
+            (tree_of t) olds news rest free;
+      }
 
   -- what the statement has to be that sets one column
   pub record SetsValue (g : Setting) : Type 0 where
-    pub sets : command_of (understood schema (set_text g)) ≡ Update (place_of (table_set g)) (record { lets = []; body = query (tree_of (table_set g)) (tests_from 0 (shape (table_set g)).key) (set_terms g) [] })
+    pub sets : command_of (understood schema (set_text g)) ≡ Update (place_of (table_set g))
+        (record { lets = []; body = query (tree_of (table_set g)) (tests_from 0 (shape (table_set g)).key) (set_terms g) [] })
     pub plain : IsPlain (understood schema (set_text g))
 
   pub sets_value : (g : Setting) → SetsValue g

@@ -21,7 +21,8 @@ use Rattle.tables.specs.Texts.{insert_text}
 use Rattle.tables.specs.Schema.{Definition, schema_from, definition, place_of, tree_of, columns_of, AreFree}
 use Rattle.tables.specs.Rows.{at, column_places}
 
-pub none_from : (schema : Schema) (tree : ℕ) (olds news : List Row) (ts : List Definition) → AreFree ts → flat_map (λ child. filter_map (work_for schema Enforced 0 tree olds news child) child.references) ts ≡ []
+pub none_from : (schema : Schema) (tree : ℕ) (olds news : List Row) (ts : List Definition) → AreFree ts
+    → flat_map (λ child. filter_map (work_for schema Enforced 0 tree olds news child) child.references) ts ≡ []
 none_from schema tree olds news [] h = refl
 none_from schema tree olds news (t ∷ ts) h = rw h.0 (none_from schema tree olds news ts h.1)
 

@@ -73,7 +73,8 @@ updated_row t was row first second agree =
     let n = beyond_key t in
     let cs = columns_of t in
     ap (λ l. l ++ at (places_from k n) row) (pads k was ∙ same_front cs k was row first second (key_within t) agree ∙ sym (pads k row))
-    ∙ sym (map-append (column row) (places_from 0 k) (places_from k n)) ∙ ap (λ l. at l row) (ap (λ p. places_from 0 k ++ places_from p n) (plus k) ∙ places_split 0 k n ∙ ap (places_from 0) (beyond_within t)) ∙ typed_at cs row second
+    ∙ sym (map-append (column row) (places_from 0 k) (places_from k n))
+    ∙ ap (λ l. at l row) (ap (λ p. places_from 0 k ++ places_from p n) (plus k) ∙ places_split 0 k n ∙ ap (places_from 0) (beyond_within t)) ∙ typed_at cs row second
   where
     plus : (m : ℕ) → m ≡ 0 + m
     plus m = omega arith

@@ -1,5 +1,6 @@
 -- The tables, made one after the other.
-use Rattle.std.proofs.Common.{◌≡◌, inl, inr, ℕ, zero, suc, ◌+◌, ◌<◌, ◌≤◌, List, [], ◌∷◌, ◌++◌, append_assoc, map, drop, take, slice_get, Some, true, false, None, Ok, Err, Result, OnOk, IsTrue, refl, sym, ap, subst, ◌∙◌, arith}
+use Rattle.std.proofs.Common.{◌≡◌, inl, inr, ℕ, zero, suc, ◌+◌, ◌<◌, ◌≤◌, List, [], ◌∷◌, ◌++◌, append_assoc, map, drop, take, slice_get, Some, true, false, None, Ok, Err, Result, OnOk}
+use Rattle.std.proofs.Common.{IsTrue, refl, sym, ap, subst, ◌∙◌, arith}
 use Rattle.std.specs.List.{AllByRecursion}
 use Rattle.std.specs.List.Sorted.{IsPermutation}
 use Rattle.std.proofs.lemmas.Bool.{cases_lt}
@@ -81,10 +82,12 @@ kept_table : (t : Table) (rows : List Row) (old new : Trees) → new (tree_of t)
 kept_table t rows old new same h = record { same = subst (λ l. IsPermutation rows (map (drop 1) l)) (sym same) h.same; keyed = λ changes. subst Keyed (sym same) (h.keyed changes); typed = h.typed }
 
 -- the tables before keep their rows, and this one has none
-one_more : (t : Table) (c : Contents) → c t ≡ [] → (old new : Trees) → ((u : Table) → place_of u < place_of t → new (tree_of u) ≡ old (tree_of u)) → new (tree_of t) ≡ [] → HoldsFirst (place_of t) c old → HoldsFirst (place_of t + 1) c new
+one_more : (t : Table) (c : Contents) → c t ≡ [] → (old new : Trees) → ((u : Table) → place_of u < place_of t → new (tree_of u) ≡ old (tree_of u)) → new (tree_of t) ≡ []
+    → HoldsFirst (place_of t) c old → HoldsFirst (place_of t + 1) c new
 one_more t c none old new others empty holds u low = elim (cases_lt (place_of u) (place_of t)) [
   | inl less ↦ kept_table u (c u) old new (others u less) (holds u less)
-  | inr past ↦ let there : u ≡ t = same_place u t (omega (arith, low, past)) in subst (λ v. HoldsTable v (c v) new) (sym there) (subst (λ rows. HoldsTable t rows new) (sym none) (empty_table t new empty))
+  | inr past ↦ let there : u ≡ t = same_place u t (omega (arith, low, past)) in
+      subst (λ v. HoldsTable v (c v) new) (sym there) (subst (λ rows. HoldsTable t rows new) (sym none) (empty_table t new empty))
 ]
 
 makes : (t : Table) (c : Contents) → c t ≡ [] → (old new : State) (count : ℕ) → SeesMade (place_of t) c old → ExecutesInside 0 (create_text t) [] old new (Ok count) → SeesMade (place_of t + 1) c new
@@ -111,11 +114,13 @@ makes t c none old new count sees h =
         schema = ap (λ (d : Database). d.schema) now ∙ after ∙ it.next;
         sound = w.sound;
         holds = subst (λ (d : Database). HoldsFirst (place_of t + 1) c d.trees) (sym now)
-            (one_more t c none old.now.trees first.0.trees (λ u less. all_has (λ (d : Definition). first.0.trees d.tree ≡ old.now.trees d.tree) schema.tables (definition u) others (has_before (place_of t) u less)) empty had.holds);
+            (one_more t c none old.now.trees first.0.trees (λ u less. all_has (λ (d : Definition). first.0.trees d.tree ≡ old.now.trees d.tree) schema.tables (definition u) others
+            (has_before (place_of t) u less)) empty had.holds);
       };
     }
 
-pub table_made : (t : Table) (c : Contents) → c t ≡ [] → (old new : State) (r : Result ℕ Error) → (IsTrue old.in_transaction → ExecutesInside 0 (create_text t) [] old new r) → SeesMade (place_of t) c old → OnOk r (SeesMade (place_of t + 1) c new)
+pub table_made : (t : Table) (c : Contents) → c t ≡ [] → (old new : State) (r : Result ℕ Error) → (IsTrue old.in_transaction → ExecutesInside 0 (create_text t) [] old new r)
+    → SeesMade (place_of t) c old → OnOk r (SeesMade (place_of t + 1) c new)
 table_made t c none old new (Ok count) runs sees = makes t c none old new count sees (runs sees.inside)
 table_made t c none old new (Err e) runs sees = tt
 
@@ -157,8 +162,17 @@ parted : (k n : ℕ) → k ≤ n → schema_from n [] [] [] ≡ schema_from k (m
 parted k n low = go (take n all_tables) (take k all_tables) (drop k (take n all_tables)) (split all_tables k n low)
   where
     go : (all front back : List Table) → all ≡ front ++ back
-        → ◌≡◌ {A = Schema} (record { tables = map definition all ++ []; indexes = map key_index all ++ []; views = [] }) (record { tables = map definition front ++ (map definition back ++ []); indexes = map key_index front ++ (map key_index back ++ []); views = [] })
-    go all front back is = rw (is, map-append definition front back, map-append key_index front back, append_assoc (map definition front) (map definition back) [], append_assoc (map key_index front) (map key_index back) []) refl
+        → ◌≡◌ {A = Schema} (record { tables = map definition all ++ []; indexes = map key_index all ++ []; views = [] })
+        (record { tables = map definition front ++ (map definition back ++ []); indexes = map key_index front ++ (map key_index back ++ []); views = [] })
+    go all front back is =
+        rw (
+          is,
+          map-append definition front back,
+          map-append key_index front back,
+          append_assoc (map definition front) (map definition back) [],
+          append_assoc (map key_index front)
+              (map key_index back) [],
+        ) refl
 
 pub first_begins : (n : ℕ) (s : Schema) → s ≡ schema_from n [] [] [] → (t : Table) → place_of t < n → BeginsTo t s
 first_begins n s is t low =
@@ -166,7 +180,8 @@ first_begins n s is t low =
     record { rest = map definition (drop k (take n all_tables)) ++ []; others = map key_index (drop k (take n all_tables)) ++ []; views = []; is = is ∙ parted k n (omega (arith, low)) }
 
 -- an open connection leaves the last commit and nothing else, where the store says so
-pub first_leaves : (n : ℕ) (c : Contents) (s : State) → ((trees : Trees) → IsTrue s.is_open → s.may_leave trees → trees ≡ s.committed.trees) → RestsFirst n c s → (trees : Trees) → s.may_leave trees → StoresFirst n c trees
+pub first_leaves : (n : ℕ) (c : Contents) (s : State) → ((trees : Trees) → IsTrue s.is_open → s.may_leave trees → trees ≡ s.committed.trees) → RestsFirst n c s → (trees : Trees)
+    → s.may_leave trees → StoresFirst n c trees
 first_leaves n c s settled rests trees may = record { db = s.now; first = rests.first; same = settled trees rests.is_open may ∙ ap (λ (d : Database). d.trees) (sym rests.settled) }
 
 -- What a stop left is found again: a schema is told by its trees.

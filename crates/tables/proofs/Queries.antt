@@ -23,7 +23,8 @@ use Rattle.tables.proofs.SelectLemmas.{IsSelect, columns_from, ordered_from, tes
 -- what a SELECT of all columns in the order of the key has to be, under a schema that begins with the tables up to its own
 pub record Reads (t : Table) (sql : List ℕ) (tests : List Term) : Type 0 where
   pub query : is_query_text (first sql) ≡ true
-  pub select : (rest : List Definition) (others : List Index) (views : List View) → IsSelect (schema_from (1 + place_of t) rest others views) sql (tree_of t) tests (columns_from 0 (length (columns_of t))) (ordered_from 0 (shape t).key) (names_of t)
+  pub select : (rest : List Definition) (others : List Index) (views : List View)
+      → IsSelect (schema_from (1 + place_of t) rest others views) sql (tree_of t) tests (columns_from 0 (length (columns_of t))) (ordered_from 0 (shape t).key) (names_of t)
 
 pub selects : (t : Table) (n : ℕ) → n ≤ (shape t).key → Reads t (select_text t n) (tests_from 0 n)
 unfolding understood everything select_text
@@ -47,7 +48,8 @@ selects_by_reference WardOfBatch = record { query = refl; select = λ rest other
 -- what a SELECT of the rowids has to be
 pub record ReadsRowids (t : Table) : Type 0 where
   pub query : is_query_text (first (select_rowids_text t)) ≡ true
-  pub select : (rest : List Definition) (others : List Index) (views : List View) → IsSelect (schema_from (1 + place_of t) rest others views) (select_rowids_text t) (tree_of t) [] (col 1 0 ∷ []) ((col 1 0, ascending Binary) ∷ []) (codes "rowid" ∷ [])
+  pub select : (rest : List Definition) (others : List Index) (views : List View)
+      → IsSelect (schema_from (1 + place_of t) rest others views) (select_rowids_text t) (tree_of t) [] (col 1 0 ∷ []) ((col 1 0, ascending Binary) ∷ []) (codes "rowid" ∷ [])
 
 pub selects_rowids : (t : Table) → changes_rows t ≡ true → ReadsRowids t
 unfolding understood everything select_rowids_text
