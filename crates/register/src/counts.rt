@@ -14,7 +14,7 @@ ghost use Rattle.register.specs.Counts.{is_in_range, is_ready, lot_objection, wa
 use crate::decision::Effect;
 use crate::phase::Phase;
 use crate::polls::Poll;
-use crate::ranges::{LAST_LOT_STAGE, is_candidate_number, is_lot_stage, is_ward_number};
+use crate::ranges::{LAST_LOT_STAGE, is_candidate_number, is_lot_stage, is_office, is_ward_number};
 use crate::refusal::Reason;
 use crate::tabulated::{self, Addition};
 use crate::texts::{action_text, listed};
@@ -60,7 +60,7 @@ pub enum CountCommand {
 fn is_in_range(actor: u32, command: &CountCommand) -> bool
     ensures { result ≡ is_in_range actor command.now }
 {
-    let office = actor == 0;
+    let office = is_office(actor);
     match command {
         CountCommand::Seal { ward } => office & is_ward_number(*ward),
         CountCommand::Advance { ward } => office & is_ward_number(*ward),

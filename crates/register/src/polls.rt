@@ -11,7 +11,7 @@ ghost use Rattle.register.specs.Polls.{Pile, StandFor, are_listed, are_bundled, 
 
 use crate::keyings::KeyedPaper;
 use crate::papers::{agreed, are_taken, count_open};
-use crate::verdicts::JudgedPaper;
+use crate::verdicts::{ACCEPTED, JudgedPaper};
 use count::Bundles;
 use paper::{Columns, Keyed, Marked, Marks, Prefs, judge};
 use std::alloc::{AllocError, Global};
@@ -131,7 +131,7 @@ fn by_text(columns: Columns, marks: &str) -> Judgement
 fn by_verdict(columns: Columns, judged: &JudgedPaper) -> Judgement
     ensures { result ≡ by_verdict columns (Some (judged_entry judged.now)) }
 {
-    if judged.code == 0 {
+    if judged.code == ACCEPTED {
         return by_text(columns, judged.marks.as_str());
     }
     Judgement::Rejected(judged.code)
