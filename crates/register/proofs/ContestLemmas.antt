@@ -1,6 +1,6 @@
 -- The contest of a ward is one that the rules of the count speak of.
 use Rattle.std.proofs.Common.{◌≡◌, ℕ, zero, suc, ◌+◌, ◌*◌, ◌<◌, ◌≤◌, ◌==◌, ◌&&◌, ◌||◌, nat_eq, nat_le, Bool, true, false, cond, List, [], ◌∷◌, ◌++◌, length, map, filter, find, fold, Option}
-use Rattle.std.proofs.Common.{Some, None, Result, Ok, Err, codes, refl, sym, ap, ◌∙◌, arith, length-append}
+use Rattle.std.proofs.Common.{Some, None, Result, Ok, Err, codes, refl, sym, ap, arith, length-append}
 use Rattle.std.specs.List.{AllByRecursion, list_all, list_any, flat_map, zip}
 use Rattle.std.specs.Str.{bytes_eq}
 use Rattle.std.specs.List.Sorted.{IsStrictlySortedBy}
@@ -26,7 +26,7 @@ use Rattle.count.specs.Books.{AreRankings}
 use Rattle.count.proofs.ContestLemmas.{contest-is}
 use Rattle.register.specs.declared.polls.Judgement.{Judgement}
 use Rattle.register.specs.declared.polls.Judgement.TheVariants.{Valid, Rejected, Open}
-use Rattle.register.specs.Ranges.{is_ward_number, is_seat_number, is_candidate_number, is_batch_number, is_paper_number, is_clerk, is_round, is_name}
+use Rattle.register.specs.Ranges.{is_ward_number, is_seat_number, is_candidate_number, is_name}
 use Rattle.register.specs.Offices.{WardEntry, CandidateEntry, BatchEntry, KeyedEntry, JudgedEntry, OfficeState, MapsRise, batch_cmp, ward_compared, ward_at, candidates_of}
 use Rattle.register.specs.Nominations.{is_contested}
 use Rattle.register.specs.Marks.{and_column, columns_of}
@@ -36,9 +36,9 @@ use Rattle.register.specs.Items.{is_ward, is_candidate, is_batch, item1, item3, 
 use Rattle.register.specs.Polls.{Pile, pile_of, piles_of, by_rejection, by_reading, by_verdict, judgement_on, judgements_in, judgements, preferences_by, ballots_in}
 use Rattle.register.specs.Elections.{election_of, contest_of}
 use Rattle.register.proofs.MapLemmas.{kept_all, found_passes}
-use Rattle.register.proofs.KeyedLemmas.{round_at, BatchParts, batch_parts}
+use Rattle.register.proofs.KeyedLemmas.{round_at, batch_parts}
 use Rattle.register.proofs.LineLemmas.{lower, upper}
-use Rattle.register.proofs.ColumnLemmas.{columns_at}
+use Rattle.register.proofs.WardColumnLemmas.{columns_at}
 
 -- ---- the candidates
 

@@ -49,7 +49,7 @@ use Rattle.register.proofs.ItemLemmas.{MapName, lot_map, Holds, maps_of, state_f
 use Rattle.register.proofs.NominationLemmas.{moved, staged, changed_stays}
 use Rattle.register.proofs.TabulationLemmas.{IsOfCount, bundles_of_count, figures_of_count, told_by, told_but_one, same_tabulation, tabulation_moved, wards_split}
 use Rattle.register.proofs.ContestLemmas.{fair_contest, columns_are_set, papers_are_rankings}
-use Rattle.register.proofs.TellLemmas.{columns_are_small, length_kept, listed_line, action_line, judgements_are_few, poll_line}
+use Rattle.register.proofs.ToldLineLemmas.{columns_are_small, length_kept, listed_line, action_line, judgements_are_few, poll_line}
 
 -- ---- what the receipts may be about
 

@@ -8,11 +8,11 @@ use Rattle.std.proofs.lemmas.List.Sorted.{IsPermutation-refl}
 use Rattle.register.specs.declared.refusal.Reason.{Reason}
 use Rattle.register.specs.declared.refusal.Reason.TheVariants.{BadId, IdUsed}
 use Rattle.register.specs.declared.command.Command.{Command}
-use Rattle.register.specs.declared.command.Command.TheVariants.{Ward, Candidate, Batch, Keying, Verdict, Count}
-use Rattle.register.specs.declared.wards.WardCommand.TheVariants.{Add as ward_add, Close}
-use Rattle.register.specs.declared.candidates.CandidateCommand.TheVariants.{Add as candidate_add, Withdraw}
-use Rattle.register.specs.declared.batches.BatchCommand.TheVariants.{Add as batch_add, Again, Third}
-use Rattle.register.specs.declared.counts.CountCommand.TheVariants.{Seal, Advance, Lot, Declare}
+use Rattle.register.specs.declared.command.Command.TheVariants.{Ward, Candidate, Batch, Count}
+use Rattle.register.specs.declared.wards.WardCommand.TheVariants.{Close}
+use Rattle.register.specs.declared.candidates.CandidateCommand.TheVariants.{Withdraw}
+use Rattle.register.specs.declared.batches.BatchCommand.TheVariants.{Again}
+use Rattle.register.specs.declared.counts.CountCommand.TheVariants.{Advance}
 use Rattle.register.specs.declared.elections.Count.{Count as CountValue}
 use Rattle.register.specs.declared.tabulated.Addition.{Addition}
 use Rattle.register.specs.declared.decision.Change.{Change}

@@ -37,7 +37,7 @@ use Rattle.register.specs.Keyings.{texts_of, part_of, is_in_range, objections, s
 use Rattle.register.proofs.LineLemmas.{lower, upper, are_plain-decimals, words, line_append, line_number, line_reply, line_text}
 use Rattle.register.proofs.ObjectionLemmas.{no_objection, asked, unasked, IsThere, present, there}
 use Rattle.register.proofs.MapLemmas.{list_all_weaker, IsMap, put_each_all, put_is_map, filter_put_in, filter_put_each, put_last, found_filter, found_none, each_weaker, found_passes}
-use Rattle.register.proofs.MapLemmas.{found_number, same_number, both_equal, all_but_number}
+use Rattle.register.proofs.MapLemmas.{found_number, same_number, both_equal}
 use Rattle.register.proofs.ElectionLemmas.{lots_placed_of}
 use Rattle.register.proofs.ElsewhereLemmas.{IsOfBatch, rounds_elsewhere, judged_elsewhere, IsBeforeCount, batch_in_keying, sound_kept}
 use Rattle.register.proofs.TabulationLemmas.{tabulation_kept}

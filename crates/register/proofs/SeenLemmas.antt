@@ -9,11 +9,11 @@ use Rattle.register.specs.declared.phase.Phase.TheVariants.{Keying}
 use Rattle.register.specs.declared.refusal.Reason.{Reason}
 use Rattle.register.specs.declared.refusal.Reason.TheVariants.{BadId, IdUsed, NumberOutOfRange}
 use Rattle.register.specs.declared.command.Command.{Command}
-use Rattle.register.specs.declared.command.Command.TheVariants.{Ward, Candidate, Batch, Keying as Key, Verdict, Count}
-use Rattle.register.specs.declared.wards.WardCommand.TheVariants.{Add as AddWard, Close}
-use Rattle.register.specs.declared.candidates.CandidateCommand.TheVariants.{Add as AddCandidate, Withdraw}
-use Rattle.register.specs.declared.batches.BatchCommand.TheVariants.{Add as AddBatch, Again, Third}
-use Rattle.register.specs.declared.counts.CountCommand.TheVariants.{Seal, Advance, Lot, Declare}
+use Rattle.register.specs.declared.command.Command.TheVariants.{Ward, Candidate, Batch, Keying as Key, Count}
+use Rattle.register.specs.declared.wards.WardCommand.TheVariants.{Close}
+use Rattle.register.specs.declared.candidates.CandidateCommand.TheVariants.{Withdraw}
+use Rattle.register.specs.declared.batches.BatchCommand.TheVariants.{Again}
+use Rattle.register.specs.declared.counts.CountCommand.TheVariants.{Seal}
 use Rattle.register.specs.declared.keyings.KeyingCommand.{KeyingCommand}
 use Rattle.register.specs.Reasons.{first_reason}
 use Rattle.register.specs.Ranges.{is_id, is_office}

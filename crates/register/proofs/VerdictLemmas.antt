@@ -15,17 +15,17 @@ use Rattle.register.specs.declared.verdicts.VerdictCommand.{VerdictCommand}
 use Rattle.register.specs.Reasons.{first_reason}
 use Rattle.register.specs.Ranges.{last_batch, most_papers, is_office, is_batch_number, is_paper_number}
 use Rattle.register.specs.Subjects.{is_office_subject}
-use Rattle.register.specs.Offices.{BatchEntry, JudgedEntry, OfficeState, put, judged_cmp, batch_compared, batch_at, verdict_at, verdicts_of}
+use Rattle.register.specs.Offices.{BatchEntry, JudgedEntry, OfficeState, put, judged_cmp, batch_at, verdict_at}
 use Rattle.register.specs.Marks.{columns_of, is_valid}
 use Rattle.register.specs.Papers.{agreed, has_doubtful, taken_papers}
-use Rattle.register.specs.Keyed.{columns_for, is_verdict_for, is_judged}
+use Rattle.register.specs.Keyed.{columns_for, is_verdict_for}
 use Rattle.register.specs.Items.{is_judged_paper, IsState}
 use Rattle.register.specs.Effects.{paper_judged, with_effect}
 use Rattle.register.specs.Batches.{ward_for, candidates_for, keyings_for}
 use Rattle.register.specs.Verdicts.{part_of, is_in_range, is_verdict, objections, subject_of, verdict_word, reply_to, judged_as, effect_of}
 use Rattle.register.proofs.LineLemmas.{lower, upper, are_plain-decimals, IsLine, words, line_append, line_number, line_reply, line_text}
 use Rattle.register.proofs.ObjectionLemmas.{no_objection, asked, absent, present, there}
-use Rattle.register.proofs.MapLemmas.{put_all, put_is_map, found_passes, all_but_number}
+use Rattle.register.proofs.MapLemmas.{put_all, put_is_map}
 use Rattle.register.proofs.ElectionLemmas.{lots_placed_of}
 use Rattle.register.proofs.ElsewhereLemmas.{judged_elsewhere, IsBeforeCount, batch_in_keying, sound_kept}
 use Rattle.register.proofs.TabulationLemmas.{tabulation_kept}

@@ -17,7 +17,7 @@ use Rattle.tables.specs.Texts.{insert_text}
 use Rattle.tables.specs.Schema.{Definition, schema_from, definition, place_of, tree_of, shape, columns_of, checks_from, places_from, AreFree}
 use Rattle.tables.specs.Rows.{is_row_of, Keyed}
 use Rattle.tables.specs.Contents.{Contents, changed, added, HoldsTable, Holds, IsOffice, Sees}
-use Rattle.tables.proofs.PlaceLemmas.{typed_at}
+use Rattle.tables.proofs.ColumnPlaceLemmas.{typed_at}
 use Rattle.tables.proofs.TableLemmas.{which_table, has_table}
 use Rattle.tables.proofs.InsertLemmas.{Changes, inserts}
 use Rattle.tables.proofs.Inserts.{inserts_row, inserted, width_of}

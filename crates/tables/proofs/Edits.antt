@@ -14,9 +14,9 @@ use Rattle.sqlite_schema.specs.declared.schema.Keys.TheVariants.{Enforced}
 use Rattle.sqlite_rules.specs.Action.{works}
 use Rattle.sqlite_tied.specs.Compute.{everything}
 use Rattle.tables.specs.declared.table.Table.{Table}
-use Rattle.tables.specs.declared.table.Table.TheVariants.{Office, Ward, Candidate, Batch, Keying, Verdict, Lot, Receipt, Bundle, Vote, Third}
+use Rattle.tables.specs.declared.table.Table.TheVariants.{Keying, Verdict, Lot, Receipt, Vote, Third}
 use Rattle.tables.specs.declared.table.Setting.{Setting}
-use Rattle.tables.specs.declared.table.Setting.TheVariants.{VersionOfOffice, PhaseOfWard, DoneOfWard, RoundOfBatch}
+use Rattle.tables.specs.declared.table.Setting.TheVariants.{VersionOfOffice}
 use Rattle.tables.specs.Texts.{update_text, set_text, delete_text}
 use Rattle.tables.specs.Schema.{Definition, schema_from, definition, place_of, tree_of, shape, columns_of, places_from, changes_rows, table_set, place_set, AreFree}
 use Rattle.tables.proofs.SelectLemmas.{query, columns_from, tests_from}

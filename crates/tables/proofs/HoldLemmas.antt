@@ -30,7 +30,7 @@ use Rattle.tables.specs.Rows.{tuples, at, column_places, is_row_of, is_of, are_o
 use Rattle.tables.specs.Contents.{HoldsTable}
 use Rattle.tables.specs.Reading.{Lists, ListsKeyed, HoldsNone, HasOther, FailsToRise}
 use Rattle.tables.proofs.ListLemmas.{mapped_length, get_mapped, mapped_has, has_mapped, permuted_has, mapped_same, mapped_itself, all_pass, has_at}
-use Rattle.tables.proofs.PlaceLemmas.{padded, pads, at_twice, typed_at}
+use Rattle.tables.proofs.ColumnPlaceLemmas.{padded, pads, at_twice, typed_at}
 use Rattle.tables.proofs.OrderLemmas.{row_total, rise_all, one_key}
 
 -- ---- rows that obey a schema are no longer than its columns

@@ -32,7 +32,7 @@ use Rattle.sqlite.specs.State.{State, mode_of, Executes}
 use Rattle.sqlite.proofs.Callers.{IsPlain, command_of, statement_of, runs_as, one_step}
 use Rattle.tables.specs.Schema.{Definition, keyed_by}
 use Rattle.tables.specs.Rows.{Keyed, is_of, are_of}
-use Rattle.tables.proofs.KeyedLemmas.{keyed_put_all}
+use Rattle.tables.proofs.NewRowidLemmas.{keyed_put_all}
 use Rattle.tables.proofs.WentLemmas.{given, then_went, read, write_went}
 
 -- ---- lists

@@ -19,7 +19,7 @@ use Rattle.tables.proofs.Edits.{beyond_key}
 use Rattle.tables.proofs.ListingLemmas.{key_within}
 use Rattle.tables.proofs.OrderLemmas.{equal-Int, equal-words, equal-Blob}
 use Rattle.tables.proofs.PickLemmas.{tied}
-use Rattle.tables.proofs.PlaceLemmas.{padded, pads, typed_at}
+use Rattle.tables.proofs.ColumnPlaceLemmas.{padded, pads, typed_at}
 
 -- values of one kind that SQL calls equal are the same
 same_value : (k : Kind) (a b : Value) → is_of k a ≡ true → is_of k b ≡ true → equal Binary a b ≡ true → a ≡ b

@@ -17,14 +17,14 @@ use Rattle.sqlite.specs.Effect.{Database}
 use Rattle.sqlite.specs.Query.{key_cmp}
 use Rattle.sqlite.specs.State.{State, Shown}
 use Rattle.tables.specs.declared.table.Table.{Table}
-use Rattle.tables.specs.declared.table.Table.TheVariants.{Office, Ward, Candidate, Batch, Keying, Verdict, Lot, Receipt, Bundle, Vote, Third}
+use Rattle.tables.specs.declared.table.Table.TheVariants.{Office}
 use Rattle.tables.specs.Texts.{select_rowids_text}
 use Rattle.tables.specs.Schema.{schema_from, place_of, tree_of, shape, columns_of, changes_rows, places_from, definition, key_index, all_tables, BeginsTo, IsOfficeSchema}
 use Rattle.tables.specs.Rows.{tuples, at, column_places, is_row_of, row_cmp, keys_cmp, ascending_keys}
 use Rattle.tables.specs.Contents.{Contents, OfficeAt, IsOffice, RestsAt, Rests}
 use Rattle.tables.specs.Reading.{Lists, Finds, ListsRowids, alone}
 use Rattle.tables.proofs.ListLemmas.{all_pass, sorted_mapped, mapped_same, mapped_itself}
-use Rattle.tables.proofs.PlaceLemmas.{column_shown, typed_at}
+use Rattle.tables.proofs.ColumnPlaceLemmas.{column_shown, typed_at}
 use Rattle.tables.proofs.ReadLemmas.{rests_at}
 use Rattle.tables.proofs.SelectLemmas.{reads_rows, shows_columns, ordered_terms, ordered_keys, columns_from, ordered_from}
 use Rattle.tables.proofs.Queries.{Reads, selects_rowids}

@@ -27,7 +27,7 @@ use Rattle.sqlite.specs.State.{State, Writes, ExecutesInside}
 use Rattle.sqlite.proofs.Callers.{IsPlain, command_of, statement_of, runs_as}
 use Rattle.sqlite_tied.specs.Compute.{everything}
 use Rattle.tables.specs.declared.table.Table.{Table}
-use Rattle.tables.specs.declared.table.Table.TheVariants.{Office, Ward, Candidate, Batch, Keying, Verdict, Lot, Receipt, Bundle, Vote, Third}
+use Rattle.tables.specs.declared.table.Table.TheVariants.{Office}
 use Rattle.tables.specs.Texts.{create_text}
 use Rattle.tables.specs.Schema.{Definition, BeginsTo, schema_from, no_schema, definition, shaped, shape, place_of, tree_of, all_tables, key_index}
 use Rattle.tables.specs.Rows.{Keyed}

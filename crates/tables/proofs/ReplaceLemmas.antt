@@ -35,7 +35,7 @@ use Rattle.tables.specs.Schema.{Definition, definition, place_of, places_from, t
 use Rattle.tables.specs.Rows.{tuples, at, has_key, is_row_of, Keyed}
 use Rattle.tables.proofs.Edits.{beyond_key, updated}
 use Rattle.tables.proofs.InsertLemmas.{Changes, put_fresh, cast_int, cast_all_of}
-use Rattle.tables.proofs.KeyedLemmas.{keyed_put_all}
+use Rattle.tables.proofs.NewRowidLemmas.{keyed_put_all}
 use Rattle.tables.proofs.ListLemmas.{mapped_has, mapped_same, mapped_twice, mapped_itself}
 use Rattle.tables.proofs.WentLemmas.{write_went, update_went}
 use Rattle.tables.proofs.PickLemmas.{picked, picked_left, keyed_filtered}

@@ -32,7 +32,7 @@ use Rattle.tables.proofs.SelectLemmas.{tests_agree}
 use Rattle.tables.proofs.Queries.{selects, selects_query}
 use Rattle.tables.proofs.ReadLemmas.{reads_left, never_commits, only_reads, only_reads_then, rests_read}
 use Rattle.tables.proofs.ListingLemmas.{begins_to, office_of, if_found}
-use Rattle.tables.proofs.FindLemmas.{found_as}
+use Rattle.tables.proofs.QueriedRowsLemmas.{found_as}
 use Rattle.tables.proofs.FaultLemmas.{query_cause}
 use Rattle.tables.proofs.CauseLemmas.{fails_later, key_fails}
 

@@ -5,7 +5,7 @@ use Rattle.count.specs.Kept.{IsKeptOf}
 use Rattle.count.specs.Marks.{all_figures}
 use Rattle.register.specs.Elections.{ElectionEntry, contest_of, stages_of}
 use Rattle.register.specs.Tabulated.{AreOfCount, placed_entry, figure_entry}
-use Rattle.register.proofs.ReadBackLemmas.{read_figures, are_bundles, few_papers, few_holders, right_so_far, kept_again}
+use Rattle.register.proofs.CountReadBackLemmas.{read_figures, are_bundles, few_papers, few_holders, right_so_far, kept_again}
 use Rattle.register.proofs.tabulated.count_of.Goals as goal
 use Rattle.register.proofs.tabulated.count_of.Goals.{In-Some-3}
 

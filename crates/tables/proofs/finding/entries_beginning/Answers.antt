@@ -5,7 +5,7 @@ use Rattle.sqlite.specs.Held.{state}
 use Rattle.sqlite.specs.Values.{bound}
 use Rattle.tables.specs.Rows.{begins_with}
 use Rattle.tables.proofs.FaultLemmas.{query_cause}
-use Rattle.tables.proofs.FindLemmas.{found_as, found_cause}
+use Rattle.tables.proofs.QueriedRowsLemmas.{found_as, found_cause}
 use Rattle.tables.proofs.finding.entries_beginning.Goals as goal
 
 pub returns-clause-finds : goal.returns-clause-finds

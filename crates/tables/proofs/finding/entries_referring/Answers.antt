@@ -8,7 +8,7 @@ use Rattle.tables.specs.declared.table.Table.{Table}
 use Rattle.tables.specs.Rows.{refers_to}
 use Rattle.tables.specs.Reading.{Finds}
 use Rattle.tables.proofs.FaultLemmas.{query_cause}
-use Rattle.tables.proofs.FindLemmas.{found_as, found_cause}
+use Rattle.tables.proofs.QueriedRowsLemmas.{found_as, found_cause}
 use Rattle.tables.proofs.finding.entries_referring.Goals as goal
 
 pub returns-clause-finds : goal.returns-clause-finds

@@ -17,7 +17,7 @@ use Rattle.tables.specs.Rows.{at, column_places, is_row_of}
 use Rattle.tables.specs.Contents.{Contents, Rests}
 use Rattle.tables.specs.Reading.{Finds, HasOther}
 use Rattle.tables.proofs.ListLemmas.{mapped_same, mapped_itself, permuted_has, has_at}
-use Rattle.tables.proofs.PlaceLemmas.{typed_at}
+use Rattle.tables.proofs.ColumnPlaceLemmas.{typed_at}
 use Rattle.tables.proofs.ListingLemmas.{office_of}
 
 -- a row of an office has all columns and no more

@@ -11,7 +11,7 @@ use Rattle.register.specs.Tabulated.{addition_entries}
 use Rattle.register.specs.Additions.{IsAddedTo}
 use Rattle.register.specs.Walks.{all_added, moves_added}
 use Rattle.register.proofs.NextLemmas.{some_due, first_added, later_added}
-use Rattle.register.proofs.tabulated.addition_of.Goals as goal
+use Rattle.register.proofs.additions.addition_of.Goals as goal
 
 pub returns-then-is_empty : goal.returns-then-is_empty
 returns-then-is_empty c =
