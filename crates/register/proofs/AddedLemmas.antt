@@ -51,7 +51,8 @@ last_taken (x ∷ xs) zero within = (x, refl)
 last_taken (x ∷ xs) (suc i) within = let later = last_taken xs i (omega arith) in (later.0, ap (λ ys. x ∷ ys) later.1)
 
 -- the figures of one stage more
-pub figures_more : (ward : ℕ) (candidates : List ℕ) (stages : List Stage) (i stage : ℕ) (shown : List Figure) (start old new : List FigureEntry) → i < length stages → stage ≡ i + 1 → shown ≡ figures_at candidates (reverse (take (i + 1) stages))
+pub figures_more : (ward : ℕ) (candidates : List ℕ) (stages : List Stage) (i stage : ℕ) (shown : List Figure) (start old new : List FigureEntry) → i < length stages → stage ≡ i + 1
+    → shown ≡ figures_at candidates (reverse (take (i + 1) stages))
     → old ≡ start ++ figures_to ward candidates (reverse (take i stages)) → new ≡ old ++ map (figure_at ward stage) shown → new ≡ start ++ figures_to ward candidates (reverse (take (i + 1) stages))
 figures_more ward candidates stages i stage shown start old new within number figures was pushed =
     let more : i + 1 ≡ suc i = omega arith in

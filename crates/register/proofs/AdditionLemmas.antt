@@ -30,7 +30,9 @@ use Rattle.register.proofs.MovedLemmas.{bundled-rise, all_moved, moved-append, o
 
 pub put_between : {X : Type 0} (new front own back : List X) → IsPermutation (new ++ (front ++ (own ++ back))) (front ++ ((own ++ new) ++ back))
 put_between {X} new front own back =
-    let first : IsPermutation ((new ++ (front ++ own)) ++ back) (((front ++ own) ++ new) ++ back) = IsPermutation-append_left back (new ++ (front ++ own)) ((front ++ own) ++ new) (IsPermutation-append_comm new (front ++ own)) in
+    let first : IsPermutation ((new ++ (front ++ own)) ++ back) (((front ++ own) ++ new) ++ back) =
+    IsPermutation-append_left back (new ++ (front ++ own)) ((front ++ own) ++ new) (IsPermutation-append_comm new (front ++ own))
+    in
     let from : (new ++ (front ++ own)) ++ back ≡ new ++ (front ++ (own ++ back)) = append_assoc new (front ++ own) back ∙ ap (λ (xs : List X). new ++ xs) (append_assoc front own back) in
     let to : ((front ++ own) ++ new) ++ back ≡ front ++ ((own ++ new) ++ back) = ap (λ (xs : List X). xs ++ back) (append_assoc front own new) ∙ append_assoc front (own ++ new) back in
     subst (λ xs. IsPermutation xs (front ++ ((own ++ new) ++ back))) from (subst (λ xs. IsPermutation ((new ++ (front ++ own)) ++ back) xs) to first)
@@ -124,7 +126,8 @@ module _ (s : OfficeState) (n : ℕ) (w : WardEntry) (is : IsState s) (found : w
     long : length (stages_of (at_stage_of (w.done + 1) own)) ≡ w.done + 1
     long = let stages = due.stages in let more = ap (λ (h : History). length h) added in omega (arith, stages, more)
 
-    bundles_after : (before : History) → stages_of own ≡ before → told_by bundles_in later ≡ front_of bundles_in ++ (map (placed_after own (new ∷ before)) (bundled own.ballots.papers) ++ back_of bundles_in)
+    bundles_after : (before : History) → stages_of own ≡ before → told_by bundles_in later ≡ front_of bundles_in
+        ++ (map (placed_after own (new ∷ before)) (bundled own.ballots.papers) ++ back_of bundles_in)
     bundles_after before same =
         told_after bundles_in (w.done + 1)
         ∙ ap (λ (bs : List PlacedEntry). front_of bundles_in ++ (bs ++ back_of bundles_in))
@@ -161,12 +164,14 @@ module _ (s : OfficeState) (n : ℕ) (w : WardEntry) (is : IsState s) (found : w
         let ms = map (placed_after own (new ∷ r ∷ before)) (moved_between own (r ∷ before) (new ∷ r ∷ before)) in
         let bs = map (placed_after own (r ∷ before)) (bundled own.ballots.papers) in
         let moved : of_ward w.number ms ≡ true = of_it w.number (place contest (new ∷ r ∷ before)) (moved_between own (r ∷ before) (new ∷ r ∷ before)) in
-        ap (λ (xs : List PlacedEntry). all_moved xs ms) (told_before bundles_in ∙ ap (λ (xs : List PlacedEntry). front_of bundles_in ++ (xs ++ back_of bundles_in)) (bundles_done own due.contested due.stages r before same))
+        ap (λ (xs : List PlacedEntry). all_moved xs ms) (told_before bundles_in
+        ∙ ap (λ (xs : List PlacedEntry). front_of bundles_in ++ (xs ++ back_of bundles_in)) (bundles_done own due.contested due.stages r before same))
         ∙ moved-append ms (front_of bundles_in) (bs ++ back_of bundles_in)
         ∙ ap (λ (xs : List PlacedEntry). xs ++ all_moved (bs ++ back_of bundles_in) ms) (front_stays ms moved)
         ∙ ap (λ (xs : List PlacedEntry). front_of bundles_in ++ xs)
         (moved-append ms bs (back_of bundles_in)
-        ∙ ap (λ (xs : List PlacedEntry). xs ++ all_moved (back_of bundles_in) ms) (moved_there w.number (place contest (r ∷ before)) (place contest (new ∷ r ∷ before)) (bundled own.ballots.papers) (bundled-rise own.ballots.papers))
+        ∙ ap (λ (xs : List PlacedEntry). xs ++ all_moved (back_of bundles_in) ms)
+        (moved_there w.number (place contest (r ∷ before)) (place contest (new ∷ r ∷ before)) (bundled own.ballots.papers) (bundled-rise own.ballots.papers))
         ∙ ap (λ (xs : List PlacedEntry). map (placed_after own (new ∷ r ∷ before)) (bundled own.ballots.papers) ++ xs) (back_stays ms moved))
         ∙ sym (bundles_after (r ∷ before) same)
 
@@ -178,6 +183,8 @@ module _ (s : OfficeState) (n : ℕ) (w : WardEntry) (is : IsState s) (found : w
         go : (before : History) → stages_of own ≡ before → SameTabulation (with_addition (addition_by own before new) (tabulation_of s)) (tabulation_of later)
         go [] same = record { bundles = bundles_come same; figures = figures_come [] same }
         go (r ∷ before) same = record {
-          bundles = subst (IsPermutation (all_moved (told_by bundles_in s) (map (placed_after own (new ∷ r ∷ before)) (moved_between own (r ∷ before) (new ∷ r ∷ before))))) (bundles_move r before same) (IsPermutation-refl _);
+          bundles =
+              subst (IsPermutation (all_moved (told_by bundles_in s) (map (placed_after own (new ∷ r ∷ before)) (moved_between own (r ∷ before) (new ∷ r ∷ before)))))
+              (bundles_move r before same) (IsPermutation-refl _);
           figures = figures_come (r ∷ before) same;
         }

@@ -29,7 +29,8 @@ equal_behind k ks (y ∷ ys) (z ∷ zs) = ap (λ e. same_marks (k ∷ ks) (y ∷
 pub agreed_three : (a b c : List KeyedEntry) → agreed (of_three a b c) ≡ cond (is_keyed a && (same_marks a b || same_marks a c)) a (cond (is_keyed b && same_marks b c) b [])
 agreed_three [] b c = agreed_two b c
 agreed_three (k ∷ ks) b c =
-    ap (λ (e : Bool). cond e (k ∷ ks) (agreed (filter is_keyed (b ∷ c ∷ [])))) (equal_behind k ks b c) ∙ ap (λ (js : List KeyedEntry). cond (same_marks (k ∷ ks) b || same_marks (k ∷ ks) c) (k ∷ ks) js) (agreed_two b c)
+    ap (λ (e : Bool). cond e (k ∷ ks) (agreed (filter is_keyed (b ∷ c ∷ [])))) (equal_behind k ks b c)
+    ∙ ap (λ (js : List KeyedEntry). cond (same_marks (k ∷ ks) b || same_marks (k ∷ ks) c) (k ∷ ks) js) (agreed_two b c)
 
 -- of two that are taken the first
 two_taken : (b c : List KeyedEntry) → are_taken (filter is_keyed (b ∷ c ∷ [])) ≡ true → agreed (filter is_keyed (b ∷ c ∷ [])) ≡ b
@@ -59,10 +60,12 @@ taken_settled s b taken = go (third_at s b.number) refl
     papers_by : Option ThirdEntry → List (List KeyedEntry)
     papers_by o = filter is_keyed (map (keying_of s b.number b.round) (clerks b o))
 
-    lower : (e : Bool) → (let two = filter is_keyed (map (keying_of s b.number b.round) (cond e (b.first_clerk ∷ b.second_clerk ∷ []) (b.second_clerk ∷ b.first_clerk ∷ []))) in are_taken two ≡ true → agreed two ≡ keying_of s b.number b.round (cond e b.first_clerk b.second_clerk))
+    lower : (e : Bool) → (let two = filter is_keyed (map (keying_of s b.number b.round) (cond e (b.first_clerk ∷ b.second_clerk ∷ []) (b.second_clerk ∷ b.first_clerk ∷ []))) in
+        are_taken two ≡ true → agreed two ≡ keying_of s b.number b.round (cond e b.first_clerk b.second_clerk))
     lower true both = two_taken (keying_of s b.number b.round b.first_clerk) (keying_of s b.number b.round b.second_clerk) both
     lower false both = two_taken (keying_of s b.number b.round b.second_clerk) (keying_of s b.number b.round b.first_clerk) both
 
     go : (o : Option ThirdEntry) → third_at s b.number ≡ o → taken_papers s b ≡ settled_with s b o
     go (Some t) is = refl
-    go None is = ap (λ (o : Option ThirdEntry). agreed (papers_by o)) is ∙ lower (is_lt (nat_cmp b.first_clerk b.second_clerk)) (ap (λ (o : Option ThirdEntry). are_taken (papers_by o)) (sym is) ∙ taken)
+    go None is =
+        ap (λ (o : Option ThirdEntry). agreed (papers_by o)) is ∙ lower (is_lt (nat_cmp b.first_clerk b.second_clerk)) (ap (λ (o : Option ThirdEntry). are_taken (papers_by o)) (sym is) ∙ taken)

@@ -1,5 +1,6 @@
 -- The commands about batches, where nothing stands against them, lead from a state to a state, and leave a receipt in range.
-use Rattle.std.proofs.Common.{rules, inl, inr, ◌≡◌, ℕ, suc, Bool, true, false, cond, not, ◌&&◌, ◌||◌, ◌==◌, ◌++◌, nat_le, codes, List, [], ◌∷◌, map, Option, Some, None, is_some, option_map, refl, sym, ap, subst, ◌∙◌, arith}
+use Rattle.std.proofs.Common.{rules, inl, inr, ◌≡◌, ℕ, suc, Bool, true, false, cond, not, ◌&&◌, ◌||◌, ◌==◌, ◌++◌, nat_le, codes, List, [], Option, Some, None, is_some, option_map, refl, sym}
+use Rattle.std.proofs.Common.{ap, subst, ◌∙◌, arith}
 use Rattle.std.specs.Fmt.{decimal}
 use Rattle.std.specs.List.{list_all}
 use Rattle.std.specs.Ordering.{is_eq}
@@ -15,48 +16,26 @@ use Rattle.register.specs.declared.batches.BatchCommand.TheVariants.{Add, Again,
 use Rattle.register.specs.Reasons.{first_reason}
 use Rattle.register.specs.Ranges.{last_clerk, last_batch, last_round, is_office, is_clerk, is_ward_number, is_batch_number, is_paper_number, is_round}
 use Rattle.register.specs.Subjects.{is_office_subject}
-use Rattle.register.specs.Offices.{WardEntry, BatchEntry, ThirdEntry, KeyedEntry, JudgedEntry, OfficeState, put, changed, batch_cmp, third_cmp, ward_compared, batch_compared, third_compared, ward_at, candidates_of, batch_at, third_at, keying_of, verdicts_of, lots_of}
-use Rattle.register.specs.Polls.{Pile, pile_of}
-use Rattle.register.specs.Elections.{election_of, is_counted}
+use Rattle.register.specs.Offices.{WardEntry, BatchEntry, ThirdEntry, KeyedEntry, JudgedEntry, OfficeState, changed, batch_cmp, third_cmp, ward_compared, batch_compared, third_compared}
+use Rattle.register.specs.Offices.{ward_at, candidates_of, batch_at, third_at, keying_of, verdicts_of}
 use Rattle.register.specs.Nominations.{are_enough}
-use Rattle.register.specs.Papers.{batches_of, agreed, are_taken, differ, is_taken, is_its_clerk, two_clerks, clerks, clerks_of, keyings_in, keyings_now}
+use Rattle.register.specs.Papers.{are_taken, differ, is_taken, is_its_clerk, two_clerks, clerks, clerks_of, keyings_in, keyings_now}
 use Rattle.register.specs.Marks.{is_readable}
-use Rattle.register.specs.Keyed.{columns_for, is_polled, is_given_out, is_third_for, is_keyed_for, is_whole, is_round_of, are_rounds_to, is_verdict_on, is_judged}
+use Rattle.register.specs.Keyed.{columns_for, is_polled, is_given_out, is_third_for, is_keyed_for, is_round_of, are_rounds_to, is_judged}
 use Rattle.register.specs.Items.{is_batch, is_third, IsState}
 use Rattle.register.specs.Effects.{batch_added, batch_reopened, third_set, in_round, with_effect}
-use Rattle.register.specs.Tabulated.{tabulation_of}
 use Rattle.register.specs.Parts.{passes}
 use Rattle.register.specs.Batches.{ward_for, third_for, keyings_for, part_of, is_in_last_round, is_in_range, objections, next_round, subject_of, reply_to, effect_of}
 use Rattle.register.proofs.LineLemmas.{lower, is_plain-decimal, words, line_append, line_number, line_reply, line_text}
-use Rattle.register.proofs.ObjectionLemmas.{none_objects, asked, unasked, absent, present, there}
-use Rattle.register.proofs.MapLemmas.{Keeps, list_all_weaker, filter_none, filter_put, put_all, put_is_map, found_put, found_put_other, found_put_too, found_put_still, changed_is_map, changed_at, found_changed, found_key, found_passes, found_number, same_number, all_but_number}
-use Rattle.register.proofs.ElectionLemmas.{is_sound, sound_of, lots_placed_of, same_election}
-use Rattle.register.proofs.ElsewhereLemmas.{sound_elsewhere, batches_elsewhere, changed_elsewhere}
-use Rattle.register.proofs.TabulationLemmas.{tabulation_alike, tabulation_elsewhere}
-use Rattle.register.proofs.ClerkLemmas.{keyed_by, none_keyed, put_unkeyed}
-use Rattle.register.proofs.KeyedLemmas.{rounds_from, rounds_more, found_given_out, no_verdicts}
+use Rattle.register.proofs.ObjectionLemmas.{no_objection, asked, unasked, absent, present, there}
+use Rattle.register.proofs.MapLemmas.{Keeps, list_all_weaker, filter_none, put_all, put_is_map, found_put, found_put_other, found_put_too, found_put_still, changed_is_map, changed_at}
+use Rattle.register.proofs.MapLemmas.{found_changed, found_key, found_passes, found_number, same_number, all_but_number}
+use Rattle.register.proofs.ElectionLemmas.{lots_placed_of}
+use Rattle.register.proofs.ElsewhereLemmas.{IsBeforeCount, batch_in_keying, sound_kept}
+use Rattle.register.proofs.TabulationLemmas.{tabulation_kept}
+use Rattle.register.proofs.ThreeKeyingsLemmas.{keyed_by, none_keyed, put_unkeyed}
+use Rattle.register.proofs.KeyedLemmas.{BatchParts, batch_parts, HasSameFile, rounds_kept, judged_kept, rounds_from, rounds_more, found_given_out, no_verdicts}
 use Rattle.register.proofs.ItemLemmas.{MapName, batch_map, third_map, Holds, maps_of, state_from, rounds_still, batch_total, third_total, are_placed, are_all, has_enough, IsFit, office_about}
-
--- ---- numbers in range
-
--- the numbers of a batch, each in range
-pub record BatchParts (b : BatchEntry) : Type 0 where
-  pub number : is_batch_number b.number ≡ true
-  pub ward : is_ward_number b.ward ≡ true
-  pub size : is_paper_number b.size ≡ true
-  pub first_clerk : is_clerk b.first_clerk ≡ true
-  pub second_clerk : is_clerk b.second_clerk ≡ true
-  pub round : is_round b.round ≡ true
-
-pub batch_parts : (b : BatchEntry) → is_batch b ≡ true → BatchParts b
-unfolding is_batch
-batch_parts b good =
-    let first = and_parts (is_batch_number b.number) (is_ward_number b.ward && (is_paper_number b.size && (is_clerk b.first_clerk && (is_clerk b.second_clerk && is_round b.round)))) good in
-    let second = and_parts _ _ first.1 in
-    let third = and_parts _ _ second.1 in
-    let fourth = and_parts _ _ third.1 in
-    let fifth = and_parts _ _ fourth.1 in
-    record { number = first.0; ward = second.0; size = third.0; first_clerk = fourth.0; second_clerk = fifth.0; round = fifth.1 }
 
 -- a batch that is found is in range
 pub found_in_range : {s : OfficeState} → IsState s → (n : ℕ) (b : BatchEntry) → batch_at s n ≡ Some b → BatchParts b
@@ -69,7 +48,8 @@ module _ (s : OfficeState) (b : BatchEntry) (is : IsState s) (new : batch_at s b
   unkeyed : (round clerk : ℕ) → keying_of s b.number round clerk ≡ []
   unkeyed round clerk = filter_none _ s.keyings (list_all_weaker _ _ s.keyings (λ k keyed. go k (k.batch == b.number) refl keyed) (and_parts _ _ is.keyed).0)
     where
-      go : (k : KeyedEntry) (same : Bool) → (k.batch == b.number) ≡ same → is_keyed_for s k (batch_at s k.batch) ≡ true → not ((k.batch == b.number) && ((k.round == round) && (k.clerk == clerk))) ≡ true
+      go : (k : KeyedEntry) (same : Bool) → (k.batch == b.number) ≡ same → is_keyed_for s k (batch_at s k.batch) ≡ true
+          → not ((k.batch == b.number) && ((k.round == round) && (k.clerk == clerk))) ≡ true
       go k false other keyed = rw other refl
       go k true same keyed =
           let none : batch_at s k.batch ≡ None = ap (batch_at s) (eqb-true k.batch b.number same) ∙ new in
@@ -103,17 +83,9 @@ module _ (s : OfficeState) (b : BatchEntry) (is : IsState s) (new : batch_at s b
       go None found set = absurd (cc)
       go (Some x) found set = rw (found_put_still (λ (x : BatchEntry). x.number) s.batches b t.batch x new found) set
 
-  -- the elections of other wards are as they were,
-  added_elsewhere : (x : WardEntry) → (b.ward == x.number) ≡ false → election_of (with_effect (batch_added b) s) x ≡ election_of s x
-  added_elsewhere x other = same_election x _ (candidates_of s x.number) _ _ _ (lots_of s x.number) refl (ap (map (pile_of s)) (filter_put batch_cmp (λ (y : BatchEntry). y.ward == x.number) b s.batches other)) refl
-
-  -- and so is the tabulation
-  pub added_tabulated : (w : WardEntry) → ward_at s b.ward ≡ Some w → is_counted w.phase ≡ false → tabulation_of (with_effect (batch_added b) s) ≡ tabulation_of s
-  added_tabulated w found open_ = tabulation_elsewhere s b.ward w s.candidates (put batch_cmp b s.batches) s.keyings s.verdicts found open_ added_elsewhere is
-
   -- a batch in range, in its first round, of a number that is new, given out
-  pub added_stays : (w : WardEntry) → ward_at s b.ward ≡ Some w → is_counted w.phase ≡ false → is_batch b ≡ true → b.round ≡ 1 → is_given_out s b ≡ true → IsState (with_effect (batch_added b) s)
-  added_stays w found open_ good first out =
+  pub added_stays : IsBeforeCount s (batch_added b) → is_batch b ≡ true → b.round ≡ 1 → is_given_out s b ≡ true → IsState (with_effect (batch_added b) s)
+  added_stays before good first out =
       let keyed = and_parts _ _ is.keyed in
       let judged = and_parts _ _ is.judged in
       state_from
@@ -126,14 +98,15 @@ module _ (s : OfficeState) (b : BatchEntry) (is : IsState s) (new : batch_at s b
             _
             _
             (list_all_weaker _ _ s.keyings keyed_for_too keyed.0)
-            (put_all batch_cmp (λ x. are_rounds_to (with_effect (batch_added b) s) x x.round) b s.batches (first_round first) (rounds_still s (with_effect (batch_added b) s) s.batches (λ x m round. round) keyed.1));
+            (put_all batch_cmp (λ x. are_rounds_to (with_effect (batch_added b) s) x x.round) b s.batches (first_round first)
+            (rounds_still s (with_effect (batch_added b) s) s.batches (λ x m round. round) keyed.1));
         judged = and_from
             _
             _
             (list_all_weaker _ _ s.verdicts (λ v placed. found_put_too batch_cmp (batch_compared v.batch) b s.batches placed) judged.0)
             (put_all batch_cmp (λ x. is_judged s x (verdicts_of s x.number)) b s.batches (rw unjudged refl) judged.1);
         lots_placed = lots_placed_of is;
-        sound = sound_elsewhere s b.ward w s.candidates (put batch_cmp b s.batches) s.keyings s.verdicts found open_ added_elsewhere is;
+        sound = sound_kept s (batch_added b) is before;
       })
     where
       maps : (m : MapName) → Holds m (with_effect (batch_added b) s)
@@ -151,16 +124,6 @@ in_range_still round good x fine =
 
 same_batch : (round : ℕ) → is_round round ≡ true → Keeps is_batch batch_cmp (in_round round)
 same_batch round good = record { passes = in_range_still round good; before = λ x y. refl; behind = λ x y. refl }
-
-module _ (s : OfficeState) (n : ℕ) (b : BatchEntry) (is : IsState s) (found : batch_at s n ≡ Some b) (round : ℕ) where
-  -- the elections of other wards are as they were,
-  reopened_elsewhere : (x : WardEntry) → (b.ward == x.number) ≡ false → election_of (with_effect (batch_reopened n round) s) x ≡ election_of s x
-  reopened_elsewhere x other =
-      same_election x _ (candidates_of s x.number) _ _ _ (lots_of s x.number) refl (ap (map (pile_of s)) (changed_elsewhere n x.number (in_round round) (λ y. refl) s.batches (batches_elsewhere s n b x.number is found other))) refl
-
-  -- and so is the tabulation
-  pub reopened_tabulated : (w : WardEntry) → ward_at s b.ward ≡ Some w → is_counted w.phase ≡ false → tabulation_of (with_effect (batch_reopened n round) s) ≡ tabulation_of s
-  reopened_tabulated w its_ward open_ = tabulation_elsewhere s b.ward w s.candidates (changed (batch_compared n) (in_round round) s.batches) s.keyings s.verdicts its_ward open_ reopened_elsewhere is
 
 module _ (s : OfficeState) (n : ℕ) (b : BatchEntry) (is : IsState s) (found : batch_at s n ≡ Some b) (unequal : differ (keyings_now s b) ≡ true) where
   -- no paper is keyed in the next round yet
@@ -204,7 +167,8 @@ module _ (s : OfficeState) (n : ℕ) (b : BatchEntry) (is : IsState s) (found : 
         let own : are_rounds_to s b b.round ≡ true = found_passes (batch_compared n) (λ (x : BatchEntry). are_rounds_to s x x.round) b s.batches (and_parts _ _ is.keyed).1 found in
         let reached = le-leb (suc b.round) (suc b.round) (le_refl (suc b.round)) in
         rounds_more (record s { batches = bs }) (in_round (suc b.round) b) b.round
-        ∙ and_from _ _ (rw (none_keyed (keying_of s b.number (suc b.round)) (clerks_of s b) unopened) (rw reached refl)) (rounds_from s (record s { batches = bs }) b (in_round (suc b.round) b) b.round earlier_round own)
+        ∙ and_from _ _ (rw (none_keyed (keying_of s b.number (suc b.round)) (clerks_of s b) unopened) (rw reached refl))
+        (rounds_from s (record s { batches = bs }) b (in_round (suc b.round) b) b.round earlier_round own)
 
   -- the batch isn't taken, so none of its papers is judged
   untaken : is_taken s b ≡ false
@@ -261,8 +225,8 @@ module _ (s : OfficeState) (n : ℕ) (b : BatchEntry) (is : IsState s) (found : 
       rw (no_verdicts s b untaken (verdicts_of s b.number) own) refl
 
   -- the batch in its next round, which is in range
-  next_stays : (w : WardEntry) → ward_at s b.ward ≡ Some w → is_counted w.phase ≡ false → is_round (suc b.round) ≡ true → IsState (with_effect (batch_reopened n (suc b.round)) s)
-  next_stays w its_ward open_ good =
+  next_stays : IsBeforeCount s (batch_reopened n (suc b.round)) → is_round (suc b.round) ≡ true → IsState (with_effect (batch_reopened n (suc b.round)) s)
+  next_stays before good =
       let keyed = and_parts _ _ is.keyed in
       let judged = and_parts _ _ is.judged in
       state_from
@@ -270,19 +234,23 @@ module _ (s : OfficeState) (n : ℕ) (b : BatchEntry) (is : IsState s) (found : 
       maps
       (record {
         nominated = is.nominated;
-        given_out = let parts = and_parts _ _ is.given_out in and_from _ _ (next_all (is_given_out s) (is_given_out s) (found_given_out is n b found) (λ x out. out) parts.0) (list_all_weaker _ _ s.thirds third_for_next parts.1);
+        given_out =
+            let parts = and_parts _ _ is.given_out in
+            and_from _ _ (next_all (is_given_out s) (is_given_out s) (found_given_out is n b found) (λ x out. out) parts.0) (list_all_weaker _ _ s.thirds third_for_next parts.1);
         keyed = and_from
             _
             _
             (list_all_weaker _ _ s.keyings keyed_for_next keyed.0)
-            (next_all (λ x. are_rounds_to s x x.round) (λ x. are_rounds_to (with_effect (batch_reopened n (suc b.round)) s) x x.round) (next_rounds (with_effect (batch_reopened n (suc b.round)) s).batches) (λ x rounds. rounds_from s (with_effect (batch_reopened n (suc b.round)) s) x x x.round (λ m round. round) rounds) keyed.1);
+            (next_all (λ x. are_rounds_to s x x.round) (λ x. are_rounds_to (with_effect (batch_reopened n (suc b.round)) s) x x.round)
+            (next_rounds (with_effect (batch_reopened n (suc b.round)) s).batches)
+            (λ x rounds. rounds_from s (with_effect (batch_reopened n (suc b.round)) s) x x x.round (λ m round. round) rounds) keyed.1);
         judged = and_from
             _
             _
             (list_all_weaker _ _ s.verdicts placed judged.0)
             (next_all (λ x. is_judged s x (verdicts_of s x.number)) (λ x. is_judged s x (verdicts_of s x.number)) unjudged_yet (λ x judged. judged) judged.1);
         lots_placed = lots_placed_of is;
-        sound = sound_elsewhere s b.ward w s.candidates (changed (batch_compared n) (in_round (suc b.round)) s.batches) s.keyings s.verdicts its_ward open_ (reopened_elsewhere s n b is found (suc b.round)) is;
+        sound = sound_kept s (batch_reopened n (suc b.round)) is before;
       })
     where
       placed : (v : JudgedEntry) → is_some (batch_at s v.batch) ≡ true → is_some (batch_at (with_effect (batch_reopened n (suc b.round)) s) v.batch) ≡ true
@@ -292,12 +260,14 @@ module _ (s : OfficeState) (n : ℕ) (b : BatchEntry) (is : IsState s) (found : 
       maps batch_map = changed_is_map (batch_compared n) (in_round (suc b.round)) (same_batch (suc b.round) good) s.batches (maps_of is batch_map)
       maps m = maps_of is m
 
-  pub reopened_stays : (w : WardEntry) → ward_at s b.ward ≡ Some w → is_counted w.phase ≡ false → (round : ℕ) → round ≡ suc b.round → is_round round ≡ true → IsState (with_effect (batch_reopened n round) s)
-  reopened_stays w its_ward open_ round next good = subst (λ (r : ℕ). IsState (with_effect (batch_reopened n r) s)) (sym next) (next_stays w its_ward open_ (ap is_round (sym next) ∙ good))
+  pub reopened_stays : (round : ℕ) → round ≡ suc b.round → IsBeforeCount s (batch_reopened n round) → is_round round ≡ true → IsState (with_effect (batch_reopened n round) s)
+  reopened_stays round next before good =
+      subst (λ (r : ℕ). IsState (with_effect (batch_reopened n r) s)) (sym next) (next_stays (subst (λ (r : ℕ). IsBeforeCount s (batch_reopened n r)) next before) (ap is_round (sym next) ∙ good))
 
 -- ---- a third clerk
 
-module _ (s : OfficeState) (t : ThirdEntry) (b : BatchEntry) (is : IsState s) (found : batch_at s t.batch ≡ Some b) (new : third_at s t.batch ≡ None) (other : is_its_clerk t.clerk b None ≡ false) where
+module _ (s : OfficeState) (t : ThirdEntry) (b : BatchEntry) (is : IsState s) (found : batch_at s t.batch ≡ Some b) (new : third_at s t.batch ≡ None)
+    (other : is_its_clerk t.clerk b None ≡ false) where
   -- he has keyed nothing of the batch
   unkeyed_yet : (round : ℕ) → keying_of s t.batch round t.clerk ≡ []
   unkeyed_yet round = filter_none _ s.keyings (list_all_weaker _ _ s.keyings (λ k keyed. go k (k.batch == t.batch) refl (k.clerk == t.clerk) refl keyed) (and_parts _ _ is.keyed).0)
@@ -340,21 +310,9 @@ module _ (s : OfficeState) (t : ThirdEntry) (b : BatchEntry) (is : IsState s) (f
           ∙ put_unkeyed (keying_of s x.number round) t.clerk (two_clerks x) unkeyed_by
           ∙ ap (λ (o : Option ThirdEntry). keyed_by (keying_of s x.number round) (clerks x o)) (sym none)
 
-  -- so the piles of each ward are, and its election,
-  same_piles : (bs : List BatchEntry) → map (pile_of with_third) bs ≡ map (pile_of s) bs
-  same_piles [] = refl
-  same_piles (x ∷ bs) =
-      ap (λ (ks : List (List KeyedEntry)). pile_with ks (verdicts_of s x.number) ∷ map (pile_of with_third) bs) (same_keyings x x.round) ∙ ap (λ (ps : List Pile). pile_of s x ∷ ps) (same_piles bs)
-    where
-      pile_with : List (List KeyedEntry) → List JudgedEntry → Pile
-      pile_with keyings verdicts = record { keyings = keyings; verdicts = verdicts }
-
-  same_elections : (w : WardEntry) → election_of with_third w ≡ election_of s w
-  same_elections w = same_election w _ (candidates_of s w.number) _ _ _ (lots_of s w.number) refl (same_piles (batches_of s w.number)) refl
-
-  -- and the tabulation
-  pub set_tabulated : tabulation_of with_third ≡ tabulation_of s
-  set_tabulated = tabulation_alike s with_third refl same_elections
+  -- and so is its file
+  same_file : (x : BatchEntry) → HasSameFile s with_third x
+  same_file x = record { candidates = refl; keyings = same_keyings x; verdicts = refl }
 
   -- papers that were keyed are of clerks of their batches still
   keyed_for_still : (k : KeyedEntry) → is_keyed_for s k (batch_at s k.batch) ≡ true → is_keyed_for with_third k (batch_at s k.batch) ≡ true
@@ -383,14 +341,8 @@ module _ (s : OfficeState) (t : ThirdEntry) (b : BatchEntry) (is : IsState s) (f
           let second = and_parts (is_its_clerk k.clerk x (third_at s x.number)) (is_readable (columns_for s x) k.marks) first.1 in
           and_from _ _ first.0 (and_from _ _ (clerk_still x second.0) second.1)
 
-  round_still : (x : BatchEntry) (m : ℕ) → is_round_of s x m ≡ true → is_round_of with_third x m ≡ true
-  round_still x m holds = ap (λ (ks : List (List KeyedEntry)). list_all (is_whole x.size) ks && (nat_le x.round m || differ ks)) (same_keyings x m) ∙ holds
-
-  judged_still : (x : BatchEntry) → is_judged s x (verdicts_of s x.number) ≡ true → is_judged with_third x (verdicts_of s x.number) ≡ true
-  judged_still x judged = ap (λ (ks : List (List KeyedEntry)). list_all (is_verdict_on (columns_for s x) (agreed ks)) (verdicts_of s x.number)) (same_keyings x x.round) ∙ judged
-
-  pub set_stays : is_third t ≡ true → IsState with_third
-  set_stays good =
+  pub set_stays : IsBeforeCount s (third_set t) → is_third t ≡ true → IsState with_third
+  set_stays before good =
       let out = and_parts _ _ is.given_out in
       let keyed = and_parts _ _ is.keyed in
       let judged = and_parts _ _ is.judged in
@@ -400,10 +352,10 @@ module _ (s : OfficeState) (t : ThirdEntry) (b : BatchEntry) (is : IsState s) (f
       (record {
         nominated = is.nominated;
         given_out = and_from _ _ out.0 (put_all third_cmp (λ x. is_third_for x (batch_at s x.batch)) t s.thirds own out.1);
-        keyed = and_from _ _ (list_all_weaker _ _ s.keyings keyed_for_still keyed.0) (rounds_still s with_third s.batches round_still keyed.1);
-        judged = and_from _ _ judged.0 (list_all_weaker _ _ s.batches judged_still judged.1);
+        keyed = and_from _ _ (list_all_weaker _ _ s.keyings keyed_for_still keyed.0) (list_all_weaker _ _ s.batches (λ x rounds. rounds_kept s with_third x (same_file x) rounds) keyed.1);
+        judged = and_from _ _ judged.0 (list_all_weaker _ _ s.batches (λ x verdicts. judged_kept s with_third x (same_file x) verdicts) judged.1);
         lots_placed = lots_placed_of is;
-        sound = list_all_weaker _ _ s.wards (λ w sound. ap is_sound (same_elections w) ∙ sound) (sound_of is);
+        sound = sound_kept s (third_set t) is before;
       })
     where
       neither : (p q : Bool) → (p || (q || false)) ≡ false → (not p && not q) ≡ true
@@ -439,7 +391,9 @@ keying_given_out : (s : OfficeState) (ward : ℕ) (w : WardEntry) (first second 
 keying_given_out s ward w first second is found phased other =
     let enough = found_passes (ward_compared ward) (λ x. has_enough x (candidates_of s x.number)) w s.wards (and_parts (are_placed s) (are_all has_enough s) is.nominated).1 found in
     let same = found_number (λ (x : WardEntry). x.number) s.wards ward w found in
-    let contested : are_enough Keying w (candidates_of s ward) ≡ true = ap (λ (n : ℕ). are_enough Keying w (candidates_of s n)) same ∙ ap (λ (p : Phase). are_enough p w (candidates_of s w.number)) (sym phased) ∙ enough in
+    let contested : are_enough Keying w (candidates_of s ward) ≡ true =
+    ap (λ (n : ℕ). are_enough Keying w (candidates_of s n)) same ∙ ap (λ (p : Phase). are_enough p w (candidates_of s w.number)) (sym phased) ∙ enough
+    in
     rw (other, found) (rw phased contested)
 
 -- the round after one that isn't the last
@@ -457,28 +411,34 @@ batch_from : (batch ward size first_clerk second_clerk : ℕ) → (is_batch_numb
     → is_batch (record { number = batch; ward = ward; size = size; first_clerk = first_clerk; second_clerk = second_clerk; round = 1 }) ≡ true
 unfolding is_batch
 batch_from batch ward size first_clerk second_clerk good =
-    let first = and_parts (is_batch_number batch) (is_ward_number ward && (is_paper_number size && (is_clerk first_clerk && is_clerk second_clerk))) good in
-    let second = and_parts (is_ward_number ward) (is_paper_number size && (is_clerk first_clerk && is_clerk second_clerk)) first.1 in
-    let third = and_parts (is_paper_number size) (is_clerk first_clerk && is_clerk second_clerk) second.1 in
-    let fourth = and_parts (is_clerk first_clerk) (is_clerk second_clerk) third.1 in
-    and_from _ _ first.0 (and_from _ _ second.0 (and_from _ _ third.0 (and_from _ _ fourth.0 (and_from (is_clerk second_clerk) (is_round 1) fourth.1 refl))))
+    let number = and_parts (is_batch_number batch) (is_ward_number ward && (is_paper_number size && (is_clerk first_clerk && is_clerk second_clerk))) good in
+    let of_ward = and_parts (is_ward_number ward) (is_paper_number size && (is_clerk first_clerk && is_clerk second_clerk)) number.1 in
+    let papers = and_parts (is_paper_number size) (is_clerk first_clerk && is_clerk second_clerk) of_ward.1 in
+    let clerks = and_parts (is_clerk first_clerk) (is_clerk second_clerk) papers.1 in
+    and_from _ _ number.0 (and_from _ _ of_ward.0 (and_from _ _ papers.0 (and_from _ _ clerks.0 (and_from (is_clerk second_clerk) (is_round 1) clerks.1 refl))))
 
 pub batch_fits : (s : OfficeState) (actor : ℕ) (command : BatchCommand) → IsState s → first_reason (objections actor command (part_of s actor command)) ≡ None
     → IsFit s actor (effect_of command (part_of s actor command)) (subject_of command) (reply_to command (part_of s actor command))
 unfolding subject_of reply_to is_batch is_third
 batch_fits s actor (Add batch ward size first_clerk second_clerk) is none =
     let command = Add batch ward size first_clerk second_clerk in
-    let each = none_objects (objections actor command (part_of s actor command)) none in
-    let others = ((each.1).1).1 in
-    let range = and_parts (is_office actor) (is_batch_number batch && (is_ward_number ward && (is_paper_number size && (is_clerk first_clerk && is_clerk second_clerk)))) (asked (is_in_range actor command (part_of s actor command)) NumberOutOfRange each.0) in
+    let met = no_objection (objections actor command (part_of s actor command)) none in
+    let range =
+    and_parts (is_office actor) (is_batch_number batch && (is_ward_number ward && (is_paper_number size && (is_clerk first_clerk && is_clerk second_clerk))))
+    (asked (is_in_range actor command (part_of s actor command)) NumberOutOfRange (met 0))
+    in
     let numbers = and_parts _ _ range.1 in
-    let found = there Keying (ward_at s ward) WrongPhase others.0 in
-    let new = absent (batch_at s batch) BatchExists ((each.1).1).0 in
-    let other = unasked (first_clerk == second_clerk) SameClerk (others.1).0 in
+    let found = there Keying (ward_at s ward) WrongPhase (met 3) in
+    let new = absent (batch_at s batch) BatchExists (met 2) in
+    let other = unasked (first_clerk == second_clerk) SameClerk (met 4) in
+    let before : IsBeforeCount s (effect_of command (part_of s actor command)) =
+    record { number = ward; ward = found.ward; found = found.is; not_sealed = rw found.phased refl; own = refl; wards = refl; lots = refl }
+    in
     let digits = line_number last_batch batch (omega arith) numbers.0 in
     record {
-      state = added_stays s _ is new found.ward found.is (rw found.phased refl) (batch_from batch ward size first_clerk second_clerk range.1) refl (keying_given_out s ward found.ward first_clerk second_clerk is found.is found.phased other);
-      tabulated = added_tabulated s _ is new found.ward found.is (rw found.phased refl);
+      state =
+          added_stays s _ is new before (batch_from batch ward size first_clerk second_clerk range.1) refl (keying_given_out s ward found.ward first_clerk second_clerk is found.is found.phased other);
+      tabulated = tabulation_kept s _ is before;
       about = office_about actor _ range.0 (batch_about batch numbers.0);
       text = line_text (line_append (words (codes "batch ") (search rules) refl) digits);
       line = line_reply (line_append (words (codes "batch ") (search rules) refl) (line_append digits (words (codes " added") (search rules) refl))) (omega arith);
@@ -486,22 +446,25 @@ batch_fits s actor (Add batch ward size first_clerk second_clerk) is none =
 batch_fits s actor (Again batch) is none =
     let command = Again batch in
     let part = part_of s actor command in
-    let each = none_objects (objections actor command part) none in
-    let range = and_parts (is_office actor) (is_batch_number batch && not (passes is_in_last_round (batch_at s batch))) (asked (is_in_range actor command part) NumberOutOfRange each.0) in
+    let met = no_objection (objections actor command part) none in
+    let range = and_parts (is_office actor) (is_batch_number batch && not (passes is_in_last_round (batch_at s batch))) (asked (is_in_range actor command part) NumberOutOfRange (met 0)) in
     let numbers = and_parts (is_batch_number batch) (not (passes is_in_last_round (batch_at s batch))) range.1 in
-    let found = present (batch_at s batch) NoSuchBatch (each.1).0 in
+    let found = present (batch_at s batch) NoSuchBatch (met 1) in
     let b = found.it in
-    let its = there Keying (ward_for s (batch_at s batch)) WrongPhase ((each.1).1).0 in
-    let its_ward : ward_at s b.ward ≡ Some its.ward = ap (ward_for s) (sym found.is) ∙ its.is in
-    let unequal : differ (keyings_now s b) ≡ true = ap (λ (o : Option BatchEntry). differ (keyings_for s o)) (sym found.is) ∙ asked (differ part.keyings) NoDifference (((each.1).1).1).0 in
+    let before =
+    batch_in_keying s batch b (batch_reopened batch (next_round (batch_at s batch))) found.is (there Keying (ward_for s (batch_at s batch)) WrongPhase (met 2)) refl (λ own. own) refl refl
+    in
+    let unequal : differ (keyings_now s b) ≡ true = ap (λ (o : Option BatchEntry). differ (keyings_for s o)) (sym found.is) ∙ asked (differ part.keyings) NoDifference (met 3) in
     let more : not (is_in_last_round b) ≡ true = ap (λ (o : Option BatchEntry). not (passes is_in_last_round o)) (sym found.is) ∙ numbers.1 in
     let next : next_round (batch_at s batch) ≡ suc b.round = ap next_round found.is ∙ next_after b more in
     let good = next_in_range b (next_round (batch_at s batch)) next (found_in_range is batch b found.is) more in
     let digits = line_number last_batch batch (omega arith) numbers.0 in
-    let told = line_append (words (codes " round ") (search rules) refl) (line_append (line_number last_round (next_round (batch_at s batch)) (omega arith) good) (words (codes " open") (search rules) refl)) in
+    let told =
+    line_append (words (codes " round ") (search rules) refl) (line_append (line_number last_round (next_round (batch_at s batch)) (omega arith) good) (words (codes " open") (search rules) refl))
+    in
     record {
-      state = reopened_stays s batch b is found.is unequal its.ward its_ward (rw its.phased refl) (next_round (batch_at s batch)) next good;
-      tabulated = reopened_tabulated s batch b is found.is (next_round (batch_at s batch)) its.ward its_ward (rw its.phased refl);
+      state = reopened_stays s batch b is found.is unequal (next_round (batch_at s batch)) next before good;
+      tabulated = tabulation_kept s _ is before;
       about = office_about actor _ range.0 (again_about batch numbers.0);
       text = line_text (line_append (words (codes "again ") (search rules) refl) digits);
       line = line_reply (line_append (words (codes "batch ") (search rules) refl) (line_append digits told)) (omega arith);
@@ -509,23 +472,26 @@ batch_fits s actor (Again batch) is none =
 batch_fits s actor (Third batch clerk) is none =
     let command = Third batch clerk in
     let part = part_of s actor command in
-    let each = none_objects (objections actor command part) none in
-    let range = and_parts (is_office actor) (is_batch_number batch && is_clerk clerk) (asked (is_in_range actor command part) NumberOutOfRange each.0) in
+    let met = no_objection (objections actor command part) none in
+    let range = and_parts (is_office actor) (is_batch_number batch && is_clerk clerk) (asked (is_in_range actor command part) NumberOutOfRange (met 0)) in
     let numbers = and_parts (is_batch_number batch) (is_clerk clerk) range.1 in
-    let found = present (batch_at s batch) NoSuchBatch (each.1).0 in
+    let found = present (batch_at s batch) NoSuchBatch (met 1) in
     let b = found.it in
-    let others = ((each.1).1).1 in
+    let before =
+    batch_in_keying s batch b (third_set (record { batch = batch; clerk = clerk })) found.is (there Keying (ward_for s (batch_at s batch)) WrongPhase (met 2)) refl (λ own. own) refl refl
+    in
     let own : third_for s (batch_at s batch) ≡ third_at s batch = ap (third_for s) found.is ∙ ap (third_at s) (sym (found_number (λ (x : BatchEntry). x.number) s.batches batch b found.is)) in
-    let unset : third_for s (batch_at s batch) ≡ None = absent (third_for s (batch_at s batch)) ThirdSet ((others.1).1).0 in
+    let unset : third_for s (batch_at s batch) ≡ None = absent (third_for s (batch_at s batch)) ThirdSet (met 5) in
     let new : third_at s batch ≡ None = sym own ∙ unset in
     let apart : is_its_clerk clerk b None ≡ false =
-    ap (is_its_clerk clerk b) (sym unset) ∙ (ap (passes (λ (x : BatchEntry). is_its_clerk clerk x (third_for s (batch_at s batch)))) (sym found.is) ∙ unasked (passes (λ (x : BatchEntry). is_its_clerk clerk x part.third) part.batch) SameClerk others.0)
+    ap (is_its_clerk clerk b) (sym unset) ∙ (ap (passes (λ (x : BatchEntry). is_its_clerk clerk x (third_for s (batch_at s batch)))) (sym found.is)
+    ∙ unasked (passes (λ (x : BatchEntry). is_its_clerk clerk x part.third) part.batch) SameClerk (met 3))
     in
     let digits = line_number last_batch batch (omega arith) numbers.0 in
     let told = line_append (words (codes " third clerk ") (search rules) refl) (line_number last_clerk clerk (omega arith) numbers.1) in
     record {
-      state = set_stays s (record { batch = batch; clerk = clerk }) b is found.is new apart (and_from _ _ numbers.0 numbers.1);
-      tabulated = set_tabulated s (record { batch = batch; clerk = clerk }) b is found.is new apart;
+      state = set_stays s (record { batch = batch; clerk = clerk }) b is found.is new apart before (and_from _ _ numbers.0 numbers.1);
+      tabulated = tabulation_kept s _ is before;
       about = office_about actor _ range.0 (third_about batch numbers.0);
       text = line_text (line_append (words (codes "third ") (search rules) refl) digits);
       line = line_reply (line_append (words (codes "batch ") (search rules) refl) (line_append digits told)) (omega arith);

@@ -11,7 +11,8 @@ use Rattle.register.specs.declared.command.Command.TheVariants as commands
 use Rattle.register.specs.declared.batches.BatchCommand.TheVariants.{Add, Again}
 use Rattle.register.specs.declared.verdicts.Verdict.{Verdict}
 use Rattle.register.specs.declared.verdicts.Verdict.TheVariants.{Accept, Reject}
-use Rattle.register.specs.declared.refusal.Reason.TheVariants.{NumberOutOfRange, NoSuchWard, NoSuchBatch, BatchExists, WrongPhase, SameClerk, NotItsClerk, NotThisRound, WrongPaperCount, BadMarks, NoDifference, NotTaken, AlreadyJudged, BadVerdict}
+use Rattle.register.specs.declared.refusal.Reason.TheVariants.{NumberOutOfRange, NoSuchWard, NoSuchBatch, BatchExists, WrongPhase, SameClerk, NotItsClerk, NotThisRound, WrongPaperCount}
+use Rattle.register.specs.declared.refusal.Reason.TheVariants.{BadMarks, NoDifference, NotTaken, AlreadyJudged, BadVerdict}
 use Rattle.register.specs.Ranges.{is_id}
 use Rattle.register.specs.Offices.{BatchEntry, KeyedEntry, JudgedEntry, ReceiptEntry, OfficeState}
 use Rattle.register.specs.Papers.{same_marks}
@@ -165,7 +166,10 @@ module _ (marks : String Global) where
   doubtful_still is = simp is refl
 
 rejected : step (twice (codes "1,2,") []) 0 (codes "j1") (judge 2 (Reject 5))
-    ≡ accepted (record (twice (codes "1,2,") (record { batch = 12; paper = 2; code = 5; marks = [] } ∷ [])) { receipts = judged_receipt (codes "batch 12 paper 2 rejected 5") ∷ key_receipt 4 ∷ key_receipt 9 ∷ [] }) (codes "batch 12 paper 2 rejected 5")
+    ≡ accepted (record (twice (codes "1,2,") (record { batch = 12; paper = 2; code = 5; marks = [] } ∷ [])) {
+      receipts = judged_receipt (codes "batch 12 paper 2 rejected 5") ∷ key_receipt 4
+          ∷ key_receipt 9 ∷ [];
+    }) (codes "batch 12 paper 2 rejected 5")
 unfolding step decided is_id verdicts.subject_of verdicts.reply_to same_marks digits
 rejected = refl
 

@@ -25,7 +25,8 @@ poll-alike e valid seats quota bundles rejected settled held number were was sat
     same v w r s q p t u a b c d = rw (a, b, c, d) refl
 
 -- What stands on the papers of bundles of an election's papers.
-module _ (e : ElectionEntry) (candidates : List ℕ) (seats : ℕ) (bundles : List Bundle) (columns : candidates ≡ columns_of e.candidates) (sat : seats ≡ e.ward.seats) (held : bundles ≡ bundled e.ballots.papers) where
+module _ (e : ElectionEntry) (candidates : List ℕ) (seats : ℕ) (bundles : List Bundle) (columns : candidates ≡ columns_of e.candidates) (sat : seats ≡ e.ward.seats)
+    (held : bundles ≡ bundled e.ballots.papers) where
   -- the contest on them
   on_bundles : contest_for candidates seats (papers_of bundles) ≡ contest_for (columns_of e.candidates) e.ward.seats (papers_of (bundled e.ballots.papers))
   on_bundles = rw (columns, sat, held) refl

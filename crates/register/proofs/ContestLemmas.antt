@@ -1,5 +1,6 @@
 -- The contest of a ward is one that the rules of the count speak of.
-use Rattle.std.proofs.Common.{◌≡◌, ℕ, zero, suc, ◌+◌, ◌*◌, ◌<◌, ◌≤◌, ◌==◌, ◌&&◌, ◌||◌, nat_eq, nat_le, Bool, true, false, cond, List, [], ◌∷◌, ◌++◌, length, map, filter, find, fold, Option, Some, None, Result, Ok, Err, codes, refl, sym, ap, ◌∙◌, arith, length-append}
+use Rattle.std.proofs.Common.{◌≡◌, ℕ, zero, suc, ◌+◌, ◌*◌, ◌<◌, ◌≤◌, ◌==◌, ◌&&◌, ◌||◌, nat_eq, nat_le, Bool, true, false, cond, List, [], ◌∷◌, ◌++◌, length, map, filter, find, fold, Option}
+use Rattle.std.proofs.Common.{Some, None, Result, Ok, Err, codes, refl, sym, ap, arith, length-append}
 use Rattle.std.specs.List.{AllByRecursion, list_all, list_any, flat_map, zip}
 use Rattle.std.specs.Str.{bytes_eq}
 use Rattle.std.specs.List.Sorted.{IsStrictlySortedBy}
@@ -25,7 +26,7 @@ use Rattle.count.specs.Books.{AreRankings}
 use Rattle.count.proofs.ContestLemmas.{contest-is}
 use Rattle.register.specs.declared.polls.Judgement.{Judgement}
 use Rattle.register.specs.declared.polls.Judgement.TheVariants.{Valid, Rejected, Open}
-use Rattle.register.specs.Ranges.{is_ward_number, is_seat_number, is_candidate_number, is_batch_number, is_paper_number, is_clerk, is_round, is_name}
+use Rattle.register.specs.Ranges.{is_ward_number, is_seat_number, is_candidate_number, is_name}
 use Rattle.register.specs.Offices.{WardEntry, CandidateEntry, BatchEntry, KeyedEntry, JudgedEntry, OfficeState, MapsRise, batch_cmp, ward_compared, ward_at, candidates_of}
 use Rattle.register.specs.Nominations.{is_contested}
 use Rattle.register.specs.Marks.{and_column, columns_of}
@@ -35,8 +36,9 @@ use Rattle.register.specs.Items.{is_ward, is_candidate, is_batch, item1, item3, 
 use Rattle.register.specs.Polls.{Pile, pile_of, piles_of, by_rejection, by_reading, by_verdict, judgement_on, judgements_in, judgements, preferences_by, ballots_in}
 use Rattle.register.specs.Elections.{election_of, contest_of}
 use Rattle.register.proofs.MapLemmas.{kept_all, found_passes}
-use Rattle.register.proofs.KeyedLemmas.{rounds_more}
-use Rattle.register.proofs.ColumnLemmas.{columns_at}
+use Rattle.register.proofs.KeyedLemmas.{round_at, batch_parts}
+use Rattle.register.proofs.LineLemmas.{lower, upper}
+use Rattle.register.proofs.WardColumnLemmas.{columns_at}
 
 -- ---- the candidates
 
@@ -150,7 +152,8 @@ first_columns low (column ∷ columns) (mark ∷ marks) up = (up.0, up.1, first_
 -- and each paper lists them in an order, none twice
 pub papers_are_rankings : (columns : List ℕ) (piles : List Pile) → IsColumnSet columns → AreRankings (ballots_in columns piles).papers
 papers_are_rankings columns piles set =
-    go (ballots_in columns piles).papers (papers_given columns IsRanking (λ marks valid. preferences-IsRanking (zip columns marks) (columns_from_ascends 0 _ (first_columns 0 columns marks (ascends_from_columns columns set)))) piles)
+    go (ballots_in columns piles).papers (papers_given columns IsRanking
+    (λ marks valid. preferences-IsRanking (zip columns marks) (columns_from_ascends 0 _ (first_columns 0 columns marks (ascends_from_columns columns set)))) piles)
   where
     go : (papers : List (List ℕ)) → AllByRecursion IsRanking papers → AreRankings papers
     go [] each = tt
@@ -188,52 +191,39 @@ whole_few size (k ∷ ks) whole = elim (list_any (same_marks k) ks) as (λ b. le
   | false ↦ whole_few size ks (and_parts (is_whole size k) (list_all (is_whole size) ks) whole).1
 ]
 
--- what a batch in range has
-record InRange (b : BatchEntry) : Type 0 where
-  number : is_batch_number b.number ≡ true
-  size : is_paper_number b.size ≡ true
-  round : is_round b.round ≡ true
-
-in_range : (b : BatchEntry) → is_batch b ≡ true → InRange b
-unfolding is_batch
-in_range b fine =
-    let clerks = is_clerk b.first_clerk && (is_clerk b.second_clerk && is_round b.round) in
-    let first = and_parts (is_batch_number b.number) (is_ward_number b.ward && (is_paper_number b.size && clerks)) fine in
-    let second = and_parts (is_ward_number b.ward) (is_paper_number b.size && clerks) first.1 in
-    let third = and_parts (is_paper_number b.size) clerks second.1 in
-    let fourth = and_parts (is_clerk b.first_clerk) (is_clerk b.second_clerk && is_round b.round) third.1 in
-    let fifth = and_parts (is_clerk b.second_clerk) (is_round b.round) fourth.1 in
-    record { number = first.0; size = third.0; round = fifth.1 }
-
 -- its keyings of the current round are whole
 pub round_now : (s : OfficeState) (b : BatchEntry) → is_batch b ≡ true → are_rounds_to s b b.round ≡ true → is_round_of s b b.round ≡ true
-round_now s b fine rounds = go b.round (and_parts (nat_le 1 b.round) (nat_le b.round 99) (in_range b fine).round).0 rounds
-  where
-    go : (n : ℕ) → nat_le 1 n ≡ true → are_rounds_to s b n ≡ true → is_round_of s b n ≡ true
-    go zero some all = absurd (cc)
-    go (suc n) some all = (and_parts (is_round_of s b (suc n)) (are_rounds_to s b n) (sym (rounds_more s b n) ∙ all)).0
+round_now s b fine rounds = round_at s b b.round (lower 1 99 b.round (batch_parts b fine).round) rounds
 
 size_few : (b : BatchEntry) → is_batch b ≡ true → b.size ≤ 500
-size_few b fine = leb-true b.size 500 (and_parts (nat_le 1 b.size) (nat_le b.size 500) (in_range b fine).size).1
+size_few b fine = upper 1 500 b.size (batch_parts b fine).size
 
 number_few : (b : BatchEntry) → is_batch b ≡ true → b.number ≤ 9999
-number_few b fine = leb-true b.number 9999 (and_parts (nat_le 1 b.number) (nat_le b.number 9999) (in_range b fine).number).1
+number_few b fine = upper 1 9999 b.number (batch_parts b fine).number
 
 number_some : (b : BatchEntry) → is_batch b ≡ true → 0 < b.number
-number_some b fine = omega (arith, leb-true 1 b.number (and_parts (nat_le 1 b.number) (nat_le b.number 9999) (in_range b fine).number).0)
+number_some b fine = omega (arith, lower 1 9999 b.number (batch_parts b fine).number)
 
 pub length_map : {X Y : Type 0} (f : X → Y) (xs : List X) → length (map f xs) ≡ length xs
 length_map f [] = refl
 length_map f (x ∷ xs) = ap suc (length_map f xs)
 
-pub few_among : (s : OfficeState) (columns : List ℕ) (bs : List BatchEntry) → list_all is_batch bs ≡ true → list_all (λ b. are_rounds_to s b b.round) bs ≡ true → length (judgements columns (map (pile_of s) bs)) ≤ 500 * length bs
+pub few_among : (s : OfficeState) (columns : List ℕ) (bs : List BatchEntry) → list_all is_batch bs ≡ true → list_all (λ b. are_rounds_to s b b.round) bs ≡ true
+    → length (judgements columns (map (pile_of s) bs)) ≤ 500 * length bs
 few_among s columns [] fine rounds = omega arith
 few_among s columns (b ∷ bs) fine rounds =
     let good = and_parts _ _ fine in
     let all = and_parts _ _ rounds in
     let round = round_now s b good.0 all.0 in
-    omega
-    (arith, length-append (judgements_in columns (pile_of s b)) (judgements columns (map (pile_of s) bs)), length_map (judgement_on columns (pile_of s b).verdicts) (agreed (keyings_now s b)), whole_few b.size (keyings_now s b) (and_parts _ _ round).0, size_few b good.0, few_among s columns bs good.1 all.1)
+    omega (
+      arith,
+      length-append (judgements_in columns (pile_of s b)) (judgements columns (map (pile_of s) bs)),
+      length_map (judgement_on columns (pile_of s b).verdicts)
+          (agreed (keyings_now s b)),
+      whole_few b.size (keyings_now s b) (and_parts _ _ round).0,
+      size_few b good.0,
+      few_among s columns bs good.1 all.1,
+    )
 
 -- numbers that rise are not more than the highest
 few_rising : (low : ℕ) (bs : List BatchEntry) → low ≤ 9999 → AllByRecursion (λ b. low < b.number) bs → list_all is_batch bs ≡ true → IsStrictlySortedBy batch_cmp bs → low + length bs ≤ 9999
@@ -255,14 +245,20 @@ few_batches bs fine up = omega (arith, few_rising 0 bs (omega arith) (some bs fi
     some (c ∷ cs) good = (number_some c (and_parts _ _ good).0, some cs (and_parts _ _ good).1)
 
 -- a ward has no more papers than 9999 batches of 500
-pub papers_are_few : (s : OfficeState) (columns : List ℕ) (ward : ℕ) → list_all is_batch s.batches ≡ true → list_all (λ b. are_rounds_to s b b.round) s.batches ≡ true → IsStrictlySortedBy batch_cmp s.batches
+pub papers_are_few : (s : OfficeState) (columns : List ℕ) (ward : ℕ) → list_all is_batch s.batches ≡ true → list_all (λ b. are_rounds_to s b b.round) s.batches ≡ true
+    → IsStrictlySortedBy batch_cmp s.batches
     → length (ballots_in columns (piles_of s ward)).papers ≤ max_papers
 papers_are_few s columns ward fine rounds up =
     let of = λ (b : BatchEntry). b.ward == ward in
     let own = batches_of s ward in
     let good = kept_all is_batch of s.batches fine in
-    omega
-    (arith, few_by (judgements columns (piles_of s ward)), few_among s columns own good (kept_all (λ b. are_rounds_to s b b.round) of s.batches rounds), few_batches own good (IsStrictlySortedBy-filter batch_cmp of s.batches up))
+    omega (
+      arith,
+      few_by (judgements columns (piles_of s ward)),
+      few_among s columns own good (kept_all (λ b. are_rounds_to s b b.round) of s.batches rounds),
+      few_batches own good
+          (IsStrictlySortedBy-filter batch_cmp of s.batches up),
+    )
 
 -- ---- the contest
 
@@ -284,7 +280,8 @@ candidates_are : (s : OfficeState) → item1 s ≡ true → list_all is_candidat
 candidates_are s first = (and_parts _ _ (and_parts _ _ first).1).0
 
 -- What is in range, keyed as it has to be, and in the order of its keys, has contests that the rules speak of.
-pub contest_is_fair : (s : OfficeState) (w : WardEntry) → item1 s ≡ true → item4 s ≡ true → MapsRise s → ward_at s w.number ≡ Some w → is_contested w (candidates_of s w.number) ≡ true → IsContest (contest_of (election_of s w))
+pub contest_is_fair : (s : OfficeState) (w : WardEntry) → item1 s ≡ true → item4 s ≡ true → MapsRise s → ward_at s w.number ≡ Some w → is_contested w (candidates_of s w.number) ≡ true
+    → IsContest (contest_of (election_of s w))
 contest_is_fair s w first fourth rise there contested =
     let cs = candidates_of s w.number in
     let columns = columns_of cs in
@@ -301,5 +298,6 @@ contest_is_fair s w first fourth rise there contested =
     few.2
     (papers_are_fair columns (piles_of s w.number))
 
-pub fair_contest : (s : OfficeState) (w : WardEntry) → item1 s ≡ true → item3 s ≡ true → item4 s ≡ true → MapsRise s → ward_at s w.number ≡ Some w → is_contested w (candidates_of s w.number) ≡ true → IsContest (contest_of (election_of s w))
+pub fair_contest : (s : OfficeState) (w : WardEntry) → item1 s ≡ true → item3 s ≡ true → item4 s ≡ true → MapsRise s → ward_at s w.number ≡ Some w
+    → is_contested w (candidates_of s w.number) ≡ true → IsContest (contest_of (election_of s w))
 fair_contest s w first third fourth rise there contested = contest_is_fair s w first fourth rise there contested

@@ -1,5 +1,6 @@
 -- The commands about a count, where nothing stands against them, lead from a state to a state, and leave a receipt in range.
-use Rattle.std.proofs.Common.{◌≡◌, ℕ, zero, suc, ◌+◌, ◌≤◌, Bool, true, false, cond, not, ◌&&◌, ◌==◌, ◌++◌, nat_le, nat_lt, nat_eq, codes, List, length, filter, Option, Some, None, is_some, refl, sym, ap, subst, ◌∙◌, arith}
+use Rattle.std.proofs.Common.{◌≡◌, ℕ, zero, suc, ◌+◌, ◌≤◌, Bool, true, false, cond, not, ◌&&◌, ◌==◌, ◌++◌, nat_le, nat_lt, nat_eq, codes, List, length, filter, Option, Some, None, is_some}
+use Rattle.std.proofs.Common.{refl, sym, ap, subst, ◌∙◌, arith}
 use Rattle.std.specs.Fmt.{decimal}
 use Rattle.std.specs.List.{list_any}
 use Rattle.std.specs.Option.{option_map}
@@ -35,18 +36,20 @@ use Rattle.register.specs.Items.{is_lot, IsState}
 use Rattle.register.specs.Effects.{in_phase, at_stage, stage_counted, lot_drawn, with_effect, with_receipt}
 use Rattle.register.specs.Views.{HasStageMore, HasSameStages}
 use Rattle.register.specs.Tabulated.{bundles_in, figures_in, tabulation_of}
-use Rattle.register.specs.Counts.{poll_for, due_for, elected_for, part_of, is_in_range, is_ready, lot_objection, waits_at, objections, subject_of, next_stage, poll_told, action_told, reply_to, effect_of}
+use Rattle.register.specs.Counts.{poll_for, due_for, elected_for, part_of, is_in_range, is_ready, lot_objection, waits_at, objections, subject_of, next_stage, poll_told, action_told}
+use Rattle.register.specs.Counts.{reply_to, effect_of}
 use Rattle.register.proofs.LineLemmas.{upper, is_plain-decimal, are_plain-from, IsLine, given, line_append, line_decimal, line_number, line_within, line_reply, line_text}
-use Rattle.register.proofs.ObjectionLemmas.{none_objects, asked, unasked, there}
-use Rattle.register.proofs.MapLemmas.{put_all, put_is_map, filter_put, filter_put_in, found_filter, found_key, found_passes, found_number, changed_at, same_number, both_equal, kept_all, all_but_number}
+use Rattle.register.proofs.ObjectionLemmas.{no_objection, asked, unasked, there}
+use Rattle.register.proofs.MapLemmas.{put_all, put_is_map, filter_put_in, found_filter, found_key, found_passes, found_number, changed_at, same_number, both_equal, kept_all, all_but_number}
 use Rattle.register.proofs.ElectionLemmas.{is_sound, sound_of, lots_placed_of, right_in}
 use Rattle.register.proofs.StageLemmas.{acted, stage_added, stage_more}
 use Rattle.register.proofs.ProgressLemmas.{with_lots, held, in_count, sound_sealed, sound_advanced, sound_declared, lot_new, stages_still, sound_drawn}
+use Rattle.register.proofs.ElsewhereLemmas.{election_elsewhere}
 use Rattle.register.proofs.ItemLemmas.{MapName, lot_map, Holds, maps_of, state_from, rounds_still, lot_total, are_placed, are_all, has_enough, IsFit, office_about}
 use Rattle.register.proofs.NominationLemmas.{moved, staged, changed_stays}
 use Rattle.register.proofs.TabulationLemmas.{IsOfCount, bundles_of_count, figures_of_count, told_by, told_but_one, same_tabulation, tabulation_moved, wards_split}
 use Rattle.register.proofs.ContestLemmas.{fair_contest, columns_are_set, papers_are_rankings}
-use Rattle.register.proofs.TellLemmas.{columns_are_small, length_kept, listed_line, action_line, judgements_are_few, poll_line}
+use Rattle.register.proofs.ToldLineLemmas.{columns_are_small, length_kept, listed_line, action_line, judgements_are_few, poll_line}
 
 -- ---- what the receipts may be about
 
@@ -84,7 +87,8 @@ module _ (s : OfficeState) (n : ℕ) (w : WardEntry) (is : IsState s) (found : w
 
   own_enough : (phase : Phase) → w.phase ≡ phase → are_enough phase w (candidates_of s w.number) ≡ true
   own_enough phase phased =
-      ap (λ (p : Phase). are_enough p w (candidates_of s w.number)) (sym phased) ∙ found_passes (ward_compared n) (λ x. has_enough x (candidates_of s x.number)) w s.wards (and_parts (are_placed s) (are_all has_enough s) is.nominated).1 found
+      ap (λ (p : Phase). are_enough p w (candidates_of s w.number)) (sym phased)
+      ∙ found_passes (ward_compared n) (λ x. has_enough x (candidates_of s x.number)) w s.wards (and_parts (are_placed s) (are_all has_enough s) is.nominated).1 found
 
   -- the contest of a contested ward is one that the rules speak of
   own_fair : has_count (election_of s w) ≡ true → IsContest (contest_of (election_of s w))
@@ -98,11 +102,13 @@ module _ (s : OfficeState) (n : ℕ) (w : WardEntry) (is : IsState s) (found : w
 
   sealed_stays : w.phase ≡ Keying → (election_of s w).ballots.settled ≡ true → IsState (with_effect (effect_of (Seal n) (part_of s 0 (Seal n))) s)
   sealed_stays phased settled =
-      changed_stays s n w (in_phase Sealed) found (moved Sealed refl) (stood_in w.seats (length (candidates_of s w.number)) (own_enough Keying phased)) (sound_sealed (election_of s w) phased settled own_sound) is
+      changed_stays s n w (in_phase Sealed) found (moved Sealed refl) (stood_in w.seats (length (candidates_of s w.number)) (own_enough Keying phased))
+      (sound_sealed (election_of s w) phased settled own_sound) is
 
   sealed_told : IsLine 80 (poll_told (poll_for s (ward_at s n)))
   sealed_told =
-      subst (λ (o : Option WardEntry). IsLine 80 (poll_told (poll_for s o))) (sym found) (poll_line (columns_of (candidates_of s w.number)) (piles_of s w.number) w.seats (judgements_are_few is (columns_of (candidates_of s w.number)) w.number))
+      subst (λ (o : Option WardEntry). IsLine 80 (poll_told (poll_for s o))) (sym found)
+      (poll_line (columns_of (candidates_of s w.number)) (piles_of s w.number) w.seats (judgements_are_few is (columns_of (candidates_of s w.number)) w.number))
 
   -- ---- advanced
 
@@ -129,7 +135,9 @@ module _ (s : OfficeState) (n : ℕ) (w : WardEntry) (is : IsState s) (found : w
 
   advanced_stays : (action : Action) → w.phase ≡ Sealed → due_of (election_of s w) ≡ Act action → IsState (with_effect (stage_counted n (next_stage (ward_at s n))) s)
   advanced_stays action phased due =
-      let enough : has_enough (at_stage (w.done + 1) w) (candidates_of s w.number) ≡ true = ap (λ (p : Phase). are_enough p (at_stage (w.done + 1) w) (candidates_of s w.number)) phased ∙ own_enough Sealed phased in
+      let enough : has_enough (at_stage (w.done + 1) w) (candidates_of s w.number) ≡ true =
+      ap (λ (p : Phase). are_enough p (at_stage (w.done + 1) w) (candidates_of s w.number)) phased ∙ own_enough Sealed phased
+      in
       subst (λ (k : ℕ). IsState (with_effect (stage_counted n k) s)) (sym (ap next_stage found ∙ next_is (few_done action phased due)))
       (changed_stays s n w (at_stage (w.done + 1)) found (staged (w.done + 1)) enough (sound_advanced (election_of s w) action phased due own_sound) is)
 
@@ -148,7 +156,8 @@ module _ (s : OfficeState) (n : ℕ) (w : WardEntry) (is : IsState s) (found : w
       ∙ ap (λ (b : Bool). Some (cond b (change w) w)) (found_key (ward_compared n) w s.wards found)
 
   -- the ward and its count with the stage that is due
-  advanced_more : (action : Action) (r : ReceiptEntry) → w.phase ≡ Sealed → due_of (election_of s w) ≡ Act action → HasStageMore s (with_receipt r (with_effect (stage_counted n (next_stage (ward_at s n))) s)) n
+  advanced_more : (action : Action) (r : ReceiptEntry) → w.phase ≡ Sealed → due_of (election_of s w) ≡ Act action
+      → HasStageMore s (with_receipt r (with_effect (stage_counted n (next_stage (ward_at s n))) s)) n
   advanced_more action r phased due =
       let e = election_of s w in
       let d = stage_due action phased due in
@@ -167,7 +176,10 @@ module _ (s : OfficeState) (n : ℕ) (w : WardEntry) (is : IsState s) (found : w
   declared_same r = record { before = w; found = found; after = in_phase Declared w; stays = changed_there (in_phase Declared) (λ x. refl); done = refl; same = refl }
 
   stage_told : (action : Action) → w.phase ≡ Sealed → due_of (election_of s w) ≡ Act action → IsLine 10 (decimal (next_stage (ward_at s n)))
-  stage_told action phased due = let few = few_done action phased due in subst (λ (o : Option WardEntry). IsLine 10 (decimal (next_stage o))) (sym found) (subst (λ (k : ℕ). IsLine 10 (decimal k)) (sym (next_is few)) (line_decimal 10 (w.done + 1) (omega arith) (omega (arith, few)) (omega (arith, few))))
+  stage_told action phased due =
+      let few = few_done action phased due in
+      subst (λ (o : Option WardEntry). IsLine 10 (decimal (next_stage o))) (sym found)
+      (subst (λ (k : ℕ). IsLine 10 (decimal k)) (sym (next_is few)) (line_decimal 10 (w.done + 1) (omega arith) (omega (arith, few)) (omega (arith, few))))
 
   own_action_told : (action : Action) → due_of (election_of s w) ≡ Act action → IsLine 40 (action_told (due_for s (ward_at s n)))
   own_action_told action due =
@@ -224,7 +236,8 @@ waits Finished stage candidate at among = absurd (cc)
 
 -- ---- a lot drawn
 
-drawn_stays : (s : OfficeState) (l : LotEntry) (w : WardEntry) → is_lot l ≡ true → ward_at s l.ward ≡ Some w → w.phase ≡ Sealed → IsLotAt (due_of (election_of s w)) l.stage l.candidate → IsState s → IsState (with_effect (lot_drawn l) s)
+drawn_stays : (s : OfficeState) (l : LotEntry) (w : WardEntry) → is_lot l ≡ true → ward_at s l.ward ≡ Some w → w.phase ≡ Sealed → IsLotAt (due_of (election_of s w)) l.stage l.candidate
+    → IsState s → IsState (with_effect (lot_drawn l) s)
 drawn_stays s l w good found phased due is =
     let keyed = and_parts _ _ is.keyed in
     let belongs : is_some (ward_at s l.ward) ≡ true = rw found refl in
@@ -237,7 +250,9 @@ drawn_stays s l w good found phased due is =
       keyed = and_from _ _ keyed.0 (rounds_still s (with_effect (lot_drawn l) s) s.batches (λ b m round. round) keyed.1);
       judged = is.judged;
       lots_placed = put_all lot_cmp (λ x. is_some (ward_at s x.ward)) l s.lots belongs (lots_placed_of is);
-      sound = all_but_number (λ (x : WardEntry). x.number) s.wards l.ward w (λ x. is_sound (election_of s x)) (λ x. is_sound (election_of (with_effect (lot_drawn l) s) x)) is.rise.wards found here there_too (sound_of is);
+      sound =
+          all_but_number (λ (x : WardEntry). x.number) s.wards l.ward w (λ x. is_sound (election_of s x))
+          (λ x. is_sound (election_of (with_effect (lot_drawn l) s) x)) is.rise.wards found here there_too (sound_of is);
     })
   where
     own : is_sound (election_of s w) ≡ true
@@ -252,12 +267,13 @@ drawn_stays s l w good found phased due is =
         ap (λ (ls : List LotEntry). is_sound (with_lots ls (election_of s w))) in_place ∙ sound_drawn (election_of s w) (lots_of s w.number) l due.kind due.tied refl phased due.is own due.among
 
     there_too : (x : WardEntry) → (l.ward == x.number) ≡ false → is_sound (election_of s x) ≡ true → is_sound (election_of (with_effect (lot_drawn l) s) x) ≡ true
-    there_too x other sound = ap (λ (ls : List LotEntry). is_sound (with_lots ls (election_of s x))) (filter_put lot_cmp (λ (y : LotEntry). y.ward == x.number) l s.lots other) ∙ sound
+    there_too x other sound = ap is_sound (election_elsewhere s l.ward is x other (lot_drawn l) refl) ∙ sound
 
     -- no lot of its ward and stage is there
     new : entry_at (lot_cmp l) s.lots ≡ None
     new =
-        sym (found_filter (lot_cmp l) (λ (x : LotEntry). x.ward == w.number) s.lots (λ x tied. eq-eqb x.ward w.number (sym (same_number l.ward x.ward (both_equal (nat_cmp l.ward x.ward) (nat_cmp l.stage x.stage) tied).0) ∙ same)))
+        sym (found_filter (lot_cmp l) (λ (x : LotEntry). x.ward == w.number) s.lots
+        (λ x tied. eq-eqb x.ward w.number (sym (same_number l.ward x.ward (both_equal (nat_cmp l.ward x.ward) (nat_cmp l.stage x.stage) tied).0) ∙ same)))
         ∙ lot_new (election_of s w) (lots_of s w.number) l due.kind due.tied refl phased due.is own
 
     maps : (m : MapName) → Holds m (with_effect (lot_drawn l) s)
@@ -274,7 +290,8 @@ drawn_same s l w r found phased due is =
     record { before = w; found = found; after = w; stays = found; done = refl; same = ap (λ (ls : List LotEntry). stages_of (with_lots ls (election_of s w))) in_place ∙ still }
 
 -- so the tabulation is as it was
-drawn_tabulated : (s : OfficeState) (l : LotEntry) (w : WardEntry) → ward_at s l.ward ≡ Some w → w.phase ≡ Sealed → IsLotAt (due_of (election_of s w)) l.stage l.candidate → IsState s → tabulation_of (with_effect (lot_drawn l) s) ≡ tabulation_of s
+drawn_tabulated : (s : OfficeState) (l : LotEntry) (w : WardEntry) → ward_at s l.ward ≡ Some w → w.phase ≡ Sealed → IsLotAt (due_of (election_of s w)) l.stage l.candidate → IsState s
+    → tabulation_of (with_effect (lot_drawn l) s) ≡ tabulation_of s
 drawn_tabulated s l w found phased due is = same_tabulation s (with_effect (lot_drawn l) s) (alike bundles_in bundles_of_count) (alike figures_in figures_of_count)
   where
     alike : {X : Type 0} (told : ElectionEntry → List X) → IsOfCount told → told_by told (with_effect (lot_drawn l) s) ≡ told_by told s
@@ -284,7 +301,7 @@ drawn_tabulated s l w found phased due is = same_tabulation s (with_effect (lot_
         let still = stages_still (election_of s w) (lots_of s w.number) l due.kind due.tied refl phased due.is (own_sound s l.ward w is found) in
         told_but_one told of s (with_effect (lot_drawn l) s) l.ward w refl (wards_split s l.ward w is found)
         (ap (λ (ls : List LotEntry). told (with_lots ls (election_of s w))) in_place ∙ of.of_lots (election_of s w) _ still)
-        (λ x other. ap (λ (ls : List LotEntry). told (with_lots ls (election_of s x))) (filter_put lot_cmp (λ (y : LotEntry). y.ward == x.number) l s.lots other))
+        (λ x other. ap told (election_elsewhere s l.ward is x other (lot_drawn l) refl))
 
 -- ---- each command
 
@@ -304,12 +321,13 @@ record IsDue (s : OfficeState) (actor ward : ℕ) : Type 0 where
 is_due : (s : OfficeState) (actor ward : ℕ) → first_reason (objections actor (Advance ward) (part_of s actor (Advance ward))) ≡ None → IsDue s actor ward
 is_due s actor ward none =
     let part = part_of s actor (Advance ward) in
-    let each = none_objects (objections actor (Advance ward) part) none in
-    let range = and_parts (is_office actor) (is_ward_number ward) (asked (is_in_range actor (Advance ward)) NumberOutOfRange each.0) in
-    let found = there Sealed (ward_at s ward) WrongPhase ((each.1).1).0 in
-    let others = ((each.1).1).1 in
-    let open_ : is_finished (due_of (election_of s found.ward)) ≡ false = ap (λ (o : Option WardEntry). has_finished (due_for s o)) (sym found.is) ∙ unasked (has_finished part.due) CountFinished others.0 in
-    let no_lot : lot_objection (Some (due_of (election_of s found.ward))) ≡ None = ap (λ (o : Option WardEntry). lot_objection (due_for s o)) (sym found.is) ∙ (others.1).0 in
+    let met = no_objection (objections actor (Advance ward) part) none in
+    let range = and_parts (is_office actor) (is_ward_number ward) (asked (is_in_range actor (Advance ward)) NumberOutOfRange (met 0)) in
+    let found = there Sealed (ward_at s ward) WrongPhase (met 2) in
+    let open_ : is_finished (due_of (election_of s found.ward)) ≡ false =
+    ap (λ (o : Option WardEntry). has_finished (due_for s o)) (sym found.is) ∙ unasked (has_finished part.due) CountFinished (met 3)
+    in
+    let no_lot : lot_objection (Some (due_of (election_of s found.ward))) ≡ None = ap (λ (o : Option WardEntry). lot_objection (due_for s o)) (sym found.is) ∙ (met 4) in
     let act = acts (due_of (election_of s found.ward)) open_ no_lot in
     record { office = range.0; number = range.1; own = found.ward; found = found.is; phased = found.phased; action = act.action; due = act.is }
 
@@ -337,20 +355,25 @@ record IsWaited (s : OfficeState) (actor ward stage candidate : ℕ) : Type 0 wh
   phased : own.phase ≡ Sealed
   due : IsLotAt (due_of (election_of s own)) stage candidate
 
-is_waited : (s : OfficeState) (actor ward stage candidate : ℕ) → first_reason (objections actor (Lot ward stage candidate) (part_of s actor (Lot ward stage candidate))) ≡ None → IsWaited s actor ward stage candidate
+is_waited : (s : OfficeState) (actor ward stage candidate : ℕ) → first_reason (objections actor (Lot ward stage candidate) (part_of s actor (Lot ward stage candidate))) ≡ None
+    → IsWaited s actor ward stage candidate
 is_waited s actor ward stage candidate none =
     let command = Lot ward stage candidate in
     let part = part_of s actor command in
-    let each = none_objects (objections actor command part) none in
-    let range = and_parts (is_office actor) (is_ward_number ward && (is_lot_stage stage && is_candidate_number candidate)) (asked (is_in_range actor command) NumberOutOfRange each.0) in
-    let found = there Sealed (ward_at s ward) WrongPhase ((each.1).1).0 in
-    let others = (((each.1).1).1).1 in
-    let waited : waits_at stage (Some (due_of (election_of s found.ward))) ≡ true = ap (λ (o : Option WardEntry). waits_at stage (due_for s o)) (sym found.is) ∙ asked (waits_at stage part.due) NoSuchLot others.0 in
-    let among : is_among candidate (Some (due_of (election_of s found.ward))) ≡ true = ap (λ (o : Option WardEntry). is_among candidate (due_for s o)) (sym found.is) ∙ asked (is_among candidate part.due) NotAmong (others.1).0 in
+    let met = no_objection (objections actor command part) none in
+    let range = and_parts (is_office actor) (is_ward_number ward && (is_lot_stage stage && is_candidate_number candidate)) (asked (is_in_range actor command) NumberOutOfRange (met 0)) in
+    let found = there Sealed (ward_at s ward) WrongPhase (met 2) in
+    let waited : waits_at stage (Some (due_of (election_of s found.ward))) ≡ true =
+    ap (λ (o : Option WardEntry). waits_at stage (due_for s o)) (sym found.is) ∙ asked (waits_at stage part.due) NoSuchLot (met 4)
+    in
+    let among : is_among candidate (Some (due_of (election_of s found.ward))) ≡ true =
+    ap (λ (o : Option WardEntry). is_among candidate (due_for s o)) (sym found.is) ∙ asked (is_among candidate part.due) NotAmong (met 5)
+    in
     record { office = range.0; good = range.1; own = found.ward; found = found.is; phased = found.phased; due = waits (due_of (election_of s found.ward)) stage candidate waited among }
 
 -- it leaves the stages done
-pub lot_keeps : (s : OfficeState) (actor ward stage candidate : ℕ) (r : ReceiptEntry) → IsState s → first_reason (objections actor (Lot ward stage candidate) (part_of s actor (Lot ward stage candidate))) ≡ None
+pub lot_keeps : (s : OfficeState) (actor ward stage candidate : ℕ) (r : ReceiptEntry) → IsState s
+    → first_reason (objections actor (Lot ward stage candidate) (part_of s actor (Lot ward stage candidate))) ≡ None
     → HasSameStages s (with_receipt r (with_effect (effect_of (Lot ward stage candidate) (part_of s actor (Lot ward stage candidate))) s)) ward
 lot_keeps s actor ward stage candidate r is none =
     let d = is_waited s actor ward stage candidate none in drawn_same s (record { ward = ward; stage = stage; candidate = candidate }) d.own r d.found d.phased d.due is
@@ -367,10 +390,12 @@ record IsOver (s : OfficeState) (actor ward : ℕ) : Type 0 where
 is_over : (s : OfficeState) (actor ward : ℕ) → first_reason (objections actor (Declare ward) (part_of s actor (Declare ward))) ≡ None → IsOver s actor ward
 is_over s actor ward none =
     let part = part_of s actor (Declare ward) in
-    let each = none_objects (objections actor (Declare ward) part) none in
-    let range = and_parts (is_office actor) (is_ward_number ward) (asked (is_in_range actor (Declare ward)) NumberOutOfRange each.0) in
-    let found = there Sealed (ward_at s ward) WrongPhase ((each.1).1).0 in
-    let finished : is_finished (due_of (election_of s found.ward)) ≡ true = ap (λ (o : Option WardEntry). has_finished (due_for s o)) (sym found.is) ∙ asked (has_finished part.due) CountNotFinished (((each.1).1).1).0 in
+    let met = no_objection (objections actor (Declare ward) part) none in
+    let range = and_parts (is_office actor) (is_ward_number ward) (asked (is_in_range actor (Declare ward)) NumberOutOfRange (met 0)) in
+    let found = there Sealed (ward_at s ward) WrongPhase (met 2) in
+    let finished : is_finished (due_of (election_of s found.ward)) ≡ true =
+    ap (λ (o : Option WardEntry). has_finished (due_for s o)) (sym found.is) ∙ asked (has_finished part.due) CountNotFinished (met 3)
+    in
     record { office = range.0; number = range.1; own = found.ward; found = found.is; phased = found.phased; finished = finished }
 
 -- it leaves the stages done
@@ -383,10 +408,10 @@ pub count_fits : (s : OfficeState) (actor : ℕ) (command : CountCommand) → Is
 unfolding subject_of reply_to is_lot
 count_fits s actor (Seal ward) is none =
     let part = part_of s actor (Seal ward) in
-    let each = none_objects (objections actor (Seal ward) part) none in
-    let range = and_parts (is_office actor) (is_ward_number ward) (asked (is_in_range actor (Seal ward)) NumberOutOfRange each.0) in
-    let found = there Keying (ward_at s ward) WrongPhase ((each.1).1).0 in
-    let ready : (election_of s found.ward).ballots.settled ≡ true = ap (λ (o : Option WardEntry). is_ready (poll_for s o)) (sym found.is) ∙ asked (is_ready part.poll) NotReady (((each.1).1).1).0 in
+    let met = no_objection (objections actor (Seal ward) part) none in
+    let range = and_parts (is_office actor) (is_ward_number ward) (asked (is_in_range actor (Seal ward)) NumberOutOfRange (met 0)) in
+    let found = there Keying (ward_at s ward) WrongPhase (met 2) in
+    let ready : (election_of s found.ward).ballots.settled ≡ true = ap (λ (o : Option WardEntry). is_ready (poll_for s o)) (sym found.is) ∙ asked (is_ready part.poll) NotReady (met 3) in
     let digits = line_number last_ward ward (omega arith) range.1 in
     record {
       state = sealed_stays s ward found.ward is found.is found.phased ready;

@@ -8,11 +8,11 @@ use Rattle.std.proofs.lemmas.List.Sorted.{IsPermutation-refl}
 use Rattle.register.specs.declared.refusal.Reason.{Reason}
 use Rattle.register.specs.declared.refusal.Reason.TheVariants.{BadId, IdUsed}
 use Rattle.register.specs.declared.command.Command.{Command}
-use Rattle.register.specs.declared.command.Command.TheVariants.{Ward, Candidate, Batch, Keying, Verdict, Count}
-use Rattle.register.specs.declared.wards.WardCommand.TheVariants.{Add as ward_add, Close}
-use Rattle.register.specs.declared.candidates.CandidateCommand.TheVariants.{Add as candidate_add, Withdraw}
-use Rattle.register.specs.declared.batches.BatchCommand.TheVariants.{Add as batch_add, Again, Third}
-use Rattle.register.specs.declared.counts.CountCommand.TheVariants.{Seal, Advance, Lot, Declare}
+use Rattle.register.specs.declared.command.Command.TheVariants.{Ward, Candidate, Batch, Count}
+use Rattle.register.specs.declared.wards.WardCommand.TheVariants.{Close}
+use Rattle.register.specs.declared.candidates.CandidateCommand.TheVariants.{Withdraw}
+use Rattle.register.specs.declared.batches.BatchCommand.TheVariants.{Again}
+use Rattle.register.specs.declared.counts.CountCommand.TheVariants.{Advance}
 use Rattle.register.specs.declared.elections.Count.{Count as CountValue}
 use Rattle.register.specs.declared.tabulated.Addition.{Addition}
 use Rattle.register.specs.declared.decision.Change.{Change}
@@ -47,7 +47,8 @@ unfolding tabulation_of
 of_receipt r s = refl
 
 -- nothing added, where the tabulation stays
-nothing_added : (s t : OfficeState) (addition : AdditionEntries) → addition ≡ no_addition → tabulation_of t ≡ tabulation_of s → SameTabulation (with_addition addition (tabulation_of s)) (tabulation_of t)
+nothing_added : (s t : OfficeState) (addition : AdditionEntries) → addition ≡ no_addition → tabulation_of t ≡ tabulation_of s
+    → SameTabulation (with_addition addition (tabulation_of s)) (tabulation_of t)
 nothing_added s t addition none same = rw (none, same) (record { bundles = IsPermutation-refl _; figures = IsPermutation-refl _ })
 
 -- rulings that accept are one only for one change
@@ -72,7 +73,8 @@ module _ (s : OfficeState) (actor : ℕ) (id : List ℕ) (command : Command) whe
       kept true told is = absurd (cc)
       kept false told is = absurd (cc)
 
-      fresh : receipt_at s actor id ≡ None → (why : Option Reason) → first_reason (objections actor command (part_of s actor command)) ≡ why → judged actor id command (part_of s actor command) why ≡ accepts change reply → IsAccepted change
+      fresh : receipt_at s actor id ≡ None → (why : Option Reason) → first_reason (objections actor command (part_of s actor command)) ≡ why
+          → judged actor id command (part_of s actor command) why ≡ accepts change reply → IsAccepted change
       fresh found (Some why) told is = absurd (cc)
       fresh found None told is = record { new = found; free = told; change_is = same_change own_change change (reply_to command (part_of s actor command)) reply is }
 
@@ -89,13 +91,15 @@ module _ (s : OfficeState) (actor : ℕ) (is : IsState s) (receipt : ReceiptEntr
   IsTold effect = SameTabulation (with_addition (addition_entries addition) (tabulation_of s)) (tabulation_of (with_receipt receipt (with_effect effect s)))
 
   -- a command that adds nothing, and leaves the tabulation
-  stays : (command : Command) → addition_entries addition ≡ no_addition → tabulation_of (with_effect (effect_of actor command (part_of s actor command)) s) ≡ tabulation_of s → IsTold (effect_of actor command (part_of s actor command))
+  stays : (command : Command) → addition_entries addition ≡ no_addition → tabulation_of (with_effect (effect_of actor command (part_of s actor command)) s) ≡ tabulation_of s
+      → IsTold (effect_of actor command (part_of s actor command))
   stays command none same =
       let later = with_effect (effect_of actor command (part_of s actor command)) s in
       nothing_added s (with_receipt receipt later) (addition_entries addition) none (of_receipt receipt later ∙ same)
 
   -- an Advance adds the stage of the action that is due,
-  stage_alone : (ward : ℕ) → IsCountFor s (Count (Advance ward)) shown → IsAddedFor (Count (Advance ward)) shown addition → (due : HasStageDue s ward) → addition_entries addition ≡ addition_at (election_of s due.own) due.action
+  stage_alone : (ward : ℕ) → IsCountFor s (Count (Advance ward)) shown → IsAddedFor (Count (Advance ward)) shown addition → (due : HasStageDue s ward)
+      → addition_entries addition ≡ addition_at (election_of s due.own) due.action
   stage_alone ward count adds due =
       let own = count due.own due.found due.due.contested in
       let added = subst (λ (o : Option CountValue). IsAddedBy (Advance ward) o addition) own.1 adds in
@@ -105,50 +109,39 @@ module _ (s : OfficeState) (actor : ℕ) (is : IsState s) (receipt : ReceiptEntr
   advanced ward count adds due =
       let stage = due.due in
       subst (λ (k : ℕ). IsTold (stage_counted ward k)) (sym stage.stage)
-      (subst (λ (a : AdditionEntries). SameTabulation (with_addition a (tabulation_of s)) (tabulation_of (with_receipt receipt (with_effect (stage_counted ward (due.own.done + 1)) s)))) (sym (stage_alone ward count adds due))
+      (subst (λ (a : AdditionEntries). SameTabulation (with_addition a (tabulation_of s)) (tabulation_of (with_receipt receipt (with_effect (stage_counted ward (due.own.done + 1)) s))))
+      (sym (stage_alone ward count adds due))
       (subst (SameTabulation (with_addition (addition_at (election_of s due.own) due.action) (tabulation_of s))) (sym (of_receipt receipt (with_effect (stage_counted ward (due.own.done + 1)) s)))
       (stage_tabulated s ward due.own is due.found due.action stage)))
 
   -- and any other command nothing
   added : (command : Command) → first_reason (objections actor command (part_of s actor command)) ≡ None → IsCountFor s command shown → IsAddedFor command shown addition → IsAddedAt s command addition
-  added (Ward command) free count adds = adds
-  added (Candidate command) free count adds = adds
-  added (Batch command) free count adds = adds
-  added (Keying command) free count adds = adds
-  added (Verdict command) free count adds = adds
-  added (Count (Seal ward)) free count adds = adds
   added (Count (Advance ward)) free count adds =
       let due = advance_due s actor ward is free in
       record { own = due.own; found = due.found; action = due.action; due = due.due.next; adds = stage_alone ward count adds due }
-  added (Count (Lot ward stage candidate)) free count adds = adds
-  added (Count (Declare ward)) free count adds = adds
+  added command free count adds = adds
 
-  told : (command : Command) → first_reason (objections actor command (part_of s actor command)) ≡ None → IsCountFor s command shown → IsAddedFor command shown addition → IsTold (effect_of actor command (part_of s actor command))
-  told (Ward (ward_add ward seats name)) free count adds = stays (Ward (ward_add ward seats name)) adds (fits s actor (Ward (ward_add ward seats name)) is free).tabulated
-  told (Ward (Close ward)) free count adds = stays (Ward (Close ward)) adds (fits s actor (Ward (Close ward)) is free).tabulated
-  told (Candidate (candidate_add ward candidate name)) free count adds = stays (Candidate (candidate_add ward candidate name)) adds (fits s actor (Candidate (candidate_add ward candidate name)) is free).tabulated
-  told (Candidate (Withdraw ward candidate)) free count adds = stays (Candidate (Withdraw ward candidate)) adds (fits s actor (Candidate (Withdraw ward candidate)) is free).tabulated
-  told (Batch (batch_add batch ward size first second)) free count adds = stays (Batch (batch_add batch ward size first second)) adds (fits s actor (Batch (batch_add batch ward size first second)) is free).tabulated
-  told (Batch (Again batch)) free count adds = stays (Batch (Again batch)) adds (fits s actor (Batch (Again batch)) is free).tabulated
-  told (Batch (Third batch clerk)) free count adds = stays (Batch (Third batch clerk)) adds (fits s actor (Batch (Third batch clerk)) is free).tabulated
-  told (Keying command) free count adds = stays (Keying command) adds (fits s actor (Keying command) is free).tabulated
-  told (Verdict command) free count adds = stays (Verdict command) adds (fits s actor (Verdict command) is free).tabulated
-  told (Count (Seal ward)) free count adds = stays (Count (Seal ward)) adds (fits s actor (Count (Seal ward)) is free).tabulated
+  told : (command : Command) → first_reason (objections actor command (part_of s actor command)) ≡ None → IsCountFor s command shown → IsAddedFor command shown addition
+      → IsTold (effect_of actor command (part_of s actor command))
   told (Count (Advance ward)) free count adds = advanced ward count adds (advance_due s actor ward is free)
-  told (Count (Lot ward stage candidate)) free count adds = stays (Count (Lot ward stage candidate)) adds (fits s actor (Count (Lot ward stage candidate)) is free).tabulated
-  told (Count (Declare ward)) free count adds = stays (Count (Declare ward)) adds (fits s actor (Count (Declare ward)) is free).tabulated
+  told (Ward (Close ward)) free count adds = stays (Ward (Close ward)) adds (fits s actor (Ward (Close ward)) is free).tabulated
+  told (Candidate (Withdraw ward candidate)) free count adds = stays (Candidate (Withdraw ward candidate)) adds (fits s actor (Candidate (Withdraw ward candidate)) is free).tabulated
+  told (Batch (Again batch)) free count adds = stays (Batch (Again batch)) adds (fits s actor (Batch (Again batch)) is free).tabulated
+  told command free count adds = stays command adds (fits s actor command is free).tabulated
 
 -- ---- a decision
 
 module _ (s : OfficeState) (view : View) (command : Command) where
   -- a change that is decided on a view of the state is that of an accepted request
-  decided_there : (change : Change) (reply : String Global) → IsViewOf s command view → ruling_of (Accepted change reply) ≡ decided_on view command → IsAccepted s view.actor view.id.now command (change_entry change)
+  decided_there : (change : Change) (reply : String Global) → IsViewOf s command view → ruling_of (Accepted change reply) ≡ decided_on view command
+      → IsAccepted s view.actor view.id.now command (change_entry change)
   decided_there change reply shows same =
       is_accepted s view.actor view.id.now command (change_entry change) (string_bytes reply)
       (sym (same ∙ ruling_on s view.actor view.id.now command (option_map receipt_entry view.receipt) (part_entries view.part) shows.receipt shows.part))
 
   -- what is decided on a view of a state adds to the tabulation what is counted,
-  pub adds_counted : (decision : Decision) → IsState s → IsViewOf s command view → ruling_of decision ≡ decided_on view command → DecidesAddition command view.part.count decision → AddsWhatIsCounted s decision
+  pub adds_counted : (decision : Decision) → IsState s → IsViewOf s command view → ruling_of decision ≡ decided_on view command → DecidesAddition command view.part.count decision
+      → AddsWhatIsCounted s decision
   adds_counted (Accepted change reply) is shows same adds =
       let by = decided_there change reply shows same in
       subst (λ (made : ChangeEntry). SameTabulation (with_addition (addition_entries change.addition) (tabulation_of s)) (tabulation_of (with_change made s))) by.change_is
@@ -157,7 +150,8 @@ module _ (s : OfficeState) (view : View) (command : Command) where
   adds_counted (Refused why) is shows same adds = tt
 
   -- and no more than that
-  pub adds_no_more : (decision : Decision) → IsState s → IsViewOf s command view → ruling_of decision ≡ decided_on view command → DecidesAddition command view.part.count decision → AddsNoMore s command decision
+  pub adds_no_more : (decision : Decision) → IsState s → IsViewOf s command view → ruling_of decision ≡ decided_on view command → DecidesAddition command view.part.count decision
+      → AddsNoMore s command decision
   adds_no_more (Accepted change reply) is shows same adds =
       let by = decided_there change reply shows same in
       added s view.actor is (receipt_for view.actor view.id.now command (part_of s view.actor command)) view.part.count change.addition command by.free (shows.count by.new) adds

@@ -6,7 +6,8 @@ use Rattle.count.specs.Law.Count.{stages_to}
 use Rattle.register.specs.Offices.{WardEntry, CandidateEntry, LotEntry, OfficeState, ward_compared, ward_at, lots_of}
 use Rattle.register.specs.Marks.{columns_of}
 use Rattle.register.specs.Polls.{Pile, ballots_in}
-use Rattle.register.specs.Elections.{ElectionEntry, lot_pair, election_of, has_count, stages_of, is_counted, is_drawn_for, is_declared, is_right_so_far, is_in_count, is_uncounted, is_agreed, is_counted_right}
+use Rattle.register.specs.Elections.{ElectionEntry, lot_pair, election_of, has_count, stages_of, is_counted, is_drawn_for, is_declared, is_right_so_far, is_in_count, is_uncounted, is_agreed}
+use Rattle.register.specs.Elections.{is_counted_right}
 use Rattle.register.specs.Items.{item6, item7, IsState}
 use Rattle.register.proofs.MapLemmas.{list_all_weaker, list_all_both, filter_none, found_passes}
 
@@ -26,7 +27,9 @@ are_lots_placed s = list_all (λ l. is_some (ward_at s l.ward)) s.lots
 
 pub sound_of : {s : OfficeState} → IsState s → are_sound s ≡ true
 unfolding item6 item7
-sound_of {s} is = list_all_both (λ w. is_agreed (election_of s w)) (λ w. is_counted_right (election_of s w)) (λ w. is_sound (election_of s w)) s.wards (λ w agreed right. and_from _ _ agreed right) is.agreed (and_parts _ _ is.counted).1
+sound_of {s} is =
+    list_all_both (λ w. is_agreed (election_of s w)) (λ w. is_counted_right (election_of s w)) (λ w. is_sound (election_of s w)) s.wards (λ w agreed right. and_from _ _ agreed right) is.agreed
+    (and_parts _ _ is.counted).1
 
 pub lots_placed_of : {s : OfficeState} → IsState s → are_lots_placed s ≡ true
 unfolding item7
@@ -42,7 +45,8 @@ counted_from s placed sound = and_from _ _ placed (list_all_weaker (λ w. is_sou
 
 -- where there is no ward of a number, there are no lots of it
 pub no_lots_of : (s : OfficeState) (n : ℕ) → are_lots_placed s ≡ true → ward_at s n ≡ None → lots_of s n ≡ []
-no_lots_of s n placed none = filter_none (λ (l : LotEntry). l.ward == n) s.lots (list_all_weaker (λ l. is_some (ward_at s l.ward)) (λ l. not (l.ward == n)) s.lots (λ l there. go l (l.ward == n) refl there) placed)
+no_lots_of s n placed none =
+    filter_none (λ (l : LotEntry). l.ward == n) s.lots (list_all_weaker (λ l. is_some (ward_at s l.ward)) (λ l. not (l.ward == n)) s.lots (λ l there. go l (l.ward == n) refl there) placed)
   where
     go : (l : LotEntry) (same : Bool) → (l.ward == n) ≡ same → is_some (ward_at s l.ward) ≡ true → not (l.ward == n) ≡ true
     go l false other there = rw other refl

@@ -9,11 +9,12 @@ use Rattle.register.specs.Ranges.{is_office, is_clerk, is_reply}
 use Rattle.register.specs.Subjects.{is_office_subject, is_clerk_subject}
 use Rattle.register.specs.declared.phase.Phase.TheVariants.{Nominations}
 use Rattle.register.specs.Nominations.{are_enough}
-use Rattle.register.specs.Offices.{put, WardEntry, CandidateEntry, BatchEntry, ThirdEntry, KeyedEntry, JudgedEntry, LotEntry, ReceiptEntry, OfficeState, ward_cmp, candidate_cmp, batch_cmp, third_cmp, keyed_cmp, judged_cmp, lot_cmp, receipt_cmp, ward_compared, ward_at, candidates_of, receipt_at}
+use Rattle.register.specs.Offices.{put, WardEntry, CandidateEntry, BatchEntry, ThirdEntry, KeyedEntry, JudgedEntry, LotEntry, ReceiptEntry, OfficeState, ward_cmp, candidate_cmp, batch_cmp}
+use Rattle.register.specs.Offices.{third_cmp, keyed_cmp, judged_cmp, lot_cmp, receipt_cmp, ward_compared, ward_at, candidates_of, receipt_at}
 use Rattle.register.specs.Keyed.{is_polled, is_given_out, is_round_of, are_rounds_to}
 use Rattle.register.specs.Items.{is_ward, is_candidate, is_batch, is_third, is_keyed_paper, is_judged_paper, is_lot, is_about, is_receipt, item2, item3, item4, item5, IsState}
 use Rattle.register.specs.Elections.{election_of, is_uncounted}
-use Rattle.register.specs.Effects.{EffectEntry, ward_added, ward_moved, candidate_added, candidate_withdrawn, batch_added, batch_reopened, third_set, papers_keyed, paper_judged, stage_counted, lot_drawn, with_effect, with_receipt}
+use Rattle.register.specs.Effects.{EffectEntry, ward_added, with_effect, with_receipt}
 use Rattle.register.proofs.MapLemmas.{IsMap, list_all_weaker, put_all, put_is_map, found_put_too, found_put_still}
 use Rattle.register.proofs.ElectionLemmas.{is_sound, are_sound, are_lots_placed, sound_of, lots_placed_of, agreed_from, counted_from, no_lots_of, sound_before, unsealed}
 use Rattle.register.proofs.KeyedLemmas.{rounds_from, with_nominations, IsStill, given_out_still, keyed_still, judged_still}
@@ -70,16 +71,17 @@ Holds receipt_map s = IsMap is_receipt receipt_cmp s.receipts
 
 pub maps_of : {s : OfficeState} → IsState s → (m : MapName) → Holds m s
 maps_of {s} is m =
-    let first = and_parts _ _ is.in_range in
-    let second = and_parts _ _ first.1 in
-    let third = and_parts _ _ second.1 in
-    let fourth = and_parts _ _ third.1 in
-    let fifth = and_parts _ _ fourth.1 in
-    let sixth = and_parts _ _ fifth.1 in
-    let seventh = and_parts _ _ sixth.1 in
-    go first.0 second.0 third.0 fourth.0 fifth.0 sixth.0 seventh.0 seventh.1 m
+    let wards = and_parts _ _ is.in_range in
+    let candidates = and_parts _ _ wards.1 in
+    let batches = and_parts _ _ candidates.1 in
+    let thirds = and_parts _ _ batches.1 in
+    let keyings = and_parts _ _ thirds.1 in
+    let verdicts = and_parts _ _ keyings.1 in
+    let lots_and_receipts = and_parts _ _ verdicts.1 in
+    go wards.0 candidates.0 batches.0 thirds.0 keyings.0 verdicts.0 lots_and_receipts.0 lots_and_receipts.1 m
   where
-    go : list_all is_ward s.wards ≡ true → list_all is_candidate s.candidates ≡ true → list_all is_batch s.batches ≡ true → list_all is_third s.thirds ≡ true → list_all is_keyed_paper s.keyings ≡ true → list_all is_judged_paper s.verdicts ≡ true → list_all is_lot s.lots ≡ true → list_all is_receipt s.receipts ≡ true → (m : MapName) → Holds m s
+    go : list_all is_ward s.wards ≡ true → list_all is_candidate s.candidates ≡ true → list_all is_batch s.batches ≡ true → list_all is_third s.thirds ≡ true
+        → list_all is_keyed_paper s.keyings ≡ true → list_all is_judged_paper s.verdicts ≡ true → list_all is_lot s.lots ≡ true → list_all is_receipt s.receipts ≡ true → (m : MapName) → Holds m s
     go wards candidates batches thirds keyings verdicts lots receipts ward_map = record { in_range = wards; rises = is.rise.wards }
     go wards candidates batches thirds keyings verdicts lots receipts candidate_map = record { in_range = candidates; rises = is.rise.candidates }
     go wards candidates batches thirds keyings verdicts lots receipts batch_map = record { in_range = batches; rises = is.rise.batches }
@@ -100,14 +102,27 @@ pub record AreJoined (s : OfficeState) : Type 0 where
 
 pub state_from : (s : OfficeState) → ((m : MapName) → Holds m s) → AreJoined s → IsState s
 state_from s maps joined = record {
-  in_range = and_from _ _ (maps ward_map).in_range (and_from _ _ (maps candidate_map).in_range (and_from _ _ (maps batch_map).in_range (and_from _ _ (maps third_map).in_range (and_from _ _ (maps keyed_map).in_range (and_from _ _ (maps judged_map).in_range (and_from _ _ (maps lot_map).in_range (maps receipt_map).in_range))))));
+  in_range =
+      and_from _ _ (maps ward_map).in_range (and_from _ _ (maps candidate_map).in_range
+      (and_from _ _ (maps batch_map).in_range (and_from _ _ (maps third_map).in_range
+      (and_from _ _ (maps keyed_map).in_range (and_from _ _ (maps judged_map).in_range (and_from _ _ (maps lot_map).in_range (maps receipt_map).in_range))))));
   nominated = joined.nominated;
   given_out = joined.given_out;
   keyed = joined.keyed;
   judged = joined.judged;
   agreed = agreed_from s joined.sound;
   counted = counted_from s joined.lots_placed joined.sound;
-  rise = record { wards = (maps ward_map).rises; candidates = (maps candidate_map).rises; batches = (maps batch_map).rises; thirds = (maps third_map).rises; keyings = (maps keyed_map).rises; verdicts = (maps judged_map).rises; lots = (maps lot_map).rises; receipts = (maps receipt_map).rises };
+  rise =
+      record {
+        wards = (maps ward_map).rises;
+        candidates = (maps candidate_map).rises;
+        batches = (maps batch_map).rises;
+        thirds = (maps third_map).rises;
+        keyings = (maps keyed_map).rises;
+        verdicts = (maps judged_map).rises;
+        lots = (maps lot_map).rises;
+        receipts = (maps receipt_map).rises;
+      };
 }
 
 -- the rounds of the batches are those of a state with the same batches, keyings and candidates
@@ -161,7 +176,9 @@ ward_stays s w good phase done new is =
 
     past : (b : BatchEntry) → is_given_out s b ≡ true → IsStill s (with_nominations (put ward_cmp w s.wards) s.candidates s) b
     past b out = record {
-      given_out = let parts = and_parts (not (b.first_clerk == b.second_clerk)) (is_polled (ward_at s b.ward) (candidates_of s b.ward)) out in and_from _ _ parts.0 (polled b.ward (candidates_of s b.ward) (ward_at s b.ward) refl parts.1);
+      given_out =
+          let parts = and_parts (not (b.first_clerk == b.second_clerk)) (is_polled (ward_at s b.ward) (candidates_of s b.ward)) out in
+          and_from _ _ parts.0 (polled b.ward (candidates_of s b.ward) (ward_at s b.ward) refl parts.1);
       candidates = refl;
     }
 
@@ -197,16 +214,7 @@ pub record IsFit (s : OfficeState) (actor : ℕ) (effect : EffectEntry) (subject
 -- no effect changes the receipts
 pub same_receipts : (effect : EffectEntry) (s : OfficeState) → (with_effect effect s).receipts ≡ s.receipts
 same_receipts (ward_added w) s = refl
-same_receipts (ward_moved ward phase) s = refl
-same_receipts (candidate_added c) s = refl
-same_receipts (candidate_withdrawn ward candidate) s = refl
-same_receipts (batch_added b) s = refl
-same_receipts (batch_reopened batch round) s = refl
-same_receipts (third_set t) s = refl
-same_receipts (papers_keyed papers) s = refl
-same_receipts (paper_judged v) s = refl
-same_receipts (stage_counted ward done) s = refl
-same_receipts (lot_drawn l) s = refl
+same_receipts effect s = refl
 
 -- what a receipt of the office may be about
 pub office_about : (actor : ℕ) (subject : List ℕ) → is_office actor ≡ true → is_office_subject subject ≡ true → is_about actor subject ≡ true

@@ -1,14 +1,16 @@
 -- What batches, keyings and verdicts rest on, and that they are those of a state still where this is as it was.
-use Rattle.std.proofs.Common.{◌≡◌, ℕ, ◌+◌, ◌≤◌, zero, suc, Bool, true, false, ◌&&◌, nat_le, List, [], ◌∷◌, ◌++◌, arith, Option, Some, None, refl, sym, ap, ◌∙◌}
+use Rattle.std.proofs.Common.{◌≡◌, ℕ, ◌+◌, ◌≤◌, zero, suc, Bool, true, false, ◌&&◌, ◌||◌, nat_le, List, [], ◌∷◌, ◌++◌, arith, Option, Some, None, refl, sym, ap, ◌∙◌}
 use Rattle.std.specs.List.{list_all, range_with_len}
 use Rattle.std.proofs.lemmas.List.Folds.{list_all-append}
 use Rattle.std.proofs.lemmas.Bool.{and_parts, and_from}
 use Rattle.register.specs.Offices.{WardEntry, CandidateEntry, BatchEntry, KeyedEntry, JudgedEntry, OfficeState, batch_compared, candidates_of, batch_at, third_at, verdicts_of}
 use Rattle.register.specs.Marks.{columns_of, is_readable}
-use Rattle.register.specs.Papers.{has_doubtful, is_its_clerk, is_taken, taken_papers}
-use Rattle.register.specs.Keyed.{is_given_out, is_keyed_for, is_round_of, are_rounds_to, is_verdict_on, is_judged}
-use Rattle.register.specs.Items.{item3, item4, item5, IsState}
-use Rattle.register.proofs.ClerkLemmas.{not_keyed}
+use Rattle.register.specs.Papers.{agreed, differ, has_doubtful, is_its_clerk, is_taken, keyings_in, keyings_now, taken_papers}
+use Rattle.register.specs.Polls.{Pile, pile_of}
+use Rattle.register.specs.Keyed.{is_given_out, is_keyed_for, is_whole, is_round_of, are_rounds_to, is_verdict_on, is_judged}
+use Rattle.register.specs.Ranges.{is_clerk, is_ward_number, is_batch_number, is_paper_number, is_round}
+use Rattle.register.specs.Items.{is_batch, item3, item4, item5, IsState}
+use Rattle.register.proofs.ThreeKeyingsLemmas.{not_keyed}
 use Rattle.register.proofs.MapLemmas.{list_all_weaker, list_all_both, found_passes}
 
 -- rounds that are those of a batch one by one are so together
@@ -45,6 +47,25 @@ pub no_rounds : (s : OfficeState) (b : BatchEntry) → are_rounds_to s b 0 ≡ t
 unfolding are_rounds_to
 no_rounds s b = refl
 
+-- the numbers of a batch, each in range
+pub record BatchParts (b : BatchEntry) : Type 0 where
+  pub number : is_batch_number b.number ≡ true
+  pub ward : is_ward_number b.ward ≡ true
+  pub size : is_paper_number b.size ≡ true
+  pub first_clerk : is_clerk b.first_clerk ≡ true
+  pub second_clerk : is_clerk b.second_clerk ≡ true
+  pub round : is_round b.round ≡ true
+
+pub batch_parts : (b : BatchEntry) → is_batch b ≡ true → BatchParts b
+unfolding is_batch
+batch_parts b good =
+    let number = and_parts (is_batch_number b.number) (is_ward_number b.ward && (is_paper_number b.size && (is_clerk b.first_clerk && (is_clerk b.second_clerk && is_round b.round)))) good in
+    let ward = and_parts _ _ number.1 in
+    let size = and_parts _ _ ward.1 in
+    let first_clerk = and_parts _ _ size.1 in
+    let clerk_and_round = and_parts _ _ first_clerk.1 in
+    record { number = number.0; ward = ward.0; size = size.0; first_clerk = first_clerk.0; second_clerk = clerk_and_round.0; round = clerk_and_round.1 }
+
 -- a batch that is found is given out
 pub found_given_out : {s : OfficeState} → IsState s → (n : ℕ) (b : BatchEntry) → batch_at s n ≡ Some b → is_given_out s b ≡ true
 found_given_out {s} is n b found = found_passes (batch_compared n) (is_given_out s) b s.batches (and_parts _ _ is.given_out).0 found
@@ -57,6 +78,39 @@ no_verdicts s b untaken (v ∷ vs) judged = absurd (lost (taken_papers s b) (not
     lost : (ks : List KeyedEntry) → ks ≡ [] → has_doubtful ks v.paper ≡ true → ⊥
     lost [] none found = cc
     lost (k ∷ ks) none found = cc
+
+-- ---- a batch's file
+
+-- What a state has of a batch beside its entry is as it was in another one: the candidates of its ward, its keyings, and the verdicts
+-- on its papers.
+pub record HasSameFile (s t : OfficeState) (b : BatchEntry) : Type 0 where
+  pub candidates : candidates_of t b.ward ≡ candidates_of s b.ward
+  pub keyings : (round : ℕ) → keyings_in t b round ≡ keyings_in s b round
+  pub verdicts : verdicts_of t b.number ≡ verdicts_of s b.number
+
+module _ (s t : OfficeState) (b : BatchEntry) (same : HasSameFile s t b) where
+  -- so its pile is,
+  pub pile_kept : pile_of t b ≡ pile_of s b
+  pile_kept = ap (λ (ks : List (List KeyedEntry)). pile_with ks (verdicts_of t b.number)) (same.keyings b.round) ∙ ap (pile_with (keyings_now s b)) same.verdicts
+    where
+      pile_with : List (List KeyedEntry) → List JudgedEntry → Pile
+      pile_with keyings verdicts = record { keyings = keyings; verdicts = verdicts }
+
+  -- its rounds are those of a state,
+  pub rounds_kept : are_rounds_to s b b.round ≡ true → are_rounds_to t b b.round ≡ true
+  rounds_kept rounds =
+      rounds_from s t b b b.round (λ m holds. ap (λ (ks : List (List KeyedEntry)). list_all (is_whole b.size) ks && (nat_le b.round m || differ ks)) (same.keyings m) ∙ holds) rounds
+
+  -- and so are its verdicts
+  pub judged_kept : is_judged s b (verdicts_of s b.number) ≡ true → is_judged t b (verdicts_of t b.number) ≡ true
+  judged_kept judged =
+      ap (λ (cs : List CandidateEntry). judged_by cs (keyings_now t b) (verdicts_of t b.number)) same.candidates
+      ∙ ap (λ (ks : List (List KeyedEntry)). judged_by (candidates_of s b.ward) ks (verdicts_of t b.number)) (same.keyings b.round)
+      ∙ ap (judged_by (candidates_of s b.ward) (keyings_now s b)) same.verdicts
+      ∙ judged
+    where
+      judged_by : List CandidateEntry → List (List KeyedEntry) → List JudgedEntry → Bool
+      judged_by candidates keyings verdicts = list_all (is_verdict_on (columns_of candidates) (agreed keyings)) verdicts
 
 -- ---- other wards and candidates
 
@@ -83,19 +137,16 @@ module _ (s : OfficeState) (wards : List WardEntry) (candidates : List Candidate
           let same = (past b (found_given_out is k.batch b found)).candidates in
           ap (λ (cs : List CandidateEntry). nat_le k.round b.round && (is_its_clerk k.clerk b (third_at s b.number) && is_readable (columns_of cs) k.marks)) same ∙ keyed
 
+  same_file : (b : BatchEntry) → is_given_out s b ≡ true → HasSameFile s (with_nominations wards candidates s) b
+  same_file b out = record { candidates = (past b out).candidates; keyings = λ round. refl; verdicts = refl }
+
   pub keyed_still : item4 (with_nominations wards candidates s) ≡ true
   keyed_still =
       let parts = and_parts _ _ is.keyed in
-      and_from
-      _
-      _
-      (list_all_weaker _ _ s.keyings keyed_for_still parts.0)
-      (list_all_weaker _ _ s.batches (λ b rounds. rounds_from s (with_nominations wards candidates s) b b b.round (λ m round. round) rounds) parts.1)
-
-  verdicts_still : (b : BatchEntry) → is_given_out s b ≡ true → (vs : List JudgedEntry) → is_judged s b vs ≡ true → is_judged (with_nominations wards candidates s) b vs ≡ true
-  verdicts_still b out vs judged = ap (λ (cs : List CandidateEntry). list_all (is_verdict_on (columns_of cs) (taken_papers s b)) vs) (past b out).candidates ∙ judged
+      let rounds = list_all_both _ _ _ s.batches (λ b out rounds. rounds_kept s (with_nominations wards candidates s) b (same_file b out) rounds) (and_parts _ _ is.given_out).0 parts.1 in
+      and_from _ _ (list_all_weaker _ _ s.keyings keyed_for_still parts.0) rounds
 
   pub judged_still : item5 (with_nominations wards candidates s) ≡ true
   judged_still =
       let parts = and_parts _ _ is.judged in
-      and_from _ _ parts.0 (list_all_both _ _ _ s.batches (λ b out judged. verdicts_still b out (verdicts_of s b.number) judged) (and_parts _ _ is.given_out).0 parts.1)
+      and_from _ _ parts.0 (list_all_both _ _ _ s.batches (λ b out judged. judged_kept s (with_nominations wards candidates s) b (same_file b out) judged) (and_parts _ _ is.given_out).0 parts.1)

@@ -1,5 +1,6 @@
 -- The command of a clerk, where nothing stands against it, leads from a state to a state, and leaves a receipt in range.
-use Rattle.std.proofs.Common.{rules, inl, inr, ◌≡◌, ◌⊎◌, ℕ, suc, ◌+◌, ◌<◌, ◌≤◌, Bool, true, false, not, ◌&&◌, ◌||◌, ◌==◌, ◌++◌, nat_le, codes, List, [], ◌∷◌, length, map, filter, Option, Some, None, Result, Ok, Err, string_bytes, refl, sym, ap, ◌∙◌, arith}
+use Rattle.std.proofs.Common.{rules, inl, inr, ◌≡◌, ◌⊎◌, ℕ, suc, ◌+◌, ◌<◌, ◌≤◌, Bool, true, false, not, ◌&&◌, ◌||◌, ◌==◌, ◌++◌, nat_le, codes, List, [], ◌∷◌, length, map, filter, Option}
+use Rattle.std.proofs.Common.{Some, None, Result, Ok, Err, string_bytes, refl, sym, ap, subst, ◌∙◌, arith}
 use Rattle.std.specs.Fmt.{decimal}
 use Rattle.std.specs.List.{AllByRecursion, list_all}
 use Rattle.std.specs.Str.{is_utf8}
@@ -26,22 +27,21 @@ use Rattle.register.specs.Parts.{passes}
 use Rattle.register.specs.Verdicts.{is_rejection_code}
 use Rattle.register.specs.Marks.{columns_of, is_read, is_readable, is_valid, fault_told, marks_objection, first_bad_marks, or_reason}
 use Rattle.register.specs.Ranges.{last_batch, last_round, most_papers, is_clerk, is_batch_number, is_paper_number, is_round}
-use Rattle.register.specs.Offices.{WardEntry, BatchEntry, KeyedEntry, JudgedEntry, OfficeState, put, put_each, entry_at, keyed_cmp, batch_compared, ward_at, candidates_of, batch_at, third_at, keying_of, verdicts_of, lots_of}
-use Rattle.register.specs.Polls.{Pile, pile_of}
-use Rattle.register.specs.Elections.{election_of, is_counted}
+use Rattle.register.specs.Offices.{BatchEntry, KeyedEntry, JudgedEntry, OfficeState, put, put_each, entry_at, keyed_cmp, batch_compared, batch_at, third_at, keying_of, verdicts_of}
 use Rattle.register.specs.Papers.{is_keyed, of_three, agreed, differ, has_doubtful, is_its_clerk, clerks_of, keyings_in, keyings_now, taken_papers}
-use Rattle.register.specs.Keyed.{columns_for, is_keyed_for, are_numbered, is_whole, is_round_of, are_rounds_to, is_verdict_on, is_verdict_for, is_judged}
+use Rattle.register.specs.Keyed.{columns_for, is_keyed_for, are_numbered, is_whole, is_round_of, are_rounds_to, is_verdict_for, is_judged}
 use Rattle.register.specs.Items.{is_keyed_paper, IsState}
 use Rattle.register.specs.Effects.{papers_keyed, with_effect}
 use Rattle.register.specs.Tabulated.{tabulation_of}
 use Rattle.register.specs.Keyings.{texts_of, part_of, is_in_range, objections, subject_of, reply_to, papers_from, effect_of}
 use Rattle.register.proofs.LineLemmas.{lower, upper, are_plain-decimals, words, line_append, line_number, line_reply, line_text}
-use Rattle.register.proofs.ObjectionLemmas.{none_objects, asked, unasked, present, there}
-use Rattle.register.proofs.MapLemmas.{list_all_weaker, IsMap, put_each_all, put_is_map, filter_put_in, filter_put_each, put_last, found_filter, found_none, each_weaker, found_passes, found_number, same_number, both_equal, all_but_number}
-use Rattle.register.proofs.ElectionLemmas.{lots_placed_of, same_election}
-use Rattle.register.proofs.ElsewhereLemmas.{sound_elsewhere, batches_elsewhere, piles_elsewhere}
-use Rattle.register.proofs.TabulationLemmas.{tabulation_elsewhere}
-use Rattle.register.proofs.ClerkLemmas.{not_keyed, keyed_alike, all_grown, of_one, are_three, Grows, doubtful_still}
+use Rattle.register.proofs.ObjectionLemmas.{no_objection, asked, unasked, IsThere, present, there}
+use Rattle.register.proofs.MapLemmas.{list_all_weaker, IsMap, put_each_all, put_is_map, filter_put_in, filter_put_each, put_last, found_filter, found_none, each_weaker, found_passes}
+use Rattle.register.proofs.MapLemmas.{found_number, same_number, both_equal}
+use Rattle.register.proofs.ElectionLemmas.{lots_placed_of}
+use Rattle.register.proofs.ElsewhereLemmas.{IsOfBatch, rounds_elsewhere, judged_elsewhere, IsBeforeCount, batch_in_keying, sound_kept}
+use Rattle.register.proofs.TabulationLemmas.{tabulation_kept}
+use Rattle.register.proofs.ThreeKeyingsLemmas.{not_keyed, keyed_alike, all_grown, of_one, are_three, Grows, doubtful_still}
 use Rattle.register.proofs.KeyedLemmas.{rounds_from, round_at}
 use Rattle.register.proofs.ItemLemmas.{MapName, keyed_map, Holds, maps_of, state_from, keyed_total, IsFit, clerk_about}
 use Rattle.register.proofs.BatchLemmas.{found_in_range}
@@ -69,14 +69,16 @@ module _ (batch round clerk : ℕ) where
   numbered paper [] = refl
   numbered paper (marks ∷ others) = and_from _ _ (eq-eqb paper paper refl) (numbered (paper + 1) others)
 
-  -- none of them of another keying,
-  pub of_no_other : (test : ℕ → ℕ → ℕ → Bool) → test batch round clerk ≡ false → (paper : ℕ) (texts : List (List ℕ)) → list_all (λ k. not (test k.batch k.round k.clerk)) (papers_from batch round clerk paper texts) ≡ true
+  -- each of them of it,
+  each_of : (test : ℕ → ℕ → ℕ → Bool) → test batch round clerk ≡ true → (paper : ℕ) (texts : List (List ℕ))
+      → list_all (λ k. test k.batch k.round k.clerk) (papers_from batch round clerk paper texts) ≡ true
   unfolding papers_from
-  of_no_other test other paper [] = refl
-  of_no_other test other paper (marks ∷ others) = and_from _ _ (ap not other) (of_no_other test other (paper + 1) others)
+  each_of test own paper [] = refl
+  each_of test own paper (marks ∷ others) = and_from _ _ own (each_of test own (paper + 1) others)
 
   -- in range,
-  papers_in_range : is_batch_number batch ≡ true → is_round round ≡ true → is_clerk clerk ≡ true → (paper : ℕ) (texts : List (List ℕ)) → 1 ≤ paper → paper + length texts ≤ suc most_papers → list_all is_utf8 texts ≡ true
+  papers_in_range : is_batch_number batch ≡ true → is_round round ≡ true → is_clerk clerk ≡ true → (paper : ℕ) (texts : List (List ℕ)) → 1 ≤ paper → paper + length texts ≤ suc most_papers
+      → list_all is_utf8 texts ≡ true
       → list_all is_keyed_paper (papers_from batch round clerk paper texts) ≡ true
   unfolding papers_from is_keyed_paper
   papers_in_range a b c paper [] low high written = refl
@@ -86,7 +88,8 @@ module _ (batch round clerk : ℕ) where
       and_from _ _ (and_from _ _ a (and_from _ _ b (and_from _ _ c (and_from _ _ number text.0)))) (papers_in_range a b c (paper + 1) others (omega (arith, low)) (omega (arith, high)) text.1)
 
   -- and with marks that are read, where none is told to be bad
-  papers_read : (columns : List ℕ) (paper : ℕ) (texts : List (List ℕ)) → first_bad_marks columns paper texts ≡ None → list_all (λ k. is_readable columns k.marks) (papers_from batch round clerk paper texts) ≡ true
+  papers_read : (columns : List ℕ) (paper : ℕ) (texts : List (List ℕ)) → first_bad_marks columns paper texts ≡ None
+      → list_all (λ k. is_readable columns k.marks) (papers_from batch round clerk paper texts) ≡ true
   unfolding papers_from first_bad_marks
   papers_read columns paper [] none = refl
   papers_read columns paper (marks ∷ others) none =
@@ -104,7 +107,8 @@ module _ (batch round clerk : ℕ) where
   -- ---- put into the map
 
   -- a paper behind those of its keying
-  behind : (paper : ℕ) (marks : List ℕ) (k : KeyedEntry) → is_of batch round clerk k ≡ true → k.paper < paper → keyed_cmp (record { batch = batch; round = round; clerk = clerk; paper = paper; marks = marks }) k ≡ Greater
+  behind : (paper : ℕ) (marks : List ℕ) (k : KeyedEntry) → is_of batch round clerk k ≡ true → k.paper < paper
+      → keyed_cmp (record { batch = batch; round = round; clerk = clerk; paper = paper; marks = marks }) k ≡ Greater
   behind paper marks k of below =
       let first = and_parts (k.batch == batch) ((k.round == round) && (k.clerk == clerk)) of in
       let second = and_parts (k.round == round) (k.clerk == clerk) first.1 in
@@ -118,7 +122,8 @@ module _ (batch round clerk : ℕ) where
   more_below paper marks (k ∷ ks) below = let low = (below.0).1 in (((below.0).0, omega (arith, low)), more_below paper marks ks below.1)
 
   -- what has the key of a paper is of its keying
-  own_of : (paper : ℕ) (marks : List ℕ) (k : KeyedEntry) → is_eq (keyed_cmp (record { batch = batch; round = round; clerk = clerk; paper = paper; marks = marks }) k) ≡ true → is_of batch round clerk k ≡ true
+  own_of : (paper : ℕ) (marks : List ℕ) (k : KeyedEntry) → is_eq (keyed_cmp (record { batch = batch; round = round; clerk = clerk; paper = paper; marks = marks }) k) ≡ true
+      → is_of batch round clerk k ≡ true
   own_of paper marks k tied =
       let first = both_equal (nat_cmp batch k.batch) (ordering_then (nat_cmp round k.round) (ordering_then (nat_cmp clerk k.clerk) (nat_cmp paper k.paper))) tied in
       let second = both_equal (nat_cmp round k.round) (ordering_then (nat_cmp clerk k.clerk) (nat_cmp paper k.paper)) first.1 in
@@ -132,20 +137,29 @@ module _ (batch round clerk : ℕ) where
     pub keying : filter (is_of batch round clerk) ys ≡ zs
 
   -- a paper behind those of its keying that are there
-  put_paper : (paper : ℕ) (marks : List ℕ) (ys zs : List KeyedEntry) → is_keyed_paper (record { batch = batch; round = round; clerk = clerk; paper = paper; marks = marks }) ≡ true → AreBelow batch round clerk paper zs → IsPut ys zs
-      → IsPut (put keyed_cmp (record { batch = batch; round = round; clerk = clerk; paper = paper; marks = marks }) ys) (zs ++ (record { batch = batch; round = round; clerk = clerk; paper = paper; marks = marks } ∷ []))
+  put_paper : (paper : ℕ) (marks : List ℕ) (ys zs : List KeyedEntry) → is_keyed_paper (record { batch = batch; round = round; clerk = clerk; paper = paper; marks = marks }) ≡ true
+      → AreBelow batch round clerk paper zs → IsPut ys zs
+      → IsPut (put keyed_cmp (record { batch = batch; round = round; clerk = clerk; paper = paper; marks = marks }) ys)
+      (zs ++ (record { batch = batch; round = round; clerk = clerk; paper = paper; marks = marks } ∷ []))
   put_paper paper marks ys zs good below is =
       let x : KeyedEntry = record { batch = batch; round = round; clerk = clerk; paper = paper; marks = marks } in
       let above : AllByRecursion (λ k. keyed_cmp x k ≡ Greater) zs = each_weaker _ _ zs (λ k low. behind paper marks k low.0 low.1) below in
       let others_there : AllByRecursion (λ k. is_eq (keyed_cmp x k) ≡ false) zs = each_weaker _ _ zs (λ k g. ap is_eq g) above in
       let last : AllByRecursion (λ k. is_lt (keyed_cmp x k) ≡ false) zs = each_weaker _ _ zs (λ k g. ap is_lt g) above in
-      let new : entry_at (keyed_cmp x) ys ≡ None = sym (found_filter (keyed_cmp x) (is_of batch round clerk) ys (own_of paper marks)) ∙ ap (entry_at (keyed_cmp x)) is.keying ∙ found_none (keyed_cmp x) zs others_there in
+      let new : entry_at (keyed_cmp x) ys ≡ None =
+      sym (found_filter (keyed_cmp x) (is_of batch round clerk) ys (own_of paper marks)) ∙ ap (entry_at (keyed_cmp x)) is.keying ∙ found_none (keyed_cmp x) zs others_there
+      in
       let own : is_of batch round clerk x ≡ true = and_from _ _ (eq-eqb batch batch refl) (and_from _ _ (eq-eqb round round refl) (eq-eqb clerk clerk refl)) in
       let map = is.map in
-      record { map = put_is_map keyed_total x ys good new map; keying = filter_put_in keyed_total (is_of batch round clerk) x ys own map.rises ∙ ap (put keyed_cmp x) is.keying ∙ put_last keyed_cmp x zs last }
+      record {
+        map = put_is_map keyed_total x ys good new map;
+        keying = filter_put_in keyed_total (is_of batch round clerk) x ys own map.rises ∙ ap (put keyed_cmp x) is.keying
+            ∙ put_last keyed_cmp x zs last;
+      }
 
   -- papers behind those of their keying that are there
-  pub put_papers : (paper : ℕ) (texts : List (List ℕ)) (ys zs : List KeyedEntry) → list_all is_keyed_paper (papers_from batch round clerk paper texts) ≡ true → AreBelow batch round clerk paper zs → IsPut ys zs
+  pub put_papers : (paper : ℕ) (texts : List (List ℕ)) (ys zs : List KeyedEntry) → list_all is_keyed_paper (papers_from batch round clerk paper texts) ≡ true
+      → AreBelow batch round clerk paper zs → IsPut ys zs
       → IsPut (put_each keyed_cmp (papers_from batch round clerk paper texts) ys) (zs ++ papers_from batch round clerk paper texts)
   unfolding papers_from
   put_papers paper [] ys zs good below is = record { map = is.map; keying = is.keying ∙ sym (append-nil zs) }
@@ -156,8 +170,10 @@ module _ (batch round clerk : ℕ) where
       record { map = next.map; keying = next.keying ∙ append_assoc zs (x ∷ []) (papers_from batch round clerk (paper + 1) others) }
 
   -- those that pass a test stand among the others that pass as they stand among all
-  put_among : (test : KeyedEntry → Bool) (paper : ℕ) (texts : List (List ℕ)) (ys zs : List KeyedEntry) → list_all test (papers_from batch round clerk paper texts) ≡ true → list_all is_keyed_paper (papers_from batch round clerk paper texts) ≡ true
-      → AreBelow batch round clerk paper zs → IsPut ys zs → filter test (put_each keyed_cmp (papers_from batch round clerk paper texts) ys) ≡ put_each keyed_cmp (papers_from batch round clerk paper texts) (filter test ys)
+  put_among : (test : KeyedEntry → Bool) (paper : ℕ) (texts : List (List ℕ)) (ys zs : List KeyedEntry) → list_all test (papers_from batch round clerk paper texts) ≡ true
+      → list_all is_keyed_paper (papers_from batch round clerk paper texts) ≡ true
+      → AreBelow batch round clerk paper zs → IsPut ys zs → filter test (put_each keyed_cmp (papers_from batch round clerk paper texts) ys)
+      ≡ put_each keyed_cmp (papers_from batch round clerk paper texts) (filter test ys)
   unfolding papers_from
   put_among test paper [] ys zs passes good below is = refl
   put_among test paper (marks ∷ others) ys zs passes good below is =
@@ -183,32 +199,14 @@ module _ (s : OfficeState) (b : BatchEntry) (actor : ℕ) (texts : List (List �
   -- each other keying is as it was
   other_keying : (n m clerk : ℕ) → ((b.number == n) && ((b.round == m) && (actor == clerk))) ≡ false → keying_of (with_papers s b actor texts) n m clerk ≡ keying_of s n m clerk
   other_keying n m clerk other =
-      filter_put_each keyed_cmp (is_of n m clerk) (papers_for b actor texts) s.keyings (of_no_other b.number b.round actor (λ x y z. (x == n) && ((y == m) && (z == clerk))) other 1 texts)
+      filter_put_each keyed_cmp (is_of n m clerk) (papers_for b actor texts) s.keyings (each_of b.number b.round actor (λ x y z. not ((x == n) && ((y == m) && (z == clerk)))) (ap not other) 1 texts)
 
-  -- so those of each other batch are, with its rounds, its verdicts and its pile
-  other_keyings : (x : BatchEntry) → (b.number == x.number) ≡ false → (m : ℕ) → keyings_in (with_papers s b actor texts) x m ≡ keyings_in s x m
-  other_keyings x other m = keyed_alike (keying_of (with_papers s b actor texts) x.number m) (keying_of s x.number m) (clerks_of s x) (λ clerk. other_keying x.number m clerk (and_left _ _ other))
+  -- they are of the batch
+  of_batch : IsOfBatch b.number (papers_keyed (papers_for b actor texts))
+  of_batch = each_of b.number b.round actor (λ x y z. x == b.number) (eq-eqb b.number b.number refl) 1 texts
 
-  other_round : (x : BatchEntry) → (b.number == x.number) ≡ false → (m : ℕ) → is_round_of s x m ≡ true → is_round_of (with_papers s b actor texts) x m ≡ true
-  other_round x other m holds = ap (λ (ks : List (List KeyedEntry)). list_all (is_whole x.size) ks && (nat_le x.round m || differ ks)) (other_keyings x other m) ∙ holds
-
-  other_judged : (x : BatchEntry) → (b.number == x.number) ≡ false → (vs : List JudgedEntry) → is_judged s x vs ≡ true → is_judged (with_papers s b actor texts) x vs ≡ true
-  other_judged x other vs judged = ap (λ (ks : List (List KeyedEntry)). list_all (is_verdict_on (columns_for s x) (agreed ks)) vs) (other_keyings x other x.round) ∙ judged
-
-  other_pile : (x : BatchEntry) → (b.number == x.number) ≡ false → pile_of (with_papers s b actor texts) x ≡ pile_of s x
-  other_pile x other = ap pile_with (other_keyings x other x.round)
-    where
-      pile_with : List (List KeyedEntry) → Pile
-      pile_with keyings = record { keyings = keyings; verdicts = verdicts_of s x.number }
-
-  -- the elections of other wards are as they were,
-  keyed_elsewhere : (x : WardEntry) → (b.ward == x.number) ≡ false → election_of (with_papers s b actor texts) x ≡ election_of s x
-  keyed_elsewhere x other =
-      same_election x _ (candidates_of s x.number) _ _ _ (lots_of s x.number) refl (piles_elsewhere s (with_papers s b actor texts) b.number x.number s.batches other_pile (batches_elsewhere s b.number b x.number is found other)) refl
-
-  -- and so is the tabulation
-  pub keyed_tabulated : (w : WardEntry) → ward_at s b.ward ≡ Some w → is_counted w.phase ≡ false → tabulation_of (with_papers s b actor texts) ≡ tabulation_of s
-  keyed_tabulated w its_ward open_ = tabulation_elsewhere s b.ward w s.candidates s.batches (put_each keyed_cmp (papers_for b actor texts) s.keyings) s.verdicts its_ward open_ keyed_elsewhere is
+  pub keyed_before : IsThere Keying (ward_for s (batch_at s b.number)) → IsBeforeCount s (papers_keyed (papers_for b actor texts))
+  keyed_before its = batch_in_keying s b.number b (papers_keyed (papers_for b actor texts)) found its of_batch (λ own. own) refl refl
 
   module _ (clerk : is_clerk actor ≡ true) (written : list_all is_utf8 texts ≡ true) where
     papers_good : list_all is_keyed_paper (papers_for b actor texts) ≡ true
@@ -221,7 +219,8 @@ module _ (s : OfficeState) (b : BatchEntry) (actor : ℕ) (texts : List (List �
     put_there = put_papers b.number b.round actor 1 texts s.keyings [] papers_good tt (record { map = maps_of is keyed_map; keying = unkeyed })
 
     -- the clerk's own papers, put among his own
-    pub put_among_own : (test : KeyedEntry → Bool) → list_all test (papers_for b actor texts) ≡ true → filter test (put_each keyed_cmp (papers_for b actor texts) s.keyings) ≡ put_each keyed_cmp (papers_for b actor texts) (filter test s.keyings)
+    pub put_among_own : (test : KeyedEntry → Bool) → list_all test (papers_for b actor texts) ≡ true
+        → filter test (put_each keyed_cmp (papers_for b actor texts) s.keyings) ≡ put_each keyed_cmp (papers_for b actor texts) (filter test s.keyings)
     put_among_own test passes = put_among b.number b.round actor test 1 texts s.keyings [] passes papers_good tt (record { map = maps_of is keyed_map; keying = unkeyed })
 
     -- in its round a clerk's keying is as it was, or is this one, where there was none; it is whole
@@ -237,7 +236,9 @@ module _ (s : OfficeState) (b : BatchEntry) (actor : ℕ) (texts : List (List �
     whole_or_same c false other = inl (other_keying b.number b.round c (and_right (b.number == b.number) _ (and_right (b.round == b.round) (actor == c) other)))
     whole_or_same c true same =
         let there = put_there in
-        let own : keying_of (with_papers s b actor texts) b.number b.round c ≡ papers_for b actor texts = ap (keying_of (with_papers s b actor texts) b.number b.round) (sym (eqb-true actor c same)) ∙ there.keying in
+        let own : keying_of (with_papers s b actor texts) b.number b.round c ≡ papers_for b actor texts =
+        ap (keying_of (with_papers s b actor texts) b.number b.round) (sym (eqb-true actor c same)) ∙ there.keying
+        in
         let long : length (papers_for b actor texts) ≡ b.size = length-papers b.number b.round actor 1 texts ∙ sym size in
         inr (ap (is_whole b.size) own ∙ and_from _ _ (eq-eqb (length (papers_for b actor texts)) b.size long) (numbered b.number b.round actor 1 texts))
 
@@ -256,14 +257,19 @@ module _ (s : OfficeState) (b : BatchEntry) (actor : ℕ) (texts : List (List �
             let there = ap (λ (r : ℕ). list_all (is_whole b.size) (keyings_in (with_papers s b actor texts) b r)) (sym round) ∙ now in
             and_from _ _ there (or_left (nat_le b.round m) _ (le-leb b.round m (omega (arith, round))))
         go false other =
-            let same = keyed_alike (keying_of (with_papers s b actor texts) b.number m) (keying_of s b.number m) (clerks_of s b) (λ clerk. other_keying b.number m clerk (and_right (b.number == b.number) _ (and_left (b.round == m) (actor == clerk) other))) in
+            let same =
+            keyed_alike (keying_of (with_papers s b actor texts) b.number m) (keying_of s b.number m) (clerks_of s b)
+            (λ clerk. other_keying b.number m clerk (and_right (b.number == b.number) _ (and_left (b.round == m) (actor == clerk) other)))
+            in
             ap (λ (ks : List (List KeyedEntry)). list_all (is_whole b.size) ks && (nat_le b.round m || differ ks)) same ∙ holds
 
     -- a doubtful paper that the batch is taken with stays one
-    doubtful_kept : list_all (is_whole b.size) (keyings_now s b) ≡ true → (paper : ℕ) → has_doubtful (taken_papers s b) paper ≡ true → has_doubtful (taken_papers (with_papers s b actor texts) b) paper ≡ true
+    doubtful_kept : list_all (is_whole b.size) (keyings_now s b) ≡ true → (paper : ℕ) → has_doubtful (taken_papers s b) paper ≡ true
+        → has_doubtful (taken_papers (with_papers s b actor texts) b) paper ≡ true
     doubtful_kept whole paper was =
         let three = are_three b (third_at s b.number) in
-        let now : keyings_now (with_papers s b actor texts) b ≡ of_three (keying_of (with_papers s b actor texts) b.number b.round three.first) (keying_of (with_papers s b actor texts) b.number b.round three.second) (of_one (keying_of (with_papers s b actor texts) b.number b.round) three.third) =
+        let now : keyings_now (with_papers s b actor texts) b ≡ of_three (keying_of (with_papers s b actor texts) b.number b.round three.first)
+        (keying_of (with_papers s b actor texts) b.number b.round three.second) (of_one (keying_of (with_papers s b actor texts) b.number b.round) three.third) =
         three.are (keying_of (with_papers s b actor texts) b.number b.round)
         in
         ap (λ (ks : List (List KeyedEntry)). has_doubtful (agreed ks) paper) now
@@ -286,10 +292,6 @@ module _ (s : OfficeState) (b : BatchEntry) (actor : ℕ) (texts : List (List �
         grows_one None = inl refl
         grows_one (Some c) = grows c
 
-    -- what holds of each other batch still, and of this one, holds of each
-    still : (p q : BatchEntry → Bool) → (p b ≡ true → q b ≡ true) → ((x : BatchEntry) → (b.number == x.number) ≡ false → p x ≡ true → q x ≡ true) → list_all p s.batches ≡ true → list_all q s.batches ≡ true
-    still p q own others all = all_but_number (λ (x : BatchEntry). x.number) s.batches b.number b p q is.rise.batches found (λ same. own (found_passes (batch_compared b.number) p b s.batches all found)) others all
-
     -- the papers are keyed of a batch that is there, in its round, by its clerk, with marks that are read
     keyed_for_each : (paper : ℕ) (others : List (List ℕ)) → list_all (λ k. is_readable (columns_for s b) k.marks) (papers_from b.number b.round actor paper others) ≡ true
         → list_all (λ k. is_keyed_for s k (batch_at s k.batch)) (papers_from b.number b.round actor paper others) ≡ true
@@ -300,11 +302,12 @@ module _ (s : OfficeState) (b : BatchEntry) (actor : ℕ) (texts : List (List �
         and_from _ _ (rw found (and_from _ _ (le-leb b.round b.round (le_refl b.round)) (and_from _ _ its parts.0))) (keyed_for_each (paper + 1) others parts.1)
 
     -- the state with a whole keying of the batch's round, by a clerk of it who had none there
-    pub keyed_stays : (w : WardEntry) → ward_at s b.ward ≡ Some w → is_counted w.phase ≡ false → first_bad_marks (columns_for s b) 1 texts ≡ None → IsState (with_papers s b actor texts)
-    keyed_stays w its_ward open_ none =
+    pub keyed_stays : IsBeforeCount s (papers_keyed (papers_for b actor texts)) → first_bad_marks (columns_for s b) 1 texts ≡ None → IsState (with_papers s b actor texts)
+    keyed_stays before none =
         let keyed = and_parts _ _ is.keyed in
         let judged = and_parts _ _ is.judged in
         let read = papers_read b.number b.round actor (columns_for s b) 1 texts none in
+        let effect = papers_keyed (papers_for b actor texts) in
         state_from
         (with_papers s b actor texts)
         maps
@@ -315,19 +318,18 @@ module _ (s : OfficeState) (b : BatchEntry) (actor : ℕ) (texts : List (List �
               _
               _
               (put_each_all keyed_cmp (λ k. is_keyed_for s k (batch_at s k.batch)) (papers_for b actor texts) s.keyings (keyed_for_each 1 texts read) keyed.0)
-              (still (λ x. are_rounds_to s x x.round) (λ x. are_rounds_to (with_papers s b actor texts) x x.round) (rounds_from s (with_papers s b actor texts) b b b.round own_round) (λ x other rounds. rounds_from s (with_papers s b actor texts) x x x.round (other_round x other) rounds) keyed.1);
-          judged = and_from
-              _
-              _
-              judged.0
-              (still (λ x. is_judged s x (verdicts_of s x.number)) (λ x. is_judged (with_papers s b actor texts) x (verdicts_of s x.number)) own_judged (λ x other verdicts. other_judged x other (verdicts_of s x.number) verdicts) judged.1);
+              (rounds_elsewhere s effect b.number b is found of_batch (rounds_from s (with_papers s b actor texts) b b b.round own_round));
+          judged = and_from _ _ judged.0 (judged_elsewhere s effect b.number b is found of_batch own_judged);
           lots_placed = lots_placed_of is;
-          sound = sound_elsewhere s b.ward w s.candidates s.batches (put_each keyed_cmp (papers_for b actor texts) s.keyings) s.verdicts its_ward open_ keyed_elsewhere is;
+          sound = sound_kept s (papers_keyed (papers_for b actor texts)) is before;
         })
       where
         whole : list_all (is_whole b.size) (keyings_now s b) ≡ true
         whole =
-            let rounds = found_passes (batch_compared b.number) (λ (x : BatchEntry). are_rounds_to s x x.round) b s.batches (and_parts (list_all (λ k. is_keyed_for s k (batch_at s k.batch)) s.keyings) _ is.keyed).1 found in
+            let rounds =
+            found_passes (batch_compared b.number) (λ (x : BatchEntry). are_rounds_to s x x.round) b s.batches
+            (and_parts (list_all (λ k. is_keyed_for s k (batch_at s k.batch)) s.keyings) _ is.keyed).1 found
+            in
             let parts = found_in_range is b.number b found in
             (and_parts _ _ (round_at s b b.round (lower 1 last_round b.round parts.round) rounds)).0
 
@@ -384,23 +386,22 @@ record IsKeying (s : OfficeState) (actor : ℕ) (command : KeyingCommand) : Type
   unkeyed : keying_of s batch.number batch.round actor ≡ []
   size : batch.size ≡ length (texts_of command)
   read : first_bad_marks (columns_for s batch) 1 (texts_of command) ≡ None
-  ward : WardEntry
-  its_ward : ward_at s batch.ward ≡ Some ward
-  phased : ward.phase ≡ Keying
+  in_ward : IsThere Keying (ward_for s (batch_at s batch.number))
 
 is_keying : (s : OfficeState) (actor : ℕ) (command : KeyingCommand) → first_reason (objections actor command (part_of s actor command)) ≡ None → IsKeying s actor command
 is_keying s actor command none =
     let part = part_of s actor command in
-    let each = none_objects (objections actor command part) none in
-    let range = and_parts (is_clerk actor) (is_batch_number command.batch && is_round command.round) (asked (is_in_range actor command) NumberOutOfRange each.0) in
+    let met = no_objection (objections actor command part) none in
+    let range = and_parts (is_clerk actor) (is_batch_number command.batch && is_round command.round) (asked (is_in_range actor command) NumberOutOfRange (met 0)) in
     let numbers = and_parts (is_batch_number command.batch) (is_round command.round) range.1 in
-    let found = present (batch_at s command.batch) NoSuchBatch (each.1).0 in
+    let found = present (batch_at s command.batch) NoSuchBatch (met 1) in
     let b = found.it in
-    let others = ((each.1).1).1 in
-    let in_ward = there Keying (ward_for s (batch_at s command.batch)) WrongPhase ((each.1).1).0 in
-    let now = found_is s command.batch b found.is (λ x. x.round == command.round) (asked (passes (λ x. x.round == command.round) part.batch) NotThisRound (others.1).0) in
-    let none_own = not_keyed part.own (unasked (is_keyed part.own) AlreadyKeyed ((others.1).1).0) in
-    let long = found_is s command.batch b found.is (λ x. x.size == length (texts_of command)) (asked (passes (λ x. x.size == length (texts_of command)) part.batch) WrongPaperCount (((others.1).1).1).0) in
+    let in_ward = there Keying (ward_for s (batch_at s command.batch)) WrongPhase (met 2) in
+    let now = found_is s command.batch b found.is (λ x. x.round == command.round) (asked (passes (λ x. x.round == command.round) part.batch) NotThisRound (met 4)) in
+    let none_own = not_keyed part.own (unasked (is_keyed part.own) AlreadyKeyed (met 5)) in
+    let long =
+    found_is s command.batch b found.is (λ x. x.size == length (texts_of command)) (asked (passes (λ x. x.size == length (texts_of command)) part.batch) WrongPaperCount (met 6))
+    in
     let its_clerk : passes (λ (x : BatchEntry). is_its_clerk actor x part.third) part.batch ≡ true → is_its_clerk actor b (third_at s b.number) ≡ true =
     λ its. ap (λ (o : Option BatchEntry). passes (λ (x : BatchEntry). is_its_clerk actor x (third_for s o)) o) (sym found.is) ∙ its
     in
@@ -414,39 +415,45 @@ is_keying s actor command none =
       number = number;
       round = round;
       found = ap (batch_at s) (sym number) ∙ found.is;
-      its = its_clerk (asked (passes (λ x. is_its_clerk actor x part.third) part.batch) NotItsClerk others.0);
+      its = its_clerk (asked (passes (λ x. is_its_clerk actor x part.third) part.batch) NotItsClerk (met 3));
       unkeyed = ap (λ (n : ℕ). keying_of s n b.round actor) (sym number) ∙ ap (λ (r : ℕ). keying_of s command.batch r actor) (sym round) ∙ none_own;
       size = eqb-true b.size (length (texts_of command)) long;
-      read = ap (λ (o : Option BatchEntry). first_bad_marks (columns_of (candidates_for s o)) 1 (texts_of command)) (sym found.is) ∙ ((((others.1).1).1).1).0;
-      ward = in_ward.ward;
-      its_ward = ap (ward_for s) (sym found.is) ∙ in_ward.is;
-      phased = in_ward.phased;
+      read = ap (λ (o : Option BatchEntry). first_bad_marks (columns_of (candidates_for s o)) 1 (texts_of command)) (sym found.is) ∙ (met 7);
+      in_ward = subst (λ (n : ℕ). IsThere Keying (ward_for s (batch_at s n))) number in_ward;
     }
 
 among_same : (s : OfficeState) (b : BatchEntry) (actor : ℕ) (texts : List (List ℕ)) (test : KeyedEntry → Bool) (n round : ℕ) → n ≡ b.number → round ≡ b.round
     → (list_all test (papers_for b actor texts) ≡ true → filter test (put_each keyed_cmp (papers_for b actor texts) s.keyings) ≡ put_each keyed_cmp (papers_for b actor texts) (filter test s.keyings))
-    → list_all test (papers_from n round actor 1 texts) ≡ true → filter test (put_each keyed_cmp (papers_from n round actor 1 texts) s.keyings) ≡ put_each keyed_cmp (papers_from n round actor 1 texts) (filter test s.keyings)
+    → list_all test (papers_from n round actor 1 texts) ≡ true → filter test (put_each keyed_cmp (papers_from n round actor 1 texts) s.keyings)
+    ≡ put_each keyed_cmp (papers_from n round actor 1 texts) (filter test s.keyings)
 among_same s b actor texts test n round number same own = rw (number, same) own
 
 -- its papers stand among those that pass a test, as they do, as they stand among all
 pub keyed_among : (s : OfficeState) (actor : ℕ) (command : KeyingCommand) (test : KeyedEntry → Bool) → IsState s → first_reason (objections actor command (part_of s actor command)) ≡ None
     → list_all test (papers_from command.batch command.round actor 1 (texts_of command)) ≡ true
-    → filter test (put_each keyed_cmp (papers_from command.batch command.round actor 1 (texts_of command)) s.keyings) ≡ put_each keyed_cmp (papers_from command.batch command.round actor 1 (texts_of command)) (filter test s.keyings)
+    → filter test (put_each keyed_cmp (papers_from command.batch command.round actor 1 (texts_of command)) s.keyings)
+    ≡ put_each keyed_cmp (papers_from command.batch command.round actor 1 (texts_of command)) (filter test s.keyings)
 keyed_among s actor command test is none passes =
     let k = is_keying s actor command none in
-    among_same s k.batch actor (texts_of command) test command.batch command.round k.number k.round (put_among_own s k.batch actor (texts_of command) is k.found k.its k.unkeyed k.size k.clerk (all_written command.papers.items) test) passes
+    among_same s k.batch actor (texts_of command) test command.batch command.round k.number k.round
+    (put_among_own s k.batch actor (texts_of command) is k.found k.its k.unkeyed k.size k.clerk (all_written command.papers.items) test) passes
 
 pub keying_fits : (s : OfficeState) (actor : ℕ) (command : KeyingCommand) → IsState s → first_reason (objections actor command (part_of s actor command)) ≡ None
     → IsFit s actor (effect_of actor command) (subject_of command) (reply_to command)
 unfolding subject_of reply_to
 keying_fits s actor command is none =
     let k = is_keying s actor command none in
+    let before = keyed_before s k.batch actor (texts_of command) is k.found k.its k.unkeyed k.size k.in_ward in
     let digits = line_number last_batch command.batch (omega arith) k.batch_number in
     let rounds = line_number last_round command.round (omega arith) k.round_number in
     record {
-      state = under_same IsState s k.batch actor (texts_of command) command.batch command.round k.number k.round (keyed_stays s k.batch actor (texts_of command) is k.found k.its k.unkeyed k.size k.clerk (all_written command.papers.items) k.ward k.its_ward (rw k.phased refl) k.read);
-      tabulated = under_same (λ t. tabulation_of t ≡ tabulation_of s) s k.batch actor (texts_of command) command.batch command.round k.number k.round (keyed_tabulated s k.batch actor (texts_of command) is k.found k.its k.unkeyed k.size k.ward k.its_ward (rw k.phased refl));
+      state =
+          under_same IsState s k.batch actor (texts_of command) command.batch command.round k.number k.round
+          (keyed_stays s k.batch actor (texts_of command) is k.found k.its k.unkeyed k.size k.clerk (all_written command.papers.items) before k.read);
+      tabulated = under_same (λ t. tabulation_of t ≡ tabulation_of s) s k.batch actor (texts_of command) command.batch command.round k.number k.round (tabulation_kept s _ is before);
       about = clerk_about actor _ k.clerk (key_about command.batch command.round k.batch_number k.round_number);
       text = line_text (line_append (words (codes "key ") (search rules) refl) (line_append digits (line_append (words (codes " ") (search rules) refl) rounds)));
-      line = line_reply (line_append (words (codes "batch ") (search rules) refl) (line_append digits (line_append (words (codes " round ") (search rules) refl) (line_append rounds (words (codes " keyed") (search rules) refl))))) (omega arith);
+      line =
+          line_reply (line_append (words (codes "batch ") (search rules) refl)
+          (line_append digits (line_append (words (codes " round ") (search rules) refl) (line_append rounds (words (codes " keyed") (search rules) refl))))) (omega arith);
     }

@@ -5,7 +5,7 @@ mod ObjectionLemmas
 mod ElectionLemmas
 mod StageLemmas
 mod ProgressLemmas
-mod ClerkLemmas
+mod ThreeKeyingsLemmas
 pub mod KeyedLemmas
 mod ElsewhereLemmas
 mod TabulationLemmas
@@ -19,13 +19,13 @@ mod CandidateLemmas
 mod BatchLemmas
 mod KeyingLemmas
 mod VerdictLemmas
-mod ColumnLemmas
+mod WardColumnLemmas
 mod PaperLemmas
 mod AgreedLemmas
 mod PollLemmas
 pub mod ContestLemmas
 pub mod BundledLemmas
-mod TellLemmas
+mod ToldLineLemmas
 mod CountLemmas
 mod TotalLemmas
 pub mod MachineLemmas
@@ -38,5 +38,5 @@ mod BatchRows
 mod CountRows
 pub mod TabulatedLemmas
 mod AddedLemmas
-mod ReadBackLemmas
+mod CountReadBackLemmas
 mod TabulatedRows

@@ -38,4 +38,14 @@ after_stays s (r ∷ rs) is = after_stays (after_one s r) rs (step_stays s r.act
 
 pub empty_is_a_state : IsState empty_office
 unfolding IsStrictlySortedBy item6 item7
-empty_is_a_state = record { in_range = refl; nominated = refl; given_out = refl; keyed = refl; judged = refl; agreed = refl; counted = refl; rise = record { wards = tt; candidates = tt; batches = tt; thirds = tt; keyings = tt; verdicts = tt; lots = tt; receipts = tt } }
+empty_is_a_state =
+    record {
+      in_range = refl;
+      nominated = refl;
+      given_out = refl;
+      keyed = refl;
+      judged = refl;
+      agreed = refl;
+      counted = refl;
+      rise = record { wards = tt; candidates = tt; batches = tt; thirds = tt; keyings = tt; verdicts = tt; lots = tt; receipts = tt };
+    }

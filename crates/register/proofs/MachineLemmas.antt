@@ -10,14 +10,15 @@ use Rattle.register.specs.declared.refusal.Reason.TheVariants.{BadId, IdUsed}
 use Rattle.register.specs.declared.command.Command.{Command}
 use Rattle.register.specs.declared.command.Request.{Request}
 use Rattle.register.specs.declared.command.Command.TheVariants.{Ward, Candidate, Batch, Keying, Verdict, Count}
-use Rattle.register.specs.declared.counts.CountCommand.TheVariants.{Seal, Advance, Lot, Declare}
+use Rattle.register.specs.declared.counts.CountCommand.TheVariants.{Advance, Lot, Declare}
 use Rattle.register.specs.Reasons.{first_reason}
 use Rattle.register.specs.Ranges.{is_id}
 use Rattle.register.specs.Offices.{OfficeState, ReceiptEntry, receipt_at, entry_at}
 use Rattle.register.specs.Items.{is_receipt, IsState}
 use Rattle.register.specs.Effects.{EffectEntry, with_effect, with_receipt}
 use Rattle.register.specs.Parts.{PartEntries}
-use Rattle.register.specs.Machine.{keeps, refuses, kept, refused, part_of, objections, subject_of, reply_to, effect_of, receipt_for, judged, answered, decided, ruling_at, outcome_at, step, state_after, after, after_one, IsKeptAgain}
+use Rattle.register.specs.Machine.{keeps, refuses, kept, refused, part_of, objections, subject_of, reply_to, effect_of, receipt_for, judged, answered, decided, ruling_at, outcome_at, step}
+use Rattle.register.specs.Machine.{state_after, after, after_one, IsKeptAgain}
 use Rattle.register.specs.Views.{IsToldAlike, IsAdvanced}
 use Rattle.register.proofs.MapLemmas.{found_put, found_put_new}
 use Rattle.register.proofs.ItemLemmas.{IsFit, receipt_total, receipt_stays, same_receipts}
@@ -42,18 +43,21 @@ fits s actor (Count command) is none = count_fits s actor command is none
 -- ---- a request at a state
 
 -- a receipt decides without the part
-alike : (actor : ℕ) (id : List ℕ) (command : Command) (receipt : Option ReceiptEntry) (part other : PartEntries) → (receipt ≡ None → part ≡ other) → decided actor id command receipt part ≡ decided actor id command receipt other
+alike : (actor : ℕ) (id : List ℕ) (command : Command) (receipt : Option ReceiptEntry) (part other : PartEntries) → (receipt ≡ None → part ≡ other)
+    → decided actor id command receipt part ≡ decided actor id command receipt other
 unfolding decided
 alike actor id command None part other same = ap (decided actor id command None) (same refl)
 alike actor id command (Some receipt) part other same = refl
 
 -- what is decided on a receipt that is that of a state, and where there is none on its part, is decided there,
-pub ruling_on : (s : OfficeState) (actor : ℕ) (id : List ℕ) (command : Command) (receipt : Option ReceiptEntry) (part : PartEntries) → receipt ≡ receipt_at s actor id → (receipt_at s actor id ≡ None → part ≡ part_of s actor command)
+pub ruling_on : (s : OfficeState) (actor : ℕ) (id : List ℕ) (command : Command) (receipt : Option ReceiptEntry) (part : PartEntries) → receipt ≡ receipt_at s actor id
+    → (receipt_at s actor id ≡ None → part ≡ part_of s actor command)
     → decided actor id command receipt part ≡ ruling_at s actor id command
 ruling_on s actor id command receipt part same_receipt same_part = rw same_receipt (alike actor id command (receipt_at s actor id) part (part_of s actor command) same_part)
 
 -- and is its step
-pub step_on : (s : OfficeState) (actor : ℕ) (id : List ℕ) (command : Command) (receipt : Option ReceiptEntry) (part : PartEntries) → receipt ≡ receipt_at s actor id → (receipt_at s actor id ≡ None → part ≡ part_of s actor command)
+pub step_on : (s : OfficeState) (actor : ℕ) (id : List ℕ) (command : Command) (receipt : Option ReceiptEntry) (part : PartEntries) → receipt ≡ receipt_at s actor id
+    → (receipt_at s actor id ≡ None → part ≡ part_of s actor command)
     → outcome_at s (decided actor id command receipt part) ≡ step s actor id command
 unfolding step
 step_on s actor id command receipt part same_receipt same_part = ap (outcome_at s) (ruling_on s actor id command receipt part same_receipt same_part)
@@ -76,9 +80,12 @@ module _ (s : OfficeState) (actor : ℕ) (id : List ℕ) (receipt : ReceiptEntry
   unfolding step decided
   step_lasts other key command = go (is_id key) (receipt_at s other key) refl
     where
-      go : (b : Bool) (o : Option ReceiptEntry) → receipt_at s other key ≡ o → receipt_at (state_after s (outcome_at s (cond b (answered other key command o (part_of s other command)) (refuses BadId)))) actor id ≡ Some receipt
+      go : (b : Bool) (o : Option ReceiptEntry) → receipt_at s other key ≡ o
+          → receipt_at (state_after s (outcome_at s (cond b (answered other key command o (part_of s other command)) (refuses BadId)))) actor id ≡ Some receipt
       go false o is = found
-      go true (Some r) is = elim (bytes_eq r.subject (subject_of command)) as (λ b. receipt_at (state_after s (outcome_at s (cond b (keeps r.reply) (refuses IdUsed)))) actor id ≡ Some receipt) [ true ↦ found | false ↦ found ]
+      go true (Some r) is =
+          elim (bytes_eq r.subject (subject_of command)) as (λ b. receipt_at (state_after s (outcome_at s (cond b (keeps r.reply) (refuses IdUsed)))) actor id
+          ≡ Some receipt) [ true ↦ found | false ↦ found ]
       go true None is = judged_lasts other key command is (first_reason (objections other command (part_of s other command)))
 
 lasts : (s : OfficeState) (actor : ℕ) (id : List ℕ) (receipt : ReceiptEntry) (others : List Request) → receipt_at s actor id ≡ Some receipt → receipt_at (after s others) actor id ≡ Some receipt
@@ -96,14 +103,16 @@ module _ (s : OfficeState) (actor : ℕ) (id : List ℕ) (command : Command) whe
   judged_stays is good new (Some why) told = is
   judged_stays is good new None told =
       let fit = fits s actor command is told in
-      receipt_stays (with_effect (effect_of actor command (part_of s actor command)) s) (receipt_for actor id command (part_of s actor command)) (and_from _ _ fit.about (and_from _ _ fit.text (and_from _ _ good fit.line))) (still_new new) fit.state
+      receipt_stays (with_effect (effect_of actor command (part_of s actor command)) s) (receipt_for actor id command (part_of s actor command))
+      (and_from _ _ fit.about (and_from _ _ fit.text (and_from _ _ good fit.line))) (still_new new) fit.state
 
   -- after each step there is a state again
   pub step_stays : IsState s → IsState (state_after s (step s actor id command))
   unfolding step decided
   step_stays is = go (is_id id) refl (receipt_at s actor id) refl
     where
-      go : (b : Bool) → is_id id ≡ b → (o : Option ReceiptEntry) → receipt_at s actor id ≡ o → IsState (state_after s (outcome_at s (cond b (answered actor id command o (part_of s actor command)) (refuses BadId))))
+      go : (b : Bool) → is_id id ≡ b → (o : Option ReceiptEntry) → receipt_at s actor id ≡ o
+          → IsState (state_after s (outcome_at s (cond b (answered actor id command o (part_of s actor command)) (refuses BadId))))
       go false good o found = is
       go true good (Some r) found = elim (bytes_eq r.subject (subject_of command)) as (λ b. IsState (state_after s (outcome_at s (cond b (keeps r.reply) (refuses IdUsed))))) [ true ↦ is | false ↦ is ]
       go true good None found = judged_stays is good found (first_reason (objections actor command (part_of s actor command))) refl
@@ -114,7 +123,9 @@ module _ (s : OfficeState) (actor : ℕ) (id : List ℕ) (command : Command) whe
   judged_again good new None = λ others.
       let receipt = receipt_for actor id command (part_of s actor command) in
       let later = with_effect (effect_of actor command (part_of s actor command)) s in
-      let found : receipt_at (after (with_receipt receipt later) others) actor id ≡ Some receipt = lasts (with_receipt receipt later) actor id receipt others (found_put receipt_total receipt later.receipts (still_new new)) in
+      let found : receipt_at (after (with_receipt receipt later) others) actor id ≡ Some receipt =
+      lasts (with_receipt receipt later) actor id receipt others (found_put receipt_total receipt later.receipts (still_new new))
+      in
       let same : bytes_eq (subject_of command) (subject_of command) ≡ true = (bytes_eq-Decides (subject_of command) (subject_of command)).1 refl in
       rw good (rw found (rw same refl))
 
@@ -123,9 +134,11 @@ module _ (s : OfficeState) (actor : ℕ) (id : List ℕ) (command : Command) whe
   unfolding step decided
   accepted_is_kept = go (is_id id) refl (receipt_at s actor id) refl
     where
-      go : (b : Bool) → is_id id ≡ b → (o : Option ReceiptEntry) → receipt_at s actor id ≡ o → IsKeptAgain actor id command (outcome_at s (cond b (answered actor id command o (part_of s actor command)) (refuses BadId)))
+      go : (b : Bool) → is_id id ≡ b → (o : Option ReceiptEntry) → receipt_at s actor id ≡ o
+          → IsKeptAgain actor id command (outcome_at s (cond b (answered actor id command o (part_of s actor command)) (refuses BadId)))
       go false good o found = tt
-      go true good (Some r) found = elim (bytes_eq r.subject (subject_of command)) as (λ b. IsKeptAgain actor id command (outcome_at s (cond b (keeps r.reply) (refuses IdUsed)))) [ true ↦ tt | false ↦ tt ]
+      go true good (Some r) found =
+          elim (bytes_eq r.subject (subject_of command)) as (λ b. IsKeptAgain actor id command (outcome_at s (cond b (keeps r.reply) (refuses IdUsed)))) [ true ↦ tt | false ↦ tt ]
       go true good None found = judged_again good found (first_reason (objections actor command (part_of s actor command)))
 
 -- ---- the stages of a count
@@ -144,7 +157,8 @@ module _ (s : OfficeState) (actor : ℕ) (id : List ℕ) where
 
       go : (b : Bool) (o : Option ReceiptEntry) → IsAdvanced s command (outcome_at s (cond b (answered actor id command o (part_of s actor command)) (refuses BadId)))
       go false o = of_refused BadId
-      go true (Some r) = elim (bytes_eq r.subject (subject_of command)) as (λ b. IsAdvanced s command (outcome_at s (cond b (keeps r.reply) (refuses IdUsed)))) [ true ↦ of_kept r.reply | false ↦ of_refused IdUsed ]
+      go true (Some r) =
+          elim (bytes_eq r.subject (subject_of command)) as (λ b. IsAdvanced s command (outcome_at s (cond b (keeps r.reply) (refuses IdUsed)))) [ true ↦ of_kept r.reply | false ↦ of_refused IdUsed ]
       go true None = added (first_reason (objections actor command (part_of s actor command))) refl
 
   abbrev own_receipt : Command → ReceiptEntry
@@ -156,12 +170,7 @@ module _ (s : OfficeState) (actor : ℕ) (id : List ℕ) where
   advances (Count (Lot ward stage candidate)) is =
       advances_where (Count (Lot ward stage candidate)) (λ reply. tt) (λ why. tt) (λ none. lot_keeps s actor ward stage candidate (own_receipt (Count (Lot ward stage candidate))) is none)
   advances (Count (Declare ward)) is = advances_where (Count (Declare ward)) (λ reply. tt) (λ why. tt) (λ none. declare_keeps s actor ward (own_receipt (Count (Declare ward))) is none)
-  advances (Count (Seal ward)) is = tt
-  advances (Ward command) is = tt
-  advances (Candidate command) is = tt
-  advances (Batch command) is = tt
-  advances (Keying command) is = tt
-  advances (Verdict command) is = tt
+  advances command is = tt
 
 -- ---- what a clerk is told
 
@@ -178,8 +187,4 @@ told_alike actor id (Keying command) receipt part = go (is_id id) receipt
     go false o = tt
     go true (Some r) = elim (bytes_eq r.subject (subject_of (Keying command))) as (λ b. IsToldAlike (Keying command) (cond b (keeps r.reply) (refuses IdUsed))) [ true ↦ tt | false ↦ tt ]
     go true None = alike (first_reason (objections actor (Keying command) part))
-told_alike actor id (Ward command) receipt part = tt
-told_alike actor id (Candidate command) receipt part = tt
-told_alike actor id (Batch command) receipt part = tt
-told_alike actor id (Verdict command) receipt part = tt
-told_alike actor id (Count command) receipt part = tt
+told_alike actor id command receipt part = tt

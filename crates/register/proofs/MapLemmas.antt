@@ -78,7 +78,8 @@ pub found_put : {X : Type 0} {cmp : X → X → Ordering} → IsTotalOrder cmp �
 found_put total x [] none = rw (own_key total x) refl
 found_put {X} {cmp} total x (y ∷ ys) none = go (is_eq (cmp x y)) refl (is_lt (cmp x y)) (λ later. found_put total x ys later)
   where
-    go : (b : Bool) → is_eq (cmp x y) ≡ b → (first : Bool) → (entry_at (cmp x) ys ≡ None → entry_at (cmp x) (put cmp x ys) ≡ Some x) → entry_at (cmp x) (cond first (x ∷ y ∷ ys) (y ∷ put cmp x ys)) ≡ Some x
+    go : (b : Bool) → is_eq (cmp x y) ≡ b → (first : Bool) → (entry_at (cmp x) ys ≡ None → entry_at (cmp x) (put cmp x ys) ≡ Some x)
+        → entry_at (cmp x) (cond first (x ∷ y ∷ ys) (y ∷ put cmp x ys)) ≡ Some x
     go true found first later = absurd (let e = rw found at none in cc)
     go false other true later = rw (own_key total x) refl
     go false other false later = rw other (later (rw other at none))
@@ -89,7 +90,8 @@ pub record IsMap {X : Type 0} (test : X → Bool) (cmp : X → X → Ordering) (
   pub rises : IsStrictlySortedBy cmp xs
 
 -- an entry that passes, of a new key, put into it
-pub put_is_map : {X : Type 0} {test : X → Bool} {cmp : X → X → Ordering} → IsTotalOrder cmp → (x : X) (ys : List X) → test x ≡ true → entry_at (cmp x) ys ≡ None → IsMap test cmp ys → IsMap test cmp (put cmp x ys)
+pub put_is_map : {X : Type 0} {test : X → Bool} {cmp : X → X → Ordering} → IsTotalOrder cmp → (x : X) (ys : List X) → test x ≡ true → entry_at (cmp x) ys ≡ None → IsMap test cmp ys
+    → IsMap test cmp (put cmp x ys)
 put_is_map {X} {test} {cmp} total x ys good new is = record { in_range = put_all cmp test x ys good is.in_range; rises = put_rises total x ys new is.rises }
 
 -- ---- an entry more
@@ -116,7 +118,8 @@ filter_put {X} cmp p x (y ∷ ys) fails = elim (is_lt (cmp x y)) as (λ b. filte
 ]
 
 -- what was found is found still, where the entry that is put in is of a new key
-pub found_put_new : {X : Type 0} {cmp : X → X → Ordering} → IsTotalOrder cmp → (k x y : X) (ys : List X) → entry_at (cmp x) ys ≡ None → entry_at (cmp k) ys ≡ Some y → entry_at (cmp k) (put cmp x ys) ≡ Some y
+pub found_put_new : {X : Type 0} {cmp : X → X → Ordering} → IsTotalOrder cmp → (k x y : X) (ys : List X) → entry_at (cmp x) ys ≡ None → entry_at (cmp k) ys ≡ Some y
+    → entry_at (cmp k) (put cmp x ys) ≡ Some y
 found_put_new {X} {cmp} total k x y ys new found = go (cmp k x) refl
   where
     alike : ((z : X) → cmp k z ≡ cmp x z) → (zs : List X) → entry_at (cmp k) zs ≡ entry_at (cmp x) zs
@@ -140,7 +143,8 @@ found_put_too {X} cmp compared x (y ∷ ys) found = elim (is_lt (cmp x y)) as (�
     first true = refl
     first false = found
 
-    here : (b : Bool) → is_eq (compared y) ≡ b → (is_some (entry_at compared ys) ≡ true → is_some (entry_at compared (put cmp x ys)) ≡ true) → is_some (cond b (Some y) (entry_at compared (put cmp x ys))) ≡ true
+    here : (b : Bool) → is_eq (compared y) ≡ b → (is_some (entry_at compared ys) ≡ true → is_some (entry_at compared (put cmp x ys)) ≡ true)
+        → is_some (cond b (Some y) (entry_at compared (put cmp x ys))) ≡ true
     here true is later = refl
     here false is later = later (rw is at found)
 
@@ -188,7 +192,8 @@ pub record Keeps {X : Type 0} (test : X → Bool) (cmp : X → X → Ordering) (
   pub behind : (x y : X) → cmp x (change y) ≡ cmp x y
 
 -- a map with an entry changed so
-pub changed_is_map : {X : Type 0} {test : X → Bool} {cmp : X → X → Ordering} (compared : X → Ordering) (change : X → X) → Keeps test cmp change → (xs : List X) → IsMap test cmp xs → IsMap test cmp (changed compared change xs)
+pub changed_is_map : {X : Type 0} {test : X → Bool} {cmp : X → X → Ordering} (compared : X → Ordering) (change : X → X) → Keeps test cmp change → (xs : List X) → IsMap test cmp xs
+    → IsMap test cmp (changed compared change xs)
 changed_is_map {X} {test} {cmp} compared change keeps xs is = record { in_range = list_all-map test next xs ∙ passing xs is.in_range; rises = map_rises next same xs is.rises }
   where
     next : X → X
@@ -231,7 +236,8 @@ changed_at {X} compared other change same (x ∷ xs) = go (is_eq (compared x)) r
     go false is later = found (is_eq (other x)) x (rw is refl) later
 
 -- what was there is there, and nothing else
-pub found_changed : {X : Type 0} (compared other : X → Ordering) (change : X → X) → ((x : X) → other (change x) ≡ other x) → (xs : List X) → is_some (entry_at other (changed compared change xs)) ≡ is_some (entry_at other xs)
+pub found_changed : {X : Type 0} (compared other : X → Ordering) (change : X → X) → ((x : X) → other (change x) ≡ other x) → (xs : List X)
+    → is_some (entry_at other (changed compared change xs)) ≡ is_some (entry_at other xs)
 found_changed {X} compared other change same xs = ap is_some (changed_at compared other change same xs) ∙ mapped (entry_at other xs)
   where
     mapped : (o : Option X) → is_some (option_map (λ x. cond (is_eq (compared x)) (change x) x) o) ≡ is_some o

@@ -22,7 +22,8 @@ pub bundled-rise : (papers : List (List ℕ)) → IsStrictlySortedBy list_cmp (m
 unfolding IsStrictlySortedBy
 bundled-rise papers = go [] papers tt
   where
-    go : (bs : List Bundle) (rest : List (List ℕ)) → IsStrictlySortedBy list_cmp (map (λ (b : Bundle). b.0) bs) → IsStrictlySortedBy list_cmp (map (λ (b : Bundle). b.0) (fold (λ cs paper. with_papers cs paper 1) bs rest))
+    go : (bs : List Bundle) (rest : List (List ℕ)) → IsStrictlySortedBy list_cmp (map (λ (b : Bundle). b.0) bs)
+        → IsStrictlySortedBy list_cmp (map (λ (b : Bundle). b.0) (fold (λ cs paper. with_papers cs paper 1) bs rest))
     go bs [] up = up
     go bs (paper ∷ rest) up = go (with_papers bs paper 1) rest (rise-with_papers paper 1 bs up)
 
@@ -121,39 +122,48 @@ module _ (n : ℕ) where
         → list_all (λ m. not (is_eq (placed_cmp m (placed_at n x at)))) (map (λ (b : Bundle). placed_at n b (after b.0)) (filter (λ (b : Bundle). not (stays b)) bs)) ≡ true
     apart_before x at [] above = refl
     apart_before x at (b ∷ bs) above =
-        elim (stays b) as (λ s. list_all (λ m. not (is_eq (placed_cmp m (placed_at n x at)))) (map (λ (b : Bundle). placed_at n b (after b.0)) (cond (not s) (b ∷ filter (λ (b : Bundle). not (stays b)) bs) (filter (λ (b : Bundle). not (stays b)) bs))) ≡ true) [
+        elim (stays b) as (λ s. list_all (λ m. not (is_eq (placed_cmp m (placed_at n x at))))
+        (map (λ (b : Bundle). placed_at n b (after b.0)) (cond (not s) (b ∷ filter (λ (b : Bundle). not (stays b)) bs) (filter (λ (b : Bundle). not (stays b)) bs))) ≡ true) [
           | true ↦ apart_before x at bs above.1
           | false ↦ and_from _ _ (ap not (then_apart (nat_cmp n n) (list_cmp b.0 x.0) (ap is_eq (nat_list_cmp_total.antisymm b.0 x.0 ∙ ap ordering_reverse above.0)))) (apart_before x at bs above.1)
         ]
 
     -- Those that lie elsewhere than before, moved there, leave all where they lie now.
     pub moved_there : (bs : List Bundle) → IsStrictlySortedBy list_cmp (map (λ (b : Bundle). b.0) bs)
-        → all_moved (map (λ (b : Bundle). placed_at n b (before b.0)) bs) (map (λ (b : Bundle). placed_at n b (after b.0)) (filter (λ (b : Bundle). not (stays b)) bs)) ≡ map (λ (b : Bundle). placed_at n b (after b.0)) bs
+        → all_moved (map (λ (b : Bundle). placed_at n b (before b.0)) bs) (map (λ (b : Bundle). placed_at n b (after b.0)) (filter (λ (b : Bundle). not (stays b)) bs))
+        ≡ map (λ (b : Bundle). placed_at n b (after b.0)) bs
     unfolding IsStrictlySortedBy
     moved_there [] up = refl
     moved_there (b ∷ bs) up = go (stays b) refl (moved_there bs up.1)
       where
         go : (s : Bool) → stays b ≡ s
-            → all_moved (map (λ (b : Bundle). placed_at n b (before b.0)) bs) (map (λ (b : Bundle). placed_at n b (after b.0)) (filter (λ (b : Bundle). not (stays b)) bs)) ≡ map (λ (b : Bundle). placed_at n b (after b.0)) bs
-            → all_moved (placed_at n b (before b.0) ∷ map (λ (b : Bundle). placed_at n b (before b.0)) bs) (map (λ (b : Bundle). placed_at n b (after b.0)) (cond (not s) (b ∷ filter (λ (b : Bundle). not (stays b)) bs) (filter (λ (b : Bundle). not (stays b)) bs)))
+            → all_moved (map (λ (b : Bundle). placed_at n b (before b.0)) bs) (map (λ (b : Bundle). placed_at n b (after b.0)) (filter (λ (b : Bundle). not (stays b)) bs))
+            ≡ map (λ (b : Bundle). placed_at n b (after b.0)) bs
+            → all_moved (placed_at n b (before b.0) ∷ map (λ (b : Bundle). placed_at n b (before b.0)) bs)
+            (map (λ (b : Bundle). placed_at n b (after b.0)) (cond (not s) (b ∷ filter (λ (b : Bundle). not (stays b)) bs) (filter (λ (b : Bundle). not (stays b)) bs)))
             ≡ placed_at n b (after b.0) ∷ map (λ (b : Bundle). placed_at n b (after b.0)) bs
         go true is later =
             beside (placed_at n b (before b.0)) _ (map (λ (b : Bundle). placed_at n b (before b.0)) bs) (apart_before b (before b.0) bs up.0)
             ∙ ap (λ (ys : List PlacedEntry). placed_at n b (before b.0) ∷ ys) later
             ∙ ap (λ (y : PlacedEntry). y ∷ map (λ (b : Bundle). placed_at n b (after b.0)) bs) (same_bundle b is)
         go false is later =
-            let own : is_eq (placed_cmp (placed_at n b (after b.0)) (placed_at n b (before b.0))) ≡ true = then_equal (nat_cmp n n) (list_cmp b.0 b.0) (ap is_eq (tied_itself nat_cmp_total n)) (ap is_eq (tied_itself nat_list_cmp_total b.0)) in
+            let own : is_eq (placed_cmp (placed_at n b (after b.0)) (placed_at n b (before b.0))) ≡ true =
+            then_equal (nat_cmp n n) (list_cmp b.0 b.0) (ap is_eq (tied_itself nat_cmp_total n)) (ap is_eq (tied_itself nat_list_cmp_total b.0))
+            in
             let ms = map (λ (b : Bundle). placed_at n b (after b.0)) (filter (λ (b : Bundle). not (stays b)) bs) in
-            ap (λ (s : Bool). all_moved (cond s (placed_at n b (after b.0)) (placed_at n b (before b.0)) ∷ moved_to (placed_at n b (after b.0)) (map (λ (b : Bundle). placed_at n b (before b.0)) bs)) ms) own
+            ap (λ (s : Bool). all_moved (cond s (placed_at n b (after b.0)) (placed_at n b (before b.0))
+            ∷ moved_to (placed_at n b (after b.0)) (map (λ (b : Bundle). placed_at n b (before b.0)) bs)) ms) own
             ∙ ap (λ (ys : List PlacedEntry). all_moved (placed_at n b (after b.0) ∷ ys) ms) (apart_behind b bs up.0)
             ∙ beside (placed_at n b (after b.0)) ms (map (λ (b : Bundle). placed_at n b (before b.0)) bs) (apart_before b (after b.0) bs up.0)
             ∙ ap (λ (ys : List PlacedEntry). placed_at n b (after b.0) ∷ ys) later
 
     -- a walk over the places before and after finds those that lie elsewhere
-    pub walked-moves : (bs : List Bundle) → moved_bundles n bs (map (λ (b : Bundle). placed (before b.0)) bs) (map (λ (b : Bundle). placed (after b.0)) bs) ≡ map (λ (b : Bundle). placed_at n b (after b.0)) (filter (λ (b : Bundle). not (stays b)) bs)
+    pub walked-moves : (bs : List Bundle) → moved_bundles n bs (map (λ (b : Bundle). placed (before b.0)) bs) (map (λ (b : Bundle). placed (after b.0)) bs)
+        ≡ map (λ (b : Bundle). placed_at n b (after b.0)) (filter (λ (b : Bundle). not (stays b)) bs)
     walked-moves [] = refl
     walked-moves (b ∷ bs) =
-        elim (stays b) as (λ s. cond s (moved_bundles n bs (map (λ (b : Bundle). placed (before b.0)) bs) (map (λ (b : Bundle). placed (after b.0)) bs)) (placed_at n b (after b.0) ∷ moved_bundles n bs (map (λ (b : Bundle). placed (before b.0)) bs) (map (λ (b : Bundle). placed (after b.0)) bs))
+        elim (stays b) as (λ s. cond s (moved_bundles n bs (map (λ (b : Bundle). placed (before b.0)) bs) (map (λ (b : Bundle). placed (after b.0)) bs))
+        (placed_at n b (after b.0) ∷ moved_bundles n bs (map (λ (b : Bundle). placed (before b.0)) bs) (map (λ (b : Bundle). placed (after b.0)) bs))
         ≡ map (λ (b : Bundle). placed_at n b (after b.0)) (cond (not s) (b ∷ filter (λ (b : Bundle). not (stays b)) bs) (filter (λ (b : Bundle). not (stays b)) bs))) [
           | true ↦ walked-moves bs
           | false ↦ ap (λ (ys : List PlacedEntry). placed_at n b (after b.0) ∷ ys) (walked-moves bs)

@@ -30,7 +30,8 @@ some_due e (Some action) added some each = each action refl
 abbrev pub IsNext : Contest → List (ℕ × ℕ) → History → CountKept → List Placed → List Stage → Type 0
 IsNext contest lots history kept places stages = (places ≡ places_after contest (with_next contest lots history) kept.bundles) × (stages ≡ reverse (with_next contest lots history))
 
-module _ (e : ElectionEntry) (action : Action) (ward : ℕ) (kept : CountKept) (lots : List (ℕ × ℕ)) (places : List Placed) (stages : List Stage) (of : IsKeptOf (contest_of e) (stages_of e) kept) (drawn : lots ≡ e.lots) (own : ward ≡ e.ward.number)
+module _ (e : ElectionEntry) (action : Action) (ward : ℕ) (kept : CountKept) (lots : List (ℕ × ℕ)) (places : List Placed) (stages : List Stage)
+    (of : IsKeptOf (contest_of e) (stages_of e) kept) (drawn : lots ≡ e.lots) (own : ward ≡ e.ward.number)
     (due : next_action (contest_of e) e.lots (stages_of e) ≡ Some action) (next : IsNext (contest_of e) lots (stages_of e) kept places stages) where
   abbrev new : Stage
   new = stage_of (contest_of e) (stages_of e) action
@@ -78,9 +79,12 @@ module _ (e : ElectionEntry) (action : Action) (ward : ℕ) (kept : CountKept) (
       go : (before : History) → stages_of e ≡ before → moves_added ward kept.candidates kept.bundles kept.places places stages ≡ addition_by e before new
       go [] same = absurd (both_ways (length kept.stages == 0) some (eq-eqb (length kept.stages) 0 (as_many ∙ ap (λ (h : History). length h) same)))
       go (r ∷ before) same =
-          let was : kept.places ≡ map (λ (b : Bundle). placed (place (contest_of e) (r ∷ before) b.0)) kept.bundles = of.places_are ∙ ap (λ (h : History). places_after (contest_of e) h kept.bundles) same in
+          let was : kept.places ≡ map (λ (b : Bundle). placed (place (contest_of e) (r ∷ before) b.0)) kept.bundles =
+          of.places_are ∙ ap (λ (h : History). places_after (contest_of e) h kept.bundles) same
+          in
           let moved : moved_bundles ward kept.bundles kept.places places ≡ map (placed_after e (new ∷ r ∷ before)) (moved_between e (r ∷ before) (new ∷ r ∷ before)) =
-          rw (own, was, places_are (r ∷ before) same, of.bundles_are) (walked-moves e.ward.number (place (contest_of e) (r ∷ before)) (place (contest_of e) (new ∷ r ∷ before)) (bundled e.ballots.papers))
+          rw (own, was, places_are (r ∷ before) same, of.bundles_are) (walked-moves e.ward.number (place (contest_of e) (r ∷ before)) (place (contest_of e) (new ∷ r ∷ before))
+          (bundled e.ballots.papers))
           in
           ap (λ (ms : List PlacedEntry). made ms (last_figures ward kept.candidates stages)) moved
           ∙ ap (made (map (placed_after e (new ∷ r ∷ before)) (moved_between e (r ∷ before) (new ∷ r ∷ before)))) (figures_are (r ∷ before) same)

@@ -2,25 +2,23 @@
 use Rattle.std.proofs.Common.{◌≡◌, ℕ, ◌==◌, not, Bool, true, false, cond, List, Option, Some, None, is_some, option_map, refl, sym, ap, ◌∙◌}
 use Rattle.std.specs.List.{list_all}
 use Rattle.std.specs.List.Sorted.{IsStrictlySortedBy}
-use Rattle.std.specs.Ordering.{nat_cmp, is_eq}
+use Rattle.std.specs.Ordering.{is_eq}
 use Rattle.std.specs.Cmp.{unsigned_tied}
 use Rattle.std.proofs.lemmas.Bool.{and_parts, and_from, eqb-true}
 use Rattle.std.proofs.lemmas.List.Folds.{list_all-map}
 use Rattle.register.specs.declared.phase.Phase.{Phase}
 use Rattle.register.specs.declared.phase.Phase.TheVariants.{Nominations}
 use Rattle.register.specs.Phases.{phase_number}
-use Rattle.register.specs.Offices.{changed, WardEntry, CandidateEntry, BatchEntry, OfficeState, ward_cmp, candidate_cmp, ward_compared, candidate_compared, ward_at, candidate_at, candidates_of, lots_of}
-use Rattle.register.specs.Polls.{piles_of}
-use Rattle.register.specs.Elections.{election_of}
+use Rattle.register.specs.Offices.{changed, WardEntry, CandidateEntry, BatchEntry, OfficeState, ward_cmp, candidate_cmp, ward_compared, candidate_compared, ward_at, candidate_at, candidates_of}
+use Rattle.register.specs.Elections.{election_of, is_counted}
 use Rattle.register.specs.Keyed.{is_polled, is_given_out}
 use Rattle.register.specs.Items.{is_ward, is_candidate, IsState}
 use Rattle.register.specs.Effects.{candidate_added, candidate_withdrawn, in_phase, at_stage, with_effect}
-use Rattle.register.specs.Tabulated.{tabulation_of}
-use Rattle.register.proofs.MapLemmas.{Keeps, list_all_weaker, put_all, put_is_map, filter_put, without_all, without_is_map, filter_without, changed_is_map, changed_at, found_changed, found_key, same_number, both_equal, all_but_number}
+use Rattle.register.proofs.MapLemmas.{Keeps, list_all_weaker, put_all, put_is_map, without_all, without_is_map, changed_is_map, changed_at, found_changed, found_key, all_but_number}
 use Rattle.register.proofs.KeyedLemmas.{with_nominations, IsStill, given_out_still, keyed_still, judged_still}
-use Rattle.register.proofs.ElectionLemmas.{is_sound, are_sound, sound_of, lots_placed_of, same_election}
-use Rattle.register.proofs.ElsewhereLemmas.{sound_elsewhere}
-use Rattle.register.proofs.TabulationLemmas.{tabulation_elsewhere}
+use Rattle.register.proofs.ElectionLemmas.{is_sound, are_sound, sound_of, lots_placed_of}
+use Rattle.register.proofs.ElsewhereLemmas.{IsBeforeCount, candidates_elsewhere, sound_kept}
+use Rattle.register.proofs.ObjectionLemmas.{IsThere}
 use Rattle.register.proofs.ItemLemmas.{MapName, ward_map, candidate_map, Holds, maps_of, AreJoined, state_from, candidate_total, are_placed, are_all, has_enough}
 
 -- what holds of the ward of a number, and of each ward of another number, holds of each ward
@@ -43,21 +41,9 @@ module _ (s : OfficeState) (n : ℕ) (w : WardEntry) (later : List CandidateEntr
       wards_but_one s n w (λ x. test x (candidates_of s x.number)) (λ x. test x (candidates_of (with_candidates later s) x.number)) up found (λ same. good)
       (λ x other holds. ap (test x) (others x.number other) ∙ holds) all
 
-  -- the elections of other wards are as they were
-  still_there : (x : WardEntry) → (n == x.number) ≡ false → election_of (with_candidates later s) x ≡ election_of s x
-  still_there x other = same_election x _ _ (piles_of s x.number) _ (lots_of s x.number) _ (others x.number other) refl refl
-
-  -- the ward being in its nominations, each ward has enough candidates, and its count is right
+  -- the ward being in its nominations, each ward has enough candidates
   enough_still : IsState s → are_all has_enough (with_candidates later s) ≡ true
   enough_still is = still has_enough is.rise.wards (rw nominations refl) (and_parts (are_placed s) (are_all has_enough s) is.nominated).1
-
-  sound_still : IsState s → are_sound (with_candidates later s) ≡ true
-  sound_still is =
-      sound_elsewhere s n w later s.batches s.keyings s.verdicts found (rw nominations refl) still_there is
-
-  -- and so is the tabulation
-  tabulated_still : IsState s → tabulation_of (with_candidates later s) ≡ tabulation_of s
-  tabulated_still is = tabulation_elsewhere s n w later s.batches s.keyings s.verdicts found (rw nominations refl) still_there is
 
   -- no batch is given out of the ward, so those of each batch's ward are as they were
   elsewhere : (b : BatchEntry) → (same : Bool) → (n == b.ward) ≡ same → is_polled (ward_at s b.ward) (candidates_of s b.ward) ≡ true → (n == b.ward) ≡ false
@@ -72,61 +58,48 @@ module _ (s : OfficeState) (n : ℕ) (w : WardEntry) (later : List CandidateEntr
       let same = others b.ward (elsewhere b (n == b.ward) refl parts.1) in
       record { given_out = and_from _ _ parts.0 (ap (is_polled (ward_at s b.ward)) same ∙ parts.1); candidates = same }
 
-  joined : IsState s → are_placed (with_candidates later s) ≡ true → AreJoined (with_candidates later s)
-  joined is placed = record {
+  joined : IsState s → are_placed (with_candidates later s) ≡ true → are_sound (with_candidates later s) ≡ true → AreJoined (with_candidates later s)
+  joined is placed sound = record {
     nominated = and_from _ _ placed (enough_still is);
     given_out = given_out_still s s.wards later is past;
     keyed = keyed_still s s.wards later is past;
     judged = judged_still s s.wards later is past;
     lots_placed = lots_placed_of is;
-    sound = sound_still is;
+    sound = sound;
   }
 
--- the candidates of other wards are as they were, where one is put in
-others_with : (s : OfficeState) (c : CandidateEntry) (m : ℕ) → (c.ward == m) ≡ false → candidates_of (with_effect (candidate_added c) s) m ≡ candidates_of s m
-others_with s c m other = filter_put candidate_cmp (λ (d : CandidateEntry). d.ward == m) c s.candidates other
+-- in a ward in its nominations, a candidate more or less is of no count
+pub added_before : (s : OfficeState) (c : CandidateEntry) → IsThere Nominations (ward_at s c.ward) → IsBeforeCount s (candidate_added c)
+added_before s c own = record { number = c.ward; ward = own.ward; found = own.is; not_sealed = ap is_counted own.phased; own = refl; wards = refl; lots = refl }
 
--- and where one goes
-others_without : (s : OfficeState) (n candidate m : ℕ) → (n == m) ≡ false → candidates_of (with_effect (candidate_withdrawn n candidate) s) m ≡ candidates_of s m
-others_without s n candidate m other = filter_without (candidate_compared n candidate) (λ (d : CandidateEntry). d.ward == m) s.candidates of_this
-  where
-    of_this : (d : CandidateEntry) → is_eq (candidate_compared n candidate d) ≡ true → (d.ward == m) ≡ false
-    of_this d tied = let same = same_number n d.ward (both_equal (nat_cmp n d.ward) (nat_cmp candidate d.number) tied).0 in ap (λ k. k == m) (sym same) ∙ other
+pub withdrawn_before : (s : OfficeState) (n candidate : ℕ) → IsThere Nominations (ward_at s n) → IsBeforeCount s (candidate_withdrawn n candidate)
+withdrawn_before s n candidate own = record { number = n; ward = own.ward; found = own.is; not_sealed = ap is_counted own.phased; own = refl; wards = refl; lots = refl }
 
 -- a candidate in range, of a new number, in a ward that is in its nominations
-pub candidate_stays : (s : OfficeState) (c : CandidateEntry) (w : WardEntry) → is_candidate c ≡ true → candidate_at s c.ward c.number ≡ None → ward_at s c.ward ≡ Some w → w.phase ≡ Nominations → IsState s
+pub candidate_stays : (s : OfficeState) (c : CandidateEntry) → is_candidate c ≡ true → candidate_at s c.ward c.number ≡ None → IsThere Nominations (ward_at s c.ward) → IsState s
     → IsState (with_effect (candidate_added c) s)
-candidate_stays s c w good new found nominations is =
-    let placed = and_parts (are_placed s) (are_all has_enough s) is.nominated in
-    let belongs : is_some (ward_at s c.ward) ≡ true = rw found refl in
-    state_from
-    (with_effect (candidate_added c) s)
-    maps
-    (joined s c.ward w _ found nominations (others_with s c) is (put_all candidate_cmp (λ d. is_some (ward_at s d.ward)) c s.candidates belongs placed.0))
+candidate_stays s c good new own is =
+    let effect = candidate_added c in
+    let belongs : is_some (ward_at s c.ward) ≡ true = rw own.is refl in
+    let placed = put_all candidate_cmp (λ d. is_some (ward_at s d.ward)) c s.candidates belongs (and_parts (are_placed s) (are_all has_enough s) is.nominated).0 in
+    let sound = sound_kept s effect is (added_before s c own) in
+    state_from (with_effect effect s) maps (joined s c.ward own.ward (with_effect effect s).candidates own.is own.phased (candidates_elsewhere s effect c.ward refl) is placed sound)
   where
     maps : (m : MapName) → Holds m (with_effect (candidate_added c) s)
     maps candidate_map = put_is_map candidate_total c s.candidates good new (maps_of is candidate_map)
     maps m = maps_of is m
 
 -- a candidate less, in a ward that is in its nominations
-pub withdrawn_stays : (s : OfficeState) (n candidate : ℕ) (w : WardEntry) → ward_at s n ≡ Some w → w.phase ≡ Nominations → IsState s → IsState (with_effect (candidate_withdrawn n candidate) s)
-withdrawn_stays s n candidate w found nominations is =
-    let placed = and_parts (are_placed s) (are_all has_enough s) is.nominated in
-    state_from
-    (with_effect (candidate_withdrawn n candidate) s)
-    maps
-    (joined s n w _ found nominations (others_without s n candidate) is (without_all (candidate_compared n candidate) (λ d. is_some (ward_at s d.ward)) s.candidates placed.0))
+pub withdrawn_stays : (s : OfficeState) (n candidate : ℕ) → IsThere Nominations (ward_at s n) → IsState s → IsState (with_effect (candidate_withdrawn n candidate) s)
+withdrawn_stays s n candidate own is =
+    let effect = candidate_withdrawn n candidate in
+    let placed = without_all (candidate_compared n candidate) (λ d. is_some (ward_at s d.ward)) s.candidates (and_parts (are_placed s) (are_all has_enough s) is.nominated).0 in
+    let sound = sound_kept s effect is (withdrawn_before s n candidate own) in
+    state_from (with_effect effect s) maps (joined s n own.ward (with_effect effect s).candidates own.is own.phased (candidates_elsewhere s effect n refl) is placed sound)
   where
     maps : (m : MapName) → Holds m (with_effect (candidate_withdrawn n candidate) s)
     maps candidate_map = without_is_map (candidate_compared n candidate) s.candidates (maps_of is candidate_map)
     maps m = maps_of is m
-
--- the tabulation is as it was
-pub candidate_tabulated : (s : OfficeState) (c : CandidateEntry) (w : WardEntry) → ward_at s c.ward ≡ Some w → w.phase ≡ Nominations → IsState s → tabulation_of (with_effect (candidate_added c) s) ≡ tabulation_of s
-candidate_tabulated s c w found nominations is = tabulated_still s c.ward w _ found nominations (others_with s c) is
-
-pub withdrawn_tabulated : (s : OfficeState) (n candidate : ℕ) (w : WardEntry) → ward_at s n ≡ Some w → w.phase ≡ Nominations → IsState s → tabulation_of (with_effect (candidate_withdrawn n candidate) s) ≡ tabulation_of s
-withdrawn_tabulated s n candidate w found nominations is = tabulated_still s n w _ found nominations (others_without s n candidate) is
 
 -- ---- the ward of a number changed
 
@@ -139,7 +112,8 @@ pub record KeepsWards (change : WardEntry → WardEntry) : Type 0 where
 -- in whichever phase past nominations, and with however many stages done
 pub moved : (phase : Phase) → (phase_number phase == phase_number Nominations) ≡ false → KeepsWards (in_phase phase)
 unfolding is_ward
-moved phase beyond = record { map = record { passes = λ x h. h; before = λ x y. refl; behind = λ x y. refl }; compared = λ m x. refl; polled = λ x cs was. and_from _ _ (ap not beyond) (and_parts _ _ was).1 }
+moved phase beyond =
+    record { map = record { passes = λ x h. h; before = λ x y. refl; behind = λ x y. refl }; compared = λ m x. refl; polled = λ x cs was. and_from _ _ (ap not beyond) (and_parts _ _ was).1 }
 
 pub staged : (done : ℕ) → KeepsWards (at_stage done)
 unfolding is_ward

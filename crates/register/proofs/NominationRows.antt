@@ -128,7 +128,8 @@ module _ (name : String Global) (is : string_bytes name ≡ codes "Eve") where
   unfolding step decided is_id candidates.subject_of candidates.reply_to digits dee
   stands_already = simp (is, name_eve) refl
 
-  stands : step (with_quay Nominations (dee ∷ []) []) 0 (codes "c2") (Candidate (Add 8 2 name)) ≡ accepted (with_quay Nominations (dee ∷ eve ∷ []) (eve_stands ∷ [])) (codes "candidate 2 of ward 8 added")
+  stands : step (with_quay Nominations (dee ∷ []) []) 0 (codes "c2") (Candidate (Add 8 2 name))
+      ≡ accepted (with_quay Nominations (dee ∷ eve ∷ []) (eve_stands ∷ [])) (codes "candidate 2 of ward 8 added")
   unfolding step decided is_id candidates.subject_of candidates.reply_to digits dee eve eve_stands
   stands = simp (is, name_eve) refl
 
@@ -143,7 +144,8 @@ module _ (name : String Global) (is : string_bytes name ≡ codes "Eve") where
   kept_for_ever = refl
 
   stands_again : step (with_quay Nominations (dee ∷ []) (eve_stands ∷ eve_withdrew ∷ [])) 0 (codes "c9") (Candidate (Add 8 2 name))
-      ≡ accepted (with_quay Nominations (dee ∷ eve ∷ []) (eve_stands ∷ office_receipt (codes "c9") (codes "candidate 8 2") (codes "candidate 2 of ward 8 added") ∷ eve_withdrew ∷ [])) (codes "candidate 2 of ward 8 added")
+      ≡ accepted (with_quay Nominations (dee ∷ eve ∷ []) (eve_stands ∷ office_receipt (codes "c9") (codes "candidate 8 2") (codes "candidate 2 of ward 8 added") ∷ eve_withdrew ∷ []))
+      (codes "candidate 2 of ward 8 added")
   unfolding step decided is_id candidates.subject_of candidates.reply_to digits dee eve eve_stands eve_withdrew
   stands_again = simp (is, name_eve) refl
 

@@ -1,6 +1,5 @@
 -- Where nothing stands against a command, each of its conditions is met.
-use Rattle.std.proofs.Common.{◌≡◌, ◌==◌, Bool, true, false, not, List, [], ◌∷◌, Option, Some, None, is_some, is_none, refl}
-use Rattle.std.specs.List.{AllByRecursion}
+use Rattle.std.proofs.Common.{◌≡◌, ◌==◌, ℕ, zero, suc, Bool, true, false, not, List, [], ◌∷◌, get_or, Option, Some, None, is_some, is_none, refl}
 use Rattle.register.specs.declared.phase.Phase.{Phase}
 use Rattle.register.specs.declared.phase.Phase.TheVariants.{Nominations, Keying, Sealed, Declared}
 use Rattle.register.specs.declared.refusal.Reason.{Reason}
@@ -9,11 +8,12 @@ use Rattle.register.specs.Reasons.{objection, first_reason}
 use Rattle.register.specs.Offices.{WardEntry}
 use Rattle.register.specs.Parts.{is_in_phase}
 
--- where no reason is told, none of the objections is one
-pub none_objects : (os : List (Option Reason)) → first_reason os ≡ None → AllByRecursion (λ o. o ≡ None) os
-none_objects [] none = tt
-none_objects (None ∷ os) none = (refl, none_objects os none)
-none_objects (Some why ∷ os) none = absurd (cc)
+-- where no reason is told, none stands at any place of the objections
+pub no_objection : (os : List (Option Reason)) → first_reason os ≡ None → (place : ℕ) → get_or os place None ≡ None
+no_objection [] none place = refl
+no_objection (None ∷ os) none zero = refl
+no_objection (None ∷ os) none (suc place) = no_objection os none place
+no_objection (Some why ∷ os) none place = absurd (cc)
 
 -- what a command asks for is so, where its lack doesn't object
 pub asked : (b : Bool) (why : Reason) → objection (not b) why ≡ None → b ≡ true

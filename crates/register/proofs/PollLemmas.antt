@@ -8,7 +8,8 @@ use Rattle.register.specs.declared.polls.Judgement.{Judgement}
 use Rattle.register.specs.declared.polls.Ballots.{Ballots}
 use Rattle.register.specs.Papers.{are_taken}
 use Rattle.register.specs.Offices.{BatchEntry, OfficeState, verdicts_of}
-use Rattle.register.specs.Polls.{Pile, pile_of, BallotsEntry, is_settled, judgements_on, judgements_in, judgements, settled_papers, settled_judgements, preferences_by, is_rejected, rejected_with, ballots_in, ballots_by, StandFor}
+use Rattle.register.specs.Polls.{Pile, pile_of, BallotsEntry, is_settled, judgements_on, judgements_in, judgements, settled_papers, settled_judgements, preferences_by, is_rejected}
+use Rattle.register.specs.Polls.{rejected_with, ballots_in, ballots_by, StandFor}
 use Rattle.register.specs.Walks.{and_rejected}
 use Rattle.register.proofs.AgreedLemmas.{taken_settled}
 
@@ -29,7 +30,8 @@ counted_more n [] k = go (is_rejected n k)
 counted_more n (j ∷ js) k = go (is_rejected n j) (counted_more n js k)
   where
     go : (b : Bool) → rejected_with js n + cond (is_rejected n k) 1 0 ≡ rejected_with (js ++ k ∷ []) n
-        → length (cond b (j ∷ filter (is_rejected n) js) (filter (is_rejected n) js)) + cond (is_rejected n k) 1 0 ≡ length (cond b (j ∷ filter (is_rejected n) (js ++ k ∷ [])) (filter (is_rejected n) (js ++ k ∷ [])))
+        → length (cond b (j ∷ filter (is_rejected n) js) (filter (is_rejected n) js)) + cond (is_rejected n k) 1 0
+        ≡ length (cond b (j ∷ filter (is_rejected n) (js ++ k ∷ [])) (filter (is_rejected n) (js ++ k ∷ [])))
     go true later = omega (arith, later)
     go false later = later
 
@@ -43,7 +45,8 @@ rejected_more js (k ∷ ks) =
     ∙ (rejected_more (js ++ k ∷ []) ks ∙ ap (λ (ls : List Judgement). map (rejected_with ls) five) (append_assoc js (k ∷ []) ks))
 
 -- what a batch adds to the papers, to the numbers of the rejected, and to what is settled
-pub added : (columns : List ℕ) (piles : List Pile) (pile : Pile) (old new : BallotsEntry) → old ≡ ballots_in columns piles → new.papers ≡ old.papers ++ flat_map preferences_by (judgements_in columns pile)
+pub added : (columns : List ℕ) (piles : List Pile) (pile : Pile) (old new : BallotsEntry) → old ≡ ballots_in columns piles
+    → new.papers ≡ old.papers ++ flat_map preferences_by (judgements_in columns pile)
     → new.rejected ≡ fold and_rejected old.rejected (judgements_in columns pile) → new.settled ≡ (old.settled && is_settled pile) → new ≡ ballots_in columns (piles ++ pile ∷ [])
 added columns piles pile old new was papers rejected settled =
     let js = judgements columns piles in
@@ -70,7 +73,9 @@ pub judged_more : {P : Type 0} (holds : P → List (List ℕ) → Type 0) (old n
     → ((papers : List (List ℕ)) → holds old.papers papers → holds new.papers (papers ++ preferences_by j)) → new.rejected ≡ and_rejected old.rejected j → new.settled ≡ old.settled
     → StandFor holds old (ballots_by js) → StandFor holds new (ballots_by (js ++ j ∷ []))
 judged_more holds old new js j papers rejected settled was = record {
-  papers_held = subst (holds new.papers) (sym (flat_map-append preferences_by js (j ∷ []) ∙ ap (λ ps. flat_map preferences_by js ++ ps) (append-nil (preferences_by j)))) (papers (flat_map preferences_by js) was.papers_held);
+  papers_held =
+      subst (holds new.papers) (sym (flat_map-append preferences_by js (j ∷ []) ∙ ap (λ ps. flat_map preferences_by js ++ ps) (append-nil (preferences_by j))))
+      (papers (flat_map preferences_by js) was.papers_held);
   rejected_are = rejected ∙ (ap (λ (r : List ℕ). and_rejected r j) was.rejected_are ∙ rejected_one js j);
   settled_is = settled ∙ was.settled_is;
 }
@@ -81,12 +86,15 @@ judged_alone s columns [] settled = refl
 judged_alone s columns (b ∷ bs) settled =
     let pile = pile_of s b in
     let parts = and_parts (is_settled pile) (list_all is_settled (map (pile_of s) bs)) settled in
-    let own : judgements_in columns pile ≡ judgements_on columns (verdicts_of s b.number) (settled_papers s b) = ap (judgements_on columns (verdicts_of s b.number)) (taken_settled s b (and_parts (are_taken pile.keyings) _ parts.0).0) in
+    let own : judgements_in columns pile ≡ judgements_on columns (verdicts_of s b.number) (settled_papers s b) =
+    ap (judgements_on columns (verdicts_of s b.number)) (taken_settled s b (and_parts (are_taken pile.keyings) _ parts.0).0)
+    in
     ap (λ (js : List Judgement). js ++ judgements columns (map (pile_of s) bs)) own
     ∙ ap (λ (js : List Judgement). judgements_on columns (verdicts_of s b.number) (settled_papers s b) ++ js) (judged_alone s columns bs parts.1)
 
 -- so these are all that the papers come to
-pub settled_alone : (s : OfficeState) (columns : List ℕ) (bs : List BatchEntry) → list_all is_settled (map (pile_of s) bs) ≡ true → ballots_in columns (map (pile_of s) bs) ≡ ballots_by (settled_judgements s columns bs)
+pub settled_alone : (s : OfficeState) (columns : List ℕ) (bs : List BatchEntry) → list_all is_settled (map (pile_of s) bs) ≡ true
+    → ballots_in columns (map (pile_of s) bs) ≡ ballots_by (settled_judgements s columns bs)
 settled_alone s columns bs settled = go (judgements columns (map (pile_of s) bs)) (list_all is_settled (map (pile_of s) bs)) (judged_alone s columns bs settled) settled
   where
     entry : List Judgement → Bool → BallotsEntry

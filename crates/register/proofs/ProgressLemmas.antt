@@ -117,12 +117,14 @@ found_both {X} p q x (y ∷ ys) all found = go (p y) refl (λ later. found_both 
     go false is later same = later same
 
 -- a lot of another stage than the one that is put in is found as before
-lot_elsewhere : (l : LotEntry) (k : ℕ) → (l.stage == k) ≡ false → (ls : List LotEntry) → find (λ (lot : ℕ × ℕ). lot.0 == k) (map lot_pair (put lot_cmp l ls)) ≡ find (λ (lot : ℕ × ℕ). lot.0 == k) (map lot_pair ls)
+lot_elsewhere : (l : LotEntry) (k : ℕ) → (l.stage == k) ≡ false → (ls : List LotEntry)
+    → find (λ (lot : ℕ × ℕ). lot.0 == k) (map lot_pair (put lot_cmp l ls)) ≡ find (λ (lot : ℕ × ℕ). lot.0 == k) (map lot_pair ls)
 lot_elsewhere l k other [] = rw other refl
-lot_elsewhere l k other (x ∷ ls) = elim (is_lt (lot_cmp l x)) as (λ b. find (λ (lot : ℕ × ℕ). lot.0 == k) (map lot_pair (cond b (l ∷ x ∷ ls) (x ∷ put lot_cmp l ls))) ≡ find (λ (lot : ℕ × ℕ). lot.0 == k) (map lot_pair (x ∷ ls))) [
-  | true ↦ rw other refl
-  | false ↦ ap (λ (o : Option (ℕ × ℕ)). cond (x.stage == k) (Some (lot_pair x)) o) (lot_elsewhere l k other ls)
-]
+lot_elsewhere l k other (x ∷ ls) =
+    elim (is_lt (lot_cmp l x)) as (λ b. find (λ (lot : ℕ × ℕ). lot.0 == k) (map lot_pair (cond b (l ∷ x ∷ ls) (x ∷ put lot_cmp l ls))) ≡ find (λ (lot : ℕ × ℕ). lot.0 == k) (map lot_pair (x ∷ ls))) [
+      | true ↦ rw other refl
+      | false ↦ ap (λ (o : Option (ℕ × ℕ)). cond (x.stage == k) (Some (lot_pair x)) o) (lot_elsewhere l k other ls)
+    ]
 
 -- where no lot of its stage is found, none has its key
 pub lot_is_new : (l : LotEntry) (ls : List LotEntry) → find (λ (lot : ℕ × ℕ). lot.0 == l.stage) (map lot_pair ls) ≡ None → entry_at (lot_cmp l) ls ≡ None
@@ -140,7 +142,8 @@ lot_is_new l (x ∷ ls) none = go (x.stage == l.stage) refl (lot_is_new l ls) no
     go true is later found = absurd (cc)
     go false apart later found = rw (other apart (is_eq (lot_cmp l x)) refl) (later found)
 
-module _ (e : ElectionEntry) (ls : List LotEntry) (l : LotEntry) (kind : Kind) (tied : List ℕ) (lots : e.lots ≡ map lot_pair ls) (phased : e.ward.phase ≡ Sealed) (due : due_of e ≡ Lot l.stage kind tied) (sound : is_sound e ≡ true) where
+module _ (e : ElectionEntry) (ls : List LotEntry) (l : LotEntry) (kind : Kind) (tied : List ℕ) (lots : e.lots ≡ map lot_pair ls) (phased : e.ward.phase ≡ Sealed)
+    (due : due_of e ≡ Lot l.stage kind tied) (sound : is_sound e ≡ true) where
   is_held : IsHeld e (Lot l.stage kind tied)
   is_held = held e (Lot l.stage kind tied) due refl
 
@@ -213,8 +216,11 @@ module _ (e : ElectionEntry) (ls : List LotEntry) (l : LotEntry) (kind : Kind) (
       let n = next_stage in
       let stages : length (stages_to (contest_of e) drawn_lots e.ward.done) ≡ e.ward.done = ap (λ (s : History). length s) (as_before e.ward.done (omega (arith, n))) ∙ r.stages in
       let was : list_all (λ (x : LotEntry). is_drawn_for e (lot_pair x)) ls ≡ true = sym (list_all-map (is_drawn_for e) lot_pair ls) ∙ ap (list_all (is_drawn_for e)) (sym lots) ∙ r.lots in
-      let each = list_all_weaker (λ (x : LotEntry). is_drawn_for e (lot_pair x)) (λ (x : LotEntry). is_drawn_for (with_lots (put lot_cmp l ls) e) (lot_pair x)) ls (λ x drawn. still_drawn (lot_pair x) drawn) was in
+      let each =
+      list_all_weaker (λ (x : LotEntry). is_drawn_for e (lot_pair x)) (λ (x : LotEntry). is_drawn_for (with_lots (put lot_cmp l ls) e) (lot_pair x)) ls (λ x drawn. still_drawn (lot_pair x) drawn) was
+      in
       let all : list_all (is_drawn_for (with_lots (put lot_cmp l ls) e)) drawn_lots ≡ true =
-      list_all-map (is_drawn_for (with_lots (put lot_cmp l ls) e)) lot_pair (put lot_cmp l ls) ∙ put_all lot_cmp (λ (x : LotEntry). is_drawn_for (with_lots (put lot_cmp l ls) e) (lot_pair x)) l ls (own_drawn among) each
+      list_all-map (is_drawn_for (with_lots (put lot_cmp l ls) e)) lot_pair (put lot_cmp l ls)
+      ∙ put_all lot_cmp (λ (x : LotEntry). is_drawn_for (with_lots (put lot_cmp l ls) e) (lot_pair x)) l ls (own_drawn among) each
       in
       sound_in (with_lots (put lot_cmp l ls) e) (in_count e phased h.contested) r.settled (and_from _ _ (eq-eqb _ _ stages) (and_from _ _ all (rw phased refl)))

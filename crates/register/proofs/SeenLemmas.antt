@@ -9,15 +9,16 @@ use Rattle.register.specs.declared.phase.Phase.TheVariants.{Keying}
 use Rattle.register.specs.declared.refusal.Reason.{Reason}
 use Rattle.register.specs.declared.refusal.Reason.TheVariants.{BadId, IdUsed, NumberOutOfRange}
 use Rattle.register.specs.declared.command.Command.{Command}
-use Rattle.register.specs.declared.command.Command.TheVariants.{Ward, Candidate, Batch, Keying as Key, Verdict, Count}
-use Rattle.register.specs.declared.wards.WardCommand.TheVariants.{Add as AddWard, Close}
-use Rattle.register.specs.declared.candidates.CandidateCommand.TheVariants.{Add as AddCandidate, Withdraw}
-use Rattle.register.specs.declared.batches.BatchCommand.TheVariants.{Add as AddBatch, Again, Third}
-use Rattle.register.specs.declared.counts.CountCommand.TheVariants.{Seal, Advance, Lot, Declare}
+use Rattle.register.specs.declared.command.Command.TheVariants.{Ward, Candidate, Batch, Keying as Key, Count}
+use Rattle.register.specs.declared.wards.WardCommand.TheVariants.{Close}
+use Rattle.register.specs.declared.candidates.CandidateCommand.TheVariants.{Withdraw}
+use Rattle.register.specs.declared.batches.BatchCommand.TheVariants.{Again}
+use Rattle.register.specs.declared.counts.CountCommand.TheVariants.{Seal}
 use Rattle.register.specs.declared.keyings.KeyingCommand.{KeyingCommand}
 use Rattle.register.specs.Reasons.{first_reason}
 use Rattle.register.specs.Ranges.{is_id, is_office}
-use Rattle.register.specs.Offices.{WardEntry, BatchEntry, KeyedEntry, ReceiptEntry, OfficeState, put, put_each, entry_at, keyed_cmp, receipt_cmp, ward_compared, ward_at, batch_at, third_at, keying_of, receipt_at}
+use Rattle.register.specs.Offices.{WardEntry, BatchEntry, KeyedEntry, ReceiptEntry, OfficeState, put, put_each, entry_at, keyed_cmp, receipt_cmp, ward_compared, ward_at, batch_at, third_at}
+use Rattle.register.specs.Offices.{keying_of, receipt_at}
 use Rattle.register.specs.Seen.{seen_by}
 use Rattle.register.specs.Items.{IsState}
 use Rattle.register.specs.Effects.{at_stage, with_change}
@@ -41,18 +42,11 @@ data IsOwn : Command → Type 0 where
 
 kind_of : (command : Command) → IsOwn command
 kind_of (Key command) = key command
-kind_of (Ward (AddWard ward seats name)) = not_his _ (λ part actor other. rw other refl)
 kind_of (Ward (Close ward)) = not_his _ (λ part actor other. rw other refl)
-kind_of (Candidate (AddCandidate ward candidate name)) = not_his _ (λ part actor other. rw other refl)
 kind_of (Candidate (Withdraw ward candidate)) = not_his _ (λ part actor other. rw other refl)
-kind_of (Batch (AddBatch batch ward size first second)) = not_his _ (λ part actor other. rw other refl)
 kind_of (Batch (Again batch)) = not_his _ (λ part actor other. rw other refl)
-kind_of (Batch (Third batch clerk)) = not_his _ (λ part actor other. rw other refl)
-kind_of (Verdict command) = not_his _ (λ part actor other. rw other refl)
 kind_of (Count (Seal ward)) = not_his _ (λ part actor other. rw other refl)
-kind_of (Count (Advance ward)) = not_his _ (λ part actor other. rw other refl)
-kind_of (Count (Lot ward stage candidate)) = not_his _ (λ part actor other. rw other refl)
-kind_of (Count (Declare ward)) = not_his _ (λ part actor other. rw other refl)
+kind_of command = not_his _ (λ part actor other. rw other refl)
 
 -- ---- what he sees of what a request needs
 
@@ -76,14 +70,17 @@ module _ (s : OfficeState) (actor : ℕ) where
     where
       go : (ws : List WardEntry) → entry_at (ward_compared n) (map (at_stage 0) ws) ≡ option_map (at_stage 0) (entry_at (ward_compared n) ws)
       go [] = refl
-      go (w ∷ ws) = elim (is_eq (ward_compared n w)) as (λ b. cond b (Some (at_stage 0 w)) (entry_at (ward_compared n) (map (at_stage 0) ws)) ≡ option_map (at_stage 0) (cond b (Some w) (entry_at (ward_compared n) ws))) [ true ↦ refl | false ↦ go ws ]
+      go (w ∷ ws) =
+          elim (is_eq (ward_compared n w)) as (λ b. cond b (Some (at_stage 0 w)) (entry_at (ward_compared n) (map (at_stage 0) ws))
+          ≡ option_map (at_stage 0) (cond b (Some w) (entry_at (ward_compared n) ws))) [ true ↦ refl | false ↦ go ws ]
 
   own_seen : (batch round : ℕ) → keying_of (seen_by actor s) batch round actor ≡ keying_of s batch round actor
   own_seen batch round = filter_both (λ (k : KeyedEntry). (k.batch == batch) && ((k.round == round) && (k.clerk == actor))) (λ k. k.clerk == actor)
       (λ k passes. (and_parts (k.round == round) (k.clerk == actor) (and_parts (k.batch == batch) ((k.round == round) && (k.clerk == actor)) passes).1).1) s.keyings
 
   -- the part of a keying, but for the stages done in its ward
-  part_seen : (command : KeyingCommand) → keyings.part_of (seen_by actor s) actor command ≡ record (keyings.part_of s actor command) { ward = option_map (at_stage 0) (ward_for s (batch_at s command.batch)) }
+  part_seen : (command : KeyingCommand) → keyings.part_of (seen_by actor s) actor command
+      ≡ record (keyings.part_of s actor command) { ward = option_map (at_stage 0) (ward_for s (batch_at s command.batch)) }
   part_seen command =
       ap (λ (own : List KeyedEntry). record (keyings.part_of s actor command) { ward = ward_for (seen_by actor s) (batch_at s command.batch); own = own }) (own_seen command.batch command.round)
       ∙ ap (λ (ward : Option WardEntry). record (keyings.part_of s actor command) { ward = ward }) (by_batch (batch_at s command.batch))
@@ -93,7 +90,8 @@ module _ (s : OfficeState) (actor : ℕ) where
       by_batch (Some b) = ward_seen b.ward
 
 -- against a keying the stages done say nothing
-objections_alike : (actor : ℕ) (command : KeyingCommand) (part : PartEntries) (ward : Option WardEntry) → keyings.objections actor command (record part { ward = option_map (at_stage 0) ward }) ≡ keyings.objections actor command (record part { ward = ward })
+objections_alike : (actor : ℕ) (command : KeyingCommand) (part : PartEntries) (ward : Option WardEntry)
+    → keyings.objections actor command (record part { ward = option_map (at_stage 0) ward }) ≡ keyings.objections actor command (record part { ward = ward })
 objections_alike actor command part None = refl
 objections_alike actor command part (Some w) = refl
 
@@ -115,7 +113,8 @@ judged_alike s actor id command other_actor = go command (kind_of command)
 -- what is decided for a clerk rests on what he sees alone
 pub ruling_on_seen : (s : OfficeState) (actor : ℕ) (id : List ℕ) (command : Command) → is_office actor ≡ false → ruling_at (seen_by actor s) actor id command ≡ ruling_at s actor id command
 unfolding decided
-ruling_on_seen s actor id command other_actor = ap (cond_on (is_id id)) (ap (λ (o : Option ReceiptEntry). answered actor id command o (part_of (seen_by actor s) actor command)) (receipt_seen s actor id) ∙ go (receipt_at s actor id))
+ruling_on_seen s actor id command other_actor =
+    ap (cond_on (is_id id)) (ap (λ (o : Option ReceiptEntry). answered actor id command o (part_of (seen_by actor s) actor command)) (receipt_seen s actor id) ∙ go (receipt_at s actor id))
   where
     cond_on : Bool → Ruling → Ruling
     cond_on b ruling = cond b ruling (refuses BadId)
@@ -132,18 +131,22 @@ unfolding papers_from
 papers_own batch round clerk paper [] = refl
 papers_own batch round clerk paper (marks ∷ others) = and_from _ _ (eq-eqb clerk clerk refl) (papers_own batch round clerk (paper + 1) others)
 
-papers_other : (batch round clerk other paper : ℕ) (texts : List (List ℕ)) → (clerk == other) ≡ false → list_all (λ (k : KeyedEntry). not (k.clerk == other)) (papers_from batch round clerk paper texts) ≡ true
+papers_other : (batch round clerk other paper : ℕ) (texts : List (List ℕ)) → (clerk == other) ≡ false
+    → list_all (λ (k : KeyedEntry). not (k.clerk == other)) (papers_from batch round clerk paper texts) ≡ true
 unfolding papers_from
 papers_other batch round clerk other paper [] apart = refl
 papers_other batch round clerk other paper (marks ∷ others) apart = and_from _ _ (ap not apart) (papers_other batch round clerk other (paper + 1) others apart)
 
 module _ (s : OfficeState) (actor : ℕ) (id : List ℕ) (other_actor : is_office actor ≡ false) where
   -- an accepted keying leaves what another clerk sees
-  keyed_unseen : (other : ℕ) → (actor == other) ≡ false → (command : KeyingCommand) (r : ReceiptEntry) → r.actor ≡ actor → seen_by other (with_change (record { effect = keyings.effect_of actor command; receipt = r }) s) ≡ seen_by other s
+  keyed_unseen : (other : ℕ) → (actor == other) ≡ false → (command : KeyingCommand) (r : ReceiptEntry) → r.actor ≡ actor
+      → seen_by other (with_change (record { effect = keyings.effect_of actor command; receipt = r }) s) ≡ seen_by other s
   keyed_unseen other apart command r own =
       ap (λ (ks : List KeyedEntry). record (seen_by other s) { keyings = ks; receipts = filter (λ (x : ReceiptEntry). x.actor == other) (put receipt_cmp r s.receipts) })
-      (filter_put_each keyed_cmp (λ (k : KeyedEntry). k.clerk == other) (papers_from command.batch command.round actor 1 (texts_of command)) s.keyings (papers_other command.batch command.round actor other 1 (texts_of command) apart))
-      ∙ ap (λ (rs : List ReceiptEntry). record (seen_by other s) { receipts = rs }) (filter_put receipt_cmp (λ (x : ReceiptEntry). x.actor == other) r s.receipts (ap (λ (n : ℕ). n == other) own ∙ apart))
+      (filter_put_each keyed_cmp (λ (k : KeyedEntry). k.clerk == other) (papers_from command.batch command.round actor 1 (texts_of command)) s.keyings
+      (papers_other command.batch command.round actor other 1 (texts_of command) apart))
+      ∙ ap (λ (rs : List ReceiptEntry). record (seen_by other s) { receipts = rs })
+      (filter_put receipt_cmp (λ (x : ReceiptEntry). x.actor == other) r s.receipts (ap (λ (n : ℕ). n == other) own ∙ apart))
 
   judged_unseen : (other : ℕ) → (actor == other) ≡ false → (command : Command) → IsOwn command
       → seen_by other (state_after s (outcome_at s (judged actor id command (part_of s actor command) (first_reason (objections actor command (part_of s actor command)))))) ≡ seen_by other s
@@ -161,37 +164,49 @@ module _ (s : OfficeState) (actor : ℕ) (id : List ℕ) (other_actor : is_offic
     where
       go : (b : Bool) (o : Option ReceiptEntry) → seen_by other (state_after s (outcome_at s (cond b (answered actor id command o (part_of s actor command)) (refuses BadId)))) ≡ seen_by other s
       go false o = refl
-      go true (Some r) = elim (bytes_eq r.subject (subject_of command)) as (λ b. seen_by other (state_after s (outcome_at s (cond b (keeps r.reply) (refuses IdUsed)))) ≡ seen_by other s) [ true ↦ refl | false ↦ refl ]
+      go true (Some r) =
+          elim (bytes_eq r.subject (subject_of command)) as (λ b. seen_by other (state_after s (outcome_at s (cond b (keeps r.reply) (refuses IdUsed))))
+          ≡ seen_by other s) [ true ↦ refl | false ↦ refl ]
       go true None = judged_unseen other apart command (kind_of command)
 
   module _ (is : IsState s) where
     -- an accepted keying leaves of what its clerk sees what it would make of that alone
     keyed_alone : (command : KeyingCommand) (r : ReceiptEntry) → r.actor ≡ actor → first_reason (keyings.objections actor command (keyings.part_of s actor command)) ≡ None
-        → seen_by actor (with_change (record { effect = keyings.effect_of actor command; receipt = r }) s) ≡ with_change (record { effect = keyings.effect_of actor command; receipt = r }) (seen_by actor s)
+        → seen_by actor (with_change (record { effect = keyings.effect_of actor command; receipt = r }) s)
+        ≡ with_change (record { effect = keyings.effect_of actor command; receipt = r }) (seen_by actor s)
     keyed_alone command r own none =
         ap (λ (ks : List KeyedEntry). record (seen_by actor s) { keyings = ks; receipts = filter (λ (x : ReceiptEntry). x.actor == actor) (put receipt_cmp r s.receipts) })
         (keyed_among s actor command (λ (k : KeyedEntry). k.clerk == actor) is none (papers_own command.batch command.round actor 1 (texts_of command)))
-        ∙ ap (λ (rs : List ReceiptEntry). record (seen_by actor s) { keyings = put_each keyed_cmp (papers_from command.batch command.round actor 1 (texts_of command)) (filter (λ (k : KeyedEntry). k.clerk == actor) s.keyings); receipts = rs })
+        ∙ ap (λ (rs : List ReceiptEntry). record (seen_by actor s) {
+          keyings = put_each keyed_cmp (papers_from command.batch command.round actor 1 (texts_of command))
+              (filter (λ (k : KeyedEntry). k.clerk == actor) s.keyings);
+          receipts = rs;
+        })
         (filter_put_in receipt_total (λ (x : ReceiptEntry). x.actor == actor) r s.receipts (eq-eqb r.actor actor own) is.rise.receipts)
 
-    judged_alone : (command : Command) → IsOwn command → seen_by actor (state_after s (outcome_at s (judged actor id command (part_of s actor command) (first_reason (objections actor command (part_of s actor command))))))
+    judged_alone : (command : Command) → IsOwn command → seen_by actor
+        (state_after s (outcome_at s (judged actor id command (part_of s actor command) (first_reason (objections actor command (part_of s actor command))))))
         ≡ state_after (seen_by actor s) (outcome_at (seen_by actor s) (judged actor id command (part_of s actor command) (first_reason (objections actor command (part_of s actor command)))))
     judged_alone command (not_his _ refused) = rw (refused (part_of s actor command) actor other_actor) refl
     judged_alone (Key command) (key _) = go (first_reason (keyings.objections actor command (keyings.part_of s actor command))) refl
       where
         go : (o : Option Reason) → first_reason (keyings.objections actor command (keyings.part_of s actor command)) ≡ o
-            → seen_by actor (state_after s (outcome_at s (judged actor id (Key command) (keyings.part_of s actor command) o))) ≡ state_after (seen_by actor s) (outcome_at (seen_by actor s) (judged actor id (Key command) (keyings.part_of s actor command) o))
+            → seen_by actor (state_after s (outcome_at s (judged actor id (Key command) (keyings.part_of s actor command) o)))
+            ≡ state_after (seen_by actor s) (outcome_at (seen_by actor s) (judged actor id (Key command) (keyings.part_of s actor command) o))
         go (Some why) told = refl
         go None told = keyed_alone command (receipt_for actor id (Key command) (keyings.part_of s actor command)) refl told
 
-    ruled_alone : (command : Command) → seen_by actor (state_after s (outcome_at s (ruling_at s actor id command))) ≡ state_after (seen_by actor s) (outcome_at (seen_by actor s) (ruling_at s actor id command))
+    ruled_alone : (command : Command) → seen_by actor (state_after s (outcome_at s (ruling_at s actor id command)))
+        ≡ state_after (seen_by actor s) (outcome_at (seen_by actor s) (ruling_at s actor id command))
     unfolding decided
     ruled_alone command = go (is_id id) (receipt_at s actor id)
       where
         go : (b : Bool) (o : Option ReceiptEntry) → seen_by actor (state_after s (outcome_at s (cond b (answered actor id command o (part_of s actor command)) (refuses BadId))))
             ≡ state_after (seen_by actor s) (outcome_at (seen_by actor s) (cond b (answered actor id command o (part_of s actor command)) (refuses BadId)))
         go false o = refl
-        go true (Some r) = elim (bytes_eq r.subject (subject_of command)) as (λ b. seen_by actor (state_after s (outcome_at s (cond b (keeps r.reply) (refuses IdUsed)))) ≡ state_after (seen_by actor s) (outcome_at (seen_by actor s) (cond b (keeps r.reply) (refuses IdUsed)))) [ true ↦ refl | false ↦ refl ]
+        go true (Some r) =
+            elim (bytes_eq r.subject (subject_of command)) as (λ b. seen_by actor (state_after s (outcome_at s (cond b (keeps r.reply) (refuses IdUsed))))
+            ≡ state_after (seen_by actor s) (outcome_at (seen_by actor s) (cond b (keeps r.reply) (refuses IdUsed)))) [ true ↦ refl | false ↦ refl ]
         go true None = judged_alone command (kind_of command)
 
     -- a clerk's request leaves of what he sees what it would make of that alone
@@ -223,6 +238,7 @@ work_seen s clerk = go s.batches
     go (b ∷ bs) = rw (is_seen b) (here (is_work s clerk b) (go bs))
       where
         here : (x : Bool) → map (work_on (seen_by clerk s) clerk) (filter (is_work (seen_by clerk s) clerk) bs) ≡ map (work_on s clerk) (filter (is_work s clerk) bs)
-            → map (work_on (seen_by clerk s) clerk) (cond x (b ∷ filter (is_work (seen_by clerk s) clerk) bs) (filter (is_work (seen_by clerk s) clerk) bs)) ≡ map (work_on s clerk) (cond x (b ∷ filter (is_work s clerk) bs) (filter (is_work s clerk) bs))
+            → map (work_on (seen_by clerk s) clerk) (cond x (b ∷ filter (is_work (seen_by clerk s) clerk) bs) (filter (is_work (seen_by clerk s) clerk) bs))
+            ≡ map (work_on s clerk) (cond x (b ∷ filter (is_work s clerk) bs) (filter (is_work s clerk) bs))
         here true later = both b _ _ later
         here false later = later

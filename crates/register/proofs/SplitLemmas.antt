@@ -29,7 +29,8 @@ flat_put {X} {Y} cmp h x (y ∷ ys) none = elim (is_lt (cmp x y)) as (λ b. flat
 -- where a change leaves what is told of each entry, it leaves all
 pub flat_changed : {X Y : Type 0} (compared : X → Ordering) (change : X → X) (h : X → List Y) (xs : List X) → ((x : X) → h (change x) ≡ h x) → flat_map h (changed compared change xs) ≡ flat_map h xs
 flat_changed compared change h [] same = refl
-flat_changed {X} {Y} compared change h (x ∷ xs) same = ap (λ (ys : List Y). ys ++ flat_map h (changed compared change xs)) (go (is_eq (compared x))) ∙ ap (λ (ys : List Y). h x ++ ys) (flat_changed compared change h xs same)
+flat_changed {X} {Y} compared change h (x ∷ xs) same =
+    ap (λ (ys : List Y). ys ++ flat_map h (changed compared change xs)) (go (is_eq (compared x))) ∙ ap (λ (ys : List Y). h x ++ ys) (flat_changed compared change h xs same)
   where
     go : (b : Bool) → h (cond b (change x) x) ≡ h x
     go true = same x
@@ -69,7 +70,15 @@ module _ {X : Type 0} (number : X → ℕ) (n : ℕ) where
           record { front = []; back = ys; is = ap (λ (x : X). x ∷ ys) same; number_is = numbered ∙ ap number same; before = refl; behind = above (number y) ys numbered up.0 }
       go false is later =
           let rest = later (rw is at found) in
-          record { front = y ∷ rest.front; back = rest.back; is = ap (λ (xs : List X). y ∷ xs) rest.is; number_is = rest.number_is; before = and_from _ _ (ap not (other_number n (number y) is)) rest.before; behind = rest.behind }
+          record {
+            front = y ∷ rest.front;
+            back = rest.back;
+            is = ap (λ (xs : List X). y ∷ xs) rest.is;
+            number_is = rest.number_is;
+            before = and_from _ _
+                (ap not (other_number n (number y) is)) rest.before;
+            behind = rest.behind;
+          }
 
   -- a change of it leaves the others
   changed_none : (change : X → X) (xs : List X) → are_others number n xs ≡ true → changed (λ x. nat_cmp n (number x)) change xs ≡ xs

@@ -46,8 +46,14 @@ pub record IsWaitedFor (contest : Contest) (lots : List (ℕ × ℕ)) (stages : 
   pub due : due_after contest stages ≡ Lot stage kind tied
   pub undrawn : (c : ℕ) → lot_for lots (length stages + 1) ≡ Some c → is_tied (due_after contest stages) c ≡ false
 
-pub waited_for : (contest : Contest) (lots : List (ℕ × ℕ)) (stages : History) (stage : ℕ) (kind : Kind) (tied : List ℕ) → due_by contest lots stages ≡ Lot stage kind tied → IsWaitedFor contest lots stages stage kind tied
-waited_for contest lots stages stage kind tied is = record { due = due (due_after contest stages) (next_action contest lots stages) is; undrawn = λ c named. undrawn c (due_after contest stages) (ap (λ (lot : Option ℕ). due_or (due_after contest stages) (drawn contest stages lot (due_after contest stages))) (sym named) ∙ is) }
+pub waited_for : (contest : Contest) (lots : List (ℕ × ℕ)) (stages : History) (stage : ℕ) (kind : Kind) (tied : List ℕ) → due_by contest lots stages ≡ Lot stage kind tied
+    → IsWaitedFor contest lots stages stage kind tied
+waited_for contest lots stages stage kind tied is =
+    record {
+      due = due (due_after contest stages) (next_action contest lots stages) is;
+      undrawn = λ c named. undrawn c (due_after contest stages)
+          (ap (λ (lot : Option ℕ). due_or (due_after contest stages) (drawn contest stages lot (due_after contest stages))) (sym named) ∙ is);
+    }
   where
     due : (d : Due) (next : Option Action) → due_or d next ≡ Lot stage kind tied → d ≡ Lot stage kind tied
     due d None is = is
@@ -75,15 +81,19 @@ stages_within contest lots (suc k) = go (next_action contest lots (stages_to con
     go (Some action) low = omega (arith, low)
 
 -- one stage more, where an action comes next
-pub stage_added : (contest : Contest) (lots : List (ℕ × ℕ)) (k : ℕ) (action : Action) → next_action contest lots (stages_to contest lots k) ≡ Some action → stages_to contest lots (k + 1) ≡ stage_of contest (stages_to contest lots k) action ∷ stages_to contest lots k
+pub stage_added : (contest : Contest) (lots : List (ℕ × ℕ)) (k : ℕ) (action : Action) → next_action contest lots (stages_to contest lots k) ≡ Some action
+    → stages_to contest lots (k + 1) ≡ stage_of contest (stages_to contest lots k) action ∷ stages_to contest lots k
 unfolding stages_to
 stage_added contest lots k action next = let more : k + 1 ≡ suc k = omega arith in ap (stages_to contest lots) more ∙ ap (with_stage contest (stages_to contest lots k)) next
 
-pub stage_more : (contest : Contest) (lots : List (ℕ × ℕ)) (k : ℕ) (action : Action) → next_action contest lots (stages_to contest lots k) ≡ Some action → length (stages_to contest lots (k + 1)) ≡ length (stages_to contest lots k) + 1
-stage_more contest lots k action next = ap (λ (s : History). length s) (stage_added contest lots k action next) ∙ (let one : suc (length (stages_to contest lots k)) ≡ length (stages_to contest lots k) + 1 = omega arith in one)
+pub stage_more : (contest : Contest) (lots : List (ℕ × ℕ)) (k : ℕ) (action : Action) → next_action contest lots (stages_to contest lots k) ≡ Some action
+    → length (stages_to contest lots (k + 1)) ≡ length (stages_to contest lots k) + 1
+stage_more contest lots k action next =
+    ap (λ (s : History). length s) (stage_added contest lots k action next) ∙ (let one : suc (length (stages_to contest lots k)) ≡ length (stages_to contest lots k) + 1 = omega arith in one)
 
 -- lots that agree but for a stage give the same stages before it
-pub same_stages : (contest : Contest) (lots others : List (ℕ × ℕ)) (stage : ℕ) → ((k : ℕ) → (stage == k) ≡ false → lot_for others k ≡ lot_for lots k) → (k : ℕ) → k < stage → stages_to contest others k ≡ stages_to contest lots k
+pub same_stages : (contest : Contest) (lots others : List (ℕ × ℕ)) (stage : ℕ) → ((k : ℕ) → (stage == k) ≡ false → lot_for others k ≡ lot_for lots k) → (k : ℕ) → k < stage
+    → stages_to contest others k ≡ stages_to contest lots k
 unfolding stages_to
 same_stages contest lots others stage agree zero low = refl
 same_stages contest lots others stage agree (suc k) low =
@@ -91,4 +101,5 @@ same_stages contest lots others stage agree (suc k) low =
     let within = stages_within contest lots k in
     let apart : (stage == length (stages_to contest lots k) + 1) ≡ false = ne_eqb stage (length (stages_to contest lots k) + 1) (λ same. omega (arith, same, within, low)) in
     ap (with_next contest others) before
-    ∙ ap (λ (lot : Option ℕ). with_stage contest (stages_to contest lots k) (drawn contest (stages_to contest lots k) lot (due_after contest (stages_to contest lots k)))) (agree (length (stages_to contest lots k) + 1) apart)
+    ∙ ap (λ (lot : Option ℕ). with_stage contest (stages_to contest lots k) (drawn contest (stages_to contest lots k) lot (due_after contest (stages_to contest lots k))))
+    (agree (length (stages_to contest lots k) + 1) apart)

@@ -75,7 +75,8 @@ module _ {X : Type 0} (ward : X → ℕ) (inner : X → X → Ordering) (parts :
   unfolding IsStrictlySortedBy
   parts_rise each [] up = tt
   parts_rise each (w ∷ ws) up =
-      rises_append (then_cmp (on ward nat_cmp) inner) (parts w) (flat_map parts ws) (each w) (parts_rise each ws up.1) (below_all w.number (parts w) (flat_map parts ws) (own w) (parts_above w.number ws up.0))
+      rises_append (then_cmp (on ward nat_cmp) inner) (parts w) (flat_map parts ws) (each w) (parts_rise each ws up.1)
+      (below_all w.number (parts w) (flat_map parts ws) (own w) (parts_above w.number ws up.0))
 
   -- those that bear a number, where all do, and where none does
   filter_own : (n : ℕ) (xs : List X) → AllByRecursion (λ x. ward x ≡ n) xs → filter (λ x. ward x == n) xs ≡ xs
@@ -87,7 +88,9 @@ module _ {X : Type 0} (ward : X → ℕ) (inner : X → X → Ordering) (parts :
   filter_others n (x ∷ xs) others = rw others.0 (filter_others n xs others.1)
 
   above_others : (n : ℕ) (xs : List X) → AllByRecursion (IsAbove n) xs → filter (λ x. ward x == n) xs ≡ []
-  above_others n xs above = filter_others n xs (each_weaker (IsAbove n) (λ x. (ward x == n) ≡ false) xs (λ x less. let apart = ranked n (ward x) Less (sym less) in ne_eqb (ward x) n (λ same. omega (arith, apart, same))) above)
+  above_others n xs above =
+      filter_others n xs (each_weaker (IsAbove n) (λ x. (ward x == n) ≡ false) xs
+      (λ x less. let apart = ranked n (ward x) Less (sym less) in ne_eqb (ward x) n (λ same. omega (arith, apart, same))) above)
 
   -- those of a ward that is there are what it has
   pub part_of : (n : ℕ) (w : WardEntry) (ws : List WardEntry) → IsStrictlySortedBy (on (λ (w : WardEntry). w.number) nat_cmp) ws → entry_at (λ (v : WardEntry). nat_cmp n v.number) ws ≡ Some w
@@ -104,12 +107,14 @@ module _ {X : Type 0} (ward : X → ℕ) (inner : X → X → Ordering) (parts :
           let number : n ≡ v.number = same_number n v.number is in
           let mine : filter (λ x. ward x == n) (parts v) ≡ parts v = filter_own n (parts v) (each_weaker (λ x. ward x ≡ v.number) (λ x. ward x ≡ n) (parts v) (λ x of. of ∙ sym number) (own v)) in
           let others : filter (λ x. ward x == n) (flat_map parts ws) ≡ [] =
-          above_others n (flat_map parts ws) (parts_above n ws (each_weaker (λ (u : WardEntry). nat_cmp v.number u.number ≡ Less) (λ (u : WardEntry). nat_cmp n u.number ≡ Less) ws (λ u less. ap (λ m. nat_cmp m u.number) number ∙ less) up.0)) in
+          above_others n (flat_map parts ws) (parts_above n ws (each_weaker (λ (u : WardEntry). nat_cmp v.number u.number ≡ Less) (λ (u : WardEntry). nat_cmp n u.number ≡ Less) ws
+          (λ u less. ap (λ m. nat_cmp m u.number) number ∙ less) up.0)) in
           ap (λ ys. filter (λ x. ward x == n) (parts v) ++ ys) others ∙ append-nil _ ∙ mine ∙ ap parts same
       go false is later =
           let apart : (n == v.number) ≡ false = other_number n v.number is in
           let none : filter (λ x. ward x == n) (parts v) ≡ [] =
-          filter_others n (parts v) (each_weaker (λ x. ward x ≡ v.number) (λ x. (ward x == n) ≡ false) (parts v) (λ x of. ne_eqb (ward x) n (λ same. eqb-false n v.number apart (sym same ∙ of))) (own v)) in
+          filter_others n (parts v) (each_weaker (λ x. ward x ≡ v.number) (λ x. (ward x == n) ≡ false) (parts v)
+          (λ x of. ne_eqb (ward x) n (λ same. eqb-false n v.number apart (sym same ∙ of))) (own v)) in
           ap (λ ys. ys ++ filter (λ x. ward x == n) (flat_map parts ws)) none ∙ later (rw is at found)
 
 -- ---- the bundles of an election
@@ -119,7 +124,8 @@ bundled_rise bs [] up = up
 bundled_rise bs (paper ∷ papers) up = bundled_rise (with_papers bs paper 1) papers (rise-with_papers paper 1 bs up)
 
 module _ (e : ElectionEntry) where
-  placed_above : (b : Bundle) (bs : List Bundle) → AllByRecursion (λ list. list_cmp b.0 list ≡ Less) (keys_of bs) → AllByRecursion (λ p. placed_cmp (placed_after e (stages_of e) b) p ≡ Less) (map (placed_after e (stages_of e)) bs)
+  placed_above : (b : Bundle) (bs : List Bundle) → AllByRecursion (λ list. list_cmp b.0 list ≡ Less) (keys_of bs)
+      → AllByRecursion (λ p. placed_cmp (placed_after e (stages_of e) b) p ≡ Less) (map (placed_after e (stages_of e)) bs)
   placed_above b [] above = tt
   placed_above b (c ∷ bs) above = (ap (λ o. ordering_then o (list_cmp b.0 c.0)) (tied e.ward.number e.ward.number refl) ∙ above.0, placed_above b bs above.1)
 
@@ -160,8 +166,11 @@ module _ (s : Stage) (before : History) where
   shown_above : (low : ℕ) (cs : List ℕ) → low ≤ max_candidates → Ascends low cs → AllByRecursion (λ (f : Figure). nat_cmp low f.candidate ≡ Less) (shown cs)
   shown_above low [] few up = (less low 99 (omega (arith, few)), tt)
   shown_above low (c ∷ cs) few up =
-      let first : nat_cmp low c ≡ Less = less low c up.0 in
-      (first, each_weaker (λ (f : Figure). nat_cmp c f.candidate ≡ Less) (λ (f : Figure). nat_cmp low f.candidate ≡ Less) (shown cs) (λ f later. nat_cmp_total.trans low c f.candidate first later) (shown_above c cs up.1 up.2))
+      let first : nat_cmp low c ≡ Less = less low c up.0 in (
+        first,
+        each_weaker (λ (f : Figure). nat_cmp c f.candidate ≡ Less) (λ (f : Figure). nat_cmp low f.candidate ≡ Less) (shown cs)
+            (λ f later. nat_cmp_total.trans low c f.candidate first later) (shown_above c cs up.1 up.2),
+      )
 
   shown_rise : (low : ℕ) (cs : List ℕ) → Ascends low cs → IsStrictlySortedBy by_candidate (shown cs)
   unfolding IsStrictlySortedBy
@@ -185,7 +194,8 @@ module _ (ward : ℕ) where
       ∙ ap (λ o. ordering_then o (nat_cmp f.candidate g.candidate)) (tied stage stage refl)
       ∙ below
 
-  stage_above : (stage : ℕ) (f : Figure) (fs : List Figure) → AllByRecursion (λ g. by_candidate f g ≡ Less) fs → AllByRecursion (λ g. figure_cmp (figure_at ward stage f) g ≡ Less) (map (figure_at ward stage) fs)
+  stage_above : (stage : ℕ) (f : Figure) (fs : List Figure) → AllByRecursion (λ g. by_candidate f g ≡ Less) fs
+      → AllByRecursion (λ g. figure_cmp (figure_at ward stage f) g ≡ Less) (map (figure_at ward stage) fs)
   stage_above stage f [] above = tt
   stage_above stage f (g ∷ fs) above = (below_candidate stage f g above.0, stage_above stage f fs above.1)
 
@@ -248,16 +258,24 @@ figures_own e = go (has_stages e)
 pub tabulation_rises : (s : OfficeState) → IsState s → TabulationRises (tabulation_of s)
 unfolding tabulation_of
 tabulation_rises s is = record {
-  bundles = parts_rise (λ (p : PlacedEntry). p.ward) (on (λ (p : PlacedEntry). p.list) list_cmp) (λ (w : WardEntry). bundles_in (election_of s w)) (λ w. bundles_own (election_of s w)) (λ w. bundles_rise (election_of s w)) s.wards is.rise.wards;
-  figures = parts_rise (λ (f : FigureEntry). f.ward) (then_cmp (on (λ (f : FigureEntry). f.stage) nat_cmp) (on (λ (f : FigureEntry). f.candidate) nat_cmp)) (λ (w : WardEntry). figures_in (election_of s w)) (λ w. figures_own (election_of s w)) (λ w. figures_rise (election_of s w)) s.wards is.rise.wards;
+  bundles =
+      parts_rise (λ (p : PlacedEntry). p.ward) (on (λ (p : PlacedEntry). p.list) list_cmp) (λ (w : WardEntry). bundles_in (election_of s w)) (λ w. bundles_own (election_of s w))
+      (λ w. bundles_rise (election_of s w)) s.wards is.rise.wards;
+  figures =
+      parts_rise (λ (f : FigureEntry). f.ward) (then_cmp (on (λ (f : FigureEntry). f.stage) nat_cmp) (on (λ (f : FigureEntry). f.candidate) nat_cmp))
+      (λ (w : WardEntry). figures_in (election_of s w)) (λ w. figures_own (election_of s w)) (λ w. figures_rise (election_of s w)) s.wards is.rise.wards;
 }
 
-pub bundles_of_ward : (s : OfficeState) (w : WardEntry) → IsState s → ward_at s w.number ≡ Some w → filter (λ (b : PlacedEntry). b.ward == w.number) (tabulation_of s).bundles ≡ bundles_in (election_of s w)
+pub bundles_of_ward : (s : OfficeState) (w : WardEntry) → IsState s → ward_at s w.number ≡ Some w
+    → filter (λ (b : PlacedEntry). b.ward == w.number) (tabulation_of s).bundles ≡ bundles_in (election_of s w)
 unfolding tabulation_of
 bundles_of_ward s w is found =
-    part_of (λ (p : PlacedEntry). p.ward) (on (λ (p : PlacedEntry). p.list) list_cmp) (λ (w : WardEntry). bundles_in (election_of s w)) (λ w. bundles_own (election_of s w)) w.number w s.wards is.rise.wards found
+    part_of (λ (p : PlacedEntry). p.ward) (on (λ (p : PlacedEntry). p.list) list_cmp) (λ (w : WardEntry). bundles_in (election_of s w))
+    (λ w. bundles_own (election_of s w)) w.number w s.wards is.rise.wards found
 
-pub figures_of_ward : (s : OfficeState) (w : WardEntry) → IsState s → ward_at s w.number ≡ Some w → filter (λ (f : FigureEntry). f.ward == w.number) (tabulation_of s).figures ≡ figures_in (election_of s w)
+pub figures_of_ward : (s : OfficeState) (w : WardEntry) → IsState s → ward_at s w.number ≡ Some w
+    → filter (λ (f : FigureEntry). f.ward == w.number) (tabulation_of s).figures ≡ figures_in (election_of s w)
 unfolding tabulation_of
 figures_of_ward s w is found =
-    part_of (λ (f : FigureEntry). f.ward) (then_cmp (on (λ (f : FigureEntry). f.stage) nat_cmp) (on (λ (f : FigureEntry). f.candidate) nat_cmp)) (λ (w : WardEntry). figures_in (election_of s w)) (λ w. figures_own (election_of s w)) w.number w s.wards is.rise.wards found
+    part_of (λ (f : FigureEntry). f.ward) (then_cmp (on (λ (f : FigureEntry). f.stage) nat_cmp) (on (λ (f : FigureEntry). f.candidate) nat_cmp))
+    (λ (w : WardEntry). figures_in (election_of s w)) (λ w. figures_own (election_of s w)) w.number w s.wards is.rise.wards found

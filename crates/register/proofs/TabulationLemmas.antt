@@ -8,16 +8,16 @@ use Rattle.count.specs.Bundles.{Bundle, bundled}
 use Rattle.count.specs.Law.Contest.{History}
 use Rattle.count.specs.Law.Places.{place}
 use Rattle.register.specs.declared.phase.Phase.{Phase}
-use Rattle.register.specs.Offices.{WardEntry, CandidateEntry, BatchEntry, KeyedEntry, JudgedEntry, LotEntry, OfficeState, ward_cmp, ward_compared, ward_at}
+use Rattle.register.specs.Offices.{WardEntry, LotEntry, OfficeState, ward_cmp, ward_compared, ward_at}
 use Rattle.register.specs.Marks.{columns_of}
-use Rattle.register.specs.Elections.{ElectionEntry, election_of, has_count, contest_of, stages_of, is_counted, is_uncounted}
+use Rattle.register.specs.Elections.{ElectionEntry, election_of, has_count, contest_of, stages_of, is_uncounted}
 use Rattle.register.specs.Effects.{EffectEntry, ward_added, ward_moved, stage_counted, in_phase, with_effect}
 use Rattle.register.specs.Items.{IsState}
 use Rattle.register.specs.Tabulated.{PlacedEntry, FigureEntry, TabulationEntries, has_stages, placed_at, bundles_in, figures_to, figures_in, tabulation_of}
 use Rattle.register.proofs.MapLemmas.{found_passes}
 use Rattle.register.proofs.SplitLemmas.{flat_put, flat_changed, are_others, IsSplit, split_at}
 use Rattle.register.proofs.ElectionLemmas.{is_sound, sound_of, uncounted_before, unsealed}
-use Rattle.register.proofs.ElsewhereLemmas.{with_polls}
+use Rattle.register.proofs.ElsewhereLemmas.{IsBeforeCount, election_elsewhere}
 use Rattle.register.proofs.ProgressLemmas.{in_phase_of, with_lots}
 
 -- ---- what is told of a count
@@ -95,7 +95,8 @@ module _ {X : Type 0} (told : ElectionEntry → List X) (of : IsOfCount told) (s
       ∙ sym (flat_map-append was split.front (w ∷ split.back))
       ∙ sym (ap (flat_map was) split.is)
     where
-      elsewhere : (xs : List WardEntry) → are_others (λ (x : WardEntry). x.number) n xs ≡ true → flat_map (λ (x : WardEntry). told (election_of t x)) xs ≡ flat_map (λ (x : WardEntry). told (election_of s x)) xs
+      elsewhere : (xs : List WardEntry) → are_others (λ (x : WardEntry). x.number) n xs ≡ true
+          → flat_map (λ (x : WardEntry). told (election_of t x)) xs ≡ flat_map (λ (x : WardEntry). told (election_of s x)) xs
       elsewhere [] all = refl
       elsewhere (x ∷ xs) all =
           let parts = and_parts (not (n == x.number)) (are_others (λ (y : WardEntry). y.number) n xs) all in
@@ -114,24 +115,23 @@ tabulation_moved s n phase = same_tabulation s (with_effect (ward_moved n phase)
 pub wards_split : (s : OfficeState) (n : ℕ) (w : WardEntry) → IsState s → ward_at s n ≡ Some w → IsSplit (λ (x : WardEntry). x.number) n w s.wards
 wards_split s n w is found = split_at (λ (x : WardEntry). x.number) n w s.wards is.rise.wards found
 
--- what changes in a ward that hasn't been sealed
-pub tabulation_elsewhere : (s : OfficeState) (n : ℕ) (w : WardEntry) (candidates : List CandidateEntry) (batches : List BatchEntry) (keyings : List KeyedEntry) (verdicts : List JudgedEntry)
-    → ward_at s n ≡ Some w → is_counted w.phase ≡ false → ((x : WardEntry) → (n == x.number) ≡ false → election_of (with_polls candidates batches keyings verdicts s) x ≡ election_of s x) → IsState s
-    → tabulation_of (with_polls candidates batches keyings verdicts s) ≡ tabulation_of s
-tabulation_elsewhere s n w candidates batches keyings verdicts found open_ others is =
-    same_tabulation s (with_polls candidates batches keyings verdicts s) (alike bundles_in bundles_of_count) (alike figures_in figures_of_count)
+-- what an effect of a ward that hasn't been sealed leaves
+pub tabulation_kept : (s : OfficeState) (effect : EffectEntry) → IsState s → IsBeforeCount s effect → tabulation_of (with_effect effect s) ≡ tabulation_of s
+tabulation_kept s effect is before = same_tabulation s (with_effect effect s) (alike bundles_in bundles_of_count) (alike figures_in figures_of_count)
   where
-    none : is_uncounted (election_of s w) ≡ true
-    none = uncounted_before (election_of s w) (unsealed (election_of s w) open_) (found_passes (ward_compared n) (λ x. is_sound (election_of s x)) w s.wards (sound_of is) found)
+    none : is_uncounted (election_of s before.ward) ≡ true
+    none =
+        let was = found_passes (ward_compared before.number) (λ x. is_sound (election_of s x)) before.ward s.wards (sound_of is) before.found in
+        uncounted_before (election_of s before.ward) (unsealed (election_of s before.ward) before.not_sealed) was
 
-    still_none : has_stages (election_of (with_polls candidates batches keyings verdicts s) w) ≡ false
-    still_none = and_right (has_count (election_of (with_polls candidates batches keyings verdicts s) w)) (not (w.done == 0)) (not_from_true (w.done == 0) (and_parts _ _ none).0)
+    still_none : has_stages (election_of (with_effect effect s) before.ward) ≡ false
+    still_none = and_right (has_count (election_of (with_effect effect s) before.ward)) (not (before.ward.done == 0)) (not_from_true (before.ward.done == 0) (and_parts _ _ none).0)
 
-    alike : {X : Type 0} (told : ElectionEntry → List X) → IsOfCount told → told_by told (with_polls candidates batches keyings verdicts s) ≡ told_by told s
+    alike : {X : Type 0} (told : ElectionEntry → List X) → IsOfCount told → told_by told (with_effect effect s) ≡ told_by told s
     alike told of =
-        told_but_one told of s (with_polls candidates batches keyings verdicts s) n w refl (wards_split s n w is found)
-        (of.none (election_of (with_polls candidates batches keyings verdicts s) w) still_none ∙ sym (of.none (election_of s w) (no_stages (election_of s w) none)))
-        (λ x other. ap told (others x other))
+        told_but_one told of s (with_effect effect s) before.number before.ward before.wards (wards_split s before.number before.ward is before.found)
+        (of.none (election_of (with_effect effect s) before.ward) still_none ∙ sym (of.none (election_of s before.ward) (no_stages (election_of s before.ward) none)))
+        (λ x other. ap told (election_elsewhere s before.number is x other effect before.own))
 
 -- What an effect leaves of the tabulation: all of it, where it doesn't count a stage.
 abbrev pub KeepsTabulation : OfficeState → EffectEntry → Type 0

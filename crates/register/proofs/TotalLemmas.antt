@@ -1,5 +1,6 @@
 -- The valid papers of a ward and the rejected ones are all its papers.
-use Rattle.std.proofs.Common.{◌≡◌, ℕ, zero, suc, ◌+◌, ◌<◌, ◌==◌, ◌&&◌, ◌||◌, nat_le, Bool, true, false, not, cond, List, [], ◌∷◌, length, map, filter, find, Some, Result, Ok, Err, codes, refl, sym, ap, subst, ◌∙◌, arith, length-append}
+use Rattle.std.proofs.Common.{◌≡◌, ℕ, zero, suc, ◌+◌, ◌<◌, ◌==◌, ◌&&◌, ◌||◌, nat_le, Bool, true, false, not, cond, List, [], ◌∷◌, length, map, filter, find, Some, Result, Ok, Err, codes}
+use Rattle.std.proofs.Common.{refl, sym, ap, subst, ◌∙◌, arith, length-append}
 use Rattle.std.specs.Prelude.{sum_by}
 use Rattle.std.specs.List.{AllByRecursion, list_all, flat_map}
 use Rattle.std.specs.Str.{bytes_eq}
@@ -27,7 +28,8 @@ use Rattle.register.specs.Verdicts.{is_rejection_code}
 use Rattle.register.specs.Papers.{is_keyed, is_doubtful, has_verdict, is_open, is_its_clerk, has_doubtful, are_taken, clerks_of, keyings_now, taken_papers, batches_of}
 use Rattle.register.specs.Keyed.{columns_for, is_keyed_for, is_whole, are_rounds_to, is_verdict_on, is_judged}
 use Rattle.register.specs.Items.{is_batch, IsState}
-use Rattle.register.specs.Polls.{Pile, pile_of, piles_of, is_settled, by_rejection, by_reading, by_verdict, judgement_on, judgements_on, judgements_in, judgements, preferences_by, is_rejected, rejected_with, all_rejected}
+use Rattle.register.specs.Polls.{Pile, pile_of, piles_of, is_settled, by_rejection, by_reading, by_verdict, judgement_on, judgements_on, judgements_in, judgements, preferences_by}
+use Rattle.register.specs.Polls.{is_rejected, rejected_with, all_rejected}
 use Rattle.register.specs.Elections.{election_of}
 use Rattle.register.proofs.ItemLemmas.{batch_map, maps_of}
 use Rattle.register.proofs.MapLemmas.{kept_all}
@@ -53,7 +55,8 @@ counted j js n = go (is_rejected n j)
     go true = omega arith
     go false = omega arith
 
-one_code : (code : ℕ) → is_between 1 5 code ≡ true → counts_for (Rejected code) 1 + (counts_for (Rejected code) 2 + (counts_for (Rejected code) 3 + (counts_for (Rejected code) 4 + counts_for (Rejected code) 5))) ≡ 1
+one_code : (code : ℕ) → is_between 1 5 code ≡ true → counts_for (Rejected code) 1 +
+    (counts_for (Rejected code) 2 + (counts_for (Rejected code) 3 + (counts_for (Rejected code) 4 + counts_for (Rejected code) 5))) ≡ 1
 one_code zero is = absurd (cc)
 one_code (suc zero) is = refl
 one_code (suc (suc zero)) is = refl
@@ -110,7 +113,8 @@ read_doubtful columns marks is = go (bytes_eq marks (codes "D")) refl is
     by_count true same = by_marks (marks_in (fields marks)) same
     by_count false same = cc
 
-    go : (b : Bool) → bytes_eq marks (codes "D") ≡ b → cond b (Ok Doubtful) (cond (length (fields marks) == length columns) (beside columns (marks_in (fields marks))) (Err FieldCount)) ≡ Ok Doubtful → b ≡ true
+    go : (b : Bool) → bytes_eq marks (codes "D") ≡ b → cond b (Ok Doubtful) (cond (length (fields marks) == length columns) (beside columns (marks_in (fields marks))) (Err FieldCount))
+        ≡ Ok Doubtful → b ≡ true
     go true letter same = refl
     go false letter same = absurd (by_count (length (fields marks) == length columns) same)
 
@@ -153,7 +157,8 @@ record Counts (s : OfficeState) (columns : List ℕ) (b : BatchEntry) : Type 0 w
   readable : list_all (λ k. is_readable columns k.marks) (taken_papers s b) ≡ true
   judged : list_all (is_verdict_on columns (taken_papers s b)) (verdicts_of s b.number) ≡ true
 
-each_decided : (columns : List ℕ) (keying : List KeyedEntry) (vs : List JudgedEntry) (ks : List KeyedEntry) → list_all (is_verdict_on columns keying) vs ≡ true → list_all (λ k. is_readable columns k.marks) ks ≡ true
+each_decided : (columns : List ℕ) (keying : List KeyedEntry) (vs : List JudgedEntry) (ks : List KeyedEntry) → list_all (is_verdict_on columns keying) vs ≡ true
+    → list_all (λ k. is_readable columns k.marks) ks ≡ true
     → filter (is_open vs) ks ≡ [] → list_all is_decided (judgements_on columns vs ks) ≡ true
 each_decided columns keying vs [] judged readable none = refl
 each_decided columns keying vs (k ∷ ks) judged readable none = go (is_open vs k) refl none (each_decided columns keying vs ks judged parts.1)
@@ -248,7 +253,8 @@ all_readable s b clerk (k ∷ ks) there keyed = go ((k.batch == b.number) && ((k
     go false is later = later
 
 -- so are those of the papers that it is taken with
-taken_readable : (s : OfficeState) (b : BatchEntry) → batch_at s b.number ≡ Some b → list_all (λ k. is_keyed_for s k (batch_at s k.batch)) s.keyings ≡ true → list_all (λ k. is_readable (columns_for s b) k.marks) (taken_papers s b) ≡ true
+taken_readable : (s : OfficeState) (b : BatchEntry) → batch_at s b.number ≡ Some b → list_all (λ k. is_keyed_for s k (batch_at s k.batch)) s.keyings ≡ true
+    → list_all (λ k. is_readable (columns_for s b) k.marks) (taken_papers s b) ≡ true
 taken_readable s b there keyed = agreed_passes reads (keyings_now s b) (kept_all reads is_keyed (map (keying_of s b.number b.round) (clerks_of s b)) (each (clerks_of s b))) (λ untaken. refl)
   where
     reads : List KeyedEntry → Bool
@@ -258,14 +264,16 @@ taken_readable s b there keyed = agreed_passes reads (keyings_now s b) (kept_all
     each [] = refl
     each (clerk ∷ clerks) = and_from _ _ (all_readable s b clerk s.keyings there keyed) (each clerks)
 
-batch_counts : (s : OfficeState) → IsState s → (b : BatchEntry) → batch_at s b.number ≡ Some b → is_batch b ≡ true → are_rounds_to s b b.round ≡ true → is_judged s b (verdicts_of s b.number) ≡ true → Counts s (columns_for s b) b
+batch_counts : (s : OfficeState) → IsState s → (b : BatchEntry) → batch_at s b.number ≡ Some b → is_batch b ≡ true → are_rounds_to s b b.round ≡ true
+    → is_judged s b (verdicts_of s b.number) ≡ true → Counts s (columns_for s b) b
 batch_counts s is b there fine rounds judged = record {
   whole = (and_parts (list_all (is_whole b.size) (keyings_now s b)) _ (round_now s b fine rounds)).0;
   readable = taken_readable s b there (and_parts (list_all (λ k. is_keyed_for s k (batch_at s k.batch)) s.keyings) _ is.keyed).0;
   judged = judged;
 }
 
-ward_counts : (s : OfficeState) → IsState s → (ward : ℕ) (bs : List BatchEntry) → AllByRecursion (λ b. batch_at s b.number ≡ Some b) bs → list_all is_batch bs ≡ true → list_all (λ b. are_rounds_to s b b.round) bs ≡ true
+ward_counts : (s : OfficeState) → IsState s → (ward : ℕ) (bs : List BatchEntry) → AllByRecursion (λ b. batch_at s b.number ≡ Some b) bs → list_all is_batch bs ≡ true
+    → list_all (λ b. are_rounds_to s b b.round) bs ≡ true
     → list_all (λ b. is_judged s b (verdicts_of s b.number)) bs ≡ true → AllByRecursion (Counts s (columns_of (candidates_of s ward))) (filter (λ (b : BatchEntry). b.ward == ward) bs)
 ward_counts s is ward [] there fine rounds judged = tt
 ward_counts s is ward (b ∷ bs) there fine rounds judged = go (b.ward == ward) refl (ward_counts s is ward bs there.1 good.1 all.1 on.1)
@@ -289,7 +297,10 @@ pub polls_add_up : (s : OfficeState) (w : WardEntry) → IsState s → (election
     → length (election_of s w).ballots.papers + all_rejected (election_of s w).ballots.rejected ≡ sum_by (λ (b : BatchEntry). b.size) (batches_of s w.number)
 polls_add_up s w is settled =
     let columns = columns_of (candidates_of s w.number) in
-    let each = ward_counts s is w.number s.batches (found_each s.batches is.rise.batches) fine (and_parts (list_all (λ k. is_keyed_for s k (batch_at s k.batch)) s.keyings) _ is.keyed).1 (and_parts _ _ is.judged).1 in
+    let each =
+    ward_counts s is w.number s.batches (found_each s.batches is.rise.batches) fine (and_parts (list_all (λ k. is_keyed_for s k (batch_at s k.batch)) s.keyings) _ is.keyed).1
+    (and_parts _ _ is.judged).1
+    in
     let all = all_judged s columns (batches_of s w.number) each settled in
     all_counted (judgements columns (piles_of s w.number)) all.0 ∙ all.1
   where

@@ -15,23 +15,20 @@ use Rattle.register.specs.declared.verdicts.VerdictCommand.{VerdictCommand}
 use Rattle.register.specs.Reasons.{first_reason}
 use Rattle.register.specs.Ranges.{last_batch, most_papers, is_office, is_batch_number, is_paper_number}
 use Rattle.register.specs.Subjects.{is_office_subject}
-use Rattle.register.specs.Offices.{WardEntry, BatchEntry, KeyedEntry, JudgedEntry, OfficeState, put, judged_cmp, batch_compared, ward_at, candidates_of, batch_at, verdict_at, verdicts_of, lots_of}
-use Rattle.register.specs.Polls.{Pile, pile_of}
-use Rattle.register.specs.Elections.{election_of, is_counted}
+use Rattle.register.specs.Offices.{BatchEntry, JudgedEntry, OfficeState, put, judged_cmp, batch_at, verdict_at}
 use Rattle.register.specs.Marks.{columns_of, is_valid}
-use Rattle.register.specs.Papers.{agreed, has_doubtful, keyings_now, taken_papers}
-use Rattle.register.specs.Keyed.{columns_for, is_verdict_for, is_judged}
+use Rattle.register.specs.Papers.{agreed, has_doubtful, taken_papers}
+use Rattle.register.specs.Keyed.{columns_for, is_verdict_for}
 use Rattle.register.specs.Items.{is_judged_paper, IsState}
 use Rattle.register.specs.Effects.{paper_judged, with_effect}
-use Rattle.register.specs.Tabulated.{tabulation_of}
 use Rattle.register.specs.Batches.{ward_for, candidates_for, keyings_for}
 use Rattle.register.specs.Verdicts.{part_of, is_in_range, is_verdict, objections, subject_of, verdict_word, reply_to, judged_as, effect_of}
 use Rattle.register.proofs.LineLemmas.{lower, upper, are_plain-decimals, IsLine, words, line_append, line_number, line_reply, line_text}
-use Rattle.register.proofs.ObjectionLemmas.{none_objects, asked, absent, present, there}
-use Rattle.register.proofs.MapLemmas.{put_all, put_is_map, filter_put, found_passes, all_but_number}
-use Rattle.register.proofs.ElectionLemmas.{lots_placed_of, same_election}
-use Rattle.register.proofs.ElsewhereLemmas.{sound_elsewhere, batches_elsewhere, piles_elsewhere}
-use Rattle.register.proofs.TabulationLemmas.{tabulation_elsewhere}
+use Rattle.register.proofs.ObjectionLemmas.{no_objection, asked, absent, present, there}
+use Rattle.register.proofs.MapLemmas.{put_all, put_is_map}
+use Rattle.register.proofs.ElectionLemmas.{lots_placed_of}
+use Rattle.register.proofs.ElsewhereLemmas.{judged_elsewhere, IsBeforeCount, batch_in_keying, sound_kept}
+use Rattle.register.proofs.TabulationLemmas.{tabulation_kept}
 use Rattle.register.proofs.ItemLemmas.{MapName, judged_map, Holds, maps_of, state_from, rounds_still, judged_total, IsFit, office_about}
 
 -- what passes a test of each that is left, and of the entry that is put in
@@ -47,27 +44,10 @@ put_kept {X} cmp p q x (y ∷ ys) good all = elim (is_lt (cmp x y)) as (λ b. li
     go true later each = and_from _ _ (and_parts _ _ each).0 (later (and_parts _ _ each).1)
     go false later each = later each
 
--- the pile of each other batch is as it was,
-other_pile : (s : OfficeState) (v : JudgedEntry) (x : BatchEntry) → (v.batch == x.number) ≡ false → pile_of (with_effect (paper_judged v) s) x ≡ pile_of s x
-other_pile s v x other = ap (λ (vs : List JudgedEntry). pile_with (keyings_now s x) vs) (filter_put judged_cmp (λ (y : JudgedEntry). y.batch == x.number) v s.verdicts other)
-  where
-    pile_with : List (List KeyedEntry) → List JudgedEntry → Pile
-    pile_with keyings verdicts = record { keyings = keyings; verdicts = verdicts }
-
--- so the elections of other wards are,
-judged_elsewhere : (s : OfficeState) (v : JudgedEntry) (b : BatchEntry) → IsState s → batch_at s v.batch ≡ Some b → (x : WardEntry) → (b.ward == x.number) ≡ false → election_of (with_effect (paper_judged v) s) x ≡ election_of s x
-judged_elsewhere s v b is found x other =
-    same_election x _ (candidates_of s x.number) _ _ _ (lots_of s x.number) refl (piles_elsewhere s (with_effect (paper_judged v) s) v.batch x.number s.batches (other_pile s v) (batches_elsewhere s v.batch b x.number is found other)) refl
-
--- and the tabulation
-judged_tabulated : (s : OfficeState) (v : JudgedEntry) (b : BatchEntry) (w : WardEntry) → IsState s → batch_at s v.batch ≡ Some b → ward_at s b.ward ≡ Some w → is_counted w.phase ≡ false
-    → tabulation_of (with_effect (paper_judged v) s) ≡ tabulation_of s
-judged_tabulated s v b w is found its_ward open_ = tabulation_elsewhere s b.ward w s.candidates s.batches s.keyings (put judged_cmp v s.verdicts) its_ward open_ (judged_elsewhere s v b is found) is
-
 -- a verdict in range on a doubtful paper of those that a batch is taken with, which has none
 judged_stays : (s : OfficeState) (v : JudgedEntry) (b : BatchEntry) → is_judged_paper v ≡ true → batch_at s v.batch ≡ Some b → is_verdict_for s b v ≡ true
-    → verdict_at s v.batch v.paper ≡ None → (w : WardEntry) → ward_at s b.ward ≡ Some w → is_counted w.phase ≡ false → IsState s → IsState (with_effect (paper_judged v) s)
-judged_stays s v b good found on new w its_ward open_ is =
+    → verdict_at s v.batch v.paper ≡ None → IsBeforeCount s (paper_judged v) → IsState s → IsState (with_effect (paper_judged v) s)
+judged_stays s v b good found on new before is =
     let keyed = and_parts _ _ is.keyed in
     let judged = and_parts _ _ is.judged in
     let belongs : is_some (batch_at s v.batch) ≡ true = rw found refl in
@@ -82,18 +62,11 @@ judged_stays s v b good found on new w its_ward open_ is =
           _
           _
           (put_all judged_cmp (λ x. is_some (batch_at s x.batch)) v s.verdicts belongs judged.0)
-          (all_but_number (λ (x : BatchEntry). x.number) s.batches v.batch b (λ x. is_judged s x (verdicts_of s x.number)) (λ x. is_judged s x (verdicts_of (with_effect (paper_judged v) s) x.number)) is.rise.batches found (here judged.1) there judged.1);
+          (judged_elsewhere s (paper_judged v) v.batch b is found refl (put_kept judged_cmp (is_verdict_for s b) (λ (x : JudgedEntry). x.batch == b.number) v s.verdicts on));
       lots_placed = lots_placed_of is;
-      sound = sound_elsewhere s b.ward w s.candidates s.batches s.keyings (put judged_cmp v s.verdicts) its_ward open_ (judged_elsewhere s v b is found) is;
+      sound = sound_kept s (paper_judged v) is before;
     })
   where
-    here : list_all (λ x. is_judged s x (verdicts_of s x.number)) s.batches ≡ true → v.batch ≡ b.number → is_judged s b (verdicts_of (with_effect (paper_judged v) s) b.number) ≡ true
-    here all same =
-        put_kept judged_cmp (is_verdict_for s b) (λ (x : JudgedEntry). x.batch == b.number) v s.verdicts on (found_passes (batch_compared v.batch) (λ x. is_judged s x (verdicts_of s x.number)) b s.batches all found)
-
-    there : (x : BatchEntry) → (v.batch == x.number) ≡ false → is_judged s x (verdicts_of s x.number) ≡ true → is_judged s x (verdicts_of (with_effect (paper_judged v) s) x.number) ≡ true
-    there x other judged = ap (is_judged s x) (filter_put judged_cmp (λ (y : JudgedEntry). y.batch == x.number) v s.verdicts other) ∙ judged
-
     maps : (m : MapName) → Holds m (with_effect (paper_judged v) s)
     maps judged_map = put_is_map judged_total v s.verdicts good new (maps_of is judged_map)
     maps m = maps_of is m
@@ -102,30 +75,21 @@ judged_stays s v b good found on new w its_ward open_ is =
 
 -- a verdict as it is kept leads to a state
 verdict_stays : (s : OfficeState) (batch paper : ℕ) (verdict : Verdict) (b : BatchEntry) → is_batch_number batch ≡ true → is_paper_number paper ≡ true → batch_at s batch ≡ Some b
-    → has_doubtful (taken_papers s b) paper ≡ true → is_verdict (columns_for s b) verdict ≡ true → verdict_at s batch paper ≡ None → (w : WardEntry) → ward_at s b.ward ≡ Some w → is_counted w.phase ≡ false → IsState s → IsState (with_effect (paper_judged (judged_as batch paper verdict)) s)
+    → has_doubtful (taken_papers s b) paper ≡ true → is_verdict (columns_for s b) verdict ≡ true → verdict_at s batch paper ≡ None
+    → IsBeforeCount s (paper_judged (judged_as batch paper verdict)) → IsState s
+    → IsState (with_effect (paper_judged (judged_as batch paper verdict)) s)
 unfolding is_judged_paper
-verdict_stays s batch paper (Accept marks) b number numbered found doubtful valid new w its_ward open_ is =
+verdict_stays s batch paper (Accept marks) b number numbered found doubtful valid new before is =
     let text = is_utf8-from_IsUtf8 (string_bytes marks) (IsUtf8-string_bytes marks) in
-    judged_stays s _ b (and_from _ _ number (and_from _ _ numbered text)) found (and_from _ _ doubtful (rw valid refl)) new w its_ward open_ is
-verdict_stays s batch paper (Reject code) b number numbered found doubtful good new w its_ward open_ is =
+    judged_stays s _ b (and_from _ _ number (and_from _ _ numbered text)) found (and_from _ _ doubtful (rw valid refl)) new before is
+verdict_stays s batch paper (Reject code) b number numbered found doubtful good new before is =
     let low = upper 3 5 code good in
-    judged_stays
-    s
-    _
-    b
-    (and_from _ _ number (and_from _ _ numbered (and_from _ _ (le-leb code 5 low) (is_utf8-from_IsUtf8 [] IsUtf8-nil))))
-    found
-    (and_from _ _ doubtful (or_right ((code == 0) && is_valid (columns_for s b) []) _ (and_from _ _ good refl)))
-    new
-    w
-    its_ward
-    open_
-    is
+    let range = and_from _ _ number (and_from _ _ numbered (and_from _ _ (le-leb code 5 low) (is_utf8-from_IsUtf8 [] IsUtf8-nil))) in
+    judged_stays s _ b range found (and_from _ _ doubtful (or_right ((code == 0) && is_valid (columns_for s b) []) _ (and_from _ _ good refl))) new before is
 
-verdict_tabulated : (s : OfficeState) (batch paper : ℕ) (verdict : Verdict) (b : BatchEntry) (w : WardEntry) → IsState s → batch_at s batch ≡ Some b → ward_at s b.ward ≡ Some w → is_counted w.phase ≡ false
-    → tabulation_of (with_effect (paper_judged (judged_as batch paper verdict)) s) ≡ tabulation_of s
-verdict_tabulated s batch paper (Accept marks) b w is found its_ward open_ = judged_tabulated s _ b w is found its_ward open_
-verdict_tabulated s batch paper (Reject code) b w is found its_ward open_ = judged_tabulated s _ b w is found its_ward open_
+judged_batch : (batch paper : ℕ) (verdict : Verdict) → (judged_as batch paper verdict).batch ≡ batch
+judged_batch batch paper (Accept marks) = refl
+judged_batch batch paper (Reject code) = refl
 
 -- what is told of a verdict is a line
 told : (columns : List ℕ) (verdict : Verdict) → is_verdict columns verdict ≡ true → IsLine 20 (verdict_word verdict)
@@ -145,27 +109,31 @@ pub verdict_fits : (s : OfficeState) (actor : ℕ) (command : VerdictCommand) �
 unfolding subject_of reply_to
 verdict_fits s actor command is none =
     let part = part_of s actor command in
-    let each = none_objects (objections actor command part) none in
-    let range = and_parts (is_office actor) (is_batch_number command.batch && is_paper_number command.paper) (asked (is_in_range actor command) NumberOutOfRange each.0) in
+    let met = no_objection (objections actor command part) none in
+    let range = and_parts (is_office actor) (is_batch_number command.batch && is_paper_number command.paper) (asked (is_in_range actor command) NumberOutOfRange (met 0)) in
     let numbers = and_parts (is_batch_number command.batch) (is_paper_number command.paper) range.1 in
-    let found = present (batch_at s command.batch) NoSuchBatch (each.1).0 in
+    let found = present (batch_at s command.batch) NoSuchBatch (met 1) in
     let b = found.it in
-    let others = (((each.1).1).1).1 in
-    let its = there Keying (ward_for s (batch_at s command.batch)) WrongPhase ((each.1).1).0 in
-    let its_ward : ward_at s b.ward ≡ Some its.ward = ap (ward_for s) (sym found.is) ∙ its.is in
-    let doubtful : has_doubtful (taken_papers s b) command.paper ≡ true =
-    ap (λ (o : Option BatchEntry). has_doubtful (agreed (keyings_for s o)) command.paper) (sym found.is) ∙ asked (has_doubtful (agreed part.keyings) command.paper) NotDoubtful (others.1).0
+    let before =
+    batch_in_keying s command.batch b (effect_of command) found.is (there Keying (ward_for s (batch_at s command.batch)) WrongPhase (met 2))
+    (judged_batch command.batch command.paper command.verdict) (λ own. own) refl refl
     in
-    let new = absent part.verdict AlreadyJudged ((others.1).1).0 in
+    let doubtful : has_doubtful (taken_papers s b) command.paper ≡ true =
+    ap (λ (o : Option BatchEntry). has_doubtful (agreed (keyings_for s o)) command.paper) (sym found.is) ∙ asked (has_doubtful (agreed part.keyings) command.paper) NotDoubtful (met 5)
+    in
+    let new = absent part.verdict AlreadyJudged (met 6) in
     let valid : is_verdict (columns_for s b) command.verdict ≡ true =
-    ap (λ (o : Option BatchEntry). is_verdict (columns_of (candidates_for s o)) command.verdict) (sym found.is) ∙ asked (is_verdict (columns_of part.candidates) command.verdict) BadVerdict (((others.1).1).1).0
+    ap (λ (o : Option BatchEntry). is_verdict (columns_of (candidates_for s o)) command.verdict) (sym found.is)
+    ∙ asked (is_verdict (columns_of part.candidates) command.verdict) BadVerdict (met 7)
     in
     let digits = line_number last_batch command.batch (omega arith) numbers.0 in
     let papers = line_number most_papers command.paper (omega arith) numbers.1 in
     record {
-      state = verdict_stays s command.batch command.paper command.verdict b numbers.0 numbers.1 found.is doubtful valid new its.ward its_ward (rw its.phased refl) is;
-      tabulated = verdict_tabulated s command.batch command.paper command.verdict b its.ward is found.is its_ward (rw its.phased refl);
+      state = verdict_stays s command.batch command.paper command.verdict b numbers.0 numbers.1 found.is doubtful valid new before is;
+      tabulated = tabulation_kept s _ is before;
       about = office_about actor _ range.0 (judge_about command.batch command.paper numbers.0 numbers.1);
       text = line_text (line_append (words (codes "judge ") (search rules) refl) (line_append digits (line_append (words (codes " ") (search rules) refl) papers)));
-      line = line_reply (line_append (words (codes "batch ") (search rules) refl) (line_append digits (line_append (words (codes " paper ") (search rules) refl) (line_append papers (told (columns_for s b) command.verdict valid))))) (omega arith);
+      line =
+          line_reply (line_append (words (codes "batch ") (search rules) refl)
+          (line_append digits (line_append (words (codes " paper ") (search rules) refl) (line_append papers (told (columns_for s b) command.verdict valid))))) (omega arith);
     }

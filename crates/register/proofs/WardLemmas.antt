@@ -16,7 +16,7 @@ use Rattle.register.specs.Items.{is_ward, IsState}
 use Rattle.register.specs.Effects.{in_phase, with_effect}
 use Rattle.register.specs.Wards.{part_of, is_in_range, objections, is_to_be_polled, closed_phase, subject_of, reply_to, effect_of}
 use Rattle.register.proofs.LineLemmas.{is_plain-decimal, IsLine, words, line_append, line_number, line_reply, line_text}
-use Rattle.register.proofs.ObjectionLemmas.{none_objects, asked, absent, there}
+use Rattle.register.proofs.ObjectionLemmas.{no_objection, asked, absent, there}
 use Rattle.register.proofs.MapLemmas.{found_passes, found_number}
 use Rattle.register.proofs.ItemLemmas.{IsFit, ward_stays, office_about, has_enough}
 use Rattle.register.proofs.NominationLemmas.{moved, changed_stays}
@@ -42,7 +42,8 @@ told true = record { ascii = search rules; short = omega arith; plain = refl }
 told false = record { ascii = search rules; short = omega arith; plain = refl }
 
 -- a ward that is contested or not comes to a phase for which it has enough candidates
-closed_enough : (w : WardEntry) (candidates : List CandidateEntry) → is_stood_in candidates ≡ true → (b : Bool) → is_contested w candidates ≡ b → has_enough (in_phase (cond b Keying Sealed) w) candidates ≡ true
+closed_enough : (w : WardEntry) (candidates : List CandidateEntry) → is_stood_in candidates ≡ true → (b : Bool) → is_contested w candidates ≡ b
+    → has_enough (in_phase (cond b Keying Sealed) w) candidates ≡ true
 closed_enough w candidates stood true is = is
 closed_enough w candidates stood false is = stood
 
@@ -66,12 +67,11 @@ pub ward_fits : (s : OfficeState) (actor : ℕ) (command : WardCommand) → IsSt
     → IsFit s actor (effect_of command (part_of s actor command)) (subject_of command) (reply_to command (part_of s actor command))
 unfolding subject_of reply_to is_ward
 ward_fits s actor (Add ward seats name) is none =
-    let each = none_objects (objections actor (Add ward seats name) (part_of s actor (Add ward seats name))) none in
-    let others = each.1 in
-    let range = and_parts (is_office actor) (is_ward_number ward && is_seat_number seats) (asked (is_in_range actor (Add ward seats name)) NumberOutOfRange each.0) in
+    let met = no_objection (objections actor (Add ward seats name) (part_of s actor (Add ward seats name))) none in
+    let range = and_parts (is_office actor) (is_ward_number ward && is_seat_number seats) (asked (is_in_range actor (Add ward seats name)) NumberOutOfRange (met 0)) in
     let numbers = and_parts (is_ward_number ward) (is_seat_number seats) range.1 in
-    let good = asked (is_name (string_bytes name)) BadName others.0 in
-    let new = absent (ward_at s ward) WardExists (others.1).0 in
+    let good = asked (is_name (string_bytes name)) BadName (met 1) in
+    let new = absent (ward_at s ward) WardExists (met 2) in
     let front = words (codes "ward ") (search rules) refl in
     let digits = line_number last_ward ward (omega arith) numbers.0 in
     record {
@@ -82,11 +82,10 @@ ward_fits s actor (Add ward seats name) is none =
       line = line_reply (line_append front (line_append digits (words (codes " added") (search rules) refl))) (omega arith);
     }
 ward_fits s actor (Close ward) is none =
-    let each = none_objects (objections actor (Close ward) (part_of s actor (Close ward))) none in
-    let others = each.1 in
-    let range = and_parts (is_office actor) (is_ward_number ward) (asked (is_in_range actor (Close ward)) NumberOutOfRange each.0) in
-    let found = there Nominations (ward_at s ward) WrongPhase (others.1).0 in
-    let stood = asked (is_stood_in (candidates_of s ward)) NoCandidates ((others.1).1).0 in
+    let met = no_objection (objections actor (Close ward) (part_of s actor (Close ward))) none in
+    let range = and_parts (is_office actor) (is_ward_number ward) (asked (is_in_range actor (Close ward)) NumberOutOfRange (met 0)) in
+    let found = there Nominations (ward_at s ward) WrongPhase (met 2) in
+    let stood = asked (is_stood_in (candidates_of s ward)) NoCandidates (met 3) in
     let digits = line_number last_ward ward (omega arith) range.1 in
     let part = part_of s actor (Close ward) in
     record {

@@ -55,7 +55,8 @@ is_in_range actor (Third batch clerk) part = is_office actor && (is_batch_number
 -- what stands against a third clerk, whose numbers are in range
 abbrev pub third_objections : ℕ → PartEntries → List (Option Reason)
 third_objections clerk part =
-    batch_objections part ++ (objection (passes (λ b. is_its_clerk clerk b part.third) part.batch) SameClerk ∷ objection (not (differ part.keyings)) NoDifference ∷ objection (is_some part.third) ThirdSet ∷ [])
+    batch_objections part
+    ++ (objection (passes (λ b. is_its_clerk clerk b part.third) part.batch) SameClerk ∷ objection (not (differ part.keyings)) NoDifference ∷ objection (is_some part.third) ThirdSet ∷ [])
 
 -- what stands against each, in the order of the reasons' numbers
 abbrev pub objections : ℕ → BatchCommand → PartEntries → List (Option Reason)

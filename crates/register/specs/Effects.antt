@@ -2,9 +2,12 @@
 use Rattle.std.specs.Prelude.{ℕ, List, map}
 use Rattle.register.specs.declared.phase.Phase.{Phase}
 use Rattle.register.specs.declared.decision.Effect.{Effect}
-use Rattle.register.specs.declared.decision.Effect.TheVariants.{WardAdded, WardMoved, CandidateAdded, CandidateWithdrawn, BatchAdded, BatchReopened, ThirdSet, PapersKeyed, PaperJudged, StageCounted, LotDrawn}
+use Rattle.register.specs.declared.decision.Effect.TheVariants.{WardAdded, WardMoved, CandidateAdded, CandidateWithdrawn, BatchAdded, BatchReopened, ThirdSet, PapersKeyed, PaperJudged}
+use Rattle.register.specs.declared.decision.Effect.TheVariants.{StageCounted, LotDrawn}
 use Rattle.register.specs.declared.decision.Change.{Change}
-use Rattle.register.specs.Offices.{WardEntry, CandidateEntry, BatchEntry, ThirdEntry, KeyedEntry, JudgedEntry, LotEntry, ReceiptEntry, OfficeState, put, put_each, without, changed, ward_cmp, candidate_cmp, batch_cmp, third_cmp, keyed_cmp, judged_cmp, lot_cmp, receipt_cmp, ward_compared, candidate_compared, batch_compared, ward_entry, candidate_entry, batch_entry, third_entry, keyed_entry, judged_entry, lot_entry, receipt_entry}
+use Rattle.register.specs.Offices.{WardEntry, CandidateEntry, BatchEntry, ThirdEntry, KeyedEntry, JudgedEntry, LotEntry, ReceiptEntry, OfficeState, put, put_each, without, changed, ward_cmp}
+use Rattle.register.specs.Offices.{candidate_cmp, batch_cmp, third_cmp, keyed_cmp, judged_cmp, lot_cmp, receipt_cmp, ward_compared, candidate_compared, batch_compared, ward_entry}
+use Rattle.register.specs.Offices.{candidate_entry, batch_entry, third_entry, keyed_entry, judged_entry, lot_entry, receipt_entry}
 
 -- what a command does to the state, beside its receipt: a ward is new, or comes to a phase; a candidate of a ward stands,
 -- or stands no longer; a batch is new, or is keyed in another round; a third clerk of a batch is set; papers are keyed; a paper is judged; so many stages of a

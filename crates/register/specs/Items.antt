@@ -4,7 +4,8 @@ use Rattle.std.specs.List.{list_all}
 use Rattle.std.specs.Str.{is_utf8}
 use Rattle.register.specs.Ranges.{is_office, is_clerk, is_ward_number, is_seat_number, is_candidate_number, is_batch_number, is_paper_number, is_lot_stage, is_round, is_name, is_id, is_reply}
 use Rattle.register.specs.Subjects.{is_office_subject, is_clerk_subject}
-use Rattle.register.specs.Offices.{WardEntry, CandidateEntry, BatchEntry, ThirdEntry, KeyedEntry, JudgedEntry, LotEntry, ReceiptEntry, OfficeState, ward_at, candidates_of, batch_at, verdicts_of, MapsRise}
+use Rattle.register.specs.Offices.{WardEntry, CandidateEntry, BatchEntry, ThirdEntry, KeyedEntry, JudgedEntry, LotEntry, ReceiptEntry, OfficeState, ward_at, candidates_of, batch_at}
+use Rattle.register.specs.Offices.{verdicts_of, MapsRise}
 use Rattle.register.specs.Nominations.{are_enough}
 use Rattle.register.specs.Elections.{election_of, is_agreed, is_counted_right}
 use Rattle.register.specs.Keyed.{is_given_out, is_third_for, is_keyed_for, are_rounds_to, is_judged}
@@ -49,7 +50,8 @@ is_receipt r = is_about r.actor r.subject && (is_utf8 r.subject && (is_id r.id &
 abbrev pub item1 : OfficeState → Bool
 item1 s =
     list_all is_ward s.wards
-    && (list_all is_candidate s.candidates && (list_all is_batch s.batches && (list_all is_third s.thirds && (list_all is_keyed_paper s.keyings && (list_all is_judged_paper s.verdicts && (list_all is_lot s.lots && list_all is_receipt s.receipts))))))
+    && (list_all is_candidate s.candidates && (list_all is_batch s.batches && (list_all is_third s.thirds
+    && (list_all is_keyed_paper s.keyings && (list_all is_judged_paper s.verdicts && (list_all is_lot s.lots && list_all is_receipt s.receipts))))))
 
 -- the second condition: candidates belong to wards that are there, and each ward has those that its phase asks for
 abbrev pub item2 : OfficeState → Bool

@@ -165,7 +165,9 @@ third_cmp = on (λ (t : ThirdEntry). t.batch) nat_cmp
 
 -- the order of keyed papers: by batch, by round, by clerk, and then by number
 abbrev pub keyed_cmp : KeyedEntry → KeyedEntry → Ordering
-keyed_cmp = then_cmp (on (λ (k : KeyedEntry). k.batch) nat_cmp) (then_cmp (on (λ (k : KeyedEntry). k.round) nat_cmp) (then_cmp (on (λ (k : KeyedEntry). k.clerk) nat_cmp) (on (λ (k : KeyedEntry). k.paper) nat_cmp)))
+keyed_cmp =
+    then_cmp (on (λ (k : KeyedEntry). k.batch) nat_cmp) (then_cmp (on (λ (k : KeyedEntry). k.round) nat_cmp)
+    (then_cmp (on (λ (k : KeyedEntry). k.clerk) nat_cmp) (on (λ (k : KeyedEntry). k.paper) nat_cmp)))
 
 -- the order of judged papers: by batch, and then by number
 abbrev pub judged_cmp : JudgedEntry → JudgedEntry → Ordering

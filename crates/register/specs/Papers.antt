@@ -77,6 +77,11 @@ third_listed (Some clerk) = clerk ∷ []
 abbrev pub clerk_list : Clerks → List ℕ
 clerk_list c = c.first ∷ c.second ∷ third_listed c.third
 
+-- what a clerk keyed of a batch in a round, if there is such a clerk
+abbrev pub keying_by : OfficeState → ℕ → ℕ → Option ℕ → List KeyedEntry
+keying_by s batch round None = []
+keying_by s batch round (Some clerk) = keying_of s batch round clerk
+
 -- the keyings of a batch in a round, as far as they are there, in the order of their clerks
 abbrev pub keyings_in : OfficeState → BatchEntry → ℕ → List (List KeyedEntry)
 keyings_in s b round = filter is_keyed (map (keying_of s b.number round) (clerks_of s b))

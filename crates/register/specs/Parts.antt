@@ -53,4 +53,17 @@ passes test (Some b) = test b
 
 -- the entries that a part stands for
 abbrev pub part_entries : Part → PartEntries
-part_entries part = record { ward = option_map ward_entry part.ward; candidate = option_map candidate_entry part.candidate; candidates = map candidate_entry part.candidates.items; batch = option_map batch_entry part.batch; third = option_map third_entry part.third_clerk; own = map keyed_entry part.own.items; keyings = of_three (map keyed_entry part.first.items) (map keyed_entry part.second.items) (map keyed_entry part.third.items); verdict = option_map judged_entry part.verdict; poll = option_map poll_entry part.poll; due = part.due; elected = part.elected }
+part_entries part =
+    record {
+      ward = option_map ward_entry part.ward;
+      candidate = option_map candidate_entry part.candidate;
+      candidates = map candidate_entry part.candidates.items;
+      batch = option_map batch_entry part.batch;
+      third = option_map third_entry part.third_clerk;
+      own = map keyed_entry part.own.items;
+      keyings = of_three (map keyed_entry part.first.items) (map keyed_entry part.second.items) (map keyed_entry part.third.items);
+      verdict = option_map judged_entry part.verdict;
+      poll = option_map poll_entry part.poll;
+      due = part.due;
+      elected = part.elected;
+    }

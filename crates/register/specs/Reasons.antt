@@ -3,7 +3,10 @@ use Rattle.std.specs.Prelude.{ℕ, Bool, if◌then◌else◌, List, [], ◌∷�
 use Rattle.std.specs.Fmt.{decimal}
 use Rattle.register.specs.Texts.{listed}
 use Rattle.register.specs.declared.refusal.Reason.{Reason}
-use Rattle.register.specs.declared.refusal.Reason.TheVariants.{BadId, IdUsed, NumberOutOfRange, BadName, NoSuchWard, WardExists, NoSuchBatch, BatchExists, WrongPhase, CandidateExists, NoSuchCandidate, NoCandidates, SameClerk, NotItsClerk, NotThisRound, AlreadyKeyed, WrongPaperCount, BadMarks, NoDifference, NotTaken, NotDoubtful, AlreadyJudged, BadVerdict, NotReady, CountFinished, LotNeeded, NoSuchLot, NotAmong, CountNotFinished, ThirdSet}
+use Rattle.register.specs.declared.refusal.Reason.TheVariants.{BadId, IdUsed, NumberOutOfRange, BadName, NoSuchWard, WardExists, NoSuchBatch, BatchExists, WrongPhase, CandidateExists}
+use Rattle.register.specs.declared.refusal.Reason.TheVariants.{NoSuchCandidate, NoCandidates, SameClerk, NotItsClerk, NotThisRound, AlreadyKeyed, WrongPaperCount, BadMarks, NoDifference}
+use Rattle.register.specs.declared.refusal.Reason.TheVariants.{NotTaken, NotDoubtful, AlreadyJudged, BadVerdict, NotReady, CountFinished, LotNeeded, NoSuchLot, NotAmong, CountNotFinished}
+use Rattle.register.specs.declared.refusal.Reason.TheVariants.{ThirdSet}
 
 -- the number that stands for a reason
 abbrev pub reason_number : Reason → ℕ

@@ -14,7 +14,8 @@ use Rattle.register.specs.declared.batches.BatchCommand.TheVariants as batches
 use Rattle.register.specs.declared.counts.CountCommand.TheVariants as counts
 use Rattle.register.specs.declared.verdicts.Verdict.{Verdict}
 use Rattle.register.specs.declared.verdicts.Verdict.TheVariants.{Accept, Reject}
-use Rattle.register.specs.declared.refusal.Reason.TheVariants.{BadId, IdUsed, NumberOutOfRange, WardExists, AlreadyKeyed, NotDoubtful, NotReady, CountFinished, NotItsClerk, SameClerk, NoDifference, ThirdSet}
+use Rattle.register.specs.declared.refusal.Reason.TheVariants.{BadId, IdUsed, NumberOutOfRange, WardExists, AlreadyKeyed, NotDoubtful, NotReady, CountFinished, NotItsClerk, SameClerk}
+use Rattle.register.specs.declared.refusal.Reason.TheVariants.{NoDifference, ThirdSet}
 use Rattle.register.specs.Offices.{WardEntry, CandidateEntry, BatchEntry, KeyedEntry, JudgedEntry, ReceiptEntry, OfficeState, empty_office}
 use Rattle.register.specs.Papers.{is_taken, is_differing, taken_papers}
 use Rattle.register.specs.Machine.{accepted, kept, refused, step}

@@ -11,7 +11,9 @@ use crate::decision::Effect;
 use crate::keyings::is_its_clerk;
 use crate::papers::differ;
 use crate::phase::Phase;
-use crate::ranges::{LAST_ROUND, is_batch_number, is_clerk, is_paper_number, is_ward_number};
+use crate::ranges::{
+    LAST_ROUND, is_batch_number, is_clerk, is_office, is_paper_number, is_ward_number,
+};
 use crate::refusal::Reason;
 use crate::view::Part;
 use crate::wards::is_in_phase;
@@ -47,7 +49,7 @@ pub enum BatchCommand {
         first_clerk: u32,
         second_clerk: u32,
     },
-    /// The batch, whose keyings differ, is keyed again in a round more.
+    /// The batch, whose keyings differ, is keyed again in one more round.
     Again {
         batch: u32,
     },
@@ -80,7 +82,7 @@ fn is_last(batch: &Option<Batch>) -> bool
 fn is_in_range(actor: u32, command: &BatchCommand, part: &Part) -> bool
     ensures { result ≡ is_in_range actor command.now (part_entries part.now) }
 {
-    let office = actor == 0;
+    let office = is_office(actor);
     match command {
         BatchCommand::Add {
             batch,

@@ -9,7 +9,7 @@ ghost use Rattle.register.specs.Candidates.{is_in_range, objections, subject_of,
 
 use crate::decision::Effect;
 use crate::phase::Phase;
-use crate::ranges::{is_candidate_number, is_name, is_ward_number};
+use crate::ranges::{is_candidate_number, is_name, is_office, is_ward_number};
 use crate::refusal::Reason;
 use crate::view::Part;
 use crate::wards::phase_objection;
@@ -43,7 +43,7 @@ pub enum CandidateCommand {
 fn is_office_on(actor: u32, ward: u32, candidate: u32) -> bool
     ensures { result ≡ (is_office actor && (is_ward_number ward && is_candidate_number candidate)) }
 {
-    let office = actor == 0;
+    let office = is_office(actor);
     let number = is_ward_number(ward);
     office & (number & is_candidate_number(candidate))
 }

@@ -11,12 +11,13 @@ ghost use Rattle.register.specs.Elections.{has_finished, is_among};
 ghost use Rattle.register.specs.Additions.{IsAddedBy};
 ghost use Rattle.register.specs.Counts.{is_in_range, is_ready, lot_objection, waits_at, phase_for, own_objections, objections, subject_of, next_stage, poll_told, action_told, reply_to, effect_of};
 
+use crate::additions;
 use crate::decision::Effect;
 use crate::phase::Phase;
 use crate::polls::Poll;
-use crate::ranges::{LAST_LOT_STAGE, is_candidate_number, is_lot_stage, is_ward_number};
+use crate::ranges::{LAST_LOT_STAGE, is_candidate_number, is_lot_stage, is_office, is_ward_number};
 use crate::refusal::Reason;
-use crate::tabulated::{self, Addition};
+use crate::tabulated::Addition;
 use crate::texts::{action_text, listed};
 use crate::view::Part;
 use crate::wards::{Ward, phase_objection};
@@ -60,7 +61,7 @@ pub enum CountCommand {
 fn is_in_range(actor: u32, command: &CountCommand) -> bool
     ensures { result ≡ is_in_range actor command.now }
 {
-    let office = actor == 0;
+    let office = is_office(actor);
     match command {
         CountCommand::Seal { ward } => office & is_ward_number(*ward),
         CountCommand::Advance { ward } => office & is_ward_number(*ward),
@@ -327,8 +328,8 @@ pub(crate) fn effect_of(command: &CountCommand, part: &Part) -> Effect
 }
 
 /// What the command adds to the tabulation where it is accepted: an Advance the stage that is due in the count
-/// shown, another command nothing. Nothing where no count is shown, as one always is where a stage is due. An
-/// error is want of memory.
+/// shown, another command nothing. Where a stage is due a count is always shown; where none is, nothing is
+/// added. An error is want of memory.
 pub(crate) fn addition_of(
     alloc: Global,
     command: &CountCommand,
@@ -337,7 +338,7 @@ pub(crate) fn addition_of(
     ensures { IfOk result (λ addition. IsAddedBy command.now part.now.count addition) }
 {
     match (command, &part.count) {
-        (CountCommand::Advance { ward }, Some(count)) => tabulated::addition_of(
+        (CountCommand::Advance { ward }, Some(count)) => additions::addition_of(
             alloc, *ward, count,
         ),
         (_, _) => Ok(Addition::none(alloc)),

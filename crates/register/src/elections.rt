@@ -100,7 +100,7 @@ pub fn is_in_count(ward: &Ward, candidates: &[Candidate]) -> bool
 
 #[tactic(auto, unfolding(crate::specs::Items::is_lot))]
 /// A lot as the count takes it: its stage, counted from 1, and its candidate. None where a number is out of
-/// range, as none of an office is.
+/// range; the lots of an office are all in range.
 fn lot_pair(lot: &DrawnLot) -> Option<(u8, u8)>
     ensures is { IfSome result (λ pair. pair ≡ lot_pair (lot_entry lot.now)) }
     ensures some { is_lot (lot_entry lot.now) ≡ true → IsSome result }
@@ -111,8 +111,8 @@ fn lot_pair(lot: &DrawnLot) -> Option<(u8, u8)>
     None
 }
 
-/// Lots as the count takes them, in their order. None where a number is out of range, as none of an office
-/// is. An error is want of memory.
+/// Lots as the count takes them, in their order. None where a number is out of range; those of an office are
+/// all in range. An error is want of memory.
 pub fn lot_pairs(alloc: Global, lots: &[DrawnLot]) -> Result<Option<Vec<(u8, u8)>>, AllocError>
     ensures is { IfOk result (λ found. IfSome found (λ pairs. pairs.items ≡ map lot_pair (map lot_entry lots.now))) }
     ensures some { IfOk result (λ found. list_all is_lot (map lot_entry lots.now) ≡ true → IsSome found) }
@@ -169,8 +169,8 @@ impl Count {
 }
 
 impl Election {
-    /// The poll of the ward; none where it has no seats, or more than a ward can have, as no ward of an
-    /// office has. Takes no memory.
+    /// The poll of the ward; none where it has no seats, or more than a ward can have; no ward of an
+    /// office is such a one. Takes no memory.
     pub fn poll(&self) -> Option<Poll>
         ensures is { IfSome result (λ poll. (e : ElectionEntry) → IsElection self.now e → poll_entry poll ≡ poll_of e.ward.seats e.ballots) }
         ensures some { 1 ≤ self.now.ward.seats → self.now.ward.seats ≤ max_seats → IsSome result }
@@ -188,8 +188,8 @@ impl Election {
     }
 
     /// The ward with its count, which has not begun: no stage is done in it; and how many of its papers are
-    /// rejected. None where it has more seats than a ward can have, as no ward of an office has. An error is
-    /// want of memory.
+    /// rejected. None where it has more seats than a ward can have; no ward of an office has. An error is want
+    /// of memory.
     pub fn begin(self, alloc: Global) -> Result<Option<WardSheet>, AllocError>
         ensures same { IfOk result (λ found. IfSome found (λ begun. (begun.counted.ward ≡ self.ward) × (begun.counted.candidates ≡ self.candidates))) }
         ensures is { IfOk result (λ found. IfSome found (λ begun. (e : ElectionEntry) → IsElection self e → e.ward.done ≡ 0 → IsContest (contest_of e) → IsCount e begun.counted.count)) }

@@ -32,7 +32,8 @@ pub mod papers;
 pub mod elections;
 pub mod polls;
 pub mod status;
-// What is kept of the counts.
+// What is kept of the counts, and what a stage adds to it.
+mod additions;
 pub mod tabulated;
 // Numbers and actions in words.
 mod texts;

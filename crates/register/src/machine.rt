@@ -118,7 +118,8 @@ fn accepted(
     subject: String,
 ) -> Result<Decision, AllocError>
     requires { IsNumbered command.now }
-    ensures ruling { IfOk result (λ decision. string_bytes subject ≡ subject_of command.now → ruling_of decision ≡ judged view.now.actor view.now.id.now command.now (part_entries view.now.part) None) }
+    ensures ruling { IfOk result (λ decision. string_bytes subject ≡ subject_of command.now
+        → ruling_of decision ≡ judged view.now.actor view.now.id.now command.now (part_entries view.now.part) None) }
     ensures adds { IfOk result (λ decision. DecidesAddition command.now view.now.part.count decision) }
 {
     let effect = effect_of(alloc, view.actor, command, &view.part)?;
@@ -187,10 +188,13 @@ pub fn decide(alloc: Global, view: &View<'_>, command: &Command) -> Result<Decis
     ensures advances { (s : OfficeState) → IsState s → IsAdvanced s command.now (step s view.now.actor view.now.id.now command.now) }
     ensures tabulates { IfOk result (λ decision. (s : OfficeState) → IsState s → IsViewOf s command.now view.now → AddsWhatIsCounted s decision) }
     ensures adds { IfOk result (λ decision. (s : OfficeState) → IsState s → IsViewOf s command.now view.now → AddsNoMore s command.now decision) }
-    ensures blind { is_office view.now.actor ≡ false → IfOk result (λ decision. (s : OfficeState) → IsViewOf s command.now view.now → ruling_of decision ≡ ruling_at (seen_by view.now.actor s) view.now.actor view.now.id.now command.now) }
-    ensures unseen { is_office view.now.actor ≡ false → (s : OfficeState) (clerk : ℕ) → (view.now.actor == clerk) ≡ false → seen_by clerk (state_after s (step s view.now.actor view.now.id.now command.now)) ≡ seen_by clerk s }
+    ensures blind { is_office view.now.actor ≡ false → IfOk result (λ decision. (s : OfficeState) → IsViewOf s command.now view.now
+        → ruling_of decision ≡ ruling_at (seen_by view.now.actor s) view.now.actor view.now.id.now command.now) }
+    ensures unseen { is_office view.now.actor ≡ false → (s : OfficeState) (clerk : ℕ) → (view.now.actor == clerk) ≡ false
+        → seen_by clerk (state_after s (step s view.now.actor view.now.id.now command.now)) ≡ seen_by clerk s }
     ensures seen_alone { is_office view.now.actor ≡ false → (s : OfficeState) → IsState s
-        → seen_by view.now.actor (state_after s (step s view.now.actor view.now.id.now command.now)) ≡ state_after (seen_by view.now.actor s) (step (seen_by view.now.actor s) view.now.actor view.now.id.now command.now) }
+        → seen_by view.now.actor (state_after s (step s view.now.actor view.now.id.now command.now))
+        ≡ state_after (seen_by view.now.actor s) (step (seen_by view.now.actor s) view.now.actor view.now.id.now command.now) }
 {
     decided(alloc, view, command)
 }

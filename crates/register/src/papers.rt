@@ -1,9 +1,9 @@
 //! How the papers of a batch stand: keyed by its clerks, taken where two keyings agree.
 
-ghost use Rattle.std.specs.Prelude.{◌≡◌, length, map, option_map};
+ghost use Rattle.std.specs.Prelude.{◌≡◌, ℕ, length, map, option_map};
 ghost use Rattle.std.specs.List.{filter};
-ghost use Rattle.register.specs.Offices.{batch_entry, third_entry, keyed_entry, judged_entry};
-ghost use Rattle.register.specs.Papers.{is_keyed, of_three, same_marks, agreed, are_taken, differ, clerks, clerk_list, is_doubtful, has_doubtful, has_verdict, is_open};
+ghost use Rattle.register.specs.Offices.{OfficeState, BatchEntry, batch_entry, third_entry, keyed_entry, judged_entry, keying_of};
+ghost use Rattle.register.specs.Papers.{is_keyed, of_three, same_marks, agreed, are_taken, differ, clerks, clerk_list, clerks_of, keying_by, keyings_in, is_doubtful, has_doubtful, has_verdict, is_open};
 ghost use Rattle.register.specs.Polls.{lower_clerk};
 
 use crate::batches::{Batch, ThirdClerk};
@@ -114,6 +114,13 @@ pub fn clerks_of(batch: &Batch, third: &Option<ThirdClerk>) -> Clerks
         },
     }
 }
+
+/// The law of the keyings of a batch, for its callers: in each round what its clerks keyed, one by one, are the
+/// keyings of the batch.
+pub fn keyings_are_by_clerks()
+    ensures { (s : OfficeState) (b : BatchEntry) (round : ℕ) (c : Clerks) → clerk_list c ≡ clerks_of s b
+        → of_three (keying_of s b.number round c.first) (keying_of s b.number round c.second) (keying_by s b.number round c.third) ≡ keyings_in s b round }
+{}
 
 /// Of the two clerks who first key a batch the one with the lower number.
 pub fn lower_clerk(batch: &Batch) -> u32

@@ -11,7 +11,7 @@ ghost use Rattle.register.specs.Polls.{Pile, StandFor, are_listed, are_bundled, 
 
 use crate::keyings::KeyedPaper;
 use crate::papers::{agreed, are_taken, count_open};
-use crate::verdicts::JudgedPaper;
+use crate::verdicts::{ACCEPTED, JudgedPaper};
 use count::Bundles;
 use paper::{Columns, Keyed, Marked, Marks, Prefs, judge};
 use std::alloc::{AllocError, Global};
@@ -37,7 +37,7 @@ pub trait KeepsPapers {
     // It holds these papers, which came in this order.
     ghost holds: { Self → List (List ℕ) → Type 0 };
 
-    /// Keeps a paper more. An error is want of memory, or a paper more than the `MAX_PAPERS` that an office
+    /// Keeps one more paper. An error is want of memory, or one paper more than the `MAX_PAPERS` that an office
     /// can have, and the papers before are spoilt then.
     fn keep(&mut self, paper: Prefs) -> Result<(), AllocError>
         ensures { IfOk result (λ _. (papers : List (List ℕ)) → holds self.old papers → holds self.new (papers ++ paper ∷ [])) };
@@ -131,7 +131,7 @@ fn by_text(columns: Columns, marks: &str) -> Judgement
 fn by_verdict(columns: Columns, judged: &JudgedPaper) -> Judgement
     ensures { result ≡ by_verdict columns (Some (judged_entry judged.now)) }
 {
-    if judged.code == 0 {
+    if judged.code == ACCEPTED {
         return by_text(columns, judged.marks.as_str());
     }
     Judgement::Rejected(judged.code)
@@ -188,9 +188,9 @@ impl<P: KeepsPapers> Ballots<P> {
         }
     }
 
-    /// Adds the papers of a batch more, from its three clerks' keyings of the current round, in the order of
-    /// the clerks' numbers and empty where they aren't there, and the verdicts on its papers. Nothing comes of
-    /// one that isn't taken, but that the ward isn't ready. An error is want of memory, and the papers before
+    /// Adds the papers of one more batch, from its three clerks' keyings of the current round, in the order of
+    /// the clerks' numbers and empty where they aren't there, and the verdicts on its papers. A batch that isn't
+    /// taken adds no paper, and the ward isn't settled then. An error is want of memory, and the papers before
     /// are spoilt then.
     pub fn add(
         &mut self,
@@ -201,7 +201,10 @@ impl<P: KeepsPapers> Ballots<P> {
         verdicts: &[JudgedPaper],
     ) -> Result<(), AllocError>
         ensures { IfOk result (λ _. (piles : _) → StandFor P.holds self.old (ballots_in columns piles)
-            → StandFor P.holds self.new (ballots_in columns (piles ++ (record { keyings = of_three (map keyed_entry first.now) (map keyed_entry second.now) (map keyed_entry third.now); verdicts = map judged_entry verdicts.now } ∷ [])))) }
+            → StandFor P.holds self.new (ballots_in columns (piles ++ (record {
+              keyings = of_three (map keyed_entry first.now) (map keyed_entry second.now) (map keyed_entry third.now);
+              verdicts = map judged_entry verdicts.now;
+            } ∷ [])))) }
     {
         let papers = agreed(first, second, third);
         let judged = count_open(papers, verdicts) == 0;
@@ -209,7 +212,7 @@ impl<P: KeepsPapers> Ballots<P> {
         self.count_each(columns, verdicts, papers)
     }
 
-    /// Adds a paper more, of a batch that is settled, as it is keyed, with the verdicts on the batch's papers.
+    /// Adds one more paper, of a batch that is settled, as it is keyed, with the verdicts on the batch's papers.
     /// An error is want of memory, and the papers before are spoilt then.
     pub fn add_settled(
         &mut self,
@@ -217,7 +220,8 @@ impl<P: KeepsPapers> Ballots<P> {
         verdicts: &[JudgedPaper],
         keyed: &KeyedPaper,
     ) -> Result<(), AllocError>
-        ensures { IfOk result (λ _. (js : _) → StandFor P.holds self.old (ballots_by js) → StandFor P.holds self.new (ballots_by (js ++ judgement_on columns (map judged_entry verdicts.now) (keyed_entry keyed.now) ∷ []))) }
+        ensures { IfOk result (λ _. (js : _) → StandFor P.holds self.old (ballots_by js)
+            → StandFor P.holds self.new (ballots_by (js ++ judgement_on columns (map judged_entry verdicts.now) (keyed_entry keyed.now) ∷ []))) }
     {
         self.count(judgement_on(columns, verdicts, keyed))
     }
@@ -256,8 +260,8 @@ impl<P: KeepsPapers> Ballots<P> {
         }
     }
 
-    /// Counts a paper that is rejected with a code. None is too many in fact: an office has at most 9999
-    /// batches, of 500 papers.
+    /// Counts a paper that is rejected with a code. There are never too many of them to count: an office has at
+    /// most 9999 batches, of 500 papers.
     fn reject(&mut self, code: u32) -> Result<(), AllocError>
         ensures papers { self.new.papers ≡ self.old.papers }
         ensures rejected { IfOk result (λ _. self.new.rejected ≡ and_rejected self.old.rejected (Judgement.Rejected code)) }

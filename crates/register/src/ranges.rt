@@ -2,10 +2,14 @@
 
 ghost use Rattle.std.specs.Prelude.{◌≡◌};
 ghost use Rattle.std.specs.List.{list_all};
-ghost use Rattle.register.specs.Ranges.{is_between, is_clerk, is_ward_number, is_seat_number, is_candidate_number, is_batch_number, is_paper_number, is_lot_stage, is_round, is_name_byte, is_id_byte, is_line_byte, is_name, is_id, is_reply};
+ghost use Rattle.register.specs.Ranges.{is_between, is_office, is_clerk, is_ward_number, is_seat_number, is_candidate_number, is_batch_number, is_paper_number, is_lot_stage, is_round, is_name_byte};
+ghost use Rattle.register.specs.Ranges.{is_id_byte, is_line_byte, is_name, is_id, is_reply};
 
 use paper::MAX_CANDIDATES;
 use votes::MAX_SEATS;
+
+/// The actor that is the office itself.
+const OFFICE: u32 = 0;
 
 /// The highest number of a clerk.
 pub const LAST_CLERK: u32 = 999;
@@ -51,6 +55,13 @@ pub fn is_between(low: u32, high: u32, n: u32) -> bool
     ensures { result ≡ is_between low high n }
 {
     low <= n && n <= high
+}
+
+/// Whether an actor is the office itself: 0.
+pub fn is_office(actor: u32) -> bool
+    ensures { result ≡ is_office actor }
+{
+    actor == OFFICE
 }
 
 /// Whether an actor is a clerk: 1 to 999.

@@ -15,12 +15,9 @@ ghost use Rattle.register.specs.Elections.{ElectionEntry, election_of, contest_o
 ghost use Rattle.register.specs.Items.{IsState};
 ghost use Rattle.register.specs.Tabulated.{PlacedEntry, FigureEntry, TabulationRises, AreOfCount, has_stages, bundles_in, figures_in, tabulation_of};
 ghost use Rattle.register.specs.Tabulated.{placed_at, figure_at, figures_to, placed_entry, figure_entry, bundle_of, placed_of, shown_of, addition_entries, no_addition};
-ghost use Rattle.register.specs.Additions.{IsAddedTo};
-ghost use Rattle.register.specs.Walks.{moved_bundles, last_figures, all_added, moves_added};
 ghost use Rattle.register.specs.WorkedTabulation.{WorkedTabulation};
 
-use crate::elections::Count;
-use count::{Bundles, Figure, KeptCount, NextStage, Placed, Stage, figures_of, stages_of_figures};
+use count::{Bundles, Figure, KeptCount, Placed, Stage, figures_of, stages_of_figures};
 use paper::{Columns, Prefs};
 use std::alloc::{AllocError, Global};
 use votes::{MAX_PAPERS, Votes};
@@ -78,7 +75,7 @@ impl Addition {
 }
 
 impl Tabulation {
-    /// Of no count. Takes no memory.
+    /// What is tabulated of no count. Takes no memory.
     pub fn empty(alloc: Global) -> Tabulation
         ensures bundles { result.bundles.items ≡ [] }
         ensures figures { result.figures.items ≡ [] }
@@ -111,7 +108,7 @@ impl Tabulation {
 }
 
 /// A bundle of a ward, where it lies. An error is want of memory.
-fn placed_bundle(
+pub(crate) fn placed_bundle(
     alloc: Global,
     ward: u32,
     list: &Prefs,
@@ -152,7 +149,7 @@ fn add_bundles(
 }
 
 /// Adds the figures of one stage of a ward.
-fn add_stage(
+pub(crate) fn add_stage(
     to: &mut Vec<StageFigure>,
     ward: u32,
     stage: u32,
@@ -210,7 +207,7 @@ pub fn tabulations_are_ordered()
 {}
 
 /// Adds a bundle to others, and says whether it could: whether its list is one of preferences, it has a paper,
-/// and they are of `MAX_PAPERS` papers at most with it. An error is want of memory.
+/// and with it there are at most `MAX_PAPERS` papers. An error is want of memory.
 fn add_bundle(bundles: &mut Bundles, bundle: &PlacedBundle) -> Result<bool, AllocError>
     ensures ok { IfOk result (λ added. added ≡ true → bundles.new ≡ with_papers bundles.old bundle.now.list.items bundle.now.papers) }
     ensures fits { IfOk result (λ added. IsBundle (bundle_of (placed_entry bundle.now)) → length (papers_of bundles.old) + bundle.now.papers ≤ max_papers → added ≡ true) }
@@ -301,109 +298,4 @@ pub fn count_of(
         return Ok(None);
     };
     Ok(KeptCount::resume(candidates, seats, kept, places, stages))
-}
-
-/// The bundles of a ward that lie elsewhere than before, where they lie now. An error is want of memory.
-fn moved_bundles(
-    alloc: Global,
-    ward: u32,
-    bundles: &Bundles,
-    before: &[Placed],
-    now: &[Placed],
-) -> Result<Vec<PlacedBundle>, AllocError>
-    ensures { IfOk result (λ moved. map placed_entry moved.items ≡ moved_bundles ward bundles.now before.now now.now) }
-{
-    let mut moved = Vec::new(alloc);
-    let (mut old_places, mut new_places) = (before, now);
-    for (list, papers) in bundles.iter() {
-        let (Some((old, other_old)), Some((new, other_new))) = (
-            old_places.split_first(),
-            new_places.split_first(),
-        ) else {
-            break;
-        };
-        if old != new {
-            moved.push(placed_bundle(alloc, ward, list, *papers, new)?)?;
-        }
-        old_places = other_old;
-        new_places = other_new;
-    }
-    Ok(moved)
-}
-
-/// The figures of the last of a ward's stages. An error is want of memory.
-fn last_figures(
-    alloc: Global,
-    ward: u32,
-    candidates: &Columns,
-    stages: &[Stage],
-) -> Result<Vec<StageFigure>, AllocError>
-    ensures { IfOk result (λ figures. map figure_entry figures.items ≡ last_figures ward candidates.now stages.now) }
-{
-    // no memory holds more stages than a number tells
-    let Ok(stage) = u32::try_from(stages.len()) else {
-        return Err(AllocError);
-    };
-    let shown = figures_of(alloc, candidates, stages)?;
-    let mut figures = Vec::new(alloc);
-    add_stage(&mut figures, ward, stage, &shown)?;
-    Ok(figures)
-}
-
-/// What the first stage of a ward's count adds: all that is tabulated of it. An error is want of memory.
-fn first_addition(
-    alloc: Global,
-    ward: u32,
-    kept: &KeptCount,
-    next: &NextStage,
-) -> Result<Addition, AllocError>
-    ensures { IfOk result (λ addition. (now : List ℕ → Place) → next.now.places.items ≡ map (λ (b : Bundle). placed (now b.0)) kept.now.bundles
-        → addition_entries addition ≡ all_added ward kept.now.candidates kept.now.bundles now next.now.stages.items) }
-{
-    let mut tabulation = Tabulation::empty(alloc);
-    tabulation.add(
-        alloc,
-        ward,
-        &kept.candidates(),
-        kept.bundles(),
-        &next.places,
-        &next.stages,
-    )?;
-    Ok(Addition {
-        placed: tabulation.bundles,
-        moved: Vec::new(alloc),
-        figures: tabulation.figures,
-    })
-}
-
-/// What a later stage of a ward's count adds: the bundles that lie elsewhere than before, and its figures. An
-/// error is want of memory.
-fn later_addition(
-    alloc: Global,
-    ward: u32,
-    kept: &KeptCount,
-    next: &NextStage,
-) -> Result<Addition, AllocError>
-    ensures { IfOk result (λ addition. addition_entries addition ≡ moves_added ward kept.now.candidates kept.now.bundles kept.now.places next.now.places.items next.now.stages.items) }
-{
-    Ok(Addition {
-        placed: Vec::new(alloc),
-        moved: moved_bundles(alloc, ward, kept.bundles(), kept.places(), &next.places)?,
-        figures: last_figures(alloc, ward, &kept.candidates(), &next.stages)?,
-    })
-}
-
-/// What the stage that is due adds to a ward's count: at the first stage all bundles, at a later one those that
-/// lie elsewhere than before, and its figures. Nothing where no action is due. An error is want of memory.
-pub(crate) fn addition_of(alloc: Global, ward: u32, count: &Count) -> Result<Addition, AllocError>
-    ensures { IfOk result (λ addition. IsAddedTo ward count.now addition) }
-{
-    let kept = &count.kept;
-    let Some(next) = kept.next_stage(alloc, &count.lots)? else {
-        return Ok(Addition::none(alloc));
-    };
-    if kept.stages().is_empty() {
-        return first_addition(alloc, ward, kept, &next);
-    }
-    later_addition(alloc, ward, kept, &next)
 }

@@ -10,7 +10,7 @@ use crate::decision::Effect;
 use crate::marks::{columns_of, is_valid, marks_objection};
 use crate::papers::{agreed, are_taken, has_doubtful};
 use crate::phase::Phase;
-use crate::ranges::{is_batch_number, is_between, is_paper_number};
+use crate::ranges::{is_batch_number, is_between, is_office, is_paper_number};
 use crate::refusal::Reason;
 use crate::view::Part;
 use crate::wards::is_in_phase;
@@ -45,6 +45,9 @@ pub struct VerdictCommand {
     pub verdict: Verdict,
 }
 
+/// The code of a paper that is accepted.
+pub(crate) const ACCEPTED: u32 = 0;
+
 /// The lowest code of a rejection that the returning officer gives.
 const FIRST_REJECTION: u32 = 3;
 
@@ -55,7 +58,7 @@ const LAST_REJECTION: u32 = 5;
 fn is_in_range(actor: u32, command: &VerdictCommand) -> bool
     ensures { result ≡ is_in_range actor command.now }
 {
-    let office = actor == 0;
+    let office = is_office(actor);
     let number = is_batch_number(command.batch);
     office & (number & is_paper_number(command.paper))
 }
@@ -147,7 +150,7 @@ pub(crate) fn effect_of(alloc: Global, command: &VerdictCommand) -> Result<Effec
     ensures { IfOk result (λ effect. effect_entry effect ≡ effect_of command.now) }
 {
     let (code, marks) = match &command.verdict {
-        Verdict::Accept(marks) => (0, marks.clone()?),
+        Verdict::Accept(marks) => (ACCEPTED, marks.clone()?),
         Verdict::Reject(code) => (*code, String::new(alloc)),
     };
     Ok(Effect::PaperJudged(JudgedPaper {

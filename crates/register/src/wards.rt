@@ -11,7 +11,7 @@ ghost use Rattle.register.specs.Wards.{is_in_range, is_to_be_polled, objections,
 use crate::candidates::Candidate;
 use crate::decision::Effect;
 use crate::phase::Phase;
-use crate::ranges::{is_name, is_seat_number, is_ward_number};
+use crate::ranges::{is_name, is_office, is_seat_number, is_ward_number};
 use crate::refusal::Reason;
 use crate::view::Part;
 use std::alloc::{AllocError, Global};
@@ -42,12 +42,12 @@ fn is_in_range(actor: u32, command: &WardCommand) -> bool
 {
     match command {
         WardCommand::Add { ward, seats, .. } => {
-            let office = actor == 0;
+            let office = is_office(actor);
             let number = is_ward_number(*ward);
             office & (number & is_seat_number(*seats))
         }
         WardCommand::Close { ward } => {
-            let office = actor == 0;
+            let office = is_office(actor);
             office & is_ward_number(*ward)
         }
     }

@@ -59,7 +59,8 @@ among Greater least most = absurd (cc)
 
 module _ {X : Type 0} (o : X → Ordering) where
   -- those of the key stand in a part, none before it
-  run_in : (left : List X) (run : ℕ) → run ≤ length left → ((k : ℕ) (d : X) → k < length left → is_lt (o (get_or left k d)) ≡ false) → IsPartitionPoint (λ x. is_le (o x) ≡ true) (λ x. is_le (o x) ≡ false) left run
+  run_in : (left : List X) (run : ℕ) → run ≤ length left → ((k : ℕ) (d : X) → k < length left → is_lt (o (get_or left k d)) ≡ false)
+      → IsPartitionPoint (λ x. is_le (o x) ≡ true) (λ x. is_le (o x) ≡ false) left run
       → filter (λ x. is_eq (o x)) left ≡ take run left
   run_in left run within least upper =
       ap (filter (λ x. is_eq (o x))) (sym (take-append-drop run left)) ∙ (filter-append (λ x. is_eq (o x)) (take run left) (drop run left) ∙ rw (middle, behind) (append-nil _))

@@ -18,7 +18,7 @@ use Rattle.register.proofs.MapLemmas.{each_weaker}
 use Rattle.rowcheck.specs.declared.rows.Rows.{Rows}
 use Rattle.rowcheck.specs.States.{state_of}
 use Rattle.rowcheck.specs.Walks.Counts.{IsFair}
-use Rattle.rowcheck.proofs.RunLemmas.{below_from, more_differs}
+use Rattle.rowcheck.proofs.SideBySideLemmas.{below_from, more_differs}
 
 -- of rows in range the lots are
 pub lots_in_range : (s : OfficeState) → item1 s ≡ true → list_all is_lot s.lots ≡ true
@@ -69,4 +69,5 @@ pub by_ward : (rows : Rows) → list_all (λ (l : DrawnLot). is_some (ward_at (s
 unfolding item7
 by_ward rows placed =
     let s = state_of rows in
-    rw (list_all-map (λ (l : LotEntry). is_some (ward_at s l.ward)) lot_entry rows.lots.items, placed) (list_all-map (λ (w : WardEntry). is_counted_right (election_of s w)) ward_entry rows.wards.items)
+    rw (list_all-map (λ (l : LotEntry). is_some (ward_at s l.ward)) lot_entry rows.lots.items, placed)
+    (list_all-map (λ (w : WardEntry). is_counted_right (election_of s w)) ward_entry rows.wards.items)

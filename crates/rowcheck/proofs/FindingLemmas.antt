@@ -1,6 +1,7 @@
 -- Rows in the order of their keys are in the order in which they are compared with a key, or with the beginning of one; and
 -- what is found so is what the state has.
-use Rattle.std.proofs.Common.{◌≡◌, ℕ, ◌<◌, ◌≤◌, ◌==◌, Bool, true, false, ◌&&◌, cond, nat_lt, List, [], ◌∷◌, map, length, get_or, filter, find, slice_get, Option, Some, None, option_map, option_copied, is_some, Bor, zero, suc, refl, sym, ap, ◌∙◌, arith, inl, inr, eq-eqb}
+use Rattle.std.proofs.Common.{◌≡◌, ℕ, ◌<◌, ◌≤◌, ◌==◌, Bool, true, false, ◌&&◌, cond, nat_lt, List, [], ◌∷◌, map, length, get_or, filter, find, slice_get, Option, Some, None, option_map}
+use Rattle.std.proofs.Common.{option_copied, is_some, Bor, zero, suc, refl, sym, ap, ◌∙◌, arith, inl, inr, eq-eqb}
 use Rattle.std.specs.List.{AllByRecursion}
 use Rattle.std.specs.List.Sorted.{IsNonDecreasingBy, IsStrictlySortedBy}
 use Rattle.std.specs.declared.cmp.Ordering.{Ordering}
@@ -9,7 +10,7 @@ use Rattle.std.specs.Ordering.{nat_cmp, ordering_index, ordering_then, is_eq, th
 use Rattle.std.specs.Cmp.{unsigned_tied}
 use Rattle.std.proofs.lemmas.Bool.{ltb-false}
 use Rattle.std.proofs.lemmas.Bool.Decides.{eqb_tells}
-use Rattle.rowcheck.proofs.RunLemmas.{below_from, equal_from}
+use Rattle.rowcheck.proofs.SideBySideLemmas.{below_from, equal_from}
 
 -- ---- orders
 
@@ -54,7 +55,8 @@ module _ {Y : Type 0} (n : Y → ℕ) (key : ℕ) where
       together Equal below = later y z below
       together Greater below = omega arith
 
-      go : (p : Ordering) → nat_cmp (n y) (n z) ≡ p → ordering_then p (rest y z) ≡ Less → ordering_index (ordering_then (nat_cmp (n y) key) (o y)) ≤ ordering_index (ordering_then (nat_cmp (n z) key) (o z))
+      go : (p : Ordering) → nat_cmp (n y) (n z) ≡ p → ordering_then p (rest y z) ≡ Less
+          → ordering_index (ordering_then (nat_cmp (n y) key) (o y)) ≤ ordering_index (ordering_then (nat_cmp (n z) key) (o z))
       go Less is told = apart (nat_cmp (n y) key) (nat_cmp (n z) key) refl refl (below_from (n y) (n z) is)
       go Equal is told = rw (equal_from (n y) (n z) is) (together (nat_cmp (n z) key) told)
       go Greater is told = absurd (cc)
@@ -77,7 +79,8 @@ module _ {Y : Type 0} (n : Y → ℕ) (key : ℕ) where
   follows_key y z less = follows (λ a b. Less) y z (rw less refl)
 
 -- rows in the order of their keys are in that order
-pub stand_in_order : {X Y : Type 0} (f : X → Y) (cmp : Y → Y → Ordering) (o : Y → Ordering) → Follows cmp o → (xs : List X) → IsStrictlySortedBy cmp (map f xs) → IsNonDecreasingBy (λ x. ordering_index (o (f x))) xs
+pub stand_in_order : {X Y : Type 0} (f : X → Y) (cmp : Y → Y → Ordering) (o : Y → Ordering) → Follows cmp o → (xs : List X) → IsStrictlySortedBy cmp (map f xs)
+    → IsNonDecreasingBy (λ x. ordering_index (o (f x))) xs
 unfolding IsStrictlySortedBy
 stand_in_order f cmp o along [] up i j d low high = absurd (omega arith)
 stand_in_order f cmp o along (x ∷ xs) up zero zero d low high = omega arith

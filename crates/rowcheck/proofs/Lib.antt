@@ -1,11 +1,11 @@
 pub mod PlainLemmas
-pub mod RunLemmas
+pub mod SideBySideLemmas
 pub mod BisectionLemmas
 pub mod FindingLemmas
-pub mod NominationLemmas
-pub mod KeyingLemmas
+pub mod CandidateWalkLemmas
+pub mod OwnerLemmas
 pub mod RoundLemmas
-pub mod PollLemmas
-pub mod CountLemmas
-pub mod TabulatedLemmas
+pub mod WardBatchesLemmas
+pub mod StagesDoneLemmas
+pub mod CountedBookLemmas
 pub mod FairLemmas

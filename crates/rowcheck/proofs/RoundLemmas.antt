@@ -1,22 +1,10 @@
--- The keyings of a batch in a round, by its two or three clerks.
-use Rattle.std.proofs.Common.{◌≡◌, ℕ, Bool, true, false, not, ◌||◌, ◌&&◌, cond, List, [], ◌∷◌, map, filter, Option, Some, None, refl, ap, ◌∙◌}
+-- The keyings of a batch in a round, each whole if it is there.
+use Rattle.std.proofs.Common.{◌≡◌, ℕ, Bool, true, false, not, ◌||◌, ◌&&◌, cond, List, [], ◌∷◌, filter, refl, ap, ◌∙◌}
 use Rattle.std.specs.List.{list_all}
 use Rattle.std.proofs.Math.Bool.{and-true}
-use Rattle.register.specs.declared.papers.Clerks.{Clerks}
-use Rattle.register.specs.Offices.{KeyedEntry, OfficeState, keying_of}
-use Rattle.register.specs.Papers.{is_keyed, of_three, third_listed, clerk_list}
+use Rattle.register.specs.Offices.{KeyedEntry}
+use Rattle.register.specs.Papers.{is_keyed, of_three}
 use Rattle.register.specs.Keyed.{is_whole}
-use Rattle.rowcheck.specs.Walks.Keyings.{keying_by}
-
--- those of the clerks, one by one, are those of all of them
-pub keyed_by_clerks : (s : OfficeState) (batch round : ℕ) (c : Clerks)
-    → of_three (keying_of s batch round c.first) (keying_of s batch round c.second) (keying_by s batch round c.third) ≡ filter is_keyed (map (keying_of s batch round) (clerk_list c))
-keyed_by_clerks s batch round c = go c.third
-  where
-    go : (third : Option ℕ)
-        → of_three (keying_of s batch round c.first) (keying_of s batch round c.second) (keying_by s batch round third) ≡ filter is_keyed (map (keying_of s batch round) (c.first ∷ c.second ∷ third_listed third))
-    go None = refl
-    go (Some clerk) = refl
 
 -- what is asked of those that are there
 each_if : {X : Type 0} (p q : X → Bool) (xs : List X) → list_all p (filter q xs) ≡ list_all (λ x. not (q x) || p x) xs
@@ -29,5 +17,6 @@ each_if {X} p q (x ∷ xs) = go (q x) (each_if p q xs)
 
 -- each of three is whole, if it is there
 pub whole_if_keyed : (size : ℕ) (first second third : List KeyedEntry)
-    → list_all (is_whole size) (of_three first second third) ≡ ((not (is_keyed first) || is_whole size first) && ((not (is_keyed second) || is_whole size second) && (not (is_keyed third) || is_whole size third)))
+    → list_all (is_whole size) (of_three first second third) ≡ ((not (is_keyed first) || is_whole size first)
+    && ((not (is_keyed second) || is_whole size second) && (not (is_keyed third) || is_whole size third)))
 whole_if_keyed size first second third = each_if (is_whole size) is_keyed (first ∷ second ∷ third ∷ []) ∙ rw and-true refl

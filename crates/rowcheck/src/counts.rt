@@ -28,7 +28,8 @@ use std::alloc::{AllocError, Global};
 /// How many stages are counted where more are said to be done than a count can have.
 const TOO_MANY: u32 = LAST_LOT_STAGE + 1;
 
-/// How many stages to count where so many are said to be done: them, or as many as no count has.
+/// How many stages to count where so many are said to be done: that many, or where no count has so many one
+/// more than any count has.
 fn stages_asked(done: u32) -> u32
     ensures few { done ≤ 31 → result ≡ done }
     ensures many { 31 < done → result ≡ 32 }
@@ -245,8 +246,8 @@ fn are_of_wards(rows: &Rows, lots: &[DrawnLot]) -> bool
 /// other ward no stage is done and no lot is there. The seventh condition on the rows of an office, whose
 /// tables stand in the order of their keys, no key twice, and meet the first and the fourth.
 ///
-/// Where it is met, what is tabulated of these counts is answered, which `item8` compares, and else none. An
-/// error is want of memory.
+/// Where it is met, the answer is what is tabulated of these counts, which `item8` compares; else there is none.
+/// An error is want of memory.
 pub fn item7(alloc: Global, rows: &Rows) -> Result<Option<Tabulation>, AllocError>
     requires rise { MapsRise (state_of rows.now) }
     requires in_range { item1 (state_of rows.now) ≡ true }

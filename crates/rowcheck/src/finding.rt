@@ -2,14 +2,15 @@
 
 ghost use Rattle.std.specs.Prelude.{◌≡◌, map, is_some, option_map, option_copied};
 ghost use Rattle.std.specs.Ordering.{nat_cmp, ordering_then};
-ghost use Rattle.register.specs.Offices.{MapsRise, ward_entry, candidate_entry, batch_entry, third_entry, keyed_entry, judged_entry, lot_entry, ward_at, candidates_of, batch_at, third_at, keying_of, verdicts_of, lots_of};
-ghost use Rattle.register.specs.Papers.{of_three, keyings_in};
+ghost use Rattle.register.specs.Offices.{MapsRise, ward_entry, candidate_entry, batch_entry, third_entry, keyed_entry, judged_entry, lot_entry, ward_at, candidates_of, batch_at, third_at};
+ghost use Rattle.register.specs.Offices.{keying_of, verdicts_of, lots_of};
+ghost use Rattle.register.specs.Papers.{of_three, keying_by, keyings_in};
 ghost use Rattle.rowcheck.specs.States.{state_of};
-ghost use Rattle.rowcheck.specs.Walks.Keyings.{papers_of, keying_by};
+ghost use Rattle.rowcheck.specs.Walks.Keyings.{papers_of};
 
 use crate::rows::Rows;
 use crate::runs::{Row, run_of};
-use register::papers::clerks_of;
+use register::papers::{clerks_of, keyings_are_by_clerks};
 use register::{Batch, Candidate, DrawnLot, JudgedPaper, KeyedPaper, ThirdClerk, Ward};
 use std::cmp::Ordering;
 
@@ -194,6 +195,7 @@ pub(crate) fn keyings_in<'a>(rows: &'a Rows, batch: &Batch, round: u32) -> Keyin
     requires { MapsRise (state_of rows.now) }
     ensures { of_three (map keyed_entry result.first.now) (map keyed_entry result.second.now) (map keyed_entry result.third.now) ≡ keyings_in (state_of rows.now) (batch_entry batch.now) round }
 {
+    keyings_are_by_clerks();
     let clerks = clerks_of(batch, &third_at(rows, batch.number));
     Keyings {
         first: keying_of(rows, batch.number, round, clerks.first),

@@ -21,7 +21,7 @@ use register::marks::{columns_of, is_readable};
 use register::papers::differ;
 use register::{Batch, KeyedPaper, ThirdClerk};
 
-/// Whether there is a batch with this number, where that of another number may be known to be there.
+/// Whether there is a batch with this number. One with the number `known` is there for sure, and not looked up.
 fn is_there(rows: &Rows, known: Option<u32>, number: u32) -> bool
     requires rise { MapsRise (state_of rows.now) }
     requires known { IfSome known (λ n. is_some (batch_at (state_of rows.now) n) ≡ true) }
@@ -57,7 +57,8 @@ fn is_keyed_for(
     columns: Columns,
     keyed: &KeyedPaper,
 ) -> bool
-    ensures { result ≡ (nat_le keyed.now.round batch.now.round && (is_its_clerk keyed.now.clerk (batch_entry batch.now) (option_map third_entry third.now) && is_readable columns (string_bytes keyed.now.marks))) }
+    ensures { result ≡ (nat_le keyed.now.round batch.now.round
+        && (is_its_clerk keyed.now.clerk (batch_entry batch.now) (option_map third_entry third.now) && is_readable columns (string_bytes keyed.now.marks))) }
 {
     let in_time = keyed.round <= batch.round;
     let its_clerk = is_its_clerk(keyed.clerk, batch, third);
@@ -70,7 +71,8 @@ fn are_papers_for(
     columns: Columns,
     papers: &[KeyedPaper],
 ) -> bool
-    ensures { result ≡ list_all (λ k. nat_le k.round batch.now.round && (is_its_clerk k.clerk (batch_entry batch.now) (option_map third_entry third.now) && is_readable columns (string_bytes k.marks))) papers.now }
+    ensures { result ≡ list_all (λ k. nat_le k.round batch.now.round
+        && (is_its_clerk k.clerk (batch_entry batch.now) (option_map third_entry third.now) && is_readable columns (string_bytes k.marks))) papers.now }
 {
     papers
         .iter()
@@ -132,7 +134,7 @@ fn is_round_of(rows: &Rows, batch: &Batch, round: u32) -> bool
     whole & (current | differ(keyings.first, keyings.second, keyings.third))
 }
 
-/// Whether each round of a batch is one, from the current one down to the first.
+/// Whether each round of a batch, from the current one down to the first, is as a state asks.
 fn are_rounds(rows: &Rows, batch: &Batch) -> bool
     requires { MapsRise (state_of rows.now) }
     ensures { result ≡ are_rounds_to (state_of rows.now) (batch_entry batch.now) batch.now.round }
@@ -145,7 +147,7 @@ fn are_rounds(rows: &Rows, batch: &Batch) -> bool
     true
 }
 
-/// Whether the keyed papers of a batch are as the batch asks, and those of its rounds.
+/// Whether the keyed papers of a batch are as the batch asks, and its rounds as a state asks.
 fn is_rightly_keyed(rows: &Rows, batch: &Batch) -> bool
     requires { MapsRise (state_of rows.now) }
     ensures { result ≡ is_rightly_keyed (state_of rows.now) (batch_entry batch.now) }

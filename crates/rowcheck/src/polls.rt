@@ -104,7 +104,8 @@ fn add_batch(
     batch: &Batch,
 ) -> Result<(), AllocError>
     requires { MapsRise (state_of rows.now) }
-    ensures { IfOk result (λ _. (piles : _) → StandFor are_bundled ballots.old (ballots_in columns piles) → StandFor are_bundled ballots.new (ballots_in columns (piles ++ (pile_of (state_of rows.now) (batch_entry batch.now) ∷ [])))) }
+    ensures { IfOk result (λ _. (piles : _) → StandFor are_bundled ballots.old (ballots_in columns piles)
+        → StandFor are_bundled ballots.new (ballots_in columns (piles ++ (pile_of (state_of rows.now) (batch_entry batch.now) ∷ [])))) }
 {
     let keyings = keyings_in(rows, batch, batch.round);
     let verdicts = verdicts_of(rows, batch.number);
@@ -117,7 +118,7 @@ fn add_batch(
     )
 }
 
-/// The papers of those of some batches that are of this ward. An error is want of memory.
+/// The papers of this ward among those of some batches. An error is want of memory.
 fn ballots_among(
     alloc: Global,
     rows: &Rows,

@@ -9,8 +9,8 @@ ghost use Rattle.rowcheck.specs.States.{state_of};
 use crate::rows::Rows;
 use crate::subjects::{is_clerk_subject, is_office_subject};
 use register::ranges::{
-    is_batch_number, is_candidate_number, is_clerk, is_id, is_lot_stage, is_name, is_paper_number,
-    is_reply, is_round, is_seat_number, is_ward_number,
+    is_batch_number, is_candidate_number, is_clerk, is_id, is_lot_stage, is_name, is_office,
+    is_paper_number, is_reply, is_round, is_seat_number, is_ward_number,
 };
 use register::{Batch, Candidate, DrawnLot, JudgedPaper, KeyedPaper, Receipt, ThirdClerk, Ward};
 
@@ -83,7 +83,7 @@ fn is_lot(lot: &DrawnLot) -> bool
 fn is_about(actor: u32, subject: &str) -> bool
     ensures { result ≡ is_about actor subject.now }
 {
-    if actor == 0 {
+    if is_office(actor) {
         return is_office_subject(subject);
     }
     is_clerk(actor) && is_clerk_subject(subject)

@@ -1,5 +1,6 @@
 -- Why a query of a table fails: memory is wanting, or the store failed.
-use Rattle.std.proofs.Common.{◌≡◌, ◌≢◌, ◌⊎◌, inl, inr, ℕ, ◌+◌, ◌≤◌, List, [], ◌∷◌, length, append-nil, Bool, true, false, Ok, Err, Result, IfErr, IsTrue, zero, suc, ℤ, ◌&&◌, refl, sym, ap, subst, ◌∙◌, arith, true≢false}
+use Rattle.std.proofs.Common.{◌≡◌, ◌≢◌, ◌⊎◌, inl, inr, ℕ, ◌+◌, ◌≤◌, List, [], ◌∷◌, length, append-nil, Bool, true, false, Ok, Err, Result, IfErr, IsTrue, zero, suc, ℤ, ◌&&◌, refl, sym, ap}
+use Rattle.std.proofs.Common.{subst, ◌∙◌, arith, true≢false}
 use Rattle.sqlite_trees.specs.declared.error.StoreError.{StoreError}
 use Rattle.sqlite_trees.specs.declared.error.StoreError.TheVariants.{OutOfMemory, Io, Corrupt, Full, Broken, Unstorable}
 use Rattle.sqlite_resolve.specs.declared.compiled.Compiled.{Compiled}
@@ -99,7 +100,8 @@ store_fails old new Broken h = inr (refl, inr (inl h))
 store_fails old new Unstorable h = absurd h
 
 -- the text of a query is one statement, whose parameters are all given
-stated : (sql : List ℕ) (params : Row) (old : State) (r : Result Compiled CompileError) (e : Error) → understood old.now.schema sql ≡ r → IsPlain r → tail_of r ≡ length sql → asked_of r ≡ length params → ¬ IsNoStatement old sql params e
+stated : (sql : List ℕ) (params : Row) (old : State) (r : Result Compiled CompileError) (e : Error) → understood old.now.schema sql ≡ r → IsPlain r → tail_of r ≡ length sql
+    → asked_of r ≡ length params → ¬ IsNoStatement old sql params e
 stated sql params old (Err fault) e is plain whole given wrong = plain
 stated sql params old (Ok c) e is plain whole given (inl wrong) = let no : ◌≡◌ {A = Result Compiled CompileError} (Ok c) (Err wrong.0) = sym is ∙ wrong.1 in cc
 stated sql params old (Ok c) e is plain whole given (inr h) = go h.0 (same_ok (sym is ∙ h.1)) h.2
@@ -107,7 +109,8 @@ stated sql params old (Ok c) e is plain whole given (inr h) = go h.0 (same_ok (s
     same_ok : {a b : Compiled} → ◌≡◌ {A = Result Compiled CompileError} (Ok a) (Ok b) → a ≡ b
     same_ok same = cc
 
-    go : (d : Compiled) → c ≡ d → (((¬ (length sql ≤ d.tail)) × (e ≡ MultipleStatement)) ⊎ (((length params ≢ length d.names) × (e ≡ InvalidParameterCount (length params) (length d.names))) ⊎ ((d.formats ≢ []) × (e ≡ SqliteFailure code.NoClock)))) → ⊥
+    go : (d : Compiled) → c ≡ d → (((¬ (length sql ≤ d.tail)) × (e ≡ MultipleStatement))
+        ⊎ (((length params ≢ length d.names) × (e ≡ InvalidParameterCount (length params) (length d.names))) ⊎ ((d.formats ≢ []) × (e ≡ SqliteFailure code.NoClock)))) → ⊥
     go d same (inl long) = long.0 (let at = ap (λ (x : Compiled). x.tail) same in omega (arith, at, whole))
     go d same (inr (inl few)) = few.0 (sym given ∙ ap (λ (x : Compiled). length x.names) same)
     go d same (inr (inr slow)) = slow.0 (ap (λ (x : Compiled). x.formats) (sym same) ∙ plain.1)
@@ -115,7 +118,8 @@ stated sql params old (Ok c) e is plain whole given (inr h) = go h.0 (same_ok (s
 module _ (schema : Schema) (sql : List ℕ) (tree : ℕ) (tests project : List Term) (order : List (Term × Key)) (names : List (List ℕ)) (it : IsSelect schema sql tree tests project order names)
     (params : Row) (given : length tests ≡ length params) (accepted : accepts_program schema [] (query tree tests project order) params ≡ true)
   where
-    read_fails : (old new : State) (db : Database) → db.schema ≡ schema → (e : Error) → RefusesToRead old.step_limit (Select (record { lets = []; body = query tree tests project order }) names) db params e → FailsBy old new (fault_of e)
+    read_fails : (old new : State) (db : Database) → db.schema ≡ schema → (e : Error)
+        → RefusesToRead old.step_limit (Select (record { lets = []; body = query tree tests project order }) names) db params e → FailsBy old new (fault_of e)
     read_fails old new db has e (inl wrong) = absurd (true≢false (sym accepted ∙ (rw has at wrong.1)))
     read_fails old new db has e (inr (inl over)) = absurd (elim over.1 [ inl none ↦ none | inr some ↦ some.4 ])
     read_fails old new db has e (inr (inr cut)) = rw cut.0 (inr (refl, inr (inr cut.1)))
@@ -174,7 +178,8 @@ behind _ more h = absurd (true≢false (sym h))
 abbrev Accepts : Table → Row → Type 0
 Accepts t key =
     (rest : List Definition) (others : List Index) (views : List View)
-    → accepts_program (schema_from (1 + place_of t) rest others views) [] (query (tree_of t) (tests_from 0 (length key)) (columns_from 0 (length (columns_of t))) (ordered_from 0 (shape t).key)) key ≡ true
+    → accepts_program (schema_from (1 + place_of t) rest others views) []
+    (query (tree_of t) (tests_from 0 (length key)) (columns_from 0 (length (columns_of t))) (ordered_from 0 (shape t).key)) key ≡ true
 
 pub accepts : (t : Table) (key : Row) → begins_key t key ≡ true → length key ≤ (shape t).key → Accepts t key
 accepts Office [] kinds low rest others views = refl
@@ -248,37 +253,38 @@ accepts Third (a ∷ b ∷ more) kinds low rest others views = absurd (omega (ar
 -- a query of the rows with a number in the column that refers to another table is accepted
 pub accepts_reference : (r : Reference) (value : Value) → is_of Integer value ≡ true → (rest : List Definition) (others : List Index) (views : List View)
     → accepts_program (schema_from (1 + place_of (table_sought r)) rest others views) []
-    (query (tree_of (table_sought r)) (op2 (Compare Eq Binary) (col 1 (suc (place_sought r))) (col 0 0) ∷ []) (columns_from 0 (length (columns_of (table_sought r)))) (ordered_from 0 (shape (table_sought r)).key)) (value ∷ []) ≡ true
+    (query (tree_of (table_sought r)) (op2 (Compare Eq Binary) (col 1 (suc (place_sought r))) (col 0 0) ∷ []) (columns_from 0 (length (columns_of (table_sought r))))
+    (ordered_from 0 (shape (table_sought r)).key)) (value ∷ []) ≡ true
 accepts_reference WardOfBatch (Int n) kind rest others views = refl
 accepts_reference WardOfBatch _ kind rest others views = absurd (true≢false (sym kind))
 
 -- a query of the rowids is accepted
 accepts_rowids : (t : Table) → changes_rows t ≡ true → (rest : List Definition) (others : List Index) (views : List View)
     → accepts_program (schema_from (1 + place_of t) rest others views) [] (query (tree_of t) [] (col 1 0 ∷ []) ((col 1 0, ascending Binary) ∷ [])) [] ≡ true
-accepts_rowids Office changes rest others views = refl
-accepts_rowids Ward changes rest others views = refl
-accepts_rowids Candidate changes rest others views = refl
-accepts_rowids Batch changes rest others views = refl
 accepts_rowids Keying changes rest others views = absurd (true≢false (sym changes))
 accepts_rowids Verdict changes rest others views = absurd (true≢false (sym changes))
 accepts_rowids Lot changes rest others views = absurd (true≢false (sym changes))
 accepts_rowids Receipt changes rest others views = absurd (true≢false (sym changes))
-accepts_rowids Bundle changes rest others views = refl
 accepts_rowids Vote changes rest others views = absurd (true≢false (sym changes))
 accepts_rowids Third changes rest others views = absurd (true≢false (sym changes))
+accepts_rowids t changes rest others views = refl
 
 -- ---- the queries of a table
 
 -- all rows, under a schema that begins with the tables up to this one
-pub all_fails : {X : Type 0} (t : Table) (db : Database) → BeginsTo t db.schema → (old new : State) (r : Result X Fault) → HasCleanDisk new → RestsAt db old → IfErr r (TellsQuery (select_text t 0) [] old new) → IfErr r (FailsBy old new)
+pub all_fails : {X : Type 0} (t : Table) (db : Database) → BeginsTo t db.schema → (old new : State) (r : Result X Fault) → HasCleanDisk new → RestsAt db old
+    → IfErr r (TellsQuery (select_text t 0) [] old new) → IfErr r (FailsBy old new)
 all_fails t db begins old new r clean rests tells =
-    if_fails (schema_from (1 + place_of t) begins.rest begins.others begins.views) (select_text t 0) (tree_of t) _ _ _ _ ((selects t 0 (omega arith)).select begins.rest begins.others begins.views) [] refl
+    if_fails (schema_from (1 + place_of t) begins.rest begins.others begins.views) (select_text t 0) (tree_of t) _ _ _ _
+    ((selects t 0 (omega arith)).select begins.rest begins.others begins.views) [] refl
     (accepts t [] refl (omega arith) begins.rest begins.others begins.views) old new r clean (ap (λ (d : Database). d.schema) rests.now ∙ begins.is) tells
 
 -- the rowids of a table whose rows change
-pub rowids_fail : (t : Table) → changes_rows t ≡ true → (db : Database) → BeginsTo t db.schema → (old new : State) (f : Fault) → HasCleanDisk new → RestsAt db old → TellsQuery (select_rowids_text t) [] old new f → FailsBy old new f
+pub rowids_fail : (t : Table) → changes_rows t ≡ true → (db : Database) → BeginsTo t db.schema → (old new : State) (f : Fault) → HasCleanDisk new → RestsAt db old
+    → TellsQuery (select_rowids_text t) [] old new f → FailsBy old new f
 rowids_fail t changes db begins old new f clean rests tells =
-    if_fails (schema_from (1 + place_of t) begins.rest begins.others begins.views) (select_rowids_text t) (tree_of t) _ _ _ _ ((selects_rowids t changes).select begins.rest begins.others begins.views) [] refl
+    if_fails (schema_from (1 + place_of t) begins.rest begins.others begins.views) (select_rowids_text t) (tree_of t) _ _ _ _
+    ((selects_rowids t changes).select begins.rest begins.others begins.views) [] refl
     (accepts_rowids t changes begins.rest begins.others begins.views) {X = ℕ} old new (Err f) clean (ap (λ (d : Database). d.schema) rests.now ∙ begins.is) tells
 
 -- the schema of an office, which is seen if the connection is open

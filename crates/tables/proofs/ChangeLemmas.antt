@@ -1,5 +1,6 @@
 -- What UPDATEs, a DELETE, and many INSERTs or UPDATEs make of the contents.
-use Rattle.std.proofs.Common.{◌≡◌, inl, inr, ℕ, suc, ◌+◌, ◌==◌, drop, ◌<◌, List, [], ◌∷◌, ◌++◌, map, filter, fold, take, get_or, append_assoc, length, Bool, true, false, not, cond, Result, OnOk, IsTrue, refl, sym, ap, subst, ◌∙◌, arith, true≢false}
+use Rattle.std.proofs.Common.{◌≡◌, inl, inr, ℕ, suc, ◌+◌, ◌==◌, drop, ◌<◌, List, [], ◌∷◌, ◌++◌, map, filter, fold, take, get_or, append_assoc, length, Bool, true, false, not, cond, Result}
+use Rattle.std.proofs.Common.{OnOk, IsTrue, refl, sym, ap, subst, ◌∙◌, arith, true≢false}
 use Rattle.std.proofs.Math.Seq.{take-suc}
 use Rattle.std.proofs.lemmas.List.Sums.{fold_more}
 use Rattle.std.specs.List.Sorted.{IsPermutation}
@@ -33,7 +34,8 @@ use Rattle.tables.proofs.ReplaceLemmas.{shows_updated, replaces}
 -- ---- a DELETE
 
 -- it takes the row with the key away
-pub row_removed : (t : Table) → changes_rows t ≡ true → (key : Row) (old new : State) (r : Result ℕ Error) → (IsTrue old.in_transaction → ExecutesInside 0 (delete_text t) key old new r) → (c : Contents) → Sees c old → OnOk r (Sees (removed t key c) new)
+pub row_removed : (t : Table) → changes_rows t ≡ true → (key : Row) (old new : State) (r : Result ℕ Error) → (IsTrue old.in_transaction → ExecutesInside 0 (delete_text t) key old new r)
+    → (c : Contents) → Sees c old → OnOk r (Sees (removed t key c) new)
 unfolding removed
 row_removed t changing key old new r runs c sees =
     let stays : Row → Bool = λ x. not (has_key t key x) in
@@ -53,7 +55,8 @@ row_removed t changing key old new r runs c sees =
 -- ---- an UPDATE
 
 -- it puts the row into the place of the one with its key
-pub row_replaced : (t : Table) → changes_rows t ≡ true → (row : Row) → is_row_of t row ≡ true → (old new : State) (r : Result ℕ Error) → (IsTrue old.in_transaction → ExecutesInside 0 (update_text t) row old new r)
+pub row_replaced : (t : Table) → changes_rows t ≡ true → (row : Row) → is_row_of t row ≡ true → (old new : State) (r : Result ℕ Error)
+    → (IsTrue old.in_transaction → ExecutesInside 0 (update_text t) row old new r)
     → (c : Contents) → Sees c old → OnOk r (Sees (replaced t row c) new)
 unfolding replaced
 row_replaced t changing row kinds old new r runs c sees =
@@ -63,7 +66,8 @@ row_replaced t changing row kinds old new r runs c sees =
     table_changed t (map put) (update_text t) row old new
     (λ rest others views free count has ran rows was.
     let it = edits_row rest others views t changing in
-    let change = replaces (schema_from 11 rest others views) t (it.alone free) it.place (updated t) (update_text t) it.updates it.plain_update it.low row next (λ x. row) (shows_updated t row) (λ x typed same. updated_row t x row typed kinds same) (λ x typed. kinds) old new count has (was.keyed changing)
+    let change = replaces (schema_from 11 rest others views) t (it.alone free) it.place (updated t) (update_text t) it.updates it.plain_update it.low row next (λ x. row) (shows_updated t row)
+    (λ x typed same. updated_row t x row typed kinds same) (λ x typed. kinds) old new count has (was.keyed changing)
     (permuted_all (is_row_of t) rows (tuples t old.now.trees) was.same was.typed) ran in (
       change.changes,
       record {
@@ -79,12 +83,14 @@ row_replaced t changing row kinds old new r runs c sees =
 -- ---- an UPDATE of one column
 
 -- each column as it is, but the one that is set
-shows_set : (place key : ℕ) (params r : Row) (ps : List ℕ) → eval_all (map (λ p. cond (p == place) (col 0 key) (col 1 (suc p))) ps) (params ∷ r ∷ []) ≡ map (λ p. cond (p == place) (column params key) (column (drop 1 r) p)) ps
+shows_set : (place key : ℕ) (params r : Row) (ps : List ℕ) → eval_all (map (λ p. cond (p == place) (col 0 key) (col 1 (suc p))) ps) (params ∷ r ∷ [])
+    ≡ map (λ p. cond (p == place) (column params key) (column (drop 1 r) p)) ps
 shows_set place key params r [] = refl
 shows_set place key params r (p ∷ ps) = go (p == place) (shows_set place key params r ps)
   where
     go : (b : Bool) → eval_all (map (λ q. cond (q == place) (col 0 key) (col 1 (suc q))) ps) (params ∷ r ∷ []) ≡ map (λ q. cond (q == place) (column params key) (column (drop 1 r) q)) ps
-        → eval_all (cond b (col 0 key) (col 1 (suc p)) ∷ map (λ q. cond (q == place) (col 0 key) (col 1 (suc q))) ps) (params ∷ r ∷ []) ≡ cond b (column params key) (column (drop 1 r) p) ∷ map (λ q. cond (q == place) (column params key) (column (drop 1 r) q)) ps
+        → eval_all (cond b (col 0 key) (col 1 (suc p)) ∷ map (λ q. cond (q == place) (col 0 key) (col 1 (suc q))) ps) (params ∷ r ∷ []) ≡ cond b (column params key) (column (drop 1 r) p)
+        ∷ map (λ q. cond (q == place) (column params key) (column (drop 1 r) q)) ps
     go true more = ap (λ l. column params key ∷ l) more
     go false more = ap (λ v. v ∷ eval_all (map (λ q. cond (q == place) (col 0 key) (col 1 (suc q))) ps) (params ∷ r ∷ [])) (later p r) ∙ ap (λ l. column (drop 1 r) p ∷ l) more
 
@@ -119,14 +125,19 @@ value_set_there g values kind old new r runs c sees =
     let t = table_set g in
     let made : Row → Row = with_value g (value_set g values) in
     let put : Row → Row = λ x. cond (has_key t values x) (made x) x in
-    let kinds : (x : Row) → is_row_of t x ≡ true → is_row_of t (made x) ≡ true = λ x typed. typed_set (columns_of t) 0 (place_set g) (value_set g values) x (column x) (λ i. ap (column x) (none_past i)) typed kind in
-    let good : (x : Row) → is_row_of t x ≡ true → is_row_of t (put x) ≡ true = λ x typed. elim (has_key t values x) as (λ b. is_row_of t (cond b (made x) x) ≡ true) [ true ↦ kinds x typed | false ↦ typed ] in
+    let kinds : (x : Row) → is_row_of t x ≡ true → is_row_of t (made x) ≡ true =
+    λ x typed. typed_set (columns_of t) 0 (place_set g) (value_set g values) x (column x) (λ i. ap (column x) (none_past i)) typed kind
+    in
+    let good : (x : Row) → is_row_of t x ≡ true → is_row_of t (put x) ≡ true =
+    λ x typed. elim (has_key t values x) as (λ b. is_row_of t (cond b (made x) x) ≡ true) [ true ↦ kinds x typed | false ↦ typed ]
+    in
     table_changed t (map put) (set_text g) values old new
     (λ rest others views free count has ran rows was.
     let it = edits_row rest others views t (setting_changes g) in
     let text = sets_value rest others views g in
     let change = replaces (schema_from 11 rest others views) t (it.alone free) it.place (set_terms g) (set_text g) text.sets text.plain it.low values made made
-    (λ x. ap (λ l. rowid x ∷ rowid x ∷ l) (shows_set (place_set g) (shape t).key values x (places_from 0 (length (columns_of t))))) (λ x typed same. refl) kinds old new count has (was.keyed (setting_changes g))
+    (λ x. ap (λ l. rowid x ∷ rowid x ∷ l) (shows_set (place_set g) (shape t).key values x (places_from 0 (length (columns_of t))))) (λ x typed same. refl) kinds old new count has
+    (was.keyed (setting_changes g))
     (permuted_all (is_row_of t) rows (tuples t old.now.trees) was.same was.typed) ran in (
       change.changes,
       record {
@@ -157,7 +168,8 @@ pub none_added : (t : Table) (c : Contents) (s : State) → Sees c s → Sees (a
 none_added t c s sees = sees_same c (added_all t [] c) s (none_more t c) sees
 
 -- the rows up to one, and that one
-pub next_added : (t : Table) (rows : List Row) (k : ℕ) (row : Row) → k < length rows → get_or rows k [] ≡ row → (c : Contents) (s : State) → Sees (added t row (added_all t (take k rows) c)) s → Sees (added_all t (take (k + 1) rows) c) s
+pub next_added : (t : Table) (rows : List Row) (k : ℕ) (row : Row) → k < length rows → get_or rows k [] ≡ row → (c : Contents) (s : State) → Sees (added t row (added_all t (take k rows) c)) s
+    → Sees (added_all t (take (k + 1) rows) c) s
 next_added t rows k row low is c s sees =
     let more : take (k + 1) rows ≡ take k rows ++ row ∷ [] = ap (λ n. take n rows) (plus k) ∙ take-suc rows k [] low ∙ ap (λ r. take k rows ++ r ∷ []) is in
     subst (λ l. Sees (added_all t l c) s) (sym more) (sees_same (added t row (added_all t (take k rows) c)) (added_all t (take k rows ++ row ∷ []) c) s (one_more t (take k rows) row c) sees)
@@ -172,7 +184,8 @@ unfolding replaced_all
 none_replaced t c s sees = sees
 
 -- the rows up to one, and that one
-pub next_replaced : (t : Table) (rows : List Row) (k : ℕ) (row : Row) → k < length rows → get_or rows k [] ≡ row → (c : Contents) (s : State) → Sees (replaced t row (replaced_all t (take k rows) c)) s → Sees (replaced_all t (take (k + 1) rows) c) s
+pub next_replaced : (t : Table) (rows : List Row) (k : ℕ) (row : Row) → k < length rows → get_or rows k [] ≡ row → (c : Contents) (s : State)
+    → Sees (replaced t row (replaced_all t (take k rows) c)) s → Sees (replaced_all t (take (k + 1) rows) c) s
 unfolding replaced_all
 next_replaced t rows k row low is c s sees =
     let one : Contents → Row → Contents = λ before r. replaced t r before in
@@ -185,7 +198,8 @@ next_replaced t rows k row low is c s sees =
 pub replaced_rows : {X : Type 0} (t : Table) (row : X → Row) (same : X → Bool) (y : X) → ((x : X) → has_key t (row y) (row x) ≡ same x) → (xs : List X)
     → map (λ r. cond (has_key t (row y) r) (row y) r) (map row xs) ≡ map row (map (λ x. cond (same x) y x) xs)
 replaced_rows t row same y alike [] = refl
-replaced_rows t row same y alike (x ∷ xs) = ap (λ b. cond b (row y) (row x) ∷ map (λ r. cond (has_key t (row y) r) (row y) r) (map row xs)) (alike x) ∙ one (same x) (replaced_rows t row same y alike xs)
+replaced_rows t row same y alike (x ∷ xs) =
+    ap (λ b. cond b (row y) (row x) ∷ map (λ r. cond (has_key t (row y) r) (row y) r) (map row xs)) (alike x) ∙ one (same x) (replaced_rows t row same y alike xs)
   where
     one : (b : Bool) → map (λ r. cond (has_key t (row y) r) (row y) r) (map row xs) ≡ map row (map (λ z. cond (same z) y z) xs)
         → cond b (row y) (row x) ∷ map (λ r. cond (has_key t (row y) r) (row y) r) (map row xs) ≡ row (cond b y x) ∷ map row (map (λ z. cond (same z) y z) xs)
@@ -202,16 +216,19 @@ unfolding replaced_all replaced
 replaced_all_there t [] c u = elim (place_of u == place_of t) as (λ b. c u ≡ cond b (c u) (c u)) [ true ↦ refl | false ↦ refl ]
 replaced_all_there t (row ∷ news) c u =
     replaced_all_there t news (replaced t row c) u
-    ∙ elim (place_of u == place_of t) as (λ b. cond b (all_replaced t (cond b (map (λ r. cond (has_key t row r) row r) (c u)) (c u)) news) (cond b (map (λ r. cond (has_key t row r) row r) (c u)) (c u)) ≡ cond b (all_replaced t (map (λ r. cond (has_key t row r) row r) (c u)) news) (c u)) [ true ↦ refl | false ↦ refl ]
+    ∙ elim (place_of u == place_of t) as (λ b. cond b (all_replaced t (cond b (map (λ r. cond (has_key t row r) row r) (c u)) (c u)) news)
+    (cond b (map (λ r. cond (has_key t row r) row r) (c u)) (c u)) ≡ cond b (all_replaced t (map (λ r. cond (has_key t row r) row r) (c u)) news) (c u)) [ true ↦ refl | false ↦ refl ]
 
 -- The rows of some entries, in turn, in the places of the rows with their keys are these entries in the places of those with their keys.
 pub replaced_each : {X : Type 0} (t : Table) (row : X → Row) (same : X → X → Bool) → ((y x : X) → has_key t (row y) (row x) ≡ same y x) → (ys xs : List X)
     → all_replaced t (map row xs) (map row ys) ≡ map row (fold (λ zs y. map (λ z. cond (same y z) y z) zs) xs ys)
 replaced_each t row same alike [] xs = refl
-replaced_each t row same alike (y ∷ ys) xs = ap (λ rows. all_replaced t rows (map row ys)) (replaced_rows t row (same y) y (alike y) xs) ∙ replaced_each t row same alike ys (map (λ z. cond (same y z) y z) xs)
+replaced_each t row same alike (y ∷ ys) xs =
+    ap (λ rows. all_replaced t rows (map row ys)) (replaced_rows t row (same y) y (alike y) xs) ∙ replaced_each t row same alike ys (map (λ z. cond (same y z) y z) xs)
 
 -- A value in the column of the row with a key is a change of the entry with it.
-pub rows_set : {X : Type 0} (g : Setting) (values : Row) (row : X → Row) (same : X → Bool) (change : X → X) → ((x : X) → has_key (table_set g) values (row x) ≡ same x) → ((x : X) → with_value g (value_set g values) (row x) ≡ row (change x))
+pub rows_set : {X : Type 0} (g : Setting) (values : Row) (row : X → Row) (same : X → Bool) (change : X → X) → ((x : X) → has_key (table_set g) values (row x) ≡ same x)
+    → ((x : X) → with_value g (value_set g values) (row x) ≡ row (change x))
     → (xs : List X) → map (λ r. cond (has_key (table_set g) values r) (with_value g (value_set g values) r) r) (map row xs) ≡ map row (map (λ x. cond (same x) (change x) x) xs)
 rows_set g values row same change alike made [] = refl
 rows_set {X} g values row same change alike made (x ∷ xs) =

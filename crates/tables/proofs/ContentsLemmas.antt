@@ -17,7 +17,7 @@ use Rattle.tables.specs.Texts.{insert_text}
 use Rattle.tables.specs.Schema.{Definition, schema_from, definition, place_of, tree_of, shape, columns_of, checks_from, places_from, AreFree}
 use Rattle.tables.specs.Rows.{is_row_of, Keyed}
 use Rattle.tables.specs.Contents.{Contents, changed, added, HoldsTable, Holds, IsOffice, Sees}
-use Rattle.tables.proofs.PlaceLemmas.{typed_at}
+use Rattle.tables.proofs.ColumnPlaceLemmas.{typed_at}
 use Rattle.tables.proofs.TableLemmas.{which_table, has_table}
 use Rattle.tables.proofs.InsertLemmas.{Changes, inserts}
 use Rattle.tables.proofs.Inserts.{inserts_row, inserted, width_of}
@@ -36,7 +36,8 @@ holds_changed t f old new set others c h u = elim (which_table t u) [
 -- the trees of the office's other tables, of all other trees
 pub others_of : (rest : List Definition) (others : List Index) (views : List View) (t : Table) (old new : Trees)
     → AllByRecursion (λ d. d.tree ≢ tree_of t → new d.tree ≡ old d.tree) (schema_from 11 rest others views).tables → (u : Table) → tree_of u ≢ tree_of t → new (tree_of u) ≡ old (tree_of u)
-others_of rest others views t old new all u = all_has (λ (d : Definition). d.tree ≢ tree_of t → new d.tree ≡ old d.tree) (schema_from 11 rest others views).tables (definition u) all (has_table rest others views u)
+others_of rest others views t old new all u =
+    all_has (λ (d : Definition). d.tree ≢ tree_of t → new d.tree ≡ old d.tree) (schema_from 11 rest others views).tables (definition u) all (has_table rest others views u)
 
 -- ---- the last commit
 
@@ -49,7 +50,8 @@ kept sql params old new (Err e) (inl h) = elim h.1 [
 kept sql params old new (Err e) (inr h) = record { was_open = λ _. h.2.0.was_open; committed = λ _. h.2.0.committed_is }
 
 -- what a statement keeps of the last commit, also where the transaction had ended
-pub keeps : (sql : List ℕ) (params : Row) (old new : State) (r : Result ℕ Error) → (IsTrue old.in_transaction → ExecutesInside 0 sql params old new r) → (old.in_transaction ≡ false → new ≡ old) → KeepsCommit old new
+pub keeps : (sql : List ℕ) (params : Row) (old new : State) (r : Result ℕ Error) → (IsTrue old.in_transaction → ExecutesInside 0 sql params old new r)
+    → (old.in_transaction ≡ false → new ≡ old) → KeepsCommit old new
 keeps sql params old new r runs ended = elim (cases_Bool old.in_transaction) [
   | inl inside ↦ kept sql params old new r (runs inside)
   | inr outside ↦ let same = ended outside in record { was_open = λ h. subst (λ (s : State). IsTrue s.is_open) same h; committed = λ _. ap (λ (s : State). s.committed) same }
@@ -58,7 +60,8 @@ keeps sql params old new r runs ended = elim (cases_Bool old.in_transaction) [
 -- ---- a statement that changes one table
 
 module _ (t : Table) (f : List Row → List Row) (sql : List ℕ) (params : Row) (old new : State)
-    (changed_as : (rest : List Definition) (others : List Index) (views : List View) → AreFree rest → (count : ℕ) → old.now.schema ≡ schema_from 11 rest others views → Executes sql params old new (Ok count)
+    (changed_as : (rest : List Definition) (others : List Index) (views : List View) → AreFree rest → (count : ℕ) → old.now.schema ≡ schema_from 11 rest others views
+    → Executes sql params old new (Ok count)
     → (rows : List Row) → HoldsTable t rows old.now.trees → Changes (schema_from 11 rest others views) (tree_of t) old.now new.now × HoldsTable t (f rows) new.now.trees)
   where
     -- it changes the table's rows, and no other's
@@ -89,7 +92,15 @@ row_added t params kinds old new r runs c sees =
     table_changed t (λ rows. params ∷ rows) (insert_text t) params old new
     (λ rest others views free count has ran rows was.
     let it = inserts_row rest others views t in
-    let change = inserts (places_from 1 (shape t).key) (shape t).name (tree_of t) (columns_of t) (checks_from 1 (shape t).fields) (schema_from 11 rest others views) (it.alone free) (place_of t) it.place (insert_text t) (inserted t) (width_of t) it.is it.plain
-    params params (it.shows params ∙ ap (λ r. (Null ∷ r) ∷ []) (rw append-nil (typed_at (columns_of t) params kinds))) kinds old new count has ran in
-    (change.changes, record { same = IsPermutation-trans _ _ _ (IsPermutation-cons params _ _ was.same) change.row; keyed = λ changes. change.keyed (was.keyed changes); typed = and_from _ _ kinds was.typed }))
+    let change = inserts (places_from 1 (shape t).key) (shape t).name (tree_of t) (columns_of t) (checks_from 1 (shape t).fields) (schema_from 11 rest others views) (it.alone free)
+    (place_of t) it.place (insert_text t) (inserted t) (width_of t) it.is it.plain
+    params params (it.shows params ∙ ap (λ r. (Null ∷ r) ∷ []) (rw append-nil (typed_at (columns_of t) params kinds))) kinds old new count has ran in (
+      change.changes,
+      record {
+        same = IsPermutation-trans _ _ _ (IsPermutation-cons params _ _ was.same) change.row;
+        keyed = λ changes. change.keyed
+            (was.keyed changes);
+        typed = and_from _ _ kinds was.typed;
+      },
+    ))
     r runs c sees

@@ -14,9 +14,9 @@ use Rattle.sqlite_schema.specs.declared.schema.Keys.TheVariants.{Enforced}
 use Rattle.sqlite_rules.specs.Action.{works}
 use Rattle.sqlite_tied.specs.Compute.{everything}
 use Rattle.tables.specs.declared.table.Table.{Table}
-use Rattle.tables.specs.declared.table.Table.TheVariants.{Office, Ward, Candidate, Batch, Keying, Verdict, Lot, Receipt, Bundle, Vote, Third}
+use Rattle.tables.specs.declared.table.Table.TheVariants.{Keying, Verdict, Lot, Receipt, Vote, Third}
 use Rattle.tables.specs.declared.table.Setting.{Setting}
-use Rattle.tables.specs.declared.table.Setting.TheVariants.{VersionOfOffice, PhaseOfWard, DoneOfWard, RoundOfBatch}
+use Rattle.tables.specs.declared.table.Setting.TheVariants.{VersionOfOffice}
 use Rattle.tables.specs.Texts.{update_text, set_text, delete_text}
 use Rattle.tables.specs.Schema.{Definition, schema_from, definition, place_of, tree_of, shape, columns_of, places_from, changes_rows, table_set, place_set, AreFree}
 use Rattle.tables.proofs.SelectLemmas.{query, columns_from, tests_from}
@@ -36,9 +36,7 @@ set_terms g = col 1 0 ∷ col 1 0 ∷ map (λ p. cond (p == place_set g) (col 0 
 
 pub setting_changes : (g : Setting) → changes_rows (table_set g) ≡ true
 setting_changes VersionOfOffice = refl
-setting_changes PhaseOfWard = refl
-setting_changes DoneOfWard = refl
-setting_changes RoundOfBatch = refl
+setting_changes g = refl
 
 module _ (rest : List Definition) (others : List Index) (views : List View) where
   abbrev schema : Schema
@@ -56,26 +54,31 @@ module _ (rest : List Definition) (others : List Index) (views : List View) wher
 
   pub edits_row : (t : Table) → changes_rows t ≡ true → EditsRow t
   unfolding understood everything update_text delete_text
-  edits_row Office changes = record { place = refl; updates = refl; plain_update = (refl, refl); deletes = refl; plain_delete = (refl, refl); low = λ db. refl; alone = λ free olds news. none_from schema 0 olds news rest free }
-  edits_row Ward changes = record { place = refl; updates = refl; plain_update = (refl, refl); deletes = refl; plain_delete = (refl, refl); low = λ db. refl; alone = λ free olds news. none_from schema 2 olds news rest free }
-  edits_row Candidate changes = record { place = refl; updates = refl; plain_update = (refl, refl); deletes = refl; plain_delete = (refl, refl); low = λ db. refl; alone = λ free olds news. none_from schema 4 olds news rest free }
-  edits_row Batch changes = record { place = refl; updates = refl; plain_update = (refl, refl); deletes = refl; plain_delete = (refl, refl); low = λ db. refl; alone = λ free olds news. none_from schema 6 olds news rest free }
   edits_row Keying changes = absurd (true≢false (sym changes))
   edits_row Verdict changes = absurd (true≢false (sym changes))
   edits_row Lot changes = absurd (true≢false (sym changes))
   edits_row Receipt changes = absurd (true≢false (sym changes))
-  edits_row Bundle changes = record { place = refl; updates = refl; plain_update = (refl, refl); deletes = refl; plain_delete = (refl, refl); low = λ db. refl; alone = λ free olds news. none_from schema 16 olds news rest free }
   edits_row Vote changes = absurd (true≢false (sym changes))
   edits_row Third changes = absurd (true≢false (sym changes))
+  edits_row t changes =
+      record {
+        place = refl;
+        updates = refl;
+        plain_update = (refl, refl);
+        deletes = refl;
+        plain_delete = (refl, refl);
+        low = λ db. refl;
+        alone = λ free olds news. none_from schema
+            (tree_of t) olds news rest free;
+      }
 
   -- what the statement has to be that sets one column
   pub record SetsValue (g : Setting) : Type 0 where
-    pub sets : command_of (understood schema (set_text g)) ≡ Update (place_of (table_set g)) (record { lets = []; body = query (tree_of (table_set g)) (tests_from 0 (shape (table_set g)).key) (set_terms g) [] })
+    pub sets : command_of (understood schema (set_text g)) ≡ Update (place_of (table_set g))
+        (record { lets = []; body = query (tree_of (table_set g)) (tests_from 0 (shape (table_set g)).key) (set_terms g) [] })
     pub plain : IsPlain (understood schema (set_text g))
 
   pub sets_value : (g : Setting) → SetsValue g
   unfolding understood everything set_text
   sets_value VersionOfOffice = record { sets = refl; plain = (refl, refl) }
-  sets_value PhaseOfWard = record { sets = refl; plain = (refl, refl) }
-  sets_value DoneOfWard = record { sets = refl; plain = (refl, refl) }
-  sets_value RoundOfBatch = record { sets = refl; plain = (refl, refl) }
+  sets_value g = record { sets = refl; plain = (refl, refl) }

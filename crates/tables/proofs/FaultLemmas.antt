@@ -26,6 +26,7 @@ if_query_cause sql params old new (Ok x) tells = tt
 if_query_cause sql params old new (Err f) tells = query_cause sql params old new f tells
 
 -- all rows, where it is known whether rowids are their own
-pub if_listed_keyed : {X : Type 0} (t : Table) (db : Database) (rows : X → List Row) (r : Result X Fault) → (changes_rows t ≡ true → Keyed (db.trees (tree_of t))) → IfOk r (λ x. Lists t (begins_with []) db (rows x)) → IfOk r (λ x. ListsKeyed t db (rows x))
+pub if_listed_keyed : {X : Type 0} (t : Table) (db : Database) (rows : X → List Row) (r : Result X Fault) → (changes_rows t ≡ true → Keyed (db.trees (tree_of t)))
+    → IfOk r (λ x. Lists t (begins_with []) db (rows x)) → IfOk r (λ x. ListsKeyed t db (rows x))
 if_listed_keyed t db rows (Ok x) keyed lists = record { keyed = keyed; lists = lists }
 if_listed_keyed t db rows (Err f) keyed lists = tt

@@ -1,5 +1,6 @@
 -- What a table holds, and what a query shows of it.
-use Rattle.std.proofs.Common.{◌≡◌, ◌⊎◌, inl, inr, ℕ, zero, suc, ◌+◌, ◌≤◌, ◌<◌, List, [], ◌∷◌, map, filter, drop, length, get_or, Option, Bool, true, not, refl, sym, ap, subst, ◌∙◌, arith, Ordering, Less, Equal, Greater}
+use Rattle.std.proofs.Common.{◌≡◌, ◌⊎◌, inl, inr, ℕ, zero, suc, ◌+◌, ◌≤◌, ◌<◌, List, [], ◌∷◌, map, filter, drop, length, get_or, Option, Bool, true, not, refl, sym, ap, subst, ◌∙◌, arith}
+use Rattle.std.proofs.Common.{Ordering, Less, Equal, Greater}
 use Rattle.std.specs.List.{AllByRecursion, list_all}
 use Rattle.std.specs.Ordering.{is_eq, eq_by_cmp, ordering_reverse}
 use Rattle.std.specs.Cmp.{IsTotalOrder}
@@ -29,7 +30,7 @@ use Rattle.tables.specs.Rows.{tuples, at, column_places, is_row_of, is_of, are_o
 use Rattle.tables.specs.Contents.{HoldsTable}
 use Rattle.tables.specs.Reading.{Lists, ListsKeyed, HoldsNone, HasOther, FailsToRise}
 use Rattle.tables.proofs.ListLemmas.{mapped_length, get_mapped, mapped_has, has_mapped, permuted_has, mapped_same, mapped_itself, all_pass, has_at}
-use Rattle.tables.proofs.PlaceLemmas.{padded, pads, at_twice, typed_at}
+use Rattle.tables.proofs.ColumnPlaceLemmas.{padded, pads, at_twice, typed_at}
 use Rattle.tables.proofs.OrderLemmas.{row_total, rise_all, one_key}
 
 -- ---- rows that obey a schema are no longer than its columns
@@ -94,7 +95,9 @@ lists_all t db rows lists = subst (λ l. IsPermutation (map (at (column_places t
 pub shown_rows : (t : Table) (test : Row → Bool) (db : Database) (rows : List Row) → Lists t test db rows → map (at (column_places t)) rows ≡ rows
 shown_rows t test db rows lists =
     mapped_same (at (column_places t)) (λ r. r) rows (λ r h.
-    let raw = has_mapped (at (column_places t)) (filter test (tuples t db.trees)) r (permuted_has r rows (map (at (column_places t)) (filter test (tuples t db.trees))) (IsPermutation-sym _ _ lists.same) h) in
+    let raw =
+    has_mapped (at (column_places t)) (filter test (tuples t db.trees)) r (permuted_has r rows (map (at (column_places t)) (filter test (tuples t db.trees))) (IsPermutation-sym _ _ lists.same) h)
+    in
     ap (at (column_places t)) raw.2 ∙ at_twice (length (columns_of t)) raw.0 ∙ sym raw.2)
     ∙ mapped_itself rows
 
@@ -105,7 +108,9 @@ rows_held t db begins sound rows keyed typed =
     let same = lists_all t db rows keyed.lists in
     let each : (r : Row) → Has (tuples t db.trees) r → at (column_places t) r ≡ r = λ r h.
     let there = permuted_has (at (column_places t) r) (map (at (column_places t)) (tuples t db.trees)) rows same (mapped_has (at (column_places t)) (tuples t db.trees) r h) in
-    let values : list_all is_value (padded n r) ≡ true = ap (list_all is_value) (sym (pads n r)) ∙ values_of (columns_of t) (at (column_places t) r) (test_has (is_row_of t) rows (at (column_places t) r) typed there) in
+    let values : list_all is_value (padded n r) ≡ true =
+    ap (list_all is_value) (sym (pads n r)) ∙ values_of (columns_of t) (at (column_places t) r) (test_has (is_row_of t) rows (at (column_places t) r) typed there)
+    in
     pads n r ∙ whole n r (short t db begins sound r h) values in
     record {
       same = IsPermutation-sym _ _ (subst (λ l. IsPermutation l rows) (mapped_same (at (column_places t)) (λ r. r) (tuples t db.trees) each ∙ mapped_itself (tuples t db.trees)) same);
@@ -117,7 +122,8 @@ rows_held t db begins sound rows keyed typed =
 pub held_listed : (t : Table) (db : Database) (rows : List Row) → Lists t (begins_with []) db rows → (held : List Row) → HoldsTable t held db.trees → IsPermutation held rows
 held_listed t db rows lists held holds =
     IsPermutation-trans _ _ _
-    (subst (λ l. IsPermutation l (map (at (column_places t)) (tuples t db.trees))) (mapped_same (at (column_places t)) (λ r. r) held (λ r h. typed_at (columns_of t) r (test_has (is_row_of t) held r holds.typed h)) ∙ mapped_itself held)
+    (subst (λ l. IsPermutation l (map (at (column_places t)) (tuples t db.trees)))
+    (mapped_same (at (column_places t)) (λ r. r) held (λ r h. typed_at (columns_of t) r (test_has (is_row_of t) held r holds.typed h)) ∙ mapped_itself held)
     (IsPermutation-map (at (column_places t)) _ _ holds.same))
     (lists_all t db rows lists)
 
@@ -136,7 +142,8 @@ no_repeat t rows sorted fails held rise same =
     false≢true (sym at_place ∙ ap is_eq (one_key t rows sorted fails))
 
 -- rowids of a table that holds a list that rises by the key are its rows' own
-pub own_rowids : (t : Table) (rows : List Row) (trees : Trees) → HoldsTable t rows trees → IsStrictlySortedBy (row_cmp t) rows → changes_rows t ≡ true → ¬ (HasWrongRowid (trees (tree_of t)) ⊎ RepeatsRowid (trees (tree_of t)))
+pub own_rowids : (t : Table) (rows : List Row) (trees : Trees) → HoldsTable t rows trees → IsStrictlySortedBy (row_cmp t) rows → changes_rows t ≡ true
+    → ¬ (HasWrongRowid (trees (tree_of t)) ⊎ RepeatsRowid (trees (tree_of t)))
 own_rowids t rows trees holds rise changes (inl wrong) = true≢false (sym ((holds.keyed changes).ints wrong.0 wrong.1) ∙ wrong.2)
 own_rowids t rows trees holds rise changes (inr twice) =
     let k = twice.place in
@@ -145,11 +152,16 @@ own_rowids t rows trees holds rise changes (inr twice) =
     let here = get_or twice.ordered k [] in
     let next = get_or twice.ordered (k + 1) [] in
     let back = IsPermutation-sym _ _ twice.same in
-    let one : here ≡ next = (holds.keyed changes).once here next (permuted_has here _ _ back (has_at twice.ordered k [] first)) (permuted_has next _ _ back (has_at twice.ordered (k + 1) [] within)) twice.equal in
+    let one : here ≡ next =
+    (holds.keyed changes).once here next (permuted_has here _ _ back (has_at twice.ordered k [] first)) (permuted_has next _ _ back (has_at twice.ordered (k + 1) [] within)) twice.equal
+    in
     let shown = map (drop 1) twice.ordered in
     let len : length shown ≡ length twice.ordered = mapped_length (drop 1) twice.ordered in
     let same : get_or shown k [] ≡ get_or shown (k + 1) [] = get_mapped (drop 1) twice.ordered k [] [] first ∙ ap (drop 1) one ∙ sym (get_mapped (drop 1) twice.ordered (k + 1) [] [] within) in
-    let distinct = IsDistinct-IsPermutation (eq_by_cmp (row_cmp t)) (eq_by_cmp_equiv (row_total t)).symm rows shown (IsPermutation-trans _ _ _ holds.same (IsPermutation-map (drop 1) _ _ twice.same)) (IsDistinct-from_sorted (row_cmp t) rows rise) in
+    let distinct =
+    IsDistinct-IsPermutation (eq_by_cmp (row_cmp t)) (eq_by_cmp_equiv (row_total t)).symm rows shown (IsPermutation-trans _ _ _ holds.same (IsPermutation-map (drop 1) _ _ twice.same))
+    (IsDistinct-from_sorted (row_cmp t) rows rise)
+    in
     let apart = apart_from_distinct (eq_by_cmp (row_cmp t)) shown k (k + 1) [] distinct (omega arith) (omega (arith, within, len)) in
     false≢true (sym apart ∙ ap (λ r. is_eq (row_cmp t (get_or shown k []) r)) (sym same) ∙ ap is_eq (tied_itself (row_total t) (get_or shown k [])))
 

@@ -1,5 +1,6 @@
 -- One INSERT of one row.
-use Rattle.std.proofs.Common.{◌≡◌, ◌≢◌, ℕ, ℤ, List, [], ◌∷◌, ◌++◌, map, drop, fold, Option, slice_get, Bool, true, false, cond, Some, None, Ok, refl, sym, ap, subst, ◌∙◌, Ordering, Less, Equal, Greater, true≢false, length, ◌/◌}
+use Rattle.std.proofs.Common.{◌≡◌, ◌≢◌, ℕ, ℤ, List, [], ◌∷◌, ◌++◌, map, drop, fold, Option, slice_get, Bool, true, false, cond, Some, None, Ok, refl, sym, ap, subst, ◌∙◌, Ordering, Less}
+use Rattle.std.proofs.Common.{Equal, Greater, true≢false, length, ◌/◌}
 use Rattle.std.specs.List.{AllByRecursion}
 use Rattle.std.specs.List.Sorted.{IsPermutation}
 use Rattle.std.specs.Ordering.{is_eq, match_ordering}
@@ -31,7 +32,7 @@ use Rattle.sqlite.specs.State.{State, mode_of, Executes}
 use Rattle.sqlite.proofs.Callers.{IsPlain, command_of, statement_of, runs_as, one_step}
 use Rattle.tables.specs.Schema.{Definition, keyed_by}
 use Rattle.tables.specs.Rows.{Keyed, is_of, are_of}
-use Rattle.tables.proofs.KeyedLemmas.{keyed_put_all}
+use Rattle.tables.proofs.NewRowidLemmas.{keyed_put_all}
 use Rattle.tables.proofs.WentLemmas.{given, then_went, read, write_went}
 
 -- ---- lists
@@ -107,7 +108,8 @@ module _ (key : List ℕ) (name : List ℕ) (tree : ℕ) (columns : List Column)
         let done = then_went (Counts task mid counter (fold higher (count_of counter) (edit_of db table [] Chosen 0 rows).news)) (λ next. Gives (written db rows next)) w h in
         subst (λ (x : Written). mid ≡ x.trees) (sym (given (written db rows done.0) w done.2)) (sym (given mid done.0 done.1))
 
-    kept_as : (db : Trees) (rows : List Row) (mid next : Trees) → mid ≡ next → Edited schema Enforced db (edit_of db table [] Chosen 0 rows) (Ok mid) → Edited schema Enforced db (edit_of db table [] Chosen 0 rows) (Ok next)
+    kept_as : (db : Trees) (rows : List Row) (mid next : Trees) → mid ≡ next → Edited schema Enforced db (edit_of db table [] Chosen 0 rows) (Ok mid)
+        → Edited schema Enforced db (edit_of db table [] Chosen 0 rows) (Ok next)
     kept_as db rows mid next same edited = subst (λ (x : Trees). Edited schema Enforced db (edit_of db table [] Chosen 0 rows) (Ok x)) same edited
 
     insert_went : (from : Source) (db : Trees) (w : Written) → Inserts task from db (Ok w)
@@ -125,7 +127,8 @@ module _ (key : List ℕ) (name : List ℕ) (tree : ℕ) (columns : List Column)
       (params tuple : Row) (source : value_rows (params ++ []) width (length terms / width) terms ≡ (Null ∷ tuple) ∷ []) (kinds : are_of columns tuple ≡ true)
     where
       -- the row is put in under a rowid that no other row has
-      finish : (old new : Database) → IsDatabase new → (trees : Trees) → new ≡ record { schema = schema; trees = trees } → (rows : List Row) → rows ≡ (Null ∷ tuple) ∷ [] → Edited schema Enforced old.trees (edit_of old.trees table [] Chosen 0 rows) (Ok trees)
+      finish : (old new : Database) → IsDatabase new → (trees : Trees) → new ≡ record { schema = schema; trees = trees } → (rows : List Row) → rows ≡ (Null ∷ tuple) ∷ []
+          → Edited schema Enforced old.trees (edit_of old.trees table [] Chosen 0 rows) (Ok trees)
           → Adds schema tree tuple old new
       finish old new sound trees now rows one edited =
           let db = old.trees in
@@ -142,7 +145,9 @@ module _ (key : List ℕ) (name : List ℕ) (tree : ℕ) (columns : List Column)
               sound = sound;
               others = subst (λ (t : Trees). AllByRecursion (λ u. u.tree ≢ tree → t u.tree ≡ db u.tree) schema.tables) (sym same) step.tables;
             };
-            row = subst (λ l. IsPermutation (tuple ∷ map (drop 1) (db tree)) (map (drop 1) l)) (sym (after ∙ ap (put_all (db tree)) news)) (IsPermutation-map (drop 1) _ _ (put_fresh row (db tree) free));
+            row =
+                subst (λ l. IsPermutation (tuple ∷ map (drop 1) (db tree)) (map (drop 1) l)) (sym (after ∙ ap (put_all (db tree)) news))
+                (IsPermutation-map (drop 1) _ _ (put_fresh row (db tree) free));
             keyed = λ keyed. subst Keyed (sym after) (keyed_put_all edit.news (db tree) keyed step.keyed step.fresh);
           }
 

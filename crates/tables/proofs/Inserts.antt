@@ -16,12 +16,13 @@ use Rattle.sqlite_schema.specs.declared.schema.Keys.TheVariants.{Enforced}
 use Rattle.sqlite_rules.specs.Action.{works, work_for}
 use Rattle.sqlite_tied.specs.Compute.{everything}
 use Rattle.tables.specs.declared.table.Table.{Table}
-use Rattle.tables.specs.declared.table.Table.TheVariants.{Office, Ward, Candidate, Batch, Keying, Verdict, Lot, Receipt, Bundle, Vote, Third}
+use Rattle.tables.specs.declared.table.Table.TheVariants.{Office}
 use Rattle.tables.specs.Texts.{insert_text}
 use Rattle.tables.specs.Schema.{Definition, schema_from, definition, place_of, tree_of, columns_of, AreFree}
 use Rattle.tables.specs.Rows.{at, column_places}
 
-pub none_from : (schema : Schema) (tree : ℕ) (olds news : List Row) (ts : List Definition) → AreFree ts → flat_map (λ child. filter_map (work_for schema Enforced 0 tree olds news child) child.references) ts ≡ []
+pub none_from : (schema : Schema) (tree : ℕ) (olds news : List Row) (ts : List Definition) → AreFree ts
+    → flat_map (λ child. filter_map (work_for schema Enforced 0 tree olds news child) child.references) ts ≡ []
 none_from schema tree olds news [] h = refl
 none_from schema tree olds news (t ∷ ts) h = rw h.0 (none_from schema tree olds news ts h.1)
 
@@ -50,14 +51,5 @@ module _ (rest : List Definition) (others : List Index) (views : List View) wher
 
   pub inserts_row : (t : Table) → InsertsRow t
   unfolding understood everything insert_text
-  inserts_row Office = record { place = refl; is = refl; plain = (refl, refl); shows = λ _. refl; alone = λ free olds news. none_from schema 0 olds news rest free }
-  inserts_row Ward = record { place = refl; is = refl; plain = (refl, refl); shows = λ _. refl; alone = λ free olds news. none_from schema 2 olds news rest free }
-  inserts_row Candidate = record { place = refl; is = refl; plain = (refl, refl); shows = λ _. refl; alone = λ free olds news. none_from schema 4 olds news rest free }
-  inserts_row Batch = record { place = refl; is = refl; plain = (refl, refl); shows = λ _. refl; alone = λ free olds news. none_from schema 6 olds news rest free }
-  inserts_row Keying = record { place = refl; is = refl; plain = (refl, refl); shows = λ _. refl; alone = λ free olds news. none_from schema 8 olds news rest free }
-  inserts_row Verdict = record { place = refl; is = refl; plain = (refl, refl); shows = λ _. refl; alone = λ free olds news. none_from schema 10 olds news rest free }
-  inserts_row Lot = record { place = refl; is = refl; plain = (refl, refl); shows = λ _. refl; alone = λ free olds news. none_from schema 12 olds news rest free }
-  inserts_row Receipt = record { place = refl; is = refl; plain = (refl, refl); shows = λ _. refl; alone = λ free olds news. none_from schema 14 olds news rest free }
-  inserts_row Bundle = record { place = refl; is = refl; plain = (refl, refl); shows = λ _. refl; alone = λ free olds news. none_from schema 16 olds news rest free }
-  inserts_row Vote = record { place = refl; is = refl; plain = (refl, refl); shows = λ _. refl; alone = λ free olds news. none_from schema 18 olds news rest free }
-  inserts_row Third = record { place = refl; is = refl; plain = (refl, refl); shows = λ _. refl; alone = λ free olds news. none_from schema 20 olds news rest free }
+  inserts_row Office = record { place = refl; is = refl; plain = (refl, refl); shows = λ _. refl; alone = λ free olds news. none_from schema (tree_of Office) olds news rest free }
+  inserts_row t = record { place = refl; is = refl; plain = (refl, refl); shows = λ _. refl; alone = λ free olds news. none_from schema (tree_of t) olds news rest free }

@@ -19,7 +19,7 @@ use Rattle.tables.proofs.Edits.{beyond_key}
 use Rattle.tables.proofs.ListingLemmas.{key_within}
 use Rattle.tables.proofs.OrderLemmas.{equal-Int, equal-words, equal-Blob}
 use Rattle.tables.proofs.PickLemmas.{tied}
-use Rattle.tables.proofs.PlaceLemmas.{padded, pads, typed_at}
+use Rattle.tables.proofs.ColumnPlaceLemmas.{padded, pads, typed_at}
 
 -- values of one kind that SQL calls equal are the same
 same_value : (k : Kind) (a b : Value) → is_of k a ≡ true → is_of k b ≡ true → equal Binary a b ≡ true → a ≡ b
@@ -73,7 +73,8 @@ updated_row t was row first second agree =
     let n = beyond_key t in
     let cs = columns_of t in
     ap (λ l. l ++ at (places_from k n) row) (pads k was ∙ same_front cs k was row first second (key_within t) agree ∙ sym (pads k row))
-    ∙ sym (map-append (column row) (places_from 0 k) (places_from k n)) ∙ ap (λ l. at l row) (ap (λ p. places_from 0 k ++ places_from p n) (plus k) ∙ places_split 0 k n ∙ ap (places_from 0) (beyond_within t)) ∙ typed_at cs row second
+    ∙ sym (map-append (column row) (places_from 0 k) (places_from k n))
+    ∙ ap (λ l. at l row) (ap (λ p. places_from 0 k ++ places_from p n) (plus k) ∙ places_split 0 k n ∙ ap (places_from 0) (beyond_within t)) ∙ typed_at cs row second
   where
     plus : (m : ℕ) → m ≡ 0 + m
     plus m = omega arith

@@ -1,6 +1,6 @@
 pub mod ListLemmas
-pub mod PlaceLemmas
-pub mod KeyedLemmas
+pub mod ColumnPlaceLemmas
+pub mod NewRowidLemmas
 pub mod PickLemmas
 pub mod TableLemmas
 pub mod WentLemmas
@@ -22,7 +22,7 @@ pub mod ReadLemmas
 pub mod CauseLemmas
 pub mod ListingLemmas
 pub mod HoldLemmas
-pub mod FindLemmas
+pub mod QueriedRowsLemmas
 pub mod WalkLemmas
 pub mod RowidLemmas
 pub mod MakeLemmas

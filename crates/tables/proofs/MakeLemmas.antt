@@ -1,5 +1,6 @@
 -- The tables, made one after the other.
-use Rattle.std.proofs.Common.{◌≡◌, inl, inr, ℕ, zero, suc, ◌+◌, ◌<◌, ◌≤◌, List, [], ◌∷◌, ◌++◌, append_assoc, map, drop, take, slice_get, Some, true, false, None, Ok, Err, Result, OnOk, IsTrue, refl, sym, ap, subst, ◌∙◌, arith}
+use Rattle.std.proofs.Common.{◌≡◌, inl, inr, ℕ, zero, suc, ◌+◌, ◌<◌, ◌≤◌, List, [], ◌∷◌, ◌++◌, append_assoc, map, drop, take, slice_get, Some, true, false, None, Ok, Err, Result, OnOk}
+use Rattle.std.proofs.Common.{IsTrue, refl, sym, ap, subst, ◌∙◌, arith}
 use Rattle.std.specs.List.{AllByRecursion}
 use Rattle.std.specs.List.Sorted.{IsPermutation}
 use Rattle.std.proofs.lemmas.Bool.{cases_lt}
@@ -26,7 +27,7 @@ use Rattle.sqlite.specs.State.{State, Writes, ExecutesInside}
 use Rattle.sqlite.proofs.Callers.{IsPlain, command_of, statement_of, runs_as}
 use Rattle.sqlite_tied.specs.Compute.{everything}
 use Rattle.tables.specs.declared.table.Table.{Table}
-use Rattle.tables.specs.declared.table.Table.TheVariants.{Office, Ward, Candidate, Batch, Keying, Verdict, Lot, Receipt, Bundle, Vote, Third}
+use Rattle.tables.specs.declared.table.Table.TheVariants.{Office}
 use Rattle.tables.specs.Texts.{create_text}
 use Rattle.tables.specs.Schema.{Definition, BeginsTo, schema_from, no_schema, definition, shaped, shape, place_of, tree_of, all_tables, key_index}
 use Rattle.tables.specs.Rows.{Keyed}
@@ -53,16 +54,7 @@ record MakesTable (t : Table) : Type 0 where
 makes_table : (t : Table) → MakesTable t
 unfolding understood everything create_text
 makes_table Office = record { is = refl; plain = (refl, refl); whole = refl; defined = refl; uncounted = refl; next = refl; tree = refl }
-makes_table Ward = record { is = refl; plain = (refl, refl); whole = refl; defined = refl; uncounted = refl; next = refl; tree = refl }
-makes_table Candidate = record { is = refl; plain = (refl, refl); whole = refl; defined = refl; uncounted = refl; next = refl; tree = refl }
-makes_table Batch = record { is = refl; plain = (refl, refl); whole = refl; defined = refl; uncounted = refl; next = refl; tree = refl }
-makes_table Keying = record { is = refl; plain = (refl, refl); whole = refl; defined = refl; uncounted = refl; next = refl; tree = refl }
-makes_table Verdict = record { is = refl; plain = (refl, refl); whole = refl; defined = refl; uncounted = refl; next = refl; tree = refl }
-makes_table Lot = record { is = refl; plain = (refl, refl); whole = refl; defined = refl; uncounted = refl; next = refl; tree = refl }
-makes_table Receipt = record { is = refl; plain = (refl, refl); whole = refl; defined = refl; uncounted = refl; next = refl; tree = refl }
-makes_table Bundle = record { is = refl; plain = (refl, refl); whole = refl; defined = refl; uncounted = refl; next = refl; tree = refl }
-makes_table Vote = record { is = refl; plain = (refl, refl); whole = refl; defined = refl; uncounted = refl; next = refl; tree = refl }
-makes_table Third = record { is = refl; plain = (refl, refl); whole = refl; defined = refl; uncounted = refl; next = refl; tree = refl }
+makes_table t = record { is = refl; plain = (refl, refl); whole = refl; defined = refl; uncounted = refl; next = refl; tree = refl }
 
 -- ---- one table more
 
@@ -74,16 +66,7 @@ taken_has (y ∷ ys) (suc n) (suc k) x low at = inr (taken_has ys n k x (omega (
 
 at_place : (t : Table) → slice_get all_tables (place_of t) ≡ Some t
 at_place Office = refl
-at_place Ward = refl
-at_place Candidate = refl
-at_place Batch = refl
-at_place Keying = refl
-at_place Verdict = refl
-at_place Lot = refl
-at_place Receipt = refl
-at_place Bundle = refl
-at_place Vote = refl
-at_place Third = refl
+at_place t = refl
 
 has_before : (n : ℕ) (u : Table) → place_of u < n → Has (schema_from n [] [] []).tables (definition u)
 has_before n u low = front_has (map definition (take n all_tables)) [] (definition u) (mapped_has definition (take n all_tables) u (taken_has all_tables n (place_of u) u low (at_place u)))
@@ -99,10 +82,12 @@ kept_table : (t : Table) (rows : List Row) (old new : Trees) → new (tree_of t)
 kept_table t rows old new same h = record { same = subst (λ l. IsPermutation rows (map (drop 1) l)) (sym same) h.same; keyed = λ changes. subst Keyed (sym same) (h.keyed changes); typed = h.typed }
 
 -- the tables before keep their rows, and this one has none
-one_more : (t : Table) (c : Contents) → c t ≡ [] → (old new : Trees) → ((u : Table) → place_of u < place_of t → new (tree_of u) ≡ old (tree_of u)) → new (tree_of t) ≡ [] → HoldsFirst (place_of t) c old → HoldsFirst (place_of t + 1) c new
+one_more : (t : Table) (c : Contents) → c t ≡ [] → (old new : Trees) → ((u : Table) → place_of u < place_of t → new (tree_of u) ≡ old (tree_of u)) → new (tree_of t) ≡ []
+    → HoldsFirst (place_of t) c old → HoldsFirst (place_of t + 1) c new
 one_more t c none old new others empty holds u low = elim (cases_lt (place_of u) (place_of t)) [
   | inl less ↦ kept_table u (c u) old new (others u less) (holds u less)
-  | inr past ↦ let there : u ≡ t = same_place u t (omega (arith, low, past)) in subst (λ v. HoldsTable v (c v) new) (sym there) (subst (λ rows. HoldsTable t rows new) (sym none) (empty_table t new empty))
+  | inr past ↦ let there : u ≡ t = same_place u t (omega (arith, low, past)) in
+      subst (λ v. HoldsTable v (c v) new) (sym there) (subst (λ rows. HoldsTable t rows new) (sym none) (empty_table t new empty))
 ]
 
 makes : (t : Table) (c : Contents) → c t ≡ [] → (old new : State) (count : ℕ) → SeesMade (place_of t) c old → ExecutesInside 0 (create_text t) [] old new (Ok count) → SeesMade (place_of t + 1) c new
@@ -129,11 +114,13 @@ makes t c none old new count sees h =
         schema = ap (λ (d : Database). d.schema) now ∙ after ∙ it.next;
         sound = w.sound;
         holds = subst (λ (d : Database). HoldsFirst (place_of t + 1) c d.trees) (sym now)
-            (one_more t c none old.now.trees first.0.trees (λ u less. all_has (λ (d : Definition). first.0.trees d.tree ≡ old.now.trees d.tree) schema.tables (definition u) others (has_before (place_of t) u less)) empty had.holds);
+            (one_more t c none old.now.trees first.0.trees (λ u less. all_has (λ (d : Definition). first.0.trees d.tree ≡ old.now.trees d.tree) schema.tables (definition u) others
+            (has_before (place_of t) u less)) empty had.holds);
       };
     }
 
-pub table_made : (t : Table) (c : Contents) → c t ≡ [] → (old new : State) (r : Result ℕ Error) → (IsTrue old.in_transaction → ExecutesInside 0 (create_text t) [] old new r) → SeesMade (place_of t) c old → OnOk r (SeesMade (place_of t + 1) c new)
+pub table_made : (t : Table) (c : Contents) → c t ≡ [] → (old new : State) (r : Result ℕ Error) → (IsTrue old.in_transaction → ExecutesInside 0 (create_text t) [] old new r)
+    → SeesMade (place_of t) c old → OnOk r (SeesMade (place_of t + 1) c new)
 table_made t c none old new (Ok count) runs sees = makes t c none old new count sees (runs sees.inside)
 table_made t c none old new (Err e) runs sees = tt
 
@@ -175,8 +162,17 @@ parted : (k n : ℕ) → k ≤ n → schema_from n [] [] [] ≡ schema_from k (m
 parted k n low = go (take n all_tables) (take k all_tables) (drop k (take n all_tables)) (split all_tables k n low)
   where
     go : (all front back : List Table) → all ≡ front ++ back
-        → ◌≡◌ {A = Schema} (record { tables = map definition all ++ []; indexes = map key_index all ++ []; views = [] }) (record { tables = map definition front ++ (map definition back ++ []); indexes = map key_index front ++ (map key_index back ++ []); views = [] })
-    go all front back is = rw (is, map-append definition front back, map-append key_index front back, append_assoc (map definition front) (map definition back) [], append_assoc (map key_index front) (map key_index back) []) refl
+        → ◌≡◌ {A = Schema} (record { tables = map definition all ++ []; indexes = map key_index all ++ []; views = [] })
+        (record { tables = map definition front ++ (map definition back ++ []); indexes = map key_index front ++ (map key_index back ++ []); views = [] })
+    go all front back is =
+        rw (
+          is,
+          map-append definition front back,
+          map-append key_index front back,
+          append_assoc (map definition front) (map definition back) [],
+          append_assoc (map key_index front)
+              (map key_index back) [],
+        ) refl
 
 pub first_begins : (n : ℕ) (s : Schema) → s ≡ schema_from n [] [] [] → (t : Table) → place_of t < n → BeginsTo t s
 first_begins n s is t low =
@@ -184,7 +180,8 @@ first_begins n s is t low =
     record { rest = map definition (drop k (take n all_tables)) ++ []; others = map key_index (drop k (take n all_tables)) ++ []; views = []; is = is ∙ parted k n (omega (arith, low)) }
 
 -- an open connection leaves the last commit and nothing else, where the store says so
-pub first_leaves : (n : ℕ) (c : Contents) (s : State) → ((trees : Trees) → IsTrue s.is_open → s.may_leave trees → trees ≡ s.committed.trees) → RestsFirst n c s → (trees : Trees) → s.may_leave trees → StoresFirst n c trees
+pub first_leaves : (n : ℕ) (c : Contents) (s : State) → ((trees : Trees) → IsTrue s.is_open → s.may_leave trees → trees ≡ s.committed.trees) → RestsFirst n c s → (trees : Trees)
+    → s.may_leave trees → StoresFirst n c trees
 first_leaves n c s settled rests trees may = record { db = s.now; first = rests.first; same = settled trees rests.is_open may ∙ ap (λ (d : Database). d.trees) (sym rests.settled) }
 
 -- What a stop left is found again: a schema is told by its trees.

@@ -1,5 +1,6 @@
 -- Keys as SQL compares and orders them.
-use Rattle.std.proofs.Common.{◌≡◌, ◌≢◌, ℕ, ◌+◌, ◌-◌, ◌<◌, ◌≤◌, ◌==◌, ◌&&◌, ℤ, pos, List, [], ◌∷◌, map, length, get_or, true, false, refl, sym, ap, ◌∙◌, arith, Ordering, Less, Equal, Greater, int_cmp, nat_cmp, Bool, Some}
+use Rattle.std.proofs.Common.{◌≡◌, ◌≢◌, ℕ, ◌+◌, ◌-◌, ◌<◌, ◌≤◌, ◌==◌, ◌&&◌, ℤ, pos, List, [], ◌∷◌, map, length, get_or, true, false, refl, sym, ap, ◌∙◌, arith, Ordering, Less, Equal, Greater}
+use Rattle.std.proofs.Common.{int_cmp, nat_cmp, Bool, Some}
 use Rattle.std.specs.Ordering.{is_lt, is_eq, ordering_then, ordering_reverse}
 use Rattle.std.specs.Cmp.{IsTotalOrder}
 use Rattle.std.specs.Cmp.Lexicographic.{slice_cmp}
@@ -86,7 +87,8 @@ number_and_bytes a m s t =
     ap (λ o. ordering_then o (ordering_then (value_cmp (Blob s) (Blob t)) Equal)) (value_cmp-Int (pos a) (pos m) ∙ numbers a m)
     ∙ ap (ordering_then (nat_cmp a m)) (then-Equal (value_cmp (Blob s) (Blob t)) ∙ value_cmp-Blob s t)
 
-pub three_numbers : (a b c k m n : ℕ) → keys_cmp 3 (Int (pos a) ∷ Int (pos b) ∷ Int (pos c) ∷ []) (Int (pos k) ∷ Int (pos m) ∷ Int (pos n) ∷ []) ≡ ordering_then (nat_cmp a k) (ordering_then (nat_cmp b m) (nat_cmp c n))
+pub three_numbers : (a b c k m n : ℕ) → keys_cmp 3 (Int (pos a) ∷ Int (pos b) ∷ Int (pos c) ∷ []) (Int (pos k) ∷ Int (pos m) ∷ Int (pos n) ∷ [])
+    ≡ ordering_then (nat_cmp a k) (ordering_then (nat_cmp b m) (nat_cmp c n))
 three_numbers a b c k m n =
     ap (λ o. ordering_then o (ordering_then (value_cmp (Int (pos b)) (Int (pos m))) (ordering_then (value_cmp (Int (pos c)) (Int (pos n))) Equal))) (value_cmp-Int (pos a) (pos k) ∙ numbers a k)
     ∙ ap (ordering_then (nat_cmp a k)) (two_numbers b c m n)
@@ -94,8 +96,10 @@ three_numbers a b c k m n =
 pub four_numbers : (a b c d k l m n : ℕ) → keys_cmp 4 (Int (pos a) ∷ Int (pos b) ∷ Int (pos c) ∷ Int (pos d) ∷ []) (Int (pos k) ∷ Int (pos l) ∷ Int (pos m) ∷ Int (pos n) ∷ [])
     ≡ ordering_then (nat_cmp a k) (ordering_then (nat_cmp b l) (ordering_then (nat_cmp c m) (nat_cmp d n)))
 four_numbers a b c d k l m n =
-    ap (λ o. ordering_then o (ordering_then (value_cmp (Int (pos b)) (Int (pos l))) (ordering_then (value_cmp (Int (pos c)) (Int (pos m))) (ordering_then (value_cmp (Int (pos d)) (Int (pos n))) Equal)))) (value_cmp-Int (pos a) (pos k) ∙ numbers a k)
-    ∙ ap (λ o. ordering_then (nat_cmp a k) (ordering_then o (ordering_then (value_cmp (Int (pos c)) (Int (pos m))) (ordering_then (value_cmp (Int (pos d)) (Int (pos n))) Equal)))) (value_cmp-Int (pos b) (pos l) ∙ numbers b l)
+    ap (λ o. ordering_then o (ordering_then (value_cmp (Int (pos b)) (Int (pos l)))
+    (ordering_then (value_cmp (Int (pos c)) (Int (pos m))) (ordering_then (value_cmp (Int (pos d)) (Int (pos n))) Equal)))) (value_cmp-Int (pos a) (pos k) ∙ numbers a k)
+    ∙ ap (λ o. ordering_then (nat_cmp a k) (ordering_then o (ordering_then (value_cmp (Int (pos c)) (Int (pos m))) (ordering_then (value_cmp (Int (pos d)) (Int (pos n))) Equal))))
+    (value_cmp-Int (pos b) (pos l) ∙ numbers b l)
     ∙ ap (λ o. ordering_then (nat_cmp a k) (ordering_then (nat_cmp b l) o)) (two_numbers c d m n)
 
 -- ---- a row that begins with a key
@@ -118,15 +122,18 @@ key_of_three_numbers a b c k m n =
 pub same_number : (a k : ℕ) → (equal Binary (Int (pos k)) (Int (pos a)) && true) ≡ (k == a)
 same_number a k = and-true _ ∙ equal-number k a
 
-pub same_three_numbers : (a b c k m n : ℕ) → (equal Binary (Int (pos k)) (Int (pos a)) && (equal Binary (Int (pos m)) (Int (pos b)) && (equal Binary (Int (pos n)) (Int (pos c)) && true))) ≡ ((k == a) && ((m == b) && (n == c)))
+pub same_three_numbers : (a b c k m n : ℕ) → (equal Binary (Int (pos k)) (Int (pos a)) && (equal Binary (Int (pos m)) (Int (pos b)) && (equal Binary (Int (pos n)) (Int (pos c)) && true)))
+    ≡ ((k == a) && ((m == b) && (n == c)))
 same_three_numbers a b c k m n = rw (equal-number k a, equal-number m b, same_number c n) refl
 
-pub key_of_number_and_text : (n m : ℕ) (s t : List ℕ) → (equal Binary (Int (pos m)) (Int (pos n)) && (equal Binary (Text t) (Text s) && true)) ≡ is_eq (ordering_then (nat_cmp n m) (slice_cmp nat_cmp s t))
+pub key_of_number_and_text : (n m : ℕ) (s t : List ℕ) → (equal Binary (Int (pos m)) (Int (pos n)) && (equal Binary (Text t) (Text s) && true))
+    ≡ is_eq (ordering_then (nat_cmp n m) (slice_cmp nat_cmp s t))
 key_of_number_and_text n m s t =
     ap (λ b. b && (equal Binary (Text t) (Text s) && true)) (equal-Int (pos m) (pos n) ∙ ap is_eq (numbers m n) ∙ turned nat_cmp_total m n)
     ∙ ap (λ b. is_eq (nat_cmp n m) && b) (and-true _ ∙ equal-Text t s ∙ turned nat_list_cmp_total t s) ∙ then_equal (nat_cmp n m) (slice_cmp nat_cmp s t)
 
-pub key_of_number_and_bytes : (n m : ℕ) (s t : List ℕ) → (equal Binary (Int (pos m)) (Int (pos n)) && (equal Binary (Blob t) (Blob s) && true)) ≡ is_eq (ordering_then (nat_cmp n m) (slice_cmp nat_cmp s t))
+pub key_of_number_and_bytes : (n m : ℕ) (s t : List ℕ) → (equal Binary (Int (pos m)) (Int (pos n)) && (equal Binary (Blob t) (Blob s) && true))
+    ≡ is_eq (ordering_then (nat_cmp n m) (slice_cmp nat_cmp s t))
 key_of_number_and_bytes n m s t =
     ap (λ b. b && (equal Binary (Blob t) (Blob s) && true)) (equal-Int (pos m) (pos n) ∙ ap is_eq (numbers m n) ∙ turned nat_cmp_total m n)
     ∙ ap (λ b. is_eq (nat_cmp n m) && b) (and-true _ ∙ equal-Blob t s ∙ turned nat_list_cmp_total t s) ∙ then_equal (nat_cmp n m) (slice_cmp nat_cmp s t)
@@ -162,12 +169,14 @@ one_key t rows sorted fails = tie (row_cmp t (get_or rows fails.0 []) (get_or ro
 
 -- ---- rows of entries
 
-below : {X : Type 0} (row : X → Row) (by : Row → Row → Ordering) (cmp : X → X → Ordering) → ((x y : X) → by (row x) (row y) ≡ cmp x y) → (x : X) (xs : List X) → AllByRecursion (λ y. cmp x y ≡ Less) xs → AllByRecursion (λ r. by (row x) r ≡ Less) (map row xs)
+below : {X : Type 0} (row : X → Row) (by : Row → Row → Ordering) (cmp : X → X → Ordering) → ((x y : X) → by (row x) (row y) ≡ cmp x y) → (x : X) (xs : List X)
+    → AllByRecursion (λ y. cmp x y ≡ Less) xs → AllByRecursion (λ r. by (row x) r ≡ Less) (map row xs)
 below row by cmp alike x [] all = tt
 below row by cmp alike x (y ∷ ys) all = (alike x y ∙ all.0, below row by cmp alike x ys all.1)
 
 -- the rows of entries rise as the entries do
-pub rows_rise : {X : Type 0} (row : X → Row) (by : Row → Row → Ordering) (cmp : X → X → Ordering) → ((x y : X) → by (row x) (row y) ≡ cmp x y) → (xs : List X) → IsStrictlySortedBy cmp xs → IsStrictlySortedBy by (map row xs)
+pub rows_rise : {X : Type 0} (row : X → Row) (by : Row → Row → Ordering) (cmp : X → X → Ordering) → ((x y : X) → by (row x) (row y) ≡ cmp x y) → (xs : List X) → IsStrictlySortedBy cmp xs
+    → IsStrictlySortedBy by (map row xs)
 unfolding IsStrictlySortedBy
 rows_rise row by cmp alike [] up = tt
 rows_rise row by cmp alike (x ∷ xs) up = (below row by cmp alike x xs up.0, rows_rise row by cmp alike xs up.1)

@@ -28,7 +28,8 @@ filter_twice : {X : Type 0} (p q : X → Bool) (xs : List X) → filter p (filte
 filter_twice p q [] = refl
 filter_twice p q (x ∷ xs) = go (q x) (filter_twice p q xs)
   where
-    go : (b : Bool) → filter p (filter q xs) ≡ filter (λ y. q y && p y) xs → filter p (cond b (x ∷ filter q xs) (filter q xs)) ≡ cond (b && p x) (x ∷ filter (λ y. q y && p y) xs) (filter (λ y. q y && p y) xs)
+    go : (b : Bool) → filter p (filter q xs) ≡ filter (λ y. q y && p y) xs
+        → filter p (cond b (x ∷ filter q xs) (filter q xs)) ≡ cond (b && p x) (x ∷ filter (λ y. q y && p y) xs) (filter (λ y. q y && p y) xs)
     go true later = ap (λ l. cond (p x) (x ∷ l) l) later
     go false later = later
 

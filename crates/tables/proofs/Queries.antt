@@ -1,5 +1,5 @@
 -- What each query is, under a schema that begins with the tables up to its own.
-use Rattle.std.proofs.Common.{◌≡◌, ℕ, zero, suc, ◌+◌, ◌≤◌, List, [], ◌∷◌, codes, length, true, refl, sym, arith, true≢false}
+use Rattle.std.proofs.Common.{◌≡◌, ℕ, suc, ◌+◌, ◌≤◌, List, [], ◌∷◌, codes, length, true, refl, sym, arith, true≢false}
 use Rattle.sqlite.specs.Collation.TheVariants.{Binary}
 use Rattle.sqlite_sql.specs.declared.ops.BinaryOp.TheVariants.{Compare}
 use Rattle.sqlite_sql.specs.declared.ops.CompareOp.TheVariants.{Eq}
@@ -23,53 +23,23 @@ use Rattle.tables.proofs.SelectLemmas.{IsSelect, columns_from, ordered_from, tes
 -- what a SELECT of all columns in the order of the key has to be, under a schema that begins with the tables up to its own
 pub record Reads (t : Table) (sql : List ℕ) (tests : List Term) : Type 0 where
   pub query : is_query_text (first sql) ≡ true
-  pub select : (rest : List Definition) (others : List Index) (views : List View) → IsSelect (schema_from (1 + place_of t) rest others views) sql (tree_of t) tests (columns_from 0 (length (columns_of t))) (ordered_from 0 (shape t).key) (names_of t)
+  pub select : (rest : List Definition) (others : List Index) (views : List View)
+      → IsSelect (schema_from (1 + place_of t) rest others views) sql (tree_of t) tests (columns_from 0 (length (columns_of t))) (ordered_from 0 (shape t).key) (names_of t)
 
 pub selects : (t : Table) (n : ℕ) → n ≤ (shape t).key → Reads t (select_text t n) (tests_from 0 n)
 unfolding understood everything select_text
-selects Office zero low = record { query = refl; select = λ rest others views. record { is = refl; unlisted = refl; plain = (refl, refl); low = λ db. refl; whole = refl; given = refl } }
-selects Office (suc zero) low = record { query = refl; select = λ rest others views. record { is = refl; unlisted = refl; plain = (refl, refl); low = λ db. refl; whole = refl; given = refl } }
 selects Office (suc (suc n)) low = absurd (omega (arith, low))
-selects Ward zero low = record { query = refl; select = λ rest others views. record { is = refl; unlisted = refl; plain = (refl, refl); low = λ db. refl; whole = refl; given = refl } }
-selects Ward (suc zero) low = record { query = refl; select = λ rest others views. record { is = refl; unlisted = refl; plain = (refl, refl); low = λ db. refl; whole = refl; given = refl } }
 selects Ward (suc (suc n)) low = absurd (omega (arith, low))
-selects Candidate zero low = record { query = refl; select = λ rest others views. record { is = refl; unlisted = refl; plain = (refl, refl); low = λ db. refl; whole = refl; given = refl } }
-selects Candidate (suc zero) low = record { query = refl; select = λ rest others views. record { is = refl; unlisted = refl; plain = (refl, refl); low = λ db. refl; whole = refl; given = refl } }
-selects Candidate (suc (suc zero)) low = record { query = refl; select = λ rest others views. record { is = refl; unlisted = refl; plain = (refl, refl); low = λ db. refl; whole = refl; given = refl } }
 selects Candidate (suc (suc (suc n))) low = absurd (omega (arith, low))
-selects Batch zero low = record { query = refl; select = λ rest others views. record { is = refl; unlisted = refl; plain = (refl, refl); low = λ db. refl; whole = refl; given = refl } }
-selects Batch (suc zero) low = record { query = refl; select = λ rest others views. record { is = refl; unlisted = refl; plain = (refl, refl); low = λ db. refl; whole = refl; given = refl } }
 selects Batch (suc (suc n)) low = absurd (omega (arith, low))
-selects Keying zero low = record { query = refl; select = λ rest others views. record { is = refl; unlisted = refl; plain = (refl, refl); low = λ db. refl; whole = refl; given = refl } }
-selects Keying (suc zero) low = record { query = refl; select = λ rest others views. record { is = refl; unlisted = refl; plain = (refl, refl); low = λ db. refl; whole = refl; given = refl } }
-selects Keying (suc (suc zero)) low = record { query = refl; select = λ rest others views. record { is = refl; unlisted = refl; plain = (refl, refl); low = λ db. refl; whole = refl; given = refl } }
-selects Keying (suc (suc (suc zero))) low = record { query = refl; select = λ rest others views. record { is = refl; unlisted = refl; plain = (refl, refl); low = λ db. refl; whole = refl; given = refl } }
-selects Keying (suc (suc (suc (suc zero)))) low = record { query = refl; select = λ rest others views. record { is = refl; unlisted = refl; plain = (refl, refl); low = λ db. refl; whole = refl; given = refl } }
 selects Keying (suc (suc (suc (suc (suc n))))) low = absurd (omega (arith, low))
-selects Verdict zero low = record { query = refl; select = λ rest others views. record { is = refl; unlisted = refl; plain = (refl, refl); low = λ db. refl; whole = refl; given = refl } }
-selects Verdict (suc zero) low = record { query = refl; select = λ rest others views. record { is = refl; unlisted = refl; plain = (refl, refl); low = λ db. refl; whole = refl; given = refl } }
-selects Verdict (suc (suc zero)) low = record { query = refl; select = λ rest others views. record { is = refl; unlisted = refl; plain = (refl, refl); low = λ db. refl; whole = refl; given = refl } }
 selects Verdict (suc (suc (suc n))) low = absurd (omega (arith, low))
-selects Lot zero low = record { query = refl; select = λ rest others views. record { is = refl; unlisted = refl; plain = (refl, refl); low = λ db. refl; whole = refl; given = refl } }
-selects Lot (suc zero) low = record { query = refl; select = λ rest others views. record { is = refl; unlisted = refl; plain = (refl, refl); low = λ db. refl; whole = refl; given = refl } }
-selects Lot (suc (suc zero)) low = record { query = refl; select = λ rest others views. record { is = refl; unlisted = refl; plain = (refl, refl); low = λ db. refl; whole = refl; given = refl } }
 selects Lot (suc (suc (suc n))) low = absurd (omega (arith, low))
-selects Receipt zero low = record { query = refl; select = λ rest others views. record { is = refl; unlisted = refl; plain = (refl, refl); low = λ db. refl; whole = refl; given = refl } }
-selects Receipt (suc zero) low = record { query = refl; select = λ rest others views. record { is = refl; unlisted = refl; plain = (refl, refl); low = λ db. refl; whole = refl; given = refl } }
-selects Receipt (suc (suc zero)) low = record { query = refl; select = λ rest others views. record { is = refl; unlisted = refl; plain = (refl, refl); low = λ db. refl; whole = refl; given = refl } }
 selects Receipt (suc (suc (suc n))) low = absurd (omega (arith, low))
-selects Bundle zero low = record { query = refl; select = λ rest others views. record { is = refl; unlisted = refl; plain = (refl, refl); low = λ db. refl; whole = refl; given = refl } }
-selects Bundle (suc zero) low = record { query = refl; select = λ rest others views. record { is = refl; unlisted = refl; plain = (refl, refl); low = λ db. refl; whole = refl; given = refl } }
-selects Bundle (suc (suc zero)) low = record { query = refl; select = λ rest others views. record { is = refl; unlisted = refl; plain = (refl, refl); low = λ db. refl; whole = refl; given = refl } }
 selects Bundle (suc (suc (suc n))) low = absurd (omega (arith, low))
-selects Vote zero low = record { query = refl; select = λ rest others views. record { is = refl; unlisted = refl; plain = (refl, refl); low = λ db. refl; whole = refl; given = refl } }
-selects Vote (suc zero) low = record { query = refl; select = λ rest others views. record { is = refl; unlisted = refl; plain = (refl, refl); low = λ db. refl; whole = refl; given = refl } }
-selects Vote (suc (suc zero)) low = record { query = refl; select = λ rest others views. record { is = refl; unlisted = refl; plain = (refl, refl); low = λ db. refl; whole = refl; given = refl } }
-selects Vote (suc (suc (suc zero))) low = record { query = refl; select = λ rest others views. record { is = refl; unlisted = refl; plain = (refl, refl); low = λ db. refl; whole = refl; given = refl } }
 selects Vote (suc (suc (suc (suc n)))) low = absurd (omega (arith, low))
-selects Third zero low = record { query = refl; select = λ rest others views. record { is = refl; unlisted = refl; plain = (refl, refl); low = λ db. refl; whole = refl; given = refl } }
-selects Third (suc zero) low = record { query = refl; select = λ rest others views. record { is = refl; unlisted = refl; plain = (refl, refl); low = λ db. refl; whole = refl; given = refl } }
 selects Third (suc (suc n)) low = absurd (omega (arith, low))
+selects t n low = record { query = refl; select = λ rest others views. record { is = refl; unlisted = refl; plain = (refl, refl); low = λ db. refl; whole = refl; given = refl } }
 
 pub selects_by_reference : (r : Reference) → Reads (table_sought r) (select_by_reference_text r) (op2 (Compare Eq Binary) (col 1 (suc (place_sought r))) (col 0 0) ∷ [])
 unfolding understood everything select_by_reference_text
@@ -78,21 +48,18 @@ selects_by_reference WardOfBatch = record { query = refl; select = λ rest other
 -- what a SELECT of the rowids has to be
 pub record ReadsRowids (t : Table) : Type 0 where
   pub query : is_query_text (first (select_rowids_text t)) ≡ true
-  pub select : (rest : List Definition) (others : List Index) (views : List View) → IsSelect (schema_from (1 + place_of t) rest others views) (select_rowids_text t) (tree_of t) [] (col 1 0 ∷ []) ((col 1 0, ascending Binary) ∷ []) (codes "rowid" ∷ [])
+  pub select : (rest : List Definition) (others : List Index) (views : List View)
+      → IsSelect (schema_from (1 + place_of t) rest others views) (select_rowids_text t) (tree_of t) [] (col 1 0 ∷ []) ((col 1 0, ascending Binary) ∷ []) (codes "rowid" ∷ [])
 
 pub selects_rowids : (t : Table) → changes_rows t ≡ true → ReadsRowids t
 unfolding understood everything select_rowids_text
-selects_rowids Office changes = record { query = refl; select = λ rest others views. record { is = refl; unlisted = refl; plain = (refl, refl); low = λ db. refl; whole = refl; given = refl } }
-selects_rowids Ward changes = record { query = refl; select = λ rest others views. record { is = refl; unlisted = refl; plain = (refl, refl); low = λ db. refl; whole = refl; given = refl } }
-selects_rowids Candidate changes = record { query = refl; select = λ rest others views. record { is = refl; unlisted = refl; plain = (refl, refl); low = λ db. refl; whole = refl; given = refl } }
-selects_rowids Batch changes = record { query = refl; select = λ rest others views. record { is = refl; unlisted = refl; plain = (refl, refl); low = λ db. refl; whole = refl; given = refl } }
 selects_rowids Keying changes = absurd (true≢false (sym changes))
 selects_rowids Verdict changes = absurd (true≢false (sym changes))
 selects_rowids Lot changes = absurd (true≢false (sym changes))
 selects_rowids Receipt changes = absurd (true≢false (sym changes))
-selects_rowids Bundle changes = record { query = refl; select = λ rest others views. record { is = refl; unlisted = refl; plain = (refl, refl); low = λ db. refl; whole = refl; given = refl } }
 selects_rowids Vote changes = absurd (true≢false (sym changes))
 selects_rowids Third changes = absurd (true≢false (sym changes))
+selects_rowids t changes = record { query = refl; select = λ rest others views. record { is = refl; unlisted = refl; plain = (refl, refl); low = λ db. refl; whole = refl; given = refl } }
 
 pub selects_query : (t : Table) (n : ℕ) → n ≤ (shape t).key → IsQuery (select_text t n)
 selects_query t n low = query_text (select_text t n) (selects t n low).query

@@ -37,7 +37,8 @@ unfolding CommitsShowing
 never_commits sql params s trees query h = absurd (let some = rw (query s.now.schema h.0 h.1.is) at h.2 in cc)
 
 -- what leaves a connection as it was, or rolls back, and commits nothing, only reads
-pub reads_left : (Commits : Trees → Type 0) (old new : State) → ((trees : Trees) → Commits trees → ⊥) → (HasCleanDisk new → IsUnchanged old new ⊎ IsRolledBack old new) → Survives old new Commits → OnlyReads old new
+pub reads_left : (Commits : Trees → Type 0) (old new : State) → ((trees : Trees) → Commits trees → ⊥) → (HasCleanDisk new → IsUnchanged old new ⊎ IsRolledBack old new)
+    → Survives old new Commits → OnlyReads old new
 reads_left Commits old new never which survives = record {
   limit = survives.limit;
   counts = survives.counts;
@@ -62,12 +63,14 @@ reads_left Commits old new never which survives = record {
 }
 
 pub only_reads : {X : Type 0} (sql : List ℕ) (params : Row) (old new : State) (rows : X → List Row) (r : Result X Error) → IsQuery sql
-    → (HasCleanDisk new → IfOk r (λ x. Shown sql params old new (rows x))) → (HasCleanDisk new → IfErr r (FailsToQuery sql params old new)) → Survives old new (CommitsShowing sql params old) → OnlyReads old new
+    → (HasCleanDisk new → IfOk r (λ x. Shown sql params old new (rows x))) → (HasCleanDisk new → IfErr r (FailsToQuery sql params old new)) → Survives old new (CommitsShowing sql params old)
+    → OnlyReads old new
 only_reads sql params old new rows r query shown failed survives =
     reads_left (CommitsShowing sql params old) old new (λ trees. never_commits sql params old trees query) (λ honest. left sql params old new rows r query (shown honest) (failed honest)) survives
 
 -- a query that answers leaves the connection open
-pub query_opens : {X : Type 0} (sql : List ℕ) (params : Row) (old new : State) (rows : X → List Row) (r : Result X Error) → IsQuery sql → IfOk r (λ x. Shown sql params old new (rows x)) → OnOk r (IsTrue new.is_open)
+pub query_opens : {X : Type 0} (sql : List ℕ) (params : Row) (old new : State) (rows : X → List Row) (r : Result X Error) → IsQuery sql → IfOk r (λ x. Shown sql params old new (rows x))
+    → OnOk r (IsTrue new.is_open)
 query_opens sql params old new rows (Ok x) query shown = (shown_same sql params old new (rows x) query shown).0.is_open
 query_opens sql params old new rows (Err e) query shown = tt
 
@@ -92,7 +95,17 @@ only_reads_then a b c first second = record {
 }
 
 pub only_reads_itself : (a : State) → OnlyReads a a
-only_reads_itself a = record { limit = refl; counts = omega arith; closes = λ h was. inl was; clean = λ h. h; was_open = λ h is_open. is_open; rests = λ h is_open db at. at; leaves = λ h trees may. may; unwritten = λ h. record { changes = refl; last_rowid = refl } }
+only_reads_itself a =
+    record {
+      limit = refl;
+      counts = omega arith;
+      closes = λ h was. inl was;
+      clean = λ h. h;
+      was_open = λ h is_open. is_open;
+      rests = λ h is_open db at. at;
+      leaves = λ h trees may. may;
+      unwritten = λ h. record { changes = refl; last_rowid = refl };
+    }
 
 -- ---- an office between two transactions
 

@@ -46,7 +46,8 @@ module _ (schema : Schema) (t : Table) (alone : (olds news : List Row) → works
 
     -- without the rows that the query picked, those that do not have the key are left
     finish : (old new : Database) → IsDatabase new → Keyed (old.trees (tree_of t)) → (trees : Trees) → new ≡ record { schema = schema; trees = trees } → (found : List Row)
-        → Answers (record { schema = schema; trees = old.trees }) program params found → Edited schema Enforced old.trees (edit_of old.trees (definition t) (ids_of found) Given 0 []) (Ok trees) → Removes schema t params old new
+        → Answers (record { schema = schema; trees = old.trees }) program params found
+        → Edited schema Enforced old.trees (edit_of old.trees (definition t) (ids_of found) Given 0 []) (Ok trees) → Removes schema t params old new
     finish old new sound keyed trees now found answer edited =
         let db = old.trees in
         let rows = db (tree_of t) in
@@ -54,7 +55,10 @@ module _ (schema : Schema) (t : Table) (alone : (olds news : List Row) → works
         let step = one_step schema _ db trees edit (alone (taken_by db edit) edit.news) edited in
         let passes : Row → Bool = λ r. has_key t params (drop 1 r) in
         let shown : Row → Row = λ r. rowid r ∷ [] in
-        let pick = selects (λ r. r) (tree_of t) (tests_from 0 (shape t).key) (col 1 0 ∷ []) [] params passes (λ r. []) shown (tests_agree 0 (shape t).key params) (λ r. refl) (λ r. refl) (overlay db []) found (answer.answer Null) in
+        let pick =
+        selects (λ r. r) (tree_of t) (tests_from 0 (shape t).key) (col 1 0 ∷ []) [] params passes (λ r. []) shown (tests_agree 0 (shape t).key params) (λ r. refl) (λ r. refl)
+        (overlay db []) found (answer.answer Null)
+        in
         let from : IsPermutation (filter passes rows) pick.ordered = subst (λ l. IsPermutation (filter passes l) pick.ordered) (mapped_itself (overlay db [] (tree_of t)) ∙ low db) pick.same in
         let same : new.trees ≡ trees = ap (λ (d : Database). d.trees) now in
         let left : new.trees (tree_of t) ≡ filter (λ r. not (passes r)) rows =

@@ -4,7 +4,8 @@ use Rattle.std.specs.List.{list_all, AllByRecursion}
 use Rattle.std.specs.List.Sorted.{IsPermutation}
 use Rattle.std.proofs.lemmas.Bool.{and_parts, not-true}
 use Rattle.std.proofs.lemmas.List.{map-append}
-use Rattle.std.proofs.lemmas.List.Sorted.{IsPermutation-refl, IsPermutation-trans, IsPermutation-cons, IsPermutation-middle, IsPermutation-sym, IsPermutation-map, IsPermutation-append_left, IsPermutation-append_right}
+use Rattle.std.proofs.lemmas.List.Sorted.{IsPermutation-refl, IsPermutation-trans, IsPermutation-cons, IsPermutation-middle, IsPermutation-sym, IsPermutation-map, IsPermutation-append_left}
+use Rattle.std.proofs.lemmas.List.Sorted.{IsPermutation-append_right}
 use Rattle.sqlite_rules.specs.Lists.{Has}
 use Rattle.sqlite_rules.specs.Action.{works}
 use Rattle.sqlite_rules.specs.Calls.{ids_of}
@@ -34,7 +35,7 @@ use Rattle.tables.specs.Schema.{Definition, definition, place_of, places_from, t
 use Rattle.tables.specs.Rows.{tuples, at, has_key, is_row_of, Keyed}
 use Rattle.tables.proofs.Edits.{beyond_key, updated}
 use Rattle.tables.proofs.InsertLemmas.{Changes, put_fresh, cast_int, cast_all_of}
-use Rattle.tables.proofs.KeyedLemmas.{keyed_put_all}
+use Rattle.tables.proofs.NewRowidLemmas.{keyed_put_all}
 use Rattle.tables.proofs.ListLemmas.{mapped_has, mapped_same, mapped_twice, mapped_itself}
 use Rattle.tables.proofs.WentLemmas.{write_went, update_went}
 use Rattle.tables.proofs.PickLemmas.{picked, picked_left, keyed_filtered}
@@ -59,12 +60,14 @@ parted p f [] = IsPermutation-refl []
 parted p f (x ∷ xs) = go (p x) (parted p f xs)
   where
     go : (b : Bool) → IsPermutation (map f (filter p xs) ++ filter (λ y. not (p y)) xs) (map (λ y. cond (p y) (f y) y) xs)
-        → IsPermutation (map f (cond b (x ∷ filter p xs) (filter p xs)) ++ cond (not b) (x ∷ filter (λ y. not (p y)) xs) (filter (λ y. not (p y)) xs)) (cond b (f x) x ∷ map (λ y. cond (p y) (f y) y) xs)
+        → IsPermutation (map f (cond b (x ∷ filter p xs) (filter p xs)) ++ cond (not b) (x ∷ filter (λ y. not (p y)) xs) (filter (λ y. not (p y)) xs))
+        (cond b (f x) x ∷ map (λ y. cond (p y) (f y) y) xs)
     go true later = IsPermutation-cons (f x) _ _ later
     go false later = IsPermutation-trans _ _ _ (IsPermutation-middle (map f (filter p xs)) x _) (IsPermutation-cons x _ _ later)
 
 -- what an UPDATE of all columns shows: the key as it was, and the parameters after it
-pub shows_updated : (t : Table) (params r : Row) → eval_all (updated t) (params ∷ r ∷ []) ≡ rowid r ∷ rowid r ∷ at (places_from 0 (shape t).key) (drop 1 r) ++ at (places_from (shape t).key (beyond_key t)) params
+pub shows_updated : (t : Table) (params r : Row) → eval_all (updated t) (params ∷ r ∷ []) ≡ rowid r ∷ rowid r ∷ at (places_from 0 (shape t).key) (drop 1 r)
+    ++ at (places_from (shape t).key (beyond_key t)) params
 shows_updated t params r =
     ap (λ l. rowid r ∷ rowid r ∷ l)
     (map-append _ (columns_from 0 (shape t).key) (map (col 0) (places_from (shape t).key (beyond_key t)))
@@ -89,8 +92,10 @@ module _ (schema : Schema) (t : Table) (alone : (olds news : List Row) → works
     program = record { lets = []; body = query (tree_of t) (tests_from 0 (shape t).key) project [] }
 
     -- the rows that the query picked go, and each comes back under its rowid as what is made of it
-    finish : (old new : Database) → IsDatabase new → Keyed (old.trees (tree_of t)) → list_all (is_row_of t) (tuples t old.trees) ≡ true → (trees : Trees) → new ≡ record { schema = schema; trees = trees } → (found : List Row)
-        → Answers (record { schema = schema; trees = old.trees }) program params found → Edited schema Enforced old.trees (edit_of old.trees (definition t) (ids_of found) Given 1 found) (Ok trees) → Replaces schema t params made old new
+    finish : (old new : Database) → IsDatabase new → Keyed (old.trees (tree_of t)) → list_all (is_row_of t) (tuples t old.trees) ≡ true → (trees : Trees)
+        → new ≡ record { schema = schema; trees = trees } → (found : List Row)
+        → Answers (record { schema = schema; trees = old.trees }) program params found
+        → Edited schema Enforced old.trees (edit_of old.trees (definition t) (ids_of found) Given 1 found) (Ok trees) → Replaces schema t params made old new
     finish old new sound keyed typed trees now found answer edited =
         let db = old.trees in
         let rows = db (tree_of t) in
@@ -99,7 +104,10 @@ module _ (schema : Schema) (t : Table) (alone : (olds news : List Row) → works
         let passes : Row → Bool = λ r. has_key t params (drop 1 r) in
         let shown : Row → Row = λ r. rowid r ∷ rowid r ∷ next (drop 1 r) in
         let heir : Row → Row = λ r. rowid r ∷ made (drop 1 r) in
-        let pick = selects (λ r. r) (tree_of t) (tests_from 0 (shape t).key) project [] params passes (λ r. []) shown (tests_agree 0 (shape t).key params) (λ r. refl) shows (overlay db []) found (answer.answer Null) in
+        let pick =
+        selects (λ r. r) (tree_of t) (tests_from 0 (shape t).key) project [] params passes (λ r. []) shown (tests_agree 0 (shape t).key params) (λ r. refl) shows (overlay db []) found
+        (answer.answer Null)
+        in
         let from : IsPermutation (filter passes rows) pick.ordered = subst (λ l. IsPermutation (filter passes l) pick.ordered) (mapped_itself (overlay db [] (tree_of t)) ∙ low db) pick.same in
         let kept = filter (λ r. not (passes r)) rows in
         let left : without_all rows (ids_of found) ≡ kept = picked_left passes shown (λ r. refl) rows keyed pick.ordered found from pick.shown in
@@ -109,7 +117,8 @@ module _ (schema : Schema) (t : Table) (alone : (olds news : List Row) → works
         let tuple = test_has (is_row_of t) (tuples t db) (drop 1 r) typed (mapped_has (drop 1) rows r was.0) in
         rw (makes (drop 1 r) tuple was.1, int_is (rowid r) (keyed.ints r was.0), cast_int (id_in (rowid r)), cast_all_of (columns_of t) (made (drop 1 r)) (kinds (drop 1 r) tuple)) refl in
         let news : edit.news ≡ map heir pick.ordered =
-        numbered_given _ _ ∙ ap (map (λ s. cast_row (definition t) (drop 1 s))) pick.shown ∙ mapped_twice shown (λ s. cast_row (definition t) (drop 1 s)) pick.ordered ∙ mapped_same _ heir pick.ordered casts in
+        numbered_given _ _ ∙ ap (map (λ s. cast_row (definition t) (drop 1 s))) pick.shown ∙ mapped_twice shown (λ s. cast_row (definition t) (drop 1 s)) pick.ordered
+        ∙ mapped_same _ heir pick.ordered casts in
         let same : new.trees ≡ trees = ap (λ (d : Database). d.trees) now in
         let after : new.trees (tree_of t) ≡ put_all kept edit.news = ap (λ (x : Trees). x (tree_of t)) same ∙ step.rows ∙ ap (λ l. put_all l edit.news) left in
         let fresh : are_fresh kept edit.news ≡ true = subst (λ l. are_fresh l edit.news ≡ true) left step.fresh in
@@ -119,7 +128,8 @@ module _ (schema : Schema) (t : Table) (alone : (olds news : List Row) → works
         ∙ ap (λ l. l ++ map (drop 1) kept) (mapped_twice heir (drop 1) pick.ordered)
         ∙ ap (λ l. map (λ r. made (drop 1 r)) pick.ordered ++ l) (sym (filter-map (λ x. not (has_key t params x)) (drop 1) rows)) in
         let chosen : IsPermutation (map made (filter (has_key t params) (tuples t db))) (map (λ r. made (drop 1 r)) pick.ordered) =
-        subst (λ l. IsPermutation l (map (λ r. made (drop 1 r)) pick.ordered)) (sym (mapped_twice (drop 1) made (filter passes rows)) ∙ ap (map made) (sym (filter-map (has_key t params) (drop 1) rows)))
+        subst (λ l. IsPermutation l (map (λ r. made (drop 1 r)) pick.ordered))
+        (sym (mapped_twice (drop 1) made (filter passes rows)) ∙ ap (map made) (sym (filter-map (has_key t params) (drop 1) rows)))
         (IsPermutation-map (λ r. made (drop 1 r)) (filter passes rows) pick.ordered from) in
         record {
           changes = record {
@@ -128,11 +138,13 @@ module _ (schema : Schema) (t : Table) (alone : (olds news : List Row) → works
             others = subst (λ (x : Trees). AllByRecursion (λ d. d.tree ≢ tree_of t → x d.tree ≡ db d.tree) schema.tables) (sym same) step.tables;
           };
           rows = IsPermutation-trans _ _ _ (IsPermutation-sym _ _ (parted (has_key t params) made (tuples t db)))
-              (IsPermutation-trans _ _ _ (IsPermutation-append_left (filter (λ x. not (has_key t params x)) (tuples t db)) _ _ chosen) (subst (λ l. IsPermutation l (tuples t new.trees)) parts (IsPermutation-map (drop 1) _ _ whole)));
+              (IsPermutation-trans _ _ _ (IsPermutation-append_left (filter (λ x. not (has_key t params x)) (tuples t db)) _ _ chosen)
+              (subst (λ l. IsPermutation l (tuples t new.trees)) parts (IsPermutation-map (drop 1) _ _ whole)));
           keyed = subst Keyed (sym after) (keyed_put_all edit.news kept (keyed_filtered (λ r. not (passes r)) rows keyed) step.keyed fresh);
         }
 
-    pub replaces : (old new : State) (count : ℕ) → old.now.schema ≡ schema → Keyed (old.now.trees (tree_of t)) → list_all (is_row_of t) (tuples t old.now.trees) ≡ true → Executes sql params old new (Ok count)
+    pub replaces : (old new : State) (count : ℕ) → old.now.schema ≡ schema → Keyed (old.now.trees (tree_of t)) → list_all (is_row_of t) (tuples t old.now.trees) ≡ true
+        → Executes sql params old new (Ok count)
         → Replaces schema t params made old.now new.now
     replaces old new count has keyed typed h =
         let db = old.now.trees in

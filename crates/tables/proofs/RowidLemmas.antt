@@ -36,7 +36,8 @@ no_integer (Blob b) none = refl
 pub rowid_there : (rows : List Row) (k : ℕ) (r : Row) (n : ℤ) → k < length rows → r ≡ get_or rows k r → rowid r ≡ Int n → rowid (get_or rows k []) ≡ Int n
 rowid_there rows k r n low is id = ap rowid (get_any rows k [] r low ∙ sym is) ∙ id
 
-pub ints_more : (rows : List Row) (i : ℕ) (n : ℤ) → rowid (get_or rows i []) ≡ Int n → ((k : ℕ) → k < i → is_int (rowid (get_or rows k [])) ≡ true) → (k : ℕ) → k < i + 1 → is_int (rowid (get_or rows k [])) ≡ true
+pub ints_more : (rows : List Row) (i : ℕ) (n : ℤ) → rowid (get_or rows i []) ≡ Int n → ((k : ℕ) → k < i → is_int (rowid (get_or rows k [])) ≡ true) → (k : ℕ) → k < i + 1
+    → is_int (rowid (get_or rows k [])) ≡ true
 ints_more rows i n id before k low = elim (cases_lt k i) [
   | inl less ↦ before k less
   | inr past ↦ let same : i ≡ k = omega (arith, low, past) in ap is_int (subst (λ j. rowid (get_or rows j []) ≡ Int n) same id)
@@ -83,7 +84,8 @@ shown_at ordered rows shown k low =
     let below : k < length ordered = let n = ap length shown ∙ mapped_length alone ordered in omega (arith, low, n) in
     (below, ap rowid (ap (λ l. get_or l k []) shown ∙ get_mapped alone ordered k [] [] below))
 
-rising : (ordered : List Row) → ((k : ℕ) → k + 1 < length ordered → value_cmp (rowid (get_or ordered k [])) (rowid (get_or ordered (k + 1) [])) ≡ Less) → IsStrictlySortedBy value_cmp (map rowid ordered)
+rising : (ordered : List Row) → ((k : ℕ) → k + 1 < length ordered → value_cmp (rowid (get_or ordered k [])) (rowid (get_or ordered (k + 1) [])) ≡ Less)
+    → IsStrictlySortedBy value_cmp (map rowid ordered)
 rising ordered each = sorted_from_all_adjacent value_cmp_total (map rowid ordered) Null (λ k h.
     let next : k + 1 < length ordered = let n = mapped_length rowid ordered in omega (arith, h, n) in
     let here : k < length ordered = omega (arith, next) in

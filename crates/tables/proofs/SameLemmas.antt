@@ -26,7 +26,8 @@ pub same_then : (a b c : Contents) → SameContents a b → SameContents b c →
 same_then a b c first second t = IsPermutation-trans (a t) (b t) (c t) (first t) (second t)
 
 -- a change of one table that keeps permutations keeps the same contents
-pub same_changed : (t : Table) (f : List Row → List Row) → ((xs ys : List Row) → IsPermutation xs ys → IsPermutation (f xs) (f ys)) → (c d : Contents) → SameContents c d → SameContents (changed t f c) (changed t f d)
+pub same_changed : (t : Table) (f : List Row → List Row) → ((xs ys : List Row) → IsPermutation xs ys → IsPermutation (f xs) (f ys)) → (c d : Contents) → SameContents c d
+    → SameContents (changed t f c) (changed t f d)
 same_changed t f each c d same u = go (place_of u == place_of t)
   where
     go : (b : _) → IsPermutation (cond b (f (c u)) (c u)) (cond b (f (d u)) (d u))
@@ -36,7 +37,8 @@ same_changed t f each c d same u = go (place_of u == place_of t)
 -- ---- one table changed, the others as they were
 
 -- where one table has other rows, and no table before it in the list is that one
-pub filled_changed : (front : List (Table × List Row)) (t : Table) (rows news : List Row) (back : List (Table × List Row)) (f : List Row → List Row) → list_all (λ (x : Table × List Row). not (place_of x.0 == place_of t)) front ≡ true
+pub filled_changed : (front : List (Table × List Row)) (t : Table) (rows news : List Row) (back : List (Table × List Row)) (f : List Row → List Row)
+    → list_all (λ (x : Table × List Row). not (place_of x.0 == place_of t)) front ≡ true
     → IsPermutation (f rows) news → SameContents (changed t f (filled (front ++ (t, rows) ∷ back))) (filled (front ++ (t, news) ∷ back))
 filled_changed [] t rows news back f apart same u = go (place_of u == place_of t)
   where

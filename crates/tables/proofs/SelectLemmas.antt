@@ -71,8 +71,10 @@ module _ (into : Row → Row) (tree : ℕ) (tests : List Term) (project : List T
       found [] = refl
       found (r ∷ rows) = go (test (into r)) (tested r) (found rows)
         where
-          go : (b : Bool) → list_all (holds (params ∷ r ∷ [])) tests ≡ b → map (output asked) (flat_map (λ x. cond (list_all (holds (params ∷ x ∷ [])) tests) ((params ∷ x ∷ []) ∷ []) []) rows) ≡ map pair (filter test (map into rows))
-              → map (output asked) (cond (list_all (holds (params ∷ r ∷ [])) tests) ((params ∷ r ∷ []) ∷ []) [] ++ flat_map (λ x. cond (list_all (holds (params ∷ x ∷ [])) tests) ((params ∷ x ∷ []) ∷ []) []) rows)
+          go : (b : Bool) → list_all (holds (params ∷ r ∷ [])) tests ≡ b
+              → map (output asked) (flat_map (λ x. cond (list_all (holds (params ∷ x ∷ [])) tests) ((params ∷ x ∷ []) ∷ []) []) rows) ≡ map pair (filter test (map into rows))
+              → map (output asked) (cond (list_all (holds (params ∷ r ∷ [])) tests) ((params ∷ r ∷ []) ∷ []) []
+              ++ flat_map (λ x. cond (list_all (holds (params ∷ x ∷ [])) tests) ((params ∷ x ∷ []) ∷ []) []) rows)
               ≡ map pair (cond b (into r ∷ filter test (map into rows)) (filter test (map into rows)))
           go true is later = rw (is, keyed r, shows r) (ap (λ l. pair (into r) ∷ l) later)
           go false is later = rw is later
@@ -116,7 +118,8 @@ module _ (schema : Schema) (sql : List ℕ) (tree : ℕ) (tests project : List T
     (keyed : (r : Row) → eval_all (map (λ k. k.0) order) (params ∷ r ∷ []) ≡ key (into r))
     (shows : (r : Row) → eval_all project (params ∷ r ∷ []) ≡ show (into r))
   where
-    pub reads_rows : (old new : State) (rows : List Row) → old.now.schema ≡ schema → Shown sql params old new rows → Selects test key show (key_cmp 0 (map (λ k. k.1) order)) (map into (old.now.trees tree)) rows
+    pub reads_rows : (old new : State) (rows : List Row) → old.now.schema ≡ schema → Shown sql params old new rows
+        → Selects test key show (key_cmp 0 (map (λ k. k.1) order)) (map into (old.now.trees tree)) rows
     reads_rows old new rows has h =
         let read = reads_as sql params old new schema has _ it.is it.plain it.unlisted rows h in
         subst (λ l. Selects test key show (key_cmp 0 (map (λ k. k.1) order)) (map into l) rows) (it.low old.now.trees)
@@ -157,5 +160,6 @@ tests_agree k zero params r = refl
 tests_agree k (suc n) params r = rw (sym (later k r)) (ap (λ b. equal Binary (column r (suc k)) (column params k) && b) (tests_agree (suc k) n params r))
 
 -- a column outside the key is the parameter
-pub refers : (r : Reference) (value : Value) (row : Row) → list_all (holds ((value ∷ []) ∷ row ∷ [])) (op2 (Compare Eq Binary) (col 1 (suc (place_sought r))) (col 0 0) ∷ []) ≡ refers_to r value (drop 1 row)
+pub refers : (r : Reference) (value : Value) (row : Row) → list_all (holds ((value ∷ []) ∷ row ∷ [])) (op2 (Compare Eq Binary) (col 1 (suc (place_sought r))) (col 0 0) ∷ [])
+    ≡ refers_to r value (drop 1 row)
 refers r value row = rw (later (place_sought r) row) (and-true _)

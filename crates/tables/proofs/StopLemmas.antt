@@ -76,7 +76,8 @@ pub begun_sees : {S : Type 0} (g : Ghosts S) (old : Held S) (c : Contents) → R
 begun_sees g old c rests = record { inside = refl; office = rests.office }
 
 -- what writes nothing for good, and then commits what it saw
-pub survives_commit : (c : Contents) (start inside new : State) → Survives start inside (λ _. ⊥) → Survives inside new (λ trees. trees ≡ inside.now.trees) → (HasCleanDisk inside → Sees c inside) → Survives start new (Stores c)
+pub survives_commit : (c : Contents) (start inside new : State) → Survives start inside (λ _. ⊥) → Survives inside new (λ trees. trees ≡ inside.now.trees)
+    → (HasCleanDisk inside → Sees c inside) → Survives start new (Stores c)
 survives_commit c start inside new first second sees =
     survives_then start inside new (λ _. ⊥) (λ trees. trees ≡ inside.now.trees) (Stores c) (λ _ trees none. absurd none)
     (λ clean trees made. let low = second.clean in let before : HasCleanDisk inside = omega (arith, low, clean) in stores_seen c inside trees (sees before) made) first second

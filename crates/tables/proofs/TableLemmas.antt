@@ -1,56 +1,28 @@
 -- The tables of an office as a list, and in a schema.
-use Rattle.std.proofs.Common.{◌≡◌, ◌≢◌, ◌⊎◌, inl, inr, ℕ, zero, suc, ◌*◌, ◌<◌, ◌==◌, List, slice_get, get_or, Some, true, false, refl, sym, ap, ◌∙◌, arith}
+use Rattle.std.proofs.Common.{◌≡◌, ◌≢◌, ◌⊎◌, inl, inr, ℕ, suc, ◌*◌, ◌<◌, ◌==◌, List, slice_get, get_or, Some, true, false, refl, sym, ap, ◌∙◌, arith}
 use Rattle.std.proofs.lemmas.Bool.Decides.{eqb_tells}
 use Rattle.sqlite_rules.specs.Lists.{Has}
 use Rattle.sqlite_schema.specs.declared.schema.Index.{Index}
 use Rattle.sqlite_schema.specs.declared.schema.View.{View}
 use Rattle.tables.specs.declared.table.Table.{Table}
-use Rattle.tables.specs.declared.table.Table.TheVariants.{Office, Ward, Candidate, Batch, Keying, Verdict, Lot, Receipt, Bundle, Vote, Third}
+use Rattle.tables.specs.declared.table.Table.TheVariants.{Office}
 use Rattle.tables.specs.Schema.{Definition, schema_from, definition, place_of, tree_of, all_tables}
 use Rattle.tables.proofs.ListLemmas.{has_place}
 
 pub place_itself : (t : Table) → get_or all_tables (place_of t) Office ≡ t
 place_itself Office = refl
-place_itself Ward = refl
-place_itself Candidate = refl
-place_itself Batch = refl
-place_itself Keying = refl
-place_itself Verdict = refl
-place_itself Lot = refl
-place_itself Receipt = refl
-place_itself Bundle = refl
-place_itself Vote = refl
-place_itself Third = refl
+place_itself t = refl
 
 pub same_place : (t u : Table) → place_of t ≡ place_of u → t ≡ u
 same_place t u same = sym (place_itself t) ∙ ap (λ n. get_or all_tables n Office) same ∙ place_itself u
 
 pub place_there : (n : ℕ) → n < 11 → place_of (get_or all_tables n Office) ≡ n
-place_there zero low = refl
-place_there (suc zero) low = refl
-place_there (suc (suc zero)) low = refl
-place_there (suc (suc (suc zero))) low = refl
-place_there (suc (suc (suc (suc zero)))) low = refl
-place_there (suc (suc (suc (suc (suc zero))))) low = refl
-place_there (suc (suc (suc (suc (suc (suc zero)))))) low = refl
-place_there (suc (suc (suc (suc (suc (suc (suc zero))))))) low = refl
-place_there (suc (suc (suc (suc (suc (suc (suc (suc zero)))))))) low = refl
-place_there (suc (suc (suc (suc (suc (suc (suc (suc (suc zero))))))))) low = refl
-place_there (suc (suc (suc (suc (suc (suc (suc (suc (suc (suc zero)))))))))) low = refl
 place_there (suc (suc (suc (suc (suc (suc (suc (suc (suc (suc (suc n))))))))))) low = absurd (omega (arith, low))
+place_there n low = refl
 
 pub place_below : (t : Table) → place_of t < 11
 place_below Office = omega arith
-place_below Ward = omega arith
-place_below Candidate = omega arith
-place_below Batch = omega arith
-place_below Keying = omega arith
-place_below Verdict = omega arith
-place_below Lot = omega arith
-place_below Receipt = omega arith
-place_below Bundle = omega arith
-place_below Vote = omega arith
-place_below Third = omega arith
+place_below t = omega arith
 
 -- a table is this one, or has another place and another tree
 pub which_table : (t u : Table) → ((place_of u == place_of t) ≡ true) × (u ≡ t) ⊎ ((place_of u == place_of t) ≡ false) × (tree_of u ≢ tree_of t)
@@ -65,16 +37,7 @@ which_table t u = elim (eqb_tells (place_of u) (place_of t)) [
 module _ (rest : List Definition) (others : List Index) (views : List View) where
   pub listed : (t : Table) → slice_get (schema_from 11 rest others views).tables (place_of t) ≡ Some (definition t)
   listed Office = refl
-  listed Ward = refl
-  listed Candidate = refl
-  listed Batch = refl
-  listed Keying = refl
-  listed Verdict = refl
-  listed Lot = refl
-  listed Receipt = refl
-  listed Bundle = refl
-  listed Vote = refl
-  listed Third = refl
+  listed t = refl
 
   pub has_table : (t : Table) → Has (schema_from 11 rest others views).tables (definition t)
   has_table t = has_place (schema_from 11 rest others views).tables (place_of t) (definition t) (listed t)

@@ -44,7 +44,8 @@ module _ (task : Task) where
       (w, done.1, ap (λ (p : Tally × Database). p.1) (given (end tested.0 shown.0) (tally, after) shown.2))
 
   -- an edit that makes these rows went through
-  edit_went : (db : Trees) (edit : Edit) (rows : List Row) (w : Written) → Then (Edited task.schema task.keys db edit) (λ next. Gives (record { trees = next; rows = rows; last = None })) (Ok w) → Edited task.schema task.keys db edit (Ok w.trees)
+  edit_went : (db : Trees) (edit : Edit) (rows : List Row) (w : Written)
+      → Then (Edited task.schema task.keys db edit) (λ next. Gives (record { trees = next; rows = rows; last = None })) (Ok w) → Edited task.schema task.keys db edit (Ok w.trees)
   edit_went db edit rows w h =
       let done = then_went (Edited task.schema task.keys db edit) (λ next. Gives (record { trees = next; rows = rows; last = None })) w h in
       subst (λ (x : Trees). Edited task.schema task.keys db edit (Ok x)) (sym (ap (λ (x : Written). x.trees) (given (record { trees = done.0; rows = rows; last = None }) w done.2))) done.1
@@ -53,12 +54,18 @@ module _ (task : Task) where
       → (rows : List Row) × Answers (read db) q task.params rows × Edited task.schema task.keys db (edit_of db task.table (ids_of rows) Given 0 []) (Ok w.trees)
   delete_went q db w h =
       let edit = λ (rows : List Row). edit_of db task.table (ids_of rows) Given 0 [] in
-      let found = then_went (Queried task.limit (read db) q task.params) (λ rows. Then (Edited task.schema task.keys db (edit rows)) (λ next. Gives (record { trees = next; rows = taken_by db (edit rows); last = None }))) w h in
+      let found =
+      then_went (Queried task.limit (read db) q task.params) (λ rows. Then (Edited task.schema task.keys db (edit rows))
+      (λ next. Gives (record { trees = next; rows = taken_by db (edit rows); last = None }))) w h
+      in
       (found.0, found.1, edit_went db (edit found.0) (taken_by db (edit found.0)) w found.2)
 
   pub update_went : (q : Program) (db : Trees) (w : Written) → Updates task q task.params db (Ok w)
       → (rows : List Row) × Answers (read db) q task.params rows × Edited task.schema task.keys db (edit_of db task.table (ids_of rows) Given 1 rows) (Ok w.trees)
   update_went q db w h =
       let edit = λ (rows : List Row). edit_of db task.table (ids_of rows) Given 1 rows in
-      let found = then_went (Queried task.limit (read db) q task.params) (λ rows. Then (Edited task.schema task.keys db (edit rows)) (λ next. Gives (record { trees = next; rows = (edit rows).news; last = None }))) w h in
+      let found =
+      then_went (Queried task.limit (read db) q task.params) (λ rows. Then (Edited task.schema task.keys db (edit rows))
+      (λ next. Gives (record { trees = next; rows = (edit rows).news; last = None }))) w h
+      in
       (found.0, found.1, edit_went db (edit found.0) (edit found.0).news w found.2)

@@ -68,7 +68,8 @@ shape Candidate = record { name = codes "candidate"; key = 2; fields = within (c
 shape Batch = record {
   name = codes "batch";
   key = 1;
-  fields = within (codes "batch") 1 9999 ∷ within (codes "ward") 1 99 ∷ within (codes "size") 1 500 ∷ within (codes "clerk_a") 1 999 ∷ within (codes "clerk_b") 1 999 ∷ within (codes "round") 1 99 ∷ [];
+  fields = within (codes "batch") 1 9999 ∷ within (codes "ward") 1 99 ∷ within (codes "size") 1 500
+      ∷ within (codes "clerk_a") 1 999 ∷ within (codes "clerk_b") 1 999 ∷ within (codes "round") 1 99 ∷ [];
 }
 shape Keying = record {
   name = codes "keying";

@@ -78,7 +78,8 @@ create_text t = codes "CREATE TABLE " ++ (shape t).name ++ codes " (" ++ joined 
 
 -- adds one row, of the values of all columns in turn
 unfoldable pub insert_text : Table → List ℕ
-insert_text t = codes "INSERT INTO " ++ (shape t).name ++ codes " (" ++ joined comma (names_of t) ++ codes ") VALUES (" ++ joined comma (map parameter (places_from 0 (length (shape t).fields))) ++ codes ")"
+insert_text t =
+    codes "INSERT INTO " ++ (shape t).name ++ codes " (" ++ joined comma (names_of t) ++ codes ") VALUES (" ++ joined comma (map parameter (places_from 0 (length (shape t).fields))) ++ codes ")"
 
 -- all columns of the rows whose first columns, so many, are the parameters, in the order of the key
 unfoldable pub select_text : Table → ℕ → List ℕ

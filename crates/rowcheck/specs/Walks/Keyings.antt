@@ -1,17 +1,12 @@
 -- The keyed papers of one batch.
-use Rattle.std.specs.Prelude.{ℕ, Bool, ◌&&◌, ◌==◌, List, [], Option, Some, None}
+use Rattle.std.specs.Prelude.{ℕ, Bool, ◌&&◌, ◌==◌, List, Some}
 use Rattle.std.specs.List.{list_all, filter}
-use Rattle.register.specs.Offices.{BatchEntry, KeyedEntry, OfficeState, keying_of}
+use Rattle.register.specs.Offices.{BatchEntry, KeyedEntry, OfficeState}
 use Rattle.register.specs.Keyed.{is_keyed_for, are_rounds_to}
 
 -- the papers that are keyed of a batch, in all rounds and by all its clerks
 abbrev pub papers_of : OfficeState → ℕ → List KeyedEntry
 papers_of s batch = filter (λ (k : KeyedEntry). k.batch == batch) s.keyings
-
--- what a clerk keyed of a batch in a round, if there is such a clerk
-abbrev pub keying_by : OfficeState → ℕ → ℕ → Option ℕ → List KeyedEntry
-keying_by s batch round None = []
-keying_by s batch round (Some clerk) = keying_of s batch round clerk
 
 -- each of them is keyed as the batch asks
 abbrev pub are_keyed_for : OfficeState → BatchEntry → Bool

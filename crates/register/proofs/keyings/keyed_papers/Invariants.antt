@@ -6,4 +6,5 @@ use Rattle.register.proofs.keyings.keyed_papers.Given as goal
 
 abbrev pub invariant-loop-place : goal.invariant-loop-place
 invariant-loop-place l =
-    map keyed_entry l.papers.items ++ papers_from l.command.batch l.command.round l.actor (l.place + 1) (map string_bytes (drop l.place l.command.papers.items)) ≡ papers_from l.command.batch l.command.round l.actor 1 (map string_bytes l.command.papers.items)
+    map keyed_entry l.papers.items ++ papers_from l.command.batch l.command.round l.actor (l.place + 1) (map string_bytes (drop l.place l.command.papers.items))
+    ≡ papers_from l.command.batch l.command.round l.actor 1 (map string_bytes l.command.papers.items)

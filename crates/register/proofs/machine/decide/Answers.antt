@@ -42,7 +42,8 @@ pub returns-clause-tabulates : goal.returns-clause-tabulates
 returns-clause-tabulates c =
     let view = c.args.view.now in
     let command = c.args.command.now in
-    IfOk-both c.decided.result (λ d. ruling_of d ≡ decided_on view command) (λ d. DecidesAddition command view.part.count d) (λ d. (s : OfficeState) → IsState s → IsViewOf s command view → AddsWhatIsCounted s d)
+    IfOk-both c.decided.result (λ d. ruling_of d ≡ decided_on view command) (λ d. DecidesAddition command view.part.count d)
+    (λ d. (s : OfficeState) → IsState s → IsViewOf s command view → AddsWhatIsCounted s d)
     (λ d same adds s is shows. adds_counted s view command d is shows same adds)
     c.decided.ensures.ruling
     c.decided.ensures.adds
@@ -51,7 +52,8 @@ pub returns-clause-adds : goal.returns-clause-adds
 returns-clause-adds c =
     let view = c.args.view.now in
     let command = c.args.command.now in
-    IfOk-both c.decided.result (λ d. ruling_of d ≡ decided_on view command) (λ d. DecidesAddition command view.part.count d) (λ d. (s : OfficeState) → IsState s → IsViewOf s command view → AddsNoMore s command d)
+    IfOk-both c.decided.result (λ d. ruling_of d ≡ decided_on view command) (λ d. DecidesAddition command view.part.count d)
+    (λ d. (s : OfficeState) → IsState s → IsViewOf s command view → AddsNoMore s command d)
     (λ d same adds s is shows. adds_no_more s view command d is shows same adds)
     c.decided.ensures.ruling
     c.decided.ensures.adds
@@ -60,8 +62,10 @@ pub returns-clause-blind : goal.returns-clause-blind
 returns-clause-blind c other_actor =
     let view = c.args.view.now in
     let command = c.args.command.now in
-    IfOk-weaker c.decided.result (λ d. ruling_of d ≡ decided_on view command) (λ d. (s : OfficeState) → IsViewOf s command view → ruling_of d ≡ ruling_at (seen_by view.actor s) view.actor view.id.now command)
-    (λ d same s shows. same ∙ ruling_on s view.actor view.id.now command (option_map receipt_entry view.receipt) (part_entries view.part) shows.receipt shows.part ∙ sym (ruling_on_seen s view.actor view.id.now command other_actor))
+    IfOk-weaker c.decided.result (λ d. ruling_of d ≡ decided_on view command)
+    (λ d. (s : OfficeState) → IsViewOf s command view → ruling_of d ≡ ruling_at (seen_by view.actor s) view.actor view.id.now command)
+    (λ d same s shows. same ∙ ruling_on s view.actor view.id.now command (option_map receipt_entry view.receipt) (part_entries view.part) shows.receipt shows.part
+    ∙ sym (ruling_on_seen s view.actor view.id.now command other_actor))
     c.decided.ensures.ruling
 
 pub returns-clause-unseen : goal.returns-clause-unseen

@@ -1,4 +1,4 @@
-use Rattle.register.proofs.ColumnLemmas.{columns_are}
+use Rattle.register.proofs.WardColumnLemmas.{columns_are}
 use Rattle.register.proofs.marks.columns_of.Goals as goal
 
 pub returns-clause-of_a_ward : goal.returns-clause-of_a_ward

@@ -8,5 +8,6 @@ use Rattle.register.proofs.papers.count_open.Given as goal
 abbrev pub invariant-loop-keyed : goal.invariant-loop-keyed
 invariant-loop-keyed l = record {
   few : l.open ≤ l.keyed-index;
-  all : l.open + length (filter (is_open (map judged_entry l.verdicts)) (map keyed_entry (drop l.keyed-index l.keying))) ≡ length (filter (is_open (map judged_entry l.verdicts)) (map keyed_entry l.keying));
+  all : l.open + length (filter (is_open (map judged_entry l.verdicts)) (map keyed_entry (drop l.keyed-index l.keying)))
+      ≡ length (filter (is_open (map judged_entry l.verdicts)) (map keyed_entry l.keying));
 }

@@ -6,4 +6,5 @@ use Rattle.register.proofs.polls.by_verdicts.Given as goal
 
 abbrev pub invariant-loop-judged : goal.invariant-loop-judged
 invariant-loop-judged l =
-    by_verdict l.columns (find (λ (v : JudgedEntry). v.paper == l.paper) (map judged_entry l.verdicts)) ≡ by_verdict l.columns (find (λ (v : JudgedEntry). v.paper == l.paper) (map judged_entry (drop l.judged-index l.verdicts)))
+    by_verdict l.columns (find (λ (v : JudgedEntry). v.paper == l.paper) (map judged_entry l.verdicts))
+    ≡ by_verdict l.columns (find (λ (v : JudgedEntry). v.paper == l.paper) (map judged_entry (drop l.judged-index l.verdicts)))

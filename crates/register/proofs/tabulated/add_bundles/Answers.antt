@@ -17,7 +17,8 @@ loop-list-preserved-in-Some-split_first c = λ at lie.
     let left : AreLeft c.args.ward at items all ((c.in-Some.list.now, c.in-Some.papers.now) ∷ c.next.new.self) (c.in-Some-split_first.at.now ∷ c.in-Some-split_first.others.now) =
     subst (λ (ps : List Placed). AreLeft c.args.ward at items all ((c.in-Some.list.now, c.in-Some.papers.now) ∷ c.next.new.self) ps) first
     (subst (λ (bs : List Bundle). AreLeft c.args.ward at items all bs c.loop-list.rest.now) steps (c.loop-list.invariant at lie)) in
-    one_less c.args.ward at items (map placed_entry c.push.new.self.items) all (c.in-Some.list.now, c.in-Some.papers.now) c.next.new.self c.in-Some-split_first.at.now c.in-Some-split_first.others.now (placed_entry c.in_ok-placed_bundle.field-0)
+    one_less c.args.ward at items (map placed_entry c.push.new.self.items) all
+    (c.in-Some.list.now, c.in-Some.papers.now) c.next.new.self c.in-Some-split_first.at.now c.in-Some-split_first.others.now (placed_entry c.in_ok-placed_bundle.field-0)
     c.in_ok-placed_bundle.ensures (ap (map placed_entry) pushed ∙ map-append placed_entry c.loop-list.to.items (c.in_ok-placed_bundle.field-0 ∷ [])) left
 
 pub returns : goal.returns

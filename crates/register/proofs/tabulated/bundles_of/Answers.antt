@@ -3,7 +3,7 @@ use Rattle.std.proofs.Common.{rules, ◌≡◌, ◌+◌, ◌++◌, ◌∷◌, �
 use Rattle.count.specs.Bundles.{Bundle}
 use Rattle.register.specs.Tabulated.{placed_entry, bundle_of}
 use Rattle.register.specs.declared.tabulated.PlacedBundle.{PlacedBundle}
-use Rattle.register.proofs.ReadBackLemmas.{left_at, next_bundle, next_fits}
+use Rattle.register.proofs.CountReadBackLemmas.{left_at, next_bundle, next_fits}
 use Rattle.register.proofs.tabulated.bundles_of.Goals as goal
 
 pub returns-then-not-branch-clause-some : goal.returns-then-not-branch-clause-some

@@ -5,7 +5,7 @@ use Rattle.count.specs.Kept.{IsKeptOf}
 use Rattle.count.specs.Marks.{all_figures}
 use Rattle.register.specs.Elections.{ElectionEntry, contest_of, stages_of}
 use Rattle.register.specs.Tabulated.{AreOfCount, placed_entry, figure_entry}
-use Rattle.register.proofs.ReadBackLemmas.{read_figures, are_bundles, few_papers, few_holders, right_so_far, kept_again}
+use Rattle.register.proofs.CountReadBackLemmas.{read_figures, are_bundles, few_papers, few_holders, right_so_far, kept_again}
 use Rattle.register.proofs.tabulated.count_of.Goals as goal
 use Rattle.register.proofs.tabulated.count_of.Goals.{In-Some-3}
 
@@ -22,13 +22,15 @@ returns-in_default-4-clause-some c = λ e of.
 
 -- what was read is kept of the count
 kept : (c : In-Some-3) (e : ElectionEntry) → AreOfCount e c.args.candidates c.args.seats (map placed_entry c.args.bundles.now) (map figure_entry c.args.figures.now)
-    → IsKeptOf (contest_of e) (stages_of e) (record { candidates = c.args.candidates; seats = c.in-Ok.seats; bundles = c.in-Some.kept; places = c.in-Some-2.places.items; stages = c.in-Some-3.stages.items })
+    → IsKeptOf (contest_of e) (stages_of e)
+    (record { candidates = c.args.candidates; seats = c.in-Ok.seats; bundles = c.in-Some.kept; places = c.in-Some-2.places.items; stages = c.in-Some-3.stages.items })
 kept c e of =
     let number : c.in-Ok.seats ≡ c.args.seats = search rules in
     let figures : c.deref.result.now ≡ all_figures c.args.candidates (stages_of e) = c.deref.ensures.value ∙ c.in_ok-figures.ensures ∙ read_figures e _ _ _ _ of in
     let again : AreOfCount e c.args.candidates c.in-Ok.seats (map placed_entry c.args.bundles.now) (map figure_entry c.args.figures.now) =
     subst (λ n. AreOfCount e c.args.candidates n (map placed_entry c.args.bundles.now) (map figure_entry c.args.figures.now)) (sym number) of in
-    kept_again e _ _ _ _ again c.in-Some.kept c.in-Some-2.places.items c.in-Some-3.stages.items ((rw c.in-Some.is at c.in_ok-kept.ensures.is) (are_bundles e _ _ _ _ of)) (rw c.in-Some-2.is at c.in_ok-places.ensures.is)
+    kept_again e _ _ _ _ again c.in-Some.kept c.in-Some-2.places.items c.in-Some-3.stages.items ((rw c.in-Some.is at c.in_ok-kept.ensures.is) (are_bundles e _ _ _ _ of))
+    (rw c.in-Some-2.is at c.in_ok-places.ensures.is)
     ((rw c.in-Some-3.is at c.in_ok-stages.ensures.is) (contest_of e) (stages_of e) of.fair (right_so_far e _ _ _ _ of) (sym of.candidates_are) figures)
 
 pub returns-clause-is : goal.returns-clause-is

@@ -9,5 +9,6 @@ use Rattle.register.proofs.tabulated.places_of.Given as goal
 abbrev pub invariant-loop-bundle : goal.invariant-loop-bundle
 invariant-loop-bundle l = record {
   made : l.places.items ++ map placed_of (map placed_entry (drop l.bundle-index l.tabulated)) ≡ map placed_of (map placed_entry l.tabulated);
-  few : AllByRecursion (λ (at : Placed). at.holder ≤ max_candidates) (map placed_of (map placed_entry l.tabulated)) → AllByRecursion (λ (at : Placed). at.holder ≤ max_candidates) (map placed_of (map placed_entry (drop l.bundle-index l.tabulated)));
+  few : AllByRecursion (λ (at : Placed). at.holder ≤ max_candidates) (map placed_of (map placed_entry l.tabulated))
+      → AllByRecursion (λ (at : Placed). at.holder ≤ max_candidates) (map placed_of (map placed_entry (drop l.bundle-index l.tabulated)));
 }

@@ -1,6 +1,6 @@
 -- Why `tabulations_are_ordered` keeps its promise.
 use Rattle.register.proofs.TabulatedLemmas.{tabulation_rises, bundles_of_ward, figures_of_ward}
-use Rattle.register.proofs.ReadBackLemmas.{counted_at}
+use Rattle.register.proofs.CountReadBackLemmas.{counted_at}
 use Rattle.register.proofs.TabulatedRows.{worked_tabulation}
 use Rattle.register.proofs.tabulated.tabulations_are_ordered.Goals as goal
 

@@ -6,13 +6,14 @@ use Rattle.register.specs.Marks.{columns_of}
 use Rattle.register.specs.Offices.{WardEntry, ward_entry, candidate_entry}
 use Rattle.register.proofs.BundledLemmas.{fair-alike}
 use Rattle.rowcheck.specs.Walks.Counts.{IsOnBundlesOf}
-use Rattle.rowcheck.proofs.CountLemmas.{made-count}
+use Rattle.rowcheck.proofs.StagesDoneLemmas.{made-count}
 use Rattle.rowcheck.proofs.counts.add_from_ballots.Goals as goal
 
 pub returns-in_default-clause-is : goal.returns-in_default-clause-is
 returns-in_default-clause-is c e made fair =
     let can : IsContest (contest_for c.columns_of-columns.result c.args.ward.now.seats (papers_of c.args.ballots.now.papers)) =
-    fair-alike e c.columns_of-columns.result c.args.ward.now.seats c.args.ballots.now.papers (c.columns_of-columns.ensures.is ∙ ap columns_of made.candidates_are) (ap (λ (w : WardEntry). w.seats) made.ward_is)
+    fair-alike e c.columns_of-columns.result c.args.ward.now.seats c.args.ballots.now.papers (c.columns_of-columns.ensures.is ∙ ap columns_of made.candidates_are)
+    (ap (λ (w : WardEntry). w.seats) made.ward_is)
     made.ballots_are.papers_held fair in
     let some = subst IsSome c.in_default.is (c.in_ok-book.ensures.some can) in
     absurd (cc)

@@ -3,7 +3,7 @@ use Rattle.std.proofs.Common.{◌++◌, map, Result, Ok, Err, OnOk, reverse, sym
 use Rattle.count.specs.Law.Places.{place}
 use Rattle.register.specs.Offices.{ward_entry}
 use Rattle.register.specs.Tabulated.{placed_entry, figure_entry}
-use Rattle.rowcheck.proofs.TabulatedLemmas.{counted-papers, counted-bundles, counted-figures}
+use Rattle.rowcheck.proofs.CountedBookLemmas.{counted-papers, counted-bundles, counted-figures}
 use Rattle.rowcheck.proofs.counts.add_stages.Goals as goal
 
 both_ok : {T E P Q R : Type 0} (r : Result T E) → (P → Q → R) → OnOk r P → OnOk r Q → OnOk r R
@@ -18,7 +18,11 @@ returns c =
     let book = c.args.book.now in
     let own = c.places.ensures.bundles c.args.bundles.now c.len.ensures.bundles (counted-papers e ward c.args.columns.now c.args.bundles.now book has) in
     record {
-      bundles = bundles (place book.contest book.history) (c.places.ensures.places ∙ ap (map _) (sym own)) ∙ ap (λ added. map placed_entry c.args.tabulation.now.bundles.items ++ added) (counted-bundles e ward c.args.columns.now c.args.bundles.now book has c.if-ward-eq0.false);
-      figures = figures ∙ ap (λ added. map figure_entry c.args.tabulation.now.figures.items ++ added) (counted-figures e ward c.args.columns.now c.args.bundles.now book has c.if-ward-eq0.false (reverse c.stages.result.now) c.stages.ensures.is);
+      bundles =
+          bundles (place book.contest book.history) (c.places.ensures.places ∙ ap (map _) (sym own))
+          ∙ ap (λ added. map placed_entry c.args.tabulation.now.bundles.items ++ added) (counted-bundles e ward c.args.columns.now c.args.bundles.now book has c.if-ward-eq0.false);
+      figures =
+          figures ∙ ap (λ added. map figure_entry c.args.tabulation.now.figures.items ++ added)
+          (counted-figures e ward c.args.columns.now c.args.bundles.now book has c.if-ward-eq0.false (reverse c.stages.result.now) c.stages.ensures.is);
     })
     c.add.ensures.bundles c.add.ensures.figures

@@ -11,7 +11,7 @@ use Rattle.register.specs.declared.tabulated.Tabulation.{Tabulation}
 use Rattle.register.specs.Tabulated.{tabulation_entries}
 use Rattle.rowcheck.specs.States.{state_of}
 use Rattle.rowcheck.proofs.FairLemmas.{lots_in_range, all_fair, by_ward}
-use Rattle.rowcheck.proofs.TabulatedLemmas.{tabulation-by_ward}
+use Rattle.rowcheck.proofs.CountedBookLemmas.{tabulation-by_ward}
 use Rattle.rowcheck.proofs.counts.item7.Goals as goal
 
 pub returns-then-not-are_of_wards-clause-is : goal.returns-then-not-are_of_wards-clause-is
@@ -32,7 +32,8 @@ tabulation_in-requires-clause-in_range c = lots_in_range (state_of c.args.rows.n
 pub tabulation_in-requires-clause-fair : goal.tabulation_in-requires-clause-fair
 tabulation_in-requires-clause-fair c =
     rw c.deref-2.ensures.value (
-    all_fair c.args.rows.now c.requires.rise.wards (λ w there contested. c.elections_are_fair.ensures.fair (state_of c.args.rows.now) w c.requires.in_range c.requires.keyed c.requires.rise there contested)
+    all_fair c.args.rows.now c.requires.rise.wards (λ w there contested. c.elections_are_fair.ensures.fair
+    (state_of c.args.rows.now) w c.requires.in_range c.requires.keyed c.requires.rise there contested)
     )
 
 pub returns-clause-is : goal.returns-clause-is
@@ -43,11 +44,13 @@ returns-clause-is c =
     by_ward rows placed ∙ ap (list_all (λ (w : Ward). is_counted_right (election_of (state_of rows) (ward_entry w)))) (sym c.deref-2.ensures.value) in
     subst (λ b. IfOk c.tabulation_in.result (λ (found : Option Tabulation). is_some found ≡ b)) (sym whole) c.tabulation_in.ensures.is
 
-both_some : {T E : Type 0} {P Q R : T → Type 0} (r : Result (Option T) E) → ((t : T) → P t → Q t → R t) → IfOk r (λ found. IfSome found P) → IfOk r (λ found. IfSome found Q) → IfOk r (λ found. IfSome found R)
+both_some : {T E : Type 0} {P Q R : T → Type 0} (r : Result (Option T) E) → ((t : T) → P t → Q t → R t) → IfOk r (λ found. IfSome found P) → IfOk r (λ found. IfSome found Q)
+    → IfOk r (λ found. IfSome found R)
 both_some (Ok None) join p q = tt
 both_some (Ok (Some t)) join p q = join t p q
 both_some (Err e) join p q = tt
 
 pub returns-clause-counted : goal.returns-clause-counted
 returns-clause-counted c =
-    both_some c.tabulation_in.result (λ t bundles figures. tabulation-by_ward c.args.rows.now (tabulation_entries t) c.deref-2.result.now c.deref-2.ensures.value bundles figures) c.tabulation_in.ensures.bundles c.tabulation_in.ensures.figures
+    both_some c.tabulation_in.result (λ t bundles figures. tabulation-by_ward c.args.rows.now
+    (tabulation_entries t) c.deref-2.result.now c.deref-2.ensures.value bundles figures) c.tabulation_in.ensures.bundles c.tabulation_in.ensures.figures

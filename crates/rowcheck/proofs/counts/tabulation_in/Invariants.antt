@@ -12,7 +12,8 @@ use Rattle.rowcheck.proofs.counts.tabulation_in.Given as goal
 abbrev pub invariant-loop-ward : goal.invariant-loop-ward
 invariant-loop-ward l =
     record {
-      left : list_all (λ (w : Ward). is_counted_right (election_of (state_of l.rows) (ward_entry w))) l.wards ≡ list_all (λ (w : Ward). is_counted_right (election_of (state_of l.rows) (ward_entry w))) (drop l.ward-index l.wards);
+      left : list_all (λ (w : Ward). is_counted_right (election_of (state_of l.rows) (ward_entry w))) l.wards
+          ≡ list_all (λ (w : Ward). is_counted_right (election_of (state_of l.rows) (ward_entry w))) (drop l.ward-index l.wards);
       fair : AllByRecursion (λ (w : Ward). IsFair (state_of l.rows) (ward_entry w)) (drop l.ward-index l.wards);
       bundles : (tabulation_entries l.tabulation).bundles ≡ flat_map (λ (w : Ward). bundles_in (election_of (state_of l.rows) (ward_entry w))) (take l.ward-index l.wards);
       figures : (tabulation_entries l.tabulation).figures ≡ flat_map (λ (w : Ward). figures_in (election_of (state_of l.rows) (ward_entry w))) (take l.ward-index l.wards);

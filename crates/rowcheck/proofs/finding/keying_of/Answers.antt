@@ -9,8 +9,10 @@ pub run_of-requires : goal.run_of-requires
 run_of-requires c =
     rw c.deref.ensures.value (
     stand_in_order keyed_entry keyed_cmp (λ (x : KeyedEntry). ordering_then (nat_cmp x.batch c.args.batch) (ordering_then (nat_cmp x.round c.args.round) (nat_cmp x.clerk c.args.clerk)))
-    (follows_then (λ (x : KeyedEntry). x.batch) c.args.batch (then_cmp (on (λ (x : KeyedEntry). x.round) nat_cmp) (then_cmp (on (λ (x : KeyedEntry). x.clerk) nat_cmp) (on (λ (x : KeyedEntry). x.paper) nat_cmp))) (λ (x : KeyedEntry). ordering_then (nat_cmp x.round c.args.round) (nat_cmp x.clerk c.args.clerk))
-    (follows_then (λ (x : KeyedEntry). x.round) c.args.round (then_cmp (on (λ (x : KeyedEntry). x.clerk) nat_cmp) (on (λ (x : KeyedEntry). x.paper) nat_cmp)) (λ (x : KeyedEntry). nat_cmp x.clerk c.args.clerk) (follows (λ (x : KeyedEntry). x.clerk) c.args.clerk (on (λ (x : KeyedEntry). x.paper) nat_cmp))))
+    (follows_then (λ (x : KeyedEntry). x.batch) c.args.batch (then_cmp (on (λ (x : KeyedEntry). x.round) nat_cmp)
+    (then_cmp (on (λ (x : KeyedEntry). x.clerk) nat_cmp) (on (λ (x : KeyedEntry). x.paper) nat_cmp))) (λ (x : KeyedEntry). ordering_then (nat_cmp x.round c.args.round) (nat_cmp x.clerk c.args.clerk))
+    (follows_then (λ (x : KeyedEntry). x.round) c.args.round (then_cmp (on (λ (x : KeyedEntry). x.clerk) nat_cmp) (on (λ (x : KeyedEntry). x.paper) nat_cmp))
+    (λ (x : KeyedEntry). nat_cmp x.clerk c.args.clerk) (follows (λ (x : KeyedEntry). x.clerk) c.args.clerk (on (λ (x : KeyedEntry). x.paper) nat_cmp))))
     c.args.rows.now.keyings.items c.requires.keyings
     )
 

@@ -7,7 +7,9 @@ use Rattle.rowcheck.proofs.FindingLemmas.{entries_found, follows, stand_in_order
 use Rattle.rowcheck.proofs.finding.lots_of.Goals as goal
 
 pub run_of-requires : goal.run_of-requires
-run_of-requires c = rw c.deref.ensures.value (stand_in_order lot_entry lot_cmp (λ (x : LotEntry). nat_cmp x.ward c.args.ward) (follows (λ (x : LotEntry). x.ward) c.args.ward (on (λ (x : LotEntry). x.stage) nat_cmp)) c.args.rows.now.lots.items c.requires.lots)
+run_of-requires c =
+    rw c.deref.ensures.value (stand_in_order lot_entry lot_cmp (λ (x : LotEntry). nat_cmp x.ward c.args.ward)
+    (follows (λ (x : LotEntry). x.ward) c.args.ward (on (λ (x : LotEntry). x.stage) nat_cmp)) c.args.rows.now.lots.items c.requires.lots)
 
 pub returns : goal.returns
 returns c =

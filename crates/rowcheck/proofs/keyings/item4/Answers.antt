@@ -3,7 +3,7 @@ use Rattle.std.proofs.lemmas.List.Folds.{list_all-map}
 use Rattle.register.specs.Offices.{KeyedEntry, batch_entry, keyed_entry, batch_at}
 use Rattle.rowcheck.specs.States.{state_of}
 use Rattle.rowcheck.specs.Walks.Keyings.{is_rightly_keyed}
-use Rattle.rowcheck.proofs.KeyingLemmas.{keyed_by_batch}
+use Rattle.rowcheck.proofs.OwnerLemmas.{keyed_by_batch}
 use Rattle.rowcheck.proofs.keyings.item4.Goals as goal
 
 pub returns : goal.returns

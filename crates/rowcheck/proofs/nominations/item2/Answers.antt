@@ -1,4 +1,4 @@
-use Rattle.rowcheck.proofs.NominationLemmas.{walked}
+use Rattle.rowcheck.proofs.CandidateWalkLemmas.{walked}
 use Rattle.rowcheck.proofs.nominations.item2.Goals as goal
 
 pub returns : goal.returns

@@ -1,7 +1,7 @@
 use Rattle.std.proofs.Common.{◌==◌, arith, ◌∙◌, ap, drop}
 use Rattle.std.proofs.lemmas.List.Sums.{prefix_len-le-length}
 use Rattle.register.specs.declared.candidates.Candidate.{Candidate}
-use Rattle.rowcheck.proofs.RunLemmas.{drop_front}
+use Rattle.rowcheck.proofs.SideBySideLemmas.{drop_front}
 use Rattle.rowcheck.proofs.nominations.split_run.Goals as goal
 
 pub split_at-requires : goal.split_at-requires

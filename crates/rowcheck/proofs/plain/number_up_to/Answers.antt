@@ -13,4 +13,5 @@ returns-then-next-most c =
     let digit : is_ascii_digit d ≡ true = sym c.is_ascii_digit.ensures.value ∙ c.if-not-is_ascii_digit.false in
     let past = c.if-next-most.true in
     let last = c.from.ensures in
-    sym (l.invariant.told ∙ (at_drop_more (up_to most l.so_far) ds l.digit-index 0 c.loop-digit-test.true ∙ (up_to-digit most l.so_far d (drop (l.digit-index + 1) ds) digit ∙ up_to-past most (l.so_far * 10 + (d - 48)) (drop (l.digit-index + 1) ds) (omega (arith, past, last)))))
+    sym (l.invariant.told ∙ (at_drop_more (up_to most l.so_far) ds l.digit-index 0 c.loop-digit-test.true
+    ∙ (up_to-digit most l.so_far d (drop (l.digit-index + 1) ds) digit ∙ up_to-past most (l.so_far * 10 + (d - 48)) (drop (l.digit-index + 1) ds) (omega (arith, past, last)))))

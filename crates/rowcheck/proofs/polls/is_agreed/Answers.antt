@@ -4,7 +4,7 @@ use Rattle.register.specs.Offices.{ward_entry, batch_entry}
 use Rattle.register.specs.Elections.{election_of}
 use Rattle.rowcheck.specs.States.{state_of}
 use Rattle.rowcheck.specs.Walks.Polls.{is_settled_for}
-use Rattle.rowcheck.proofs.PollLemmas.{settled_by_ward, agreed_in_count}
+use Rattle.rowcheck.proofs.WardBatchesLemmas.{settled_by_ward, agreed_in_count}
 use Rattle.rowcheck.proofs.polls.is_agreed.Goals as goal
 
 pub returns : goal.returns

@@ -13,7 +13,8 @@ returns g c =
     subst (λ xs. IsNonDecreasingBy (λ x. ordering_index (g.T.Row.compared x c.args.key.now)) xs) (sym back)
     (IsNonDecreasingBy-drop (λ x. ordering_index (g.T.Row.compared x c.args.key.now)) c.partition_point-before.result c.args.rows.now rises) in
     c.split_at-2.ensures.front
-    ∙ run_is (λ x. g.T.Row.compared x c.args.key.now) c.args.rows.now c.partition_point-before.result c.partition_point-run.result c.split_at.result.1.now c.partition_point-before.ensures.bound c.partition_point-run.ensures.bound back
+    ∙ run_is (λ x. g.T.Row.compared x c.args.key.now) c.args.rows.now
+    c.partition_point-before.result c.partition_point-run.result c.split_at.result.1.now c.partition_point-before.ensures.bound c.partition_point-run.ensures.bound back
     (IsPartitionPoint-from_clause (λ x. is_lt (g.T.Row.compared x c.args.key.now)) c.args.rows.now c.partition_point-before.result c.partition_point-before.ensures.partitioned
     (lower_passes (λ x. g.T.Row.compared x c.args.key.now) c.args.rows.now rises) (λ a r f' k. search rules))
     (IsPartitionPoint-from_clause (λ x. is_le (g.T.Row.compared x c.args.key.now)) c.split_at.result.1.now c.partition_point-run.result c.partition_point-run.ensures.partitioned

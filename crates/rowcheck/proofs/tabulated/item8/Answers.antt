@@ -24,9 +24,20 @@ same_bundle a b = (a.ward == b.ward) && (pointwise nat_eq a.list.items b.list.it
 bundle_told : (a b : PlacedBundle) → Decides (same_bundle a b) (placed_entry a ≡ placed_entry b)
 bundle_told a b =
     Decides-like (same_bundle a b)
-    (λ all i. record { ward = all.0 i; list = all.1.0 i; papers = all.1.1.0 i; holder = all.1.1.1.0 i; value = all.1.1.1.1 i })
-    (λ same. (ap (λ (e : PlacedEntry). e.ward) same, (ap (λ (e : PlacedEntry). e.list) same, (ap (λ (e : PlacedEntry). e.papers) same, (ap (λ (e : PlacedEntry). e.holder) same, ap (λ (e : PlacedEntry). e.value) same)))))
-    (Decides-and _ _ (Decides-eqb a.ward b.ward) (Decides-and _ _ (bytes_eq-Decides a.list.items b.list.items) (Decides-and _ _ (Decides-eqb a.papers b.papers) (Decides-and _ _ (Decides-eqb a.holder b.holder) (Decides-eqb a.value b.value)))))
+    (λ all.
+    let others = all.1 in
+    let counts = others.1 in
+    let place = counts.1 in
+    λ i. record { ward = all.0 i; list = others.0 i; papers = counts.0 i; holder = place.0 i; value = place.1 i })
+    (λ same. (
+      ap (λ (e : PlacedEntry). e.ward) same,
+      (
+        ap (λ (e : PlacedEntry). e.list) same,
+        (ap (λ (e : PlacedEntry). e.papers) same, (ap (λ (e : PlacedEntry). e.holder) same, ap (λ (e : PlacedEntry). e.value) same)),
+      ),
+    ))
+    (Decides-and _ _ (Decides-eqb a.ward b.ward) (Decides-and _ _ (bytes_eq-Decides a.list.items b.list.items)
+    (Decides-and _ _ (Decides-eqb a.papers b.papers) (Decides-and _ _ (Decides-eqb a.holder b.holder) (Decides-eqb a.value b.value)))))
 
 -- figures by theirs
 abbrev same_figure : StageFigure → StageFigure → Bool
@@ -35,9 +46,20 @@ same_figure a b = (a.ward == b.ward) && ((a.stage == b.stage) && ((a.candidate =
 figure_told : (a b : StageFigure) → Decides (same_figure a b) (figure_entry a ≡ figure_entry b)
 figure_told a b =
     Decides-like (same_figure a b)
-    (λ all i. record { ward = all.0 i; stage = all.1.0 i; candidate = all.1.1.0 i; units = all.1.1.1.0 i; mark = all.1.1.1.1 i })
-    (λ same. (ap (λ (e : FigureEntry). e.ward) same, (ap (λ (e : FigureEntry). e.stage) same, (ap (λ (e : FigureEntry). e.candidate) same, (ap (λ (e : FigureEntry). e.units) same, ap (λ (e : FigureEntry). e.mark) same)))))
-    (Decides-and _ _ (Decides-eqb a.ward b.ward) (Decides-and _ _ (Decides-eqb a.stage b.stage) (Decides-and _ _ (Decides-eqb a.candidate b.candidate) (Decides-and _ _ (Decides-eqb a.units b.units) (Decides-eqb a.mark b.mark)))))
+    (λ all.
+    let others = all.1 in
+    let candidates = others.1 in
+    let shown = candidates.1 in
+    λ i. record { ward = all.0 i; stage = others.0 i; candidate = candidates.0 i; units = shown.0 i; mark = shown.1 i })
+    (λ same. (
+      ap (λ (e : FigureEntry). e.ward) same,
+      (
+        ap (λ (e : FigureEntry). e.stage) same,
+        (ap (λ (e : FigureEntry). e.candidate) same, (ap (λ (e : FigureEntry). e.units) same, ap (λ (e : FigureEntry). e.mark) same)),
+      ),
+    ))
+    (Decides-and _ _ (Decides-eqb a.ward b.ward) (Decides-and _ _ (Decides-eqb a.stage b.stage)
+    (Decides-and _ _ (Decides-eqb a.candidate b.candidate) (Decides-and _ _ (Decides-eqb a.units b.units) (Decides-eqb a.mark b.mark)))))
 
 pub returns-clause-compares : goal.returns-clause-compares
 returns-clause-compares c =

@@ -5,7 +5,7 @@ use Rattle.sqlite.specs.Held.{state}
 use Rattle.sqlite.specs.Values.{bound}
 use Rattle.tables.specs.Rows.{begins_with}
 use Rattle.tables.proofs.FaultLemmas.{query_cause}
-use Rattle.tables.proofs.FindLemmas.{one_found, one_other, if_one_found}
+use Rattle.tables.proofs.QueriedRowsLemmas.{one_found, one_other, if_one_found}
 use Rattle.tables.proofs.finding.find_entry.Goals as goal
 
 pub returns-clause-found : goal.returns-clause-found

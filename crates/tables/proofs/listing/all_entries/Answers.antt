@@ -38,7 +38,11 @@ returns-in_err-rows-clause-cause g c clean db begins rests =
 pub returns-then-not-keys_rise-clause-cause : goal.returns-then-not-keys_rise-clause-cause
 returns-then-not-keys_rise-clause-cause g c clean db begins rests =
     let keyed = (rw c.TABLE.ensures at (c.in_ok-rows.ensures.lists clean db)) begins rests in
-    inr (inr (refl, none_held g.E.Entries.TABLE g.E.Entries.is_row db c.in_ok-rows.rows.items keyed.lists (inr (rw (c.TABLE-2.ensures, c.deref.ensures.value) at (c.keys_rise.ensures.fall c.if-not-keys_rise.true)))))
+    inr (inr (
+      refl,
+      none_held g.E.Entries.TABLE g.E.Entries.is_row db c.in_ok-rows.rows.items keyed.lists
+          (inr (rw (c.TABLE-2.ensures, c.deref.ensures.value) at (c.keys_rise.ensures.fall c.if-not-keys_rise.true))),
+    ))
 
 pub returns-in_err-entries-clause-cause : goal.returns-in_err-entries-clause-cause
 returns-in_err-entries-clause-cause g c clean db begins rests =

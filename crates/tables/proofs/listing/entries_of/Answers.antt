@@ -9,5 +9,13 @@ returns-in_err-entry-clause-cause g c =
     let p = err_from_is_err_and c.from_residual.result c.from_residual.ensures.1 in
     rw (p.1, p.2) (elim c.in_err-entry.ensures.cause [
       | inl memory ↦ inl memory
-      | inr wrong ↦ inr (wrong.0, (c.loop-row.row-index, omega arith, λ it. wrong.1 (subst g.E.Entries.is_row (get_any c.args.rows.now c.loop-row.row-index [] c.row-item.result (omega arith) ∙ sym c.row-item.is) it)))
+      | inr wrong ↦ inr (
+        wrong.0,
+        (
+          c.loop-row.row-index,
+          omega arith,
+          λ it. wrong.1
+              (subst g.E.Entries.is_row (get_any c.args.rows.now c.loop-row.row-index [] c.row-item.result (omega arith) ∙ sym c.row-item.is) it),
+        ),
+      )
     ])

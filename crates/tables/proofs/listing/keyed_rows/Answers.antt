@@ -9,7 +9,8 @@ use Rattle.tables.proofs.listing.keyed_rows.Goals as goal
 
 pub returns-then-not-changes_rows-clause-lists : goal.returns-then-not-changes_rows-clause-lists
 returns-then-not-changes_rows-clause-lists g c clean db begins rests =
-    if_listed_keyed c.args.table db (λ rows. rows.items) c.all_rows.result (λ changes. absurd (true≢false (sym changes ∙ sym c.changes_rows.ensures ∙ c.if-not-changes_rows.true))) (c.all_rows.ensures.lists clean db begins rests)
+    if_listed_keyed c.args.table db (λ rows. rows.items) c.all_rows.result (λ changes. absurd (true≢false (sym changes ∙ sym c.changes_rows.ensures ∙ c.if-not-changes_rows.true)))
+    (c.all_rows.ensures.lists clean db begins rests)
 
 pub returns-then-not-changes_rows-clause-cause : goal.returns-then-not-changes_rows-clause-cause
 returns-then-not-changes_rows-clause-cause g c clean db begins rests = if_query_cause _ _ _ _ c.all_rows.result c.all_rows.ensures.cause
@@ -40,7 +41,8 @@ returns-in_err-rows-clause-cause g c clean db begins rests =
     rw (p.1, p.2) (query_cause _ _ _ _ _ c.in_err-rows.ensures.cause)
 
 pub returns-then-not-changes_rows-clause-fails : goal.returns-then-not-changes_rows-clause-fails
-returns-then-not-changes_rows-clause-fails g c clean db begins rests = if_fails_to_list db (state g.S.Store c.args.conn.now) (state g.S.Store c.all_rows.new.conn) c.all_rows.result (c.all_rows.ensures.fails clean db begins rests)
+returns-then-not-changes_rows-clause-fails g c clean db begins rests =
+    if_fails_to_list db (state g.S.Store c.args.conn.now) (state g.S.Store c.all_rows.new.conn) c.all_rows.result (c.all_rows.ensures.fails clean db begins rests)
 
 pub returns-in_err-check_rowids-clause-fails : goal.returns-in_err-check_rowids-clause-fails
 returns-in_err-check_rowids-clause-fails g c clean db begins rests =
@@ -53,4 +55,5 @@ returns-in_err-rows-clause-fails g c clean db begins rests =
     let mid = c.check_rowids.ensures.reads.rests before (c.in_ok-check_rowids.ensures.opens before) db rests in
     let p = err_from_is_err_and c.from_residual-in_err-rows.result c.from_residual-in_err-rows.ensures.1 in
     let fails = c.in_err-rows.ensures.fails clean db begins mid in
-    rw (p.1, p.2) (lists_later db _ _ _ _ c.check_rowids.ensures.reads c.all_rows-2.ensures.reads clean (λ store. inl (failed_by (state g.S.Store c.check_rowids.new.conn) (state g.S.Store c.all_rows-2.new.conn) _ fails store)))
+    rw (p.1, p.2) (lists_later db _ _ _ _ c.check_rowids.ensures.reads c.all_rows-2.ensures.reads clean
+    (λ store. inl (failed_by (state g.S.Store c.check_rowids.new.conn) (state g.S.Store c.all_rows-2.new.conn) _ fails store)))

@@ -15,7 +15,8 @@ loop-table-preserved g c =
     record {
       same_reference = search rules;
       makes = λ clean start. subst (λ (n : ℕ). SeesMade (n + 1) no_contents (state g.S.Store c.create_table.new.tx.conn.now)) place
-          (c.in_ok-create_table.ensures.makes clean no_contents (no_rows _) (subst (λ (n : ℕ). SeesMade n no_contents (state g.S.Store c.loop-table.tx.conn.now)) (sym place) (inv.makes (omega (arith, low, clean)) start)));
+          (c.in_ok-create_table.ensures.makes clean no_contents (no_rows _)
+          (subst (λ (n : ℕ). SeesMade n no_contents (state g.S.Store c.loop-table.tx.conn.now)) (sym place) (inv.makes (omega (arith, low, clean)) start)));
       keeps = search rules;
       survives = search rules;
     }
@@ -24,4 +25,5 @@ pub returns-clause-makes : goal.returns-clause-makes
 returns-clause-makes g c clean inside blank sound =
     let all : c.loop-table.table-index ≡ 11 = omega arith in
     all_made no_contents (state g.S.Store c.loop-table.tx.conn.now)
-    (subst (λ (n : ℕ). SeesMade n no_contents (state g.S.Store c.loop-table.tx.conn.now)) all (c.loop-table.invariant.makes clean (none_made no_contents (state g.S.Store c.args.tx.now.conn.now) inside blank sound)))
+    (subst (λ (n : ℕ). SeesMade n no_contents (state g.S.Store c.loop-table.tx.conn.now)) all
+    (c.loop-table.invariant.makes clean (none_made no_contents (state g.S.Store c.args.tx.now.conn.now) inside blank sound)))

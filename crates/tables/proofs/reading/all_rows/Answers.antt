@@ -10,7 +10,8 @@ use Rattle.tables.proofs.reading.all_rows.Goals as goal
 
 pub returns-clause-lists : goal.returns-clause-lists
 returns-clause-lists g c clean db begins rests =
-    if_listed c.args.table (select_text c.args.table 0) [] (selects c.args.table 0 (omega arith)) [] (begins_with []) (λ r. refl) db begins (state g.S.Store c.args.conn.now) (state g.S.Store c.query.new.conn) (λ rows. rows.items) c.query.result rests (rw c.select_text.ensures at (c.query.ensures.shown clean))
+    if_listed c.args.table (select_text c.args.table 0) [] (selects c.args.table 0 (omega arith)) [] (begins_with []) (λ r. refl) db begins (state g.S.Store c.args.conn.now)
+    (state g.S.Store c.query.new.conn) (λ rows. rows.items) c.query.result rests (rw c.select_text.ensures at (c.query.ensures.shown clean))
 
 pub returns-clause-opens : goal.returns-clause-opens
 returns-clause-opens g c clean = (rw c.select_text.ensures at (c.query.ensures.opens clean)) (selects_query c.args.table 0 (omega arith))

@@ -9,8 +9,10 @@ returns-in-Ok-clause-opens g c clean is =
 
 pub returns-in-Ok-clause-reads : goal.returns-in-Ok-clause-reads
 returns-in-Ok-clause-reads g c is =
-    only_reads _ _ (state g.S.Store c.args.conn.now) (state g.S.Store c.query_all.new.self) (λ rows. rows.items) c.query_all.result is c.query_all.ensures.ok c.query_all.ensures.err c.query_all.ensures.survives
+    only_reads _ _ (state g.S.Store c.args.conn.now) (state g.S.Store c.query_all.new.self)
+    (λ rows. rows.items) c.query_all.result is c.query_all.ensures.ok c.query_all.ensures.err c.query_all.ensures.survives
 
 pub returns-in-Err-clause-reads : goal.returns-in-Err-clause-reads
 returns-in-Err-clause-reads g c is =
-    only_reads _ _ (state g.S.Store c.args.conn.now) (state g.S.Store c.query_all.new.self) (λ rows. rows.items) c.query_all.result is c.query_all.ensures.ok c.query_all.ensures.err c.query_all.ensures.survives
+    only_reads _ _ (state g.S.Store c.args.conn.now) (state g.S.Store c.query_all.new.self)
+    (λ rows. rows.items) c.query_all.result is c.query_all.ensures.ok c.query_all.ensures.err c.query_all.ensures.survives

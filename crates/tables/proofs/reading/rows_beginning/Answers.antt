@@ -16,7 +16,8 @@ pub returns-clause-finds : goal.returns-clause-finds
 returns-clause-finds g c clean contents rests =
     let key = bound c.args.key.now in
     let n = length c.args.key.now in
-    if_found c.args.table (select_text c.args.table n) _ (selects c.args.table n c.requires.key) key (begins_with key) (λ r. tests_agree 0 n key r ∙ ap (λ m. agree_at (places_from 0 m) (drop 1 r) key) (sym (mapped_length _ c.args.key.now)))
+    if_found c.args.table (select_text c.args.table n) _ (selects c.args.table n c.requires.key) key (begins_with key)
+    (λ r. tests_agree 0 n key r ∙ ap (λ m. agree_at (places_from 0 m) (drop 1 r) key) (sym (mapped_length _ c.args.key.now)))
     contents (state g.S.Store c.args.conn.now) (state g.S.Store c.query.new.conn) (λ rows. rows.items) c.query.result rests (rw c.select_text.ensures at (c.query.ensures.shown clean))
 
 pub returns-clause-opens : goal.returns-clause-opens
@@ -27,4 +28,5 @@ returns-clause-reads g c = (rw c.select_text.ensures at c.query.ensures.reads) (
 
 pub returns-clause-fails : goal.returns-clause-fails
 returns-clause-fails g c clean contents at kinds =
-    key_fails c.args.table (length c.args.key.now) (bound c.args.key.now) (mapped_length _ c.args.key.now) c.requires.key kinds contents (state g.S.Store c.args.conn.now) (state g.S.Store c.query.new.conn) c.query.result clean at (rw c.select_text.ensures at c.query.ensures.cause)
+    key_fails c.args.table (length c.args.key.now) (bound c.args.key.now) (mapped_length _ c.args.key.now) c.requires.key kinds contents (state g.S.Store c.args.conn.now)
+    (state g.S.Store c.query.new.conn) c.query.result clean at (rw c.select_text.ensures at c.query.ensures.cause)

@@ -27,4 +27,5 @@ returns-clause-reads g c = (rw c.select_by_reference_text.ensures at c.query.ens
 
 pub returns-clause-fails : goal.returns-clause-fails
 returns-clause-fails g c clean contents at kind =
-    reference_fails c.args.reference (bound_value (owned c.args.value)) kind contents (state g.S.Store c.args.conn.now) (state g.S.Store c.query.new.conn) c.query.result clean at (rw c.select_by_reference_text.ensures at c.query.ensures.cause)
+    reference_fails c.args.reference (bound_value (owned c.args.value)) kind contents (state g.S.Store c.args.conn.now) (state g.S.Store c.query.new.conn) c.query.result clean at
+    (rw c.select_by_reference_text.ensures at c.query.ensures.cause)

@@ -13,4 +13,5 @@ returns-in-Ok-clause-removes g c clean =
 
 pub returns-in-Err-clause-keeps : goal.returns-in-Err-clause-keeps
 returns-in-Err-clause-keeps g c clean =
-    keeps _ _ (state g.S.Store c.args.tx.now.conn.now) (state g.S.Store c.execute.new.self.conn.now) (Err c.in-Err.e) (c.in-Err.ensures.runs clean) (λ h. ap (state g.S.Store) (c.in-Err.ensures.ended h).1)
+    keeps _ _ (state g.S.Store c.args.tx.now.conn.now) (state g.S.Store c.execute.new.self.conn.now) (Err c.in-Err.e) (c.in-Err.ensures.runs clean)
+    (λ h. ap (state g.S.Store) (c.in-Err.ensures.ended h).1)

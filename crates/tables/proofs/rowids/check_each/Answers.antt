@@ -24,7 +24,9 @@ loop-i-preserved c =
       ints = ints_more c.args.rows.now c.loop-i.i c.in_ok-id.id here inv.ints;
       rise = elim c.if-i-gt0.branch [
         | then-i-gt0+in_ok-before+else-not-is_below w ↦
-            let there = rowid_there c.args.rows.now (c.loop-i.i - 1) w.index-rows-i-then-i-gt0.result w.in_ok-before.before (omega (arith, low)) w.index-rows-i-then-i-gt0.is w.in_ok-before.ensures.id in
+            let there =
+            rowid_there c.args.rows.now (c.loop-i.i - 1) w.index-rows-i-then-i-gt0.result w.in_ok-before.before (omega (arith, low)) w.index-rows-i-then-i-gt0.is w.in_ok-before.ensures.id
+            in
             let id : FitsSigned w64 c.in_ok-id.id = search rules in
             let before : FitsSigned w64 w.in_ok-before.before = search rules in
             let below = w.is_below.ensures.below w.if-not-is_below.false in

@@ -23,7 +23,8 @@ rows-preserved g c =
       outside = λ outside. step.outside (inv.outside outside);
       reads = only_reads_then _ _ _ inv.reads step.reads;
       walked = λ clean.
-          next_walked g.S.Store g.E.Entries.TABLE g.E.Entries.row_of g.V.Visitor.HasTaken c.args.rows.now.conn.now c.rows.rows.conn.now c.visit_next.new.rows.conn.now c.args.visitor.now c.rows.visitor c.visit_next.new.visitor
+          next_walked g.S.Store g.E.Entries.TABLE g.E.Entries.row_of g.V.Visitor.HasTaken
+          c.args.rows.now.conn.now c.rows.rows.conn.now c.visit_next.new.rows.conn.now c.args.visitor.now c.rows.visitor c.visit_next.new.visitor
           (inv.walked (step.reads.clean clean)) (rw c.if-not-branch.false at (c.in_ok-visit_next.ensures.visits clean));
     }
 
@@ -35,7 +36,8 @@ returns-in_err-visit_next-clause-cause g c clean key low begun contents rests ki
     let inv = c.rows.invariant in
     let step = c.visit_next.ensures in
     let p = err_from_is_err_and c.from_residual.result c.from_residual.ensures.1 in
-    rw (p.1, p.2) (walk_fails g.S.Store g.E.Entries.TABLE g.E.Entries.row_of g.V.Visitor.HasTaken key low contents c.args.rows.now.conn.now c.args.visitor.now begun rests g.E.Entries.is_row g.V.Visitor.Stops
+    rw (p.1, p.2) (walk_fails g.S.Store g.E.Entries.TABLE g.E.Entries.row_of g.V.Visitor.HasTaken key low contents
+    c.args.rows.now.conn.now c.args.visitor.now begun rests g.E.Entries.is_row g.V.Visitor.Stops
     c.rows.rows.conn.now c.visit_next.new.rows.conn.now c.rows.visitor (inv.walked (step.reads.clean clean)) inv.reads step.reads clean all _ kinds (c.in_err-visit_next.ensures.cause clean))
 
 pub returns-in_err-visit_next-clause-cause_alone : goal.returns-in_err-visit_next-clause-cause_alone
@@ -43,7 +45,8 @@ returns-in_err-visit_next-clause-cause_alone g c clean key low begun contents re
     let inv = c.rows.invariant in
     let step = c.visit_next.ensures in
     let p = err_from_is_err_and c.from_residual.result c.from_residual.ensures.1 in
-    rw (p.1, p.2) (walk_cause g.S.Store g.E.Entries.TABLE g.E.Entries.row_of g.V.Visitor.HasTaken key low contents c.args.rows.now.conn.now c.args.visitor.now begun rests g.E.Entries.is_row g.V.Visitor.Stops
+    rw (p.1, p.2) (walk_cause g.S.Store g.E.Entries.TABLE g.E.Entries.row_of g.V.Visitor.HasTaken key low contents
+    c.args.rows.now.conn.now c.args.visitor.now begun rests g.E.Entries.is_row g.V.Visitor.Stops
     c.rows.rows.conn.now c.visit_next.new.rows.conn.now c.rows.visitor (inv.walked (step.reads.clean clean)) inv.reads step.reads clean all _ (c.in_err-visit_next.ensures.cause clean))
 
 pub returns-in_err-visit_next-clause-reads : goal.returns-in_err-visit_next-clause-reads
@@ -60,8 +63,10 @@ returns-then-not-branch-clause-finds g c clean key low begun contents rests =
     let inv = c.rows.invariant in
     let step = c.visit_next.ensures in
     let before = step.reads.clean clean in
-    all_walked g.S.Store g.E.Entries.TABLE g.E.Entries.row_of g.V.Visitor.HasTaken key low contents c.args.rows.now.conn.now c.args.visitor.now begun rests c.rows.rows.conn.now c.visit_next.new.rows.conn.now c.rows.visitor
-    c.visit_next.new.visitor (inv.walked before) inv.reads before (step.reads.was_open clean (c.in_ok-visit_next.ensures.opens clean)) (rw c.if-not-branch.true at (c.in_ok-visit_next.ensures.visits clean))
+    all_walked g.S.Store g.E.Entries.TABLE g.E.Entries.row_of g.V.Visitor.HasTaken key low contents
+    c.args.rows.now.conn.now c.args.visitor.now begun rests c.rows.rows.conn.now c.visit_next.new.rows.conn.now c.rows.visitor
+    c.visit_next.new.visitor (inv.walked before) inv.reads before (step.reads.was_open clean (c.in_ok-visit_next.ensures.opens clean))
+    (rw c.if-not-branch.true at (c.in_ok-visit_next.ensures.visits clean))
 
 pub returns-then-not-branch-clause-reads : goal.returns-then-not-branch-clause-reads
 returns-then-not-branch-clause-reads g c = only_reads_then _ _ _ c.rows.invariant.reads c.visit_next.ensures.reads

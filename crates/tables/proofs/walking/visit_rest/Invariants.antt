@@ -11,5 +11,6 @@ invariant-rows g l = record {
   same_reference : l.rows.conn.ghost_name ≡ l.initial.rows.conn.ghost_name;
   outside : l.initial.rows.conn.now.in_transaction ≡ false → l.rows.conn.now.in_transaction ≡ false;
   reads : OnlyReads (state g.S.Store l.initial.rows.conn.now) (state g.S.Store l.rows.conn.now);
-  walked : HasCleanDisk (state g.S.Store l.rows.conn.now) → HasWalked g.S.Store g.E.Entries.TABLE g.E.Entries.row_of g.V.Visitor.HasTaken l.initial.rows.conn.now l.rows.conn.now l.initial.visitor l.visitor;
+  walked : HasCleanDisk (state g.S.Store l.rows.conn.now)
+      → HasWalked g.S.Store g.E.Entries.TABLE g.E.Entries.row_of g.V.Visitor.HasTaken l.initial.rows.conn.now l.rows.conn.now l.initial.visitor l.visitor;
 }

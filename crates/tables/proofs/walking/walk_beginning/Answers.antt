@@ -19,12 +19,14 @@ pub returns-in_err-rows-clause-cause : goal.returns-in_err-rows-clause-cause
 returns-in_err-rows-clause-cause g c clean contents rests kinds all =
     let held = rw (c.select_text.ensures, c.TABLE.ensures, c.in_err-rows.was) at c.query.follows.holds-at-none in
     let p = err_from_is_err_and c.from_residual.result c.from_residual.ensures.1 in
-    rw (p.1, p.2) (inl (refused_fails g.S.Store g.E.Entries.TABLE (length c.args.key.now) (bound c.args.key.now) (mapped_length _ c.args.key.now) c.requires.key kinds contents c.args.conn.now c.query.follows.lender-at-none c.in_err-rows.field-0.0 clean rests (held.err clean)))
+    rw (p.1, p.2) (inl (refused_fails g.S.Store g.E.Entries.TABLE (length c.args.key.now) (bound c.args.key.now)
+    (mapped_length _ c.args.key.now) c.requires.key kinds contents c.args.conn.now c.query.follows.lender-at-none c.in_err-rows.field-0.0 clean rests (held.err clean)))
 
 pub returns-in_err-rows-clause-reads : goal.returns-in_err-rows-clause-reads
 returns-in_err-rows-clause-reads g c =
     let held = rw (c.select_text.ensures, c.TABLE.ensures, c.in_err-rows.was) at c.query.follows.holds-at-none in
-    refused_reads (select_text g.E.Entries.TABLE (length c.args.key.now)) (bound c.args.key.now) (state g.S.Store c.args.conn.now) (state g.S.Store c.query.follows.lender-at-none) c.in_err-rows.field-0.0
+    refused_reads (select_text g.E.Entries.TABLE (length c.args.key.now)) (bound c.args.key.now) (state g.S.Store c.args.conn.now)
+    (state g.S.Store c.query.follows.lender-at-none) c.in_err-rows.field-0.0
     (selects_query g.E.Entries.TABLE (length c.args.key.now) c.requires.key) held.err held.survives
 
 pub returns-in_err-visit_rest-clause-cause : goal.returns-in_err-visit_rest-clause-cause
@@ -41,8 +43,11 @@ returns-in_err-visit_rest-clause-cause g c clean contents rests kinds all =
     let p = err_from_is_err_and c.from_residual-in_err-visit_rest.result c.from_residual-in_err-visit_rest.ensures.1 in
     let late : FailsBy (state g.S.Store c.in_ok-rows.rows.conn.now) (state g.S.Store last) f ⊎ stops f =
     walk_tells g.S.Store t n key (mapped_length _ c.args.key.now) c.requires.key c.args.conn.now c.in_ok-rows.rows.conn.now last begins survives c.visit_rest.ensures.reads
-    (λ k d. begins_key t k ≡ true → AllByRecursion g.E.Entries.is_row (d t) → FailsBy (state g.S.Store c.in_ok-rows.rows.conn.now) (state g.S.Store last) f ⊎ stops f) contents honest rests (c.in_err-visit_rest.ensures.cause honest) kinds all in
-    let told : FailsBy (state g.S.Store c.args.conn.now) (state g.S.Store last) f ⊎ stops f = walk_fails_later g.S.Store t n key (mapped_length _ c.args.key.now) c.requires.key c.args.conn.now c.in_ok-rows.rows.conn.now last begins survives c.visit_rest.ensures.reads stops f honest late in
+    (λ k d. begins_key t k ≡ true → AllByRecursion g.E.Entries.is_row (d t) → FailsBy (state g.S.Store c.in_ok-rows.rows.conn.now) (state g.S.Store last) f ⊎ stops f) contents honest rests
+    (c.in_err-visit_rest.ensures.cause honest) kinds all in
+    let told : FailsBy (state g.S.Store c.args.conn.now) (state g.S.Store last) f ⊎ stops f =
+    walk_fails_later g.S.Store t n key (mapped_length _ c.args.key.now) c.requires.key c.args.conn.now c.in_ok-rows.rows.conn.now last begins survives c.visit_rest.ensures.reads stops f honest late
+    in
     rw (p.1, p.2) (search rules)
 
 pub returns-in_err-visit_rest-clause-cause_alone : goal.returns-in_err-visit_rest-clause-cause_alone
@@ -68,7 +73,9 @@ returns-in_err-visit_rest-clause-reads g c =
     let begins = rw (c.select_text.ensures, c.TABLE.ensures) at c.in_ok-rows.ensures.begun in
     let survives = rw (c.select_text.ensures, c.TABLE.ensures) at c.in_ok-rows.ensures.survives in
     let last = c.visit_rest.new.rows.conn.now in
-    let told : OnlyReads (state g.S.Store c.args.conn.now) (state g.S.Store last) = walk_reads g.S.Store t n key (mapped_length _ c.args.key.now) c.requires.key c.args.conn.now c.in_ok-rows.rows.conn.now last begins survives c.visit_rest.ensures.reads in
+    let told : OnlyReads (state g.S.Store c.args.conn.now) (state g.S.Store last) =
+    walk_reads g.S.Store t n key (mapped_length _ c.args.key.now) c.requires.key c.args.conn.now c.in_ok-rows.rows.conn.now last begins survives c.visit_rest.ensures.reads
+    in
     search rules
 
 pub returns-clause-finds : goal.returns-clause-finds
@@ -91,5 +98,7 @@ returns-clause-reads g c =
     let begins = rw (c.select_text.ensures, c.TABLE.ensures) at c.in_ok-rows.ensures.begun in
     let survives = rw (c.select_text.ensures, c.TABLE.ensures) at c.in_ok-rows.ensures.survives in
     let last = c.visit_rest.new.rows.conn.now in
-    let told : OnlyReads (state g.S.Store c.args.conn.now) (state g.S.Store last) = walk_reads g.S.Store t n key (mapped_length _ c.args.key.now) c.requires.key c.args.conn.now c.in_ok-rows.rows.conn.now last begins survives c.visit_rest.ensures.reads in
+    let told : OnlyReads (state g.S.Store c.args.conn.now) (state g.S.Store last) =
+    walk_reads g.S.Store t n key (mapped_length _ c.args.key.now) c.requires.key c.args.conn.now c.in_ok-rows.rows.conn.now last begins survives c.visit_rest.ensures.reads
+    in
     search rules

@@ -22,9 +22,11 @@ returns g c = by_result c.count_each.result (rw c.agreed-papers.ensures at c.cou
     settled : c.count_each.new.self.settled ≡ (c.args.self.now.settled && is_settled pile)
     settled = c.count_each.ensures.settled ∙ rw (c.are_taken.ensures, c.count_open-judged.ensures, c.agreed-papers.ensures) refl
 
-    by_result : (r : Result (Unit {0}) AllocError) → IfOk r (λ _. (papers : List (List ℕ)) → g.P.KeepsPapers.holds c.args.self.now.papers papers → g.P.KeepsPapers.holds c.count_each.new.self.papers (papers ++ flat_map preferences_by told))
+    by_result : (r : Result (Unit {0}) AllocError) → IfOk r (λ _. (papers : List (List ℕ)) → g.P.KeepsPapers.holds c.args.self.now.papers papers
+        → g.P.KeepsPapers.holds c.count_each.new.self.papers (papers ++ flat_map preferences_by told))
         → IfOk r (λ _. c.count_each.new.self.rejected ≡ fold and_rejected c.args.self.now.rejected told)
-        → IfOk r (λ _. (piles : List Pile) → StandFor g.P.KeepsPapers.holds c.args.self.now (ballots_in c.args.columns piles) → StandFor g.P.KeepsPapers.holds c.count_each.new.self (ballots_in c.args.columns (piles ++ pile ∷ [])))
+        → IfOk r (λ _. (piles : List Pile) → StandFor g.P.KeepsPapers.holds c.args.self.now (ballots_in c.args.columns piles)
+        → StandFor g.P.KeepsPapers.holds c.count_each.new.self (ballots_in c.args.columns (piles ++ pile ∷ [])))
     by_result (Ok done) papers rejected = λ piles was.
         let old : BallotsEntry = ballots_in c.args.columns piles in
         let new : BallotsEntry = record { papers = old.papers ++ flat_map preferences_by told; rejected = fold and_rejected old.rejected told; settled = old.settled && is_settled pile } in

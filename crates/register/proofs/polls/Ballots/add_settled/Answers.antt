@@ -14,7 +14,8 @@ returns g c = by_result c.count.result (rw c.judgement_on.ensures at c.count.ens
     told : Judgement
     told = judgement_on c.args.columns (map judged_entry c.args.verdicts.now) (keyed_entry c.args.keyed.now)
 
-    by_result : (r : Result (Unit {0}) AllocError) → IfOk r (λ _. (papers : List (List ℕ)) → g.P.KeepsPapers.holds c.args.self.now.papers papers → g.P.KeepsPapers.holds c.count.new.self.papers (papers ++ preferences_by told))
+    by_result : (r : Result (Unit {0}) AllocError) → IfOk r (λ _. (papers : List (List ℕ)) → g.P.KeepsPapers.holds c.args.self.now.papers papers
+        → g.P.KeepsPapers.holds c.count.new.self.papers (papers ++ preferences_by told))
         → IfOk r (λ _. c.count.new.self.rejected ≡ and_rejected c.args.self.now.rejected told)
         → IfOk r (λ _. (js : List Judgement) → StandFor g.P.KeepsPapers.holds c.args.self.now (ballots_by js) → StandFor g.P.KeepsPapers.holds c.count.new.self (ballots_by (js ++ told ∷ [])))
     by_result (Ok done) papers rejected = λ js was. judged_more g.P.KeepsPapers.holds c.args.self.now c.count.new.self js told papers rejected c.count.ensures.settled was

@@ -55,7 +55,8 @@ numbers_rise ward c (d ∷ cs) of all less =
     let numbers : nat_cmp c.number d.number ≡ Less = ap (λ o. ordering_then o (nat_cmp c.number d.number)) (sym tied) ∙ less.0 in
     (ranked c.number d.number Less (sym numbers), numbers_rise ward c cs of parts.1 less.1)
 
-columns_after : (ward : ℕ) (columns : List ℕ) (cs : List CandidateEntry) → list_all (λ c. c.ward == ward) cs ≡ true → list_all is_candidate cs ≡ true → IsStrictlySortedBy candidate_cmp cs → AreAbove columns cs
+columns_after : (ward : ℕ) (columns : List ℕ) (cs : List CandidateEntry) → list_all (λ c. c.ward == ward) cs ≡ true → list_all is_candidate cs ≡ true → IsStrictlySortedBy candidate_cmp cs
+    → AreAbove columns cs
     → fold and_column columns cs ≡ columns ++ map (λ c. c.number) cs
 unfolding IsStrictlySortedBy is_candidate
 columns_after ward columns [] of good up above = sym (append-nil columns)
@@ -78,7 +79,8 @@ each_of ward (c ∷ cs) = go (c.ward == ward) refl (each_of ward cs)
     go false is later = later
 
 -- where the candidates are in range and in order, the columns of a ward are its candidates' numbers
-pub columns_at : (s : OfficeState) (ward : ℕ) → list_all is_candidate s.candidates ≡ true → IsStrictlySortedBy candidate_cmp s.candidates → columns_of (candidates_of s ward) ≡ map (λ c. c.number) (candidates_of s ward)
+pub columns_at : (s : OfficeState) (ward : ℕ) → list_all is_candidate s.candidates ≡ true → IsStrictlySortedBy candidate_cmp s.candidates
+    → columns_of (candidates_of s ward) ≡ map (λ c. c.number) (candidates_of s ward)
 columns_at s ward fine up =
     let of = λ (c : CandidateEntry). c.ward == ward in
     columns_after

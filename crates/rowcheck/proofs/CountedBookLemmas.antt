@@ -19,8 +19,8 @@ use Rattle.register.specs.Tabulated.{TabulationEntries, has_stages, placed_at, p
 use Rattle.rowcheck.specs.declared.rows.Rows.{Rows}
 use Rattle.rowcheck.specs.States.{state_of}
 use Rattle.rowcheck.specs.Walks.Counts.{HasCounted}
-use Rattle.rowcheck.proofs.RunLemmas.{more_differs}
-use Rattle.rowcheck.proofs.CountLemmas.{map-alike}
+use Rattle.rowcheck.proofs.SideBySideLemmas.{more_differs}
+use Rattle.rowcheck.proofs.StagesDoneLemmas.{map-alike}
 
 -- where a paper lies rests on no other paper
 place_reordered : (contest : Contest) (papers : List (List ℕ)) (stages : History) (paper : List ℕ) → place (reordered contest papers) stages paper ≡ place contest stages paper
@@ -67,6 +67,10 @@ pub tabulation-by_ward : (rows : Rows) (t : TabulationEntries) (wards : List War
 unfolding tabulation_of
 tabulation-by_ward rows t wards are bundles figures =
     let s = state_of rows in
-    let all_bundles = bundles ∙ ap (flat_map (λ (w : Ward). bundles_in (election_of s (ward_entry w)))) are ∙ sym (flat_map-map (λ (w : WardEntry). bundles_in (election_of s w)) ward_entry rows.wards.items) in
-    let all_figures = figures ∙ ap (flat_map (λ (w : Ward). figures_in (election_of s (ward_entry w)))) are ∙ sym (flat_map-map (λ (w : WardEntry). figures_in (election_of s w)) ward_entry rows.wards.items) in
+    let all_bundles =
+    bundles ∙ ap (flat_map (λ (w : Ward). bundles_in (election_of s (ward_entry w)))) are ∙ sym (flat_map-map (λ (w : WardEntry). bundles_in (election_of s w)) ward_entry rows.wards.items)
+    in
+    let all_figures =
+    figures ∙ ap (flat_map (λ (w : Ward). figures_in (election_of s (ward_entry w)))) are ∙ sym (flat_map-map (λ (w : WardEntry). figures_in (election_of s w)) ward_entry rows.wards.items)
+    in
     λ i. record { bundles = all_bundles i; figures = all_figures i }

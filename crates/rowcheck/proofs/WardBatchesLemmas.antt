@@ -18,7 +18,8 @@ module _ (s : OfficeState) (ward : ℕ) where
   settled_by_ward (b ∷ bs) = go (b.ward == ward) (settled_by_ward bs)
     where
       go : (c : Bool) → list_all (is_settled_for s ward) bs ≡ list_all is_settled (piles_in s ward bs)
-          → ((not c || is_settled (pile_of s b)) && list_all (is_settled_for s ward) bs) ≡ list_all is_settled (map (pile_of s) (cond c (b ∷ filter (λ (x : BatchEntry). x.ward == ward) bs) (filter (λ (x : BatchEntry). x.ward == ward) bs)))
+          → ((not c || is_settled (pile_of s b)) && list_all (is_settled_for s ward) bs)
+          ≡ list_all is_settled (map (pile_of s) (cond c (b ∷ filter (λ (x : BatchEntry). x.ward == ward) bs) (filter (λ (x : BatchEntry). x.ward == ward) bs)))
       go true later = ap (λ p. is_settled (pile_of s b) && p) later
       go false later = later
 
@@ -32,8 +33,10 @@ module _ (s : OfficeState) (ward : ℕ) where
       rw e (go (x.ward == ward) (piles_with xs i b (omega (arith, within)) is of_it))
     where
       go : (c : Bool) → piles_in s ward (map batch_entry (take (i + 1) xs)) ≡ piles_in s ward (map batch_entry (take i xs)) ++ (pile_of s (batch_entry b) ∷ [])
-          → map (pile_of s) (cond c (batch_entry x ∷ filter (λ (e : BatchEntry). e.ward == ward) (map batch_entry (take (i + 1) xs))) (filter (λ (e : BatchEntry). e.ward == ward) (map batch_entry (take (i + 1) xs))))
-          ≡ map (pile_of s) (cond c (batch_entry x ∷ filter (λ (e : BatchEntry). e.ward == ward) (map batch_entry (take i xs))) (filter (λ (e : BatchEntry). e.ward == ward) (map batch_entry (take i xs)))) ++ (pile_of s (batch_entry b) ∷ [])
+          → map (pile_of s) (cond c (batch_entry x ∷ filter (λ (e : BatchEntry). e.ward == ward) (map batch_entry (take (i + 1) xs)))
+          (filter (λ (e : BatchEntry). e.ward == ward) (map batch_entry (take (i + 1) xs))))
+          ≡ map (pile_of s) (cond c (batch_entry x ∷ filter (λ (e : BatchEntry). e.ward == ward) (map batch_entry (take i xs)))
+          (filter (λ (e : BatchEntry). e.ward == ward) (map batch_entry (take i xs)))) ++ (pile_of s (batch_entry b) ∷ [])
       go true later = ap (λ ps. pile_of s (batch_entry x) ∷ ps) later
       go false later = later
 
@@ -46,7 +49,9 @@ module _ (s : OfficeState) (ward : ℕ) where
       rw e (go (x.ward == ward) (piles_without xs i b (omega (arith, within)) is other))
     where
       go : (c : Bool) → piles_in s ward (map batch_entry (take (i + 1) xs)) ≡ piles_in s ward (map batch_entry (take i xs))
-          → map (pile_of s) (cond c (batch_entry x ∷ filter (λ (e : BatchEntry). e.ward == ward) (map batch_entry (take (i + 1) xs))) (filter (λ (e : BatchEntry). e.ward == ward) (map batch_entry (take (i + 1) xs))))
-          ≡ map (pile_of s) (cond c (batch_entry x ∷ filter (λ (e : BatchEntry). e.ward == ward) (map batch_entry (take i xs))) (filter (λ (e : BatchEntry). e.ward == ward) (map batch_entry (take i xs))))
+          → map (pile_of s) (cond c (batch_entry x ∷ filter (λ (e : BatchEntry). e.ward == ward) (map batch_entry (take (i + 1) xs)))
+          (filter (λ (e : BatchEntry). e.ward == ward) (map batch_entry (take (i + 1) xs))))
+          ≡ map (pile_of s) (cond c (batch_entry x ∷ filter (λ (e : BatchEntry). e.ward == ward) (map batch_entry (take i xs)))
+          (filter (λ (e : BatchEntry). e.ward == ward) (map batch_entry (take i xs))))
       go true later = ap (λ ps. pile_of s (batch_entry x) ∷ ps) later
       go false later = later

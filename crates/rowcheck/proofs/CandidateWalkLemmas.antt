@@ -9,7 +9,7 @@ use Rattle.register.specs.Items.{item2}
 use Rattle.rowcheck.specs.declared.rows.Rows.{Rows}
 use Rattle.rowcheck.specs.States.{state_of}
 use Rattle.rowcheck.specs.Walks.Nominations.{are_nominated}
-use Rattle.rowcheck.proofs.RunLemmas.{by_run_map, below_from, equal_from, walk_tells}
+use Rattle.rowcheck.proofs.SideBySideLemmas.{by_run_map, below_from, equal_from, walk_tells}
 
 -- candidates in the order of their keys are in the order of their wards
 ward_order : (c d : CandidateEntry) → candidate_cmp c d ≡ Less → c.ward ≤ d.ward
@@ -24,4 +24,5 @@ ward_order c d less = go (nat_cmp c.ward d.ward) refl less
 pub walked : (rows : Rows) → MapsRise (state_of rows) → are_nominated rows.wards.items rows.candidates.items ≡ item2 (state_of rows)
 walked rows rise =
     by_run_map ward_entry candidate_entry (λ (w : WardEntry). w.number) (λ (c : CandidateEntry). c.ward) (λ w candidates. are_enough w.phase w candidates) rows.wards.items rows.candidates.items
-    ∙ walk_tells (λ (w : WardEntry). w.number) (λ (c : CandidateEntry). c.ward) candidate_cmp ward_order (λ w candidates. are_enough w.phase w candidates) (map ward_entry rows.wards.items) (map candidate_entry rows.candidates.items) rise.wards rise.candidates
+    ∙ walk_tells (λ (w : WardEntry). w.number) (λ (c : CandidateEntry). c.ward) candidate_cmp ward_order (λ w candidates. are_enough w.phase w candidates) (map ward_entry rows.wards.items)
+    (map candidate_entry rows.candidates.items) rise.wards rise.candidates

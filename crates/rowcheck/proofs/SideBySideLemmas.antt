@@ -1,5 +1,6 @@
 -- Rows walked side by side with those that they belong to: each owner's run is all that it has, and what is left has no owner.
-use Rattle.std.proofs.Common.{◌≡◌, ℕ, ◌+◌, ◌<◌, ◌≤◌, ◌==◌, Bool, true, false, ◌&&◌, cond, nat_lt, List, [], ◌∷◌, map, length, get_or, filter, drop, take_while, is_some, suc, refl, sym, ap, ◌∙◌, arith, inl, inr}
+use Rattle.std.proofs.Common.{◌≡◌, ℕ, ◌+◌, ◌<◌, ◌≤◌, ◌==◌, Bool, true, false, ◌&&◌, cond, nat_lt, List, [], ◌∷◌, map, length, get_or, filter, drop, take_while, is_some, suc, refl, sym, ap}
+use Rattle.std.proofs.Common.{◌∙◌, arith, inl, inr}
 use Rattle.std.specs.List.{AllByRecursion, list_all, prefix_len}
 use Rattle.std.specs.List.Sorted.{IsStrictlySortedBy}
 use Rattle.std.specs.declared.cmp.Ordering.{Ordering}
@@ -149,7 +150,8 @@ module _ {W X : Type 0} (own : W → ℕ) (key : X → ℕ) where
       ]
 
       -- the run has this owner, and what is left has one only among the others
-      owned_behind : (ws : List W) (xs : List X) → IsStrictlySortedBy cmp xs → AllByRecursion (λ x. own w ≤ key x) xs → list_all (is_owned (w ∷ ws)) xs ≡ list_all (is_owned ws) (skip_while (λ x. key x == own w) xs)
+      owned_behind : (ws : List W) (xs : List X) → IsStrictlySortedBy cmp xs → AllByRecursion (λ x. own w ≤ key x) xs
+          → list_all (is_owned (w ∷ ws)) xs ≡ list_all (is_owned ws) (skip_while (λ x. key x == own w) xs)
       unfolding IsStrictlySortedBy
       owned_behind ws [] up least = refl
       owned_behind ws (x ∷ xs) up least = elim (eqb_tells (key x) (own w)) [
@@ -167,7 +169,8 @@ module _ {W X : Type 0} (own : W → ℕ) (key : X → ℕ) where
     Tells ws xs = pass_by_run own key test ws xs ≡ (list_all (is_owned ws) xs && are_tested test ws xs)
 
     -- no row lies below the next owner
-    tells_above : (w : W) (ws : List W) (xs : List X) → AllByRecursion (λ v. own w < own v) ws → IsStrictlySortedBy cmp xs → AllByRecursion (λ x. own w ≤ key x) xs → Tells ws (skip_while (λ x. key x == own w) xs)
+    tells_above : (w : W) (ws : List W) (xs : List X) → AllByRecursion (λ v. own w < own v) ws → IsStrictlySortedBy cmp xs → AllByRecursion (λ x. own w ≤ key x) xs
+        → Tells ws (skip_while (λ x. key x == own w) xs)
         → Tells (w ∷ ws) xs
     tells_above w ws xs owners up least later =
         rw (rows_at_front w cmp below xs up least, owned_behind w cmp below ws xs up least, sym (tested_behind w test ws owners xs), later)

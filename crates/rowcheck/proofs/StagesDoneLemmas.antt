@@ -21,7 +21,7 @@ use Rattle.register.specs.Marks.{columns_of}
 use Rattle.register.specs.Elections.{ElectionEntry, IsMadeOf, contest_of, is_finished, has_finished, is_declared, is_drawn_for, is_right_so_far, stages_of}
 use Rattle.register.proofs.BundledLemmas.{other_order, stages-alike, due-alike}
 use Rattle.rowcheck.specs.Walks.Counts.{is_drawn_by, IsOnBundlesOf}
-use Rattle.rowcheck.proofs.RunLemmas.{less_differs}
+use Rattle.rowcheck.proofs.SideBySideLemmas.{less_differs}
 
 -- ---- how many stages there are
 
@@ -80,7 +80,8 @@ module _ (e : ElectionEntry) (ward : WardEntry) (lots : List (ℕ × ℕ)) (cont
   count-due = due-alike e (columns_of e.candidates) e.ward.seats (bundled e.ballots.papers) refl refl refl lots of.lots_are contest of.contest_is
 
 -- what is made of the entries of an election has such a count
-pub made-count : (e : ElectionEntry) (ward : WardEntry) (candidates : List CandidateEntry) (ballots : Ballots (List Bundle)) (lots : List (ℕ × ℕ)) (columns : List ℕ) (contest : Contest) → IsMadeOf e ward candidates ballots lots → IsContest (contest_of e) →
+pub made-count : (e : ElectionEntry) (ward : WardEntry) (candidates : List CandidateEntry) (ballots : Ballots (List Bundle)) (lots : List (ℕ × ℕ)) (columns : List ℕ) (contest : Contest)
+    → IsMadeOf e ward candidates ballots lots → IsContest (contest_of e) →
     columns ≡ columns_of candidates → contest ≡ contest_for columns ward.seats (papers_of ballots.papers) → IsOnBundlesOf e ward lots contest
 made-count e ward candidates ballots lots columns contest made fair are on = record {
   fair = fair;
@@ -128,7 +129,8 @@ module _ (e : ElectionEntry) where
         let later : length (stages_to (contest_of e) e.lots e.ward.done) < e.ward.done = rw (sym whole) (fewer (contest_of e) e.lots 32 (e.ward.done - 32) less) in
         rw (less_differs (length stages) e.ward.done (omega (arith, columns, short, many)), less_differs _ e.ward.done later) refl
 
-    pub told_right : (e.ward.done ≤ 31 → asked ≡ e.ward.done) → (31 < e.ward.done → asked ≡ 32) → IsShort (contest_of e) stages → dues ≡ map due_at (range_with_len 0 (asked + 1)) → is_told ≡ is_right_so_far e
+    pub told_right : (e.ward.done ≤ 31 → asked ≡ e.ward.done) → (31 < e.ward.done → asked ≡ 32) → IsShort (contest_of e) stages → dues ≡ map due_at (range_with_len 0 (asked + 1))
+        → is_told ≡ is_right_so_far e
     told_right few many short each = elim (leb_tells e.ward.done 31) [
       | inl least ↦ told_few (few least.1) each
       | inr past ↦ told_many past.1 (many past.1) short

@@ -17,7 +17,7 @@ use Rattle.tables.specs.Rows.{at, column_places, is_row_of}
 use Rattle.tables.specs.Contents.{Contents, Rests}
 use Rattle.tables.specs.Reading.{Finds, HasOther}
 use Rattle.tables.proofs.ListLemmas.{mapped_same, mapped_itself, permuted_has, has_at}
-use Rattle.tables.proofs.PlaceLemmas.{typed_at}
+use Rattle.tables.proofs.ColumnPlaceLemmas.{typed_at}
 use Rattle.tables.proofs.ListingLemmas.{office_of}
 
 -- a row of an office has all columns and no more
@@ -28,11 +28,13 @@ itself t c s rests r there = typed_at (columns_of t) r (test_has (is_row_of t) (
 pub found_as : (t : Table) (test : Row → Bool) (c : Contents) (rows shown : List Row) → Finds t test c rows → map (at (column_places t)) rows ≡ shown → (s : State) → Rests c s → Finds t test c shown
 found_as t test c rows shown finds is s rests =
     let whole : map (at (column_places t)) rows ≡ rows =
-    mapped_same (at (column_places t)) (λ r. r) rows (λ r h. itself t c s rests r (has_filtered test (c t) r (permuted_has r rows (filter test (c t)) (IsPermutation-sym _ _ finds.same) h)).0) ∙ mapped_itself rows in
+    mapped_same (at (column_places t)) (λ r. r) rows (λ r h. itself t c s rests r (has_filtered test (c t) r (permuted_has r rows (filter test (c t)) (IsPermutation-sym _ _ finds.same) h)).0)
+    ∙ mapped_itself rows in
     subst (Finds t test c) (sym whole ∙ is) finds
 
 -- where all rows are entries', only want of memory is told
-pub found_cause : (t : Table) (test : Row → Bool) (c : Contents) (IsRow : Row → Type 0) (rows : List Row) (f : Fault) → Finds t test c rows → AllByRecursion IsRow (c t) → (f ≡ Memory) ⊎ ((f ≡ Damaged) × HasOther IsRow rows) → f ≡ Memory
+pub found_cause : (t : Table) (test : Row → Bool) (c : Contents) (IsRow : Row → Type 0) (rows : List Row) (f : Fault) → Finds t test c rows → AllByRecursion IsRow (c t)
+    → (f ≡ Memory) ⊎ ((f ≡ Damaged) × HasOther IsRow rows) → f ≡ Memory
 found_cause t test c IsRow rows f finds all (inl memory) = memory
 found_cause t test c IsRow rows f finds all (inr wrong) =
     let k = wrong.1 in
@@ -55,7 +57,8 @@ one_found t test c None [] only finds = refl
 one_found t test c None (r ∷ rows) only finds = absurd (let n = length_permutation _ _ finds.same ∙ refl in let none = ap length only in omega (arith, n, none))
 one_found t test c (Some x) rows only finds = one_permutation x rows (subst (λ l. IsPermutation l rows) only finds.same)
 
-pub if_one_found : (t : Table) (test : Row → Bool) (c : Contents) (o : Option Row) → filter test (c t) ≡ option_to_list o → (s : State) → Rests c s → (e : Option Row) → option_map (at (column_places t)) o ≡ e → e ≡ o
+pub if_one_found : (t : Table) (test : Row → Bool) (c : Contents) (o : Option Row) → filter test (c t) ≡ option_to_list o → (s : State) → Rests c s → (e : Option Row)
+    → option_map (at (column_places t)) o ≡ e → e ≡ o
 if_one_found t test c None only s rests e is = sym is
 if_one_found t test c (Some r) only s rests e is =
     let there = has_filtered test (c t) r (subst (λ l. Has l r) (sym only) (inl refl)) in

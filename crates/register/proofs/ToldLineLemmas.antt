@@ -1,5 +1,6 @@
 -- What is told of a poll, an action and the elected is a line.
-use Rattle.std.proofs.Common.{inl, inr, ◌≡◌, ℕ, suc, ◌+◌, ◌*◌, ◌/◌, ◌≤◌, Bool, true, false, cond, not, ◌==◌, nat_le, nat_lt, codes, List, [], ◌∷◌, length, map, filter, fold, Option, Some, refl, sym, ap, subst, ◌∙◌, arith, length-append}
+use Rattle.std.proofs.Common.{inl, inr, ◌≡◌, ℕ, suc, ◌+◌, ◌*◌, ◌/◌, ◌≤◌, Bool, true, false, cond, not, ◌==◌, nat_le, nat_lt, codes, List, [], ◌∷◌, length, map, filter, fold, Option, Some}
+use Rattle.std.proofs.Common.{refl, sym, ap, subst, ◌∙◌, arith, length-append}
 use Rattle.std.specs.Fmt.{decimal}
 use Rattle.std.specs.List.{flat_map, list_all}
 use Rattle.std.proofs.Math.Nat.{div-le_self}
@@ -56,7 +57,9 @@ columns_are_small cs = columns_small [] cs refl
 
 pub length_kept : {X : Type 0} (p : X → Bool) (xs : List X) → length (filter p xs) ≤ length xs
 length_kept p [] = omega arith
-length_kept {X} p (x ∷ xs) = elim (p x) as (λ b. length (cond b (x ∷ filter p xs) (filter p xs)) ≤ suc (length xs)) [ true ↦ (let low = length_kept p xs in omega (arith, low)) | false ↦ (let low = length_kept p xs in omega (arith, low)) ]
+length_kept {X} p (x ∷ xs) =
+    elim (p x) as (λ b. length (cond b (x ∷ filter p xs) (filter p xs)) ≤ suc
+    (length xs)) [ true ↦ (let low = length_kept p xs in omega (arith, low)) | false ↦ (let low = length_kept p xs in omega (arith, low)) ]
 
 -- ---- lists of candidates
 
@@ -82,15 +85,20 @@ candidate_line : (c : ℕ) → IsColumn c → IsLine 10 (decimal c)
 candidate_line c column = line_number max_candidates c (omega arith) (and_from _ _ (le-leb 1 c column.0) (le-leb c max_candidates column.1))
 
 exclusion_line : (contest : Contest) (stages : History) (c : ℕ) → IsColumn c → (b : Bool) → IsLine 40 (action_text (cond b (ExcludeLast c) (Exclude c)))
-exclusion_line contest stages c column true = line_within (line_append (given (codes "exclusion of ") refl) (line_append (candidate_line c column) (given (codes ", last vacancies") refl))) (omega arith)
+exclusion_line contest stages c column true =
+    line_within (line_append (given (codes "exclusion of ") refl) (line_append (candidate_line c column) (given (codes ", last vacancies") refl))) (omega arith)
 exclusion_line contest stages c column false = line_within (line_append (given (codes "exclusion of ") refl) (candidate_line c column)) (omega arith)
 
 -- an action that comes next
-pub action_line : (contest : Contest) (stages : History) (lot : Option ℕ) (action : Action) → IsColumnSet contest.candidates → drawn contest stages lot (due_after contest stages) ≡ Some action → IsLine 40 (action_text action)
-action_line contest [] lot action set next = subst (λ (a : Action). IsLine 40 (action_text a)) (sym (step-first contest lot action next)) (line_within (given (codes "first preferences") refl) (omega arith))
+pub action_line : (contest : Contest) (stages : History) (lot : Option ℕ) (action : Action) → IsColumnSet contest.candidates → drawn contest stages lot (due_after contest stages) ≡ Some action
+    → IsLine 40 (action_text action)
+action_line contest [] lot action set next =
+    subst (λ (a : Action). IsLine 40 (action_text a)) (sym (step-first contest lot action next)) (line_within (given (codes "first preferences") refl) (omega arith))
 action_line contest (s ∷ before) lot action set next = elim (step-is contest s before lot action next) [
-  | inl surplus ↦ subst (λ (a : Action). IsLine 40 (action_text a)) (sym surplus.is) (line_within (line_append (given (codes "surplus of ") refl) (candidate_line surplus.c (column-in surplus.c contest.candidates set surplus.is_candidate))) (omega arith))
-  | inr excluded ↦ subst (λ (a : Action). IsLine 40 (action_text a)) (sym excluded.is) (exclusion_line contest (s ∷ before) excluded.c (column-in excluded.c contest.candidates set excluded.is_candidate) _)
+  | inl surplus ↦ subst (λ (a : Action). IsLine 40 (action_text a)) (sym surplus.is)
+      (line_within (line_append (given (codes "surplus of ") refl) (candidate_line surplus.c (column-in surplus.c contest.candidates set surplus.is_candidate))) (omega arith))
+  | inr excluded ↦ subst (λ (a : Action). IsLine 40 (action_text a)) (sym excluded.is)
+      (exclusion_line contest (s ∷ before) excluded.c (column-in excluded.c contest.candidates set excluded.is_candidate) _)
 ]
 
 -- ---- polls
@@ -118,7 +126,9 @@ judgements_are_few {s} is columns ward =
     let batches = maps_of is batch_map in
     let rounds = (and_parts (list_all (λ k. is_keyed_for s k (batch_at s k.batch)) s.keyings) (list_all (λ b. are_rounds_to s b b.round) s.batches) is.keyed).1 in
     let good = kept_all is_batch (λ b. b.ward == ward) s.batches batches.in_range in
-    let own : length (judgements columns (piles_of s ward)) ≤ 500 * length (batches_of s ward) = few_among s columns (batches_of s ward) good (kept_all (λ b. are_rounds_to s b b.round) (λ b. b.ward == ward) s.batches rounds) in
+    let own : length (judgements columns (piles_of s ward)) ≤ 500 * length (batches_of s ward) =
+    few_among s columns (batches_of s ward) good (kept_all (λ b. are_rounds_to s b b.round) (λ b. b.ward == ward) s.batches rounds)
+    in
     let few = few_batches (batches_of s ward) good (IsStrictlySortedBy-filter batch_cmp (λ b. b.ward == ward) s.batches batches.rises) in
     omega (arith, own, few)
 

@@ -12,7 +12,7 @@ use Rattle.register.specs.Keyed.{is_keyed_for, is_round_of, are_rounds_to}
 use Rattle.register.specs.Items.{item4}
 use Rattle.register.proofs.KeyedLemmas.{rounds_more, no_rounds}
 use Rattle.rowcheck.specs.Walks.Keyings.{are_keyed_for, is_rightly_keyed}
-use Rattle.rowcheck.proofs.RunLemmas.{below_from, less_differs}
+use Rattle.rowcheck.proofs.SideBySideLemmas.{below_from, less_differs}
 
 -- ---- rows and owners
 
@@ -66,7 +66,8 @@ module _ {W X : Type 0} (own : W → ℕ) (key : X → ℕ) (test : X → Option
   rows_more x xs [] = refl
   rows_more x xs (w ∷ ws) =
       rw (rows_more x xs ws)
-      (go (key x == own w) (list_all (λ y. test y (Some w)) (filter (λ y. key y == own w) xs)) (list_all (passes_with x) ws) (list_all (λ v. list_all (λ y. test y (Some v)) (filter (λ y. key y == own v) xs)) ws) refl)
+      (go (key x == own w) (list_all (λ y. test y (Some w)) (filter (λ y. key y == own w) xs)) (list_all (passes_with x) ws)
+      (list_all (λ v. list_all (λ y. test y (Some v)) (filter (λ y. key y == own v) xs)) ws) refl)
     where
       four : (t r p q : Bool) → ((t && r) && (p && q)) ≡ ((t && p) && (r && q))
       four true true p q = refl
@@ -106,7 +107,11 @@ module _ (s : OfficeState) (rise : IsStrictlySortedBy batch_cmp s.batches) where
   -- each keyed paper has its batch, and each batch the papers of its rounds
   pub keyed_by_batch : (list_all (λ k. is_some (batch_at s k.batch)) s.keyings && list_all (is_rightly_keyed s) s.batches) ≡ item4 s
   keyed_by_batch =
-      rw (all_both (are_keyed_for s) (λ b. are_rounds_to s b b.round) s.batches, by_owner (λ (b : BatchEntry). b.number) (λ (k : KeyedEntry). k.batch) (is_keyed_for s) (λ k. refl) s.batches s.keyings rise)
+      rw (
+        all_both (are_keyed_for s) (λ b. are_rounds_to s b b.round) s.batches,
+        by_owner (λ (b : BatchEntry). b.number) (λ (k : KeyedEntry). k.batch) (is_keyed_for s)
+            (λ k. refl) s.batches s.keyings rise,
+      )
       (assoc (list_all (λ k. is_some (batch_at s k.batch)) s.keyings) _ _)
     where
       assoc : (a b c : Bool) → (a && (b && c)) ≡ ((a && b) && c)

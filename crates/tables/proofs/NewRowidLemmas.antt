@@ -29,7 +29,9 @@ keyed_put new rows keyed int free = record {
 }
   where
     never : (b : Row) → Has rows b → rowid b ≡ rowid new → ⊥
-    never b old same = true≢false (sym (some_from (λ r. is_eq (value_cmp (rowid r) (rowid new))) rows b old (ap (λ v. is_eq (value_cmp v (rowid new))) same ∙ ap is_eq (tied_itself value_cmp_total (rowid new)))) ∙ free)
+    never b old same =
+        true≢false (sym (some_from (λ r. is_eq (value_cmp (rowid r) (rowid new))) rows b old
+        (ap (λ v. is_eq (value_cmp v (rowid new))) same ∙ ap is_eq (tied_itself value_cmp_total (rowid new)))) ∙ free)
 
 pub keyed_put_all : (news rows : List Row) → Keyed rows → have_rowids news ≡ true → are_fresh rows news ≡ true → Keyed (put_all rows news)
 keyed_put_all [] rows keyed ints fresh = keyed

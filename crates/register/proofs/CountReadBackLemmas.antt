@@ -1,5 +1,6 @@
 -- A count is read back from what is tabulated of it, and at a state there is what it is read back from.
-use Rattle.std.proofs.Common.{◌≡◌, ℕ, suc, ◌+◌, ◌<◌, ◌≤◌, not, ◌==◌, true, List, [], ◌∷◌, ◌++◌, length, map, fold, replicate, drop, get_or, reverse, Some, refl, sym, subst, ap, ◌∙◌, append_assoc, arith, length-append, drop-cons, add-one}
+use Rattle.std.proofs.Common.{◌≡◌, ℕ, suc, ◌+◌, ◌<◌, ◌≤◌, not, ◌==◌, true, List, [], ◌∷◌, ◌++◌, length, map, fold, replicate, drop, get_or, reverse, Some, refl, sym, subst, ap, ◌∙◌}
+use Rattle.std.proofs.Common.{append_assoc, arith, length-append, drop-cons, add-one}
 use Rattle.std.specs.List.{AllByRecursion}
 use Rattle.std.specs.List.Sorted.{IsStrictlySortedBy}
 use Rattle.std.specs.Map.{keys_of}
@@ -116,7 +117,8 @@ module _ (e : ElectionEntry) (candidates : List ℕ) (seats : ℕ) (bundles : Li
   pub few_holders : AllByRecursion (λ (at : Placed). at.holder ≤ max_candidates) (map placed_of bundles)
   few_holders =
       subst (AllByRecursion (λ (at : Placed). at.holder ≤ max_candidates)) (sym read_places)
-      (each_weaker (λ (at : Placed). (at.holder ≤ max_candidates) × (at.value ≤ one_vote)) (λ (at : Placed). at.holder ≤ max_candidates) _ (λ at sound. sound.0) (sound-places (contest_of e) (stages_of e) (bundled e.ballots.papers) of.fair of.papers_are_bundled.each))
+      (each_weaker (λ (at : Placed). (at.holder ≤ max_candidates) × (at.value ≤ one_vote)) (λ (at : Placed). at.holder ≤ max_candidates) _ (λ at sound. sound.0)
+      (sound-places (contest_of e) (stages_of e) (bundled e.ballots.papers) of.fair of.papers_are_bundled.each))
 
   pub right_so_far : IsRightForSome (contest_of e) (stages_of e)
   right_so_far = record { lots = e.lots; right = stages_right (contest_of e) e.lots e.ward.done }
@@ -137,7 +139,8 @@ module _ (e : ElectionEntry) (candidates : List ℕ) (seats : ℕ) (bundles : Li
 -- ---- at a state
 
 -- the bundles of papers that have preferences, each once, are bundles
-bundles_from : (bs : List Bundle) (papers : List (List ℕ)) → AreBundles bs → AllByRecursion (λ (paper : List ℕ). 1 ≤ length paper) papers → AreRankings papers → AreBundles (fold (λ cs paper. with_papers cs paper 1) bs papers)
+bundles_from : (bs : List Bundle) (papers : List (List ℕ)) → AreBundles bs → AllByRecursion (λ (paper : List ℕ). 1 ≤ length paper) papers → AreRankings papers
+    → AreBundles (fold (λ cs paper. with_papers cs paper 1) bs papers)
 bundles_from bs [] are some ranked = are
 bundles_from bs (paper ∷ papers) are some ranked = bundles_from (with_papers bs paper 1) papers (bundles-with_papers paper 1 bs (omega arith, some.0, ranked.0) are) some.1 ranked.1
 
@@ -146,7 +149,8 @@ pub election_bundles : (s : OfficeState) (w : WardEntry) → AreBundles (bundled
 unfolding IsStrictlySortedBy
 election_bundles s w =
     let columns : List ℕ = columns_of (candidates_of s w.number) in
-    bundles_from [] (election_of s w).ballots.papers (record { rise = tt; each = tt }) (papers_have_some columns (piles_of s w.number)) (papers_are_rankings columns (piles_of s w.number) (columns_are_set (candidates_of s w.number)))
+    bundles_from [] (election_of s w).ballots.papers (record { rise = tt; each = tt }) (papers_have_some columns (piles_of s w.number))
+    (papers_are_rankings columns (piles_of s w.number) (columns_are_set (candidates_of s w.number)))
 
 pub counted_at : (s : OfficeState) (w : WardEntry) → IsState s → ward_at s w.number ≡ Some w → has_stages (election_of s w) ≡ true
     → AreOfCount (election_of s w) (columns_of (candidates_of s w.number)) w.seats (bundles_in (election_of s w)) (figures_in (election_of s w))

@@ -43,7 +43,8 @@ put_unkeyed f c (d ∷ ds) none = go (is_lt (nat_cmp c d)) (put_unkeyed f c ds n
     go false later = ap (λ (others : List (List KeyedEntry)). cond (is_keyed (f d)) (f d ∷ others) others) later
 
 -- what each of some keyings passes each passes still, where what is new passes too
-pub all_grown : (p : List KeyedEntry → Bool) (f g : ℕ → List KeyedEntry) (cs : List ℕ) → ((c : ℕ) → (g c ≡ f c) ⊎ (p (g c) ≡ true)) → list_all p (keyed_by f cs) ≡ true → list_all p (keyed_by g cs) ≡ true
+pub all_grown : (p : List KeyedEntry → Bool) (f g : ℕ → List KeyedEntry) (cs : List ℕ) → ((c : ℕ) → (g c ≡ f c) ⊎ (p (g c) ≡ true)) → list_all p (keyed_by f cs) ≡ true
+    → list_all p (keyed_by g cs) ≡ true
 all_grown p f g [] each all = refl
 all_grown p f g (c ∷ cs) each all = go (g c) (f c) (each c) all (all_grown p f g cs each)
   where
@@ -126,14 +127,16 @@ numbered_three size a b c all =
     let second = front b (filter is_keyed (c ∷ [])) first.1 in
     (first.0, (second.0, (front c [] second.1).0))
   where
-    front : (ks : List KeyedEntry) (others : List (List KeyedEntry)) → list_all (is_whole size) (cond (is_keyed ks) (ks ∷ others) others) ≡ true → (are_numbered 1 ks ≡ true) × (list_all (is_whole size) others ≡ true)
+    front : (ks : List KeyedEntry) (others : List (List KeyedEntry)) → list_all (is_whole size) (cond (is_keyed ks) (ks ∷ others) others) ≡ true
+        → (are_numbered 1 ks ≡ true) × (list_all (is_whole size) others ≡ true)
     front [] others all = (refl, all)
     front (k ∷ ks) others all =
         let parts = and_parts (is_whole size (k ∷ ks)) (list_all (is_whole size) others) all in
         ((and_parts (length (k ∷ ks) == size) (are_numbered 1 (k ∷ ks)) parts.0).1, parts.1)
 
 module _ (p size : ℕ) where
-  doubtful_by : (a b c : List KeyedEntry) → has_doubtful (agreed (of_three a b c)) p ≡ has_doubtful (cond (is_keyed a && (same_marks a b || same_marks a c)) a (cond (is_keyed b && same_marks b c) b [])) p
+  doubtful_by : (a b c : List KeyedEntry) → has_doubtful (agreed (of_three a b c)) p
+      ≡ has_doubtful (cond (is_keyed a && (same_marks a b || same_marks a c)) a (cond (is_keyed b && same_marks b c) b [])) p
   doubtful_by a b c = ap (λ (ks : List KeyedEntry). has_doubtful ks p) (agreed_three a b c)
 
   -- one alone agrees with none
@@ -201,11 +204,14 @@ module _ (p size : ℕ) where
       → has_doubtful (agreed (of_three a b c)) p ≡ true → has_doubtful (agreed (of_three x y z)) p ≡ true
   doubtful_still a b c x y z (inl i) (inl j) (inl k) all was = rw (i, j, k) was
   doubtful_still a b c x y z (inr i) (inl j) (inl k) all was =
-      first_more x y z all (ap (λ (ks : List KeyedEntry). has_doubtful (agreed (of_three [] ks z)) p) j ∙ (ap (λ (ks : List KeyedEntry). has_doubtful (agreed (of_three [] b ks)) p) k ∙ (ap (λ (ks : List KeyedEntry). has_doubtful (agreed (of_three ks b c)) p) (sym i) ∙ was)))
+      first_more x y z all (ap (λ (ks : List KeyedEntry). has_doubtful (agreed (of_three [] ks z)) p) j
+      ∙ (ap (λ (ks : List KeyedEntry). has_doubtful (agreed (of_three [] b ks)) p) k ∙ (ap (λ (ks : List KeyedEntry). has_doubtful (agreed (of_three ks b c)) p) (sym i) ∙ was)))
   doubtful_still a b c x y z (inl i) (inr j) (inl k) all was =
-      second_more x y z (ap (λ (ks : List KeyedEntry). has_doubtful (agreed (of_three ks [] z)) p) i ∙ (ap (λ (ks : List KeyedEntry). has_doubtful (agreed (of_three a [] ks)) p) k ∙ (ap (λ (ks : List KeyedEntry). has_doubtful (agreed (of_three a ks c)) p) (sym j) ∙ was)))
+      second_more x y z (ap (λ (ks : List KeyedEntry). has_doubtful (agreed (of_three ks [] z)) p) i
+      ∙ (ap (λ (ks : List KeyedEntry). has_doubtful (agreed (of_three a [] ks)) p) k ∙ (ap (λ (ks : List KeyedEntry). has_doubtful (agreed (of_three a ks c)) p) (sym j) ∙ was)))
   doubtful_still a b c x y z (inl i) (inl j) (inr k) all was =
-      third_more x y z (ap (λ (ks : List KeyedEntry). has_doubtful (agreed (of_three ks y [])) p) i ∙ (ap (λ (ks : List KeyedEntry). has_doubtful (agreed (of_three a ks [])) p) j ∙ (ap (λ (ks : List KeyedEntry). has_doubtful (agreed (of_three a b ks)) p) (sym k) ∙ was)))
+      third_more x y z (ap (λ (ks : List KeyedEntry). has_doubtful (agreed (of_three ks y [])) p) i
+      ∙ (ap (λ (ks : List KeyedEntry). has_doubtful (agreed (of_three a ks [])) p) j ∙ (ap (λ (ks : List KeyedEntry). has_doubtful (agreed (of_three a b ks)) p) (sym k) ∙ was)))
   doubtful_still a b c x y z (inr i) (inr j) k all was = absurd (none (ap (λ (ks : List KeyedEntry). has_doubtful (agreed (of_three ks b c)) p) (sym i) ∙ was))
     where
       none : has_doubtful (agreed (of_three [] b c)) p ≡ true → ⊥

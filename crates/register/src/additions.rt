@@ -1,0 +1,120 @@
+//! What the stage that is due adds to what is tabulated of the counts.
+
+ghost use Rattle.std.specs.Prelude.{◌≡◌, ℕ, List, map, IfOk};
+ghost use Rattle.count.specs.Books.{placed};
+ghost use Rattle.count.specs.Bundles.{Bundle};
+ghost use Rattle.count.specs.Law.Places.{Place};
+ghost use Rattle.register.specs.Tabulated.{placed_entry, figure_entry, addition_entries};
+ghost use Rattle.register.specs.Additions.{IsAddedTo};
+ghost use Rattle.register.specs.Walks.{moved_bundles, last_figures, all_added, moves_added};
+
+use crate::elections::Count;
+use crate::tabulated::{Addition, PlacedBundle, StageFigure, Tabulation, add_stage, placed_bundle};
+use count::{Bundles, KeptCount, NextStage, Placed, Stage, figures_of};
+use paper::Columns;
+use std::alloc::{AllocError, Global};
+
+/// The bundles of a ward that lie elsewhere than before, where they lie now. An error is want of memory.
+fn moved_bundles(
+    alloc: Global,
+    ward: u32,
+    bundles: &Bundles,
+    before: &[Placed],
+    now: &[Placed],
+) -> Result<Vec<PlacedBundle>, AllocError>
+    ensures { IfOk result (λ moved. map placed_entry moved.items ≡ moved_bundles ward bundles.now before.now now.now) }
+{
+    let mut moved = Vec::new(alloc);
+    let (mut old_places, mut new_places) = (before, now);
+    for (list, papers) in bundles.iter() {
+        let (Some((old, other_old)), Some((new, other_new))) = (
+            old_places.split_first(),
+            new_places.split_first(),
+        ) else {
+            break;
+        };
+        if old != new {
+            moved.push(placed_bundle(alloc, ward, list, *papers, new)?)?;
+        }
+        old_places = other_old;
+        new_places = other_new;
+    }
+    Ok(moved)
+}
+
+/// The figures of the last of a ward's stages. An error is want of memory.
+fn last_figures(
+    alloc: Global,
+    ward: u32,
+    candidates: &Columns,
+    stages: &[Stage],
+) -> Result<Vec<StageFigure>, AllocError>
+    ensures { IfOk result (λ figures. map figure_entry figures.items ≡ last_figures ward candidates.now stages.now) }
+{
+    // no memory holds more stages than a number tells
+    let Ok(stage) = u32::try_from(stages.len()) else {
+        return Err(AllocError);
+    };
+    let shown = figures_of(alloc, candidates, stages)?;
+    let mut figures = Vec::new(alloc);
+    add_stage(&mut figures, ward, stage, &shown)?;
+    Ok(figures)
+}
+
+/// What the first stage of a ward's count adds: all that is tabulated of it. An error is want of memory.
+fn first_addition(
+    alloc: Global,
+    ward: u32,
+    kept: &KeptCount,
+    next: &NextStage,
+) -> Result<Addition, AllocError>
+    ensures { IfOk result (λ addition. (now : List ℕ → Place) → next.now.places.items ≡ map (λ (b : Bundle). placed (now b.0)) kept.now.bundles
+        → addition_entries addition ≡ all_added ward kept.now.candidates kept.now.bundles now next.now.stages.items) }
+{
+    let mut tabulation = Tabulation::empty(alloc);
+    tabulation.add(
+        alloc,
+        ward,
+        &kept.candidates(),
+        kept.bundles(),
+        &next.places,
+        &next.stages,
+    )?;
+    Ok(Addition {
+        placed: tabulation.bundles,
+        moved: Vec::new(alloc),
+        figures: tabulation.figures,
+    })
+}
+
+/// What a later stage of a ward's count adds: the bundles that lie elsewhere than before, and its figures. An
+/// error is want of memory.
+fn later_addition(
+    alloc: Global,
+    ward: u32,
+    kept: &KeptCount,
+    next: &NextStage,
+) -> Result<Addition, AllocError>
+    ensures { IfOk result (λ addition. addition_entries addition ≡ moves_added ward kept.now.candidates kept.now.bundles kept.now.places next.now.places.items next.now.stages.items) }
+{
+    Ok(Addition {
+        placed: Vec::new(alloc),
+        moved: moved_bundles(alloc, ward, kept.bundles(), kept.places(), &next.places)?,
+        figures: last_figures(alloc, ward, &kept.candidates(), &next.stages)?,
+    })
+}
+
+/// What the stage that is due adds to a ward's count: at the first stage all bundles, at a later one those that
+/// lie elsewhere than before, and its figures. Nothing where no action is due. An error is want of memory.
+pub(crate) fn addition_of(alloc: Global, ward: u32, count: &Count) -> Result<Addition, AllocError>
+    ensures { IfOk result (λ addition. IsAddedTo ward count.now addition) }
+{
+    let kept = &count.kept;
+    let Some(next) = kept.next_stage(alloc, &count.lots)? else {
+        return Ok(Addition::none(alloc));
+    };
+    if kept.stages().is_empty() {
+        return first_addition(alloc, ward, kept, &next);
+    }
+    later_addition(alloc, ward, kept, &next)
+}
