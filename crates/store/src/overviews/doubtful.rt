@@ -42,7 +42,7 @@ fn copy_of(judged: &JudgedPaper) -> Result<JudgedPaper, AllocError>
     })
 }
 
-/// Among some verdicts that on the paper of this number, if there is one.
+/// The verdict on the paper of this number, if it is among these.
 fn verdict_on(verdicts: &[JudgedPaper], paper: u32) -> Result<Option<JudgedPaper>, AllocError>
     ensures { IfOk result (λ found. option_map judged_entry found ≡ verdict_on (map judged_entry verdicts.now) paper) }
 {
@@ -54,7 +54,7 @@ fn verdict_on(verdicts: &[JudgedPaper], paper: u32) -> Result<Option<JudgedPaper
     Ok(None)
 }
 
-/// A doubtful paper, with the verdict that some have on it.
+/// A doubtful paper, with the verdict on it, if it is among these.
 fn doubtful_paper(keyed: &KeyedPaper, verdicts: &[JudgedPaper]) -> Result<DoubtfulPaper, AllocError>
     ensures { IfOk result (λ found. doubtful_view found ≡ doubtful_view_of (map judged_entry verdicts.now) (keyed_entry keyed.now)) }
 {
@@ -65,7 +65,7 @@ fn doubtful_paper(keyed: &KeyedPaper, verdicts: &[JudgedPaper]) -> Result<Doubtf
     })
 }
 
-/// Puts the doubtful papers among some, each with the verdict that some have on it, behind others.
+/// Puts the doubtful ones of some papers behind those found before, each with the verdict on it, if it is among these.
 fn put_doubtful(
     found: &mut Vec<DoubtfulPaper>,
     papers: &[KeyedPaper],

@@ -16,7 +16,7 @@ use sqlite::{Alter, Connection};
 use std::alloc::Global;
 use tables::Fault;
 
-/// The receipts of this actor, or where none is told of all.
+/// The receipts of this actor, or of all actors where none is named.
 fn find_receipts<S: Alter>(
     alloc: Global,
     conn: &mut Connection<S>,
@@ -32,8 +32,8 @@ fn find_receipts<S: Alter>(
 }
 
 impl<S: Alter> Store<S> {
-    /// The receipts of an actor (0 is the office, a clerk 1 to 999), by id; where no actor is told, those of
-    /// all, by actor and id. It changes nothing, and adds nothing to what a stop may leave. `Memory` or
+    /// The receipts of an actor (0 is the office, a clerk 1 to 999), by id; where no actor is named, those
+    /// of all, by actor and id. It changes nothing, and adds nothing to what a stop may leave. `Memory` or
     /// `Store` where a row can't be read.
     pub fn load_receipts(&mut self, actor: Option<u32>) -> Result<Vec<Receipt>, Fault>
         ensures shows { HasCleanDisk (state S.Store self.new) → (s : OfficeState) → IsAt s (state S.Store self.old) → IfOk result (λ found. map receipt_entry found.items ≡ receipts_of s actor) }
