@@ -1,15 +1,14 @@
 //! The doubtful papers of a ward, read from the tables.
 
-ghost use Rattle.std.specs.Prelude.{◌≡◌, ◌==◌, ◌++◌, false, map, filter, find, option_map, IfOk, IfErr, OnOk, IsTrue};
+ghost use Rattle.std.specs.Prelude.{◌≡◌, ◌==◌, ◌++◌, false, map, option_map, IfOk, IsTrue};
 ghost use Rattle.std.specs.List.{flat_map};
 ghost use Rattle.sqlite.specs.State.{HasCleanDisk};
 ghost use Rattle.sqlite.specs.Held.{state};
-ghost use Rattle.register.specs.Offices.{OfficeState, batch_entry, keyed_entry, judged_entry};
+ghost use Rattle.register.specs.Offices.{batch_entry, keyed_entry, judged_entry};
 ghost use Rattle.register.specs.Papers.{is_doubtful};
 ghost use Rattle.tables.specs.declared.fault.Fault.{Fault};
-ghost use Rattle.tables.specs.Reading.{OnlyReads, FailsBy};
-ghost use Rattle.store.specs.Offices.{IsAt};
 ghost use Rattle.store.specs.Overviews.{verdict_on, doubtful_view, doubtful_view_of, doubtful_among, doubtful_in, doubtful_views, doubtful_at};
+ghost use Rattle.store.specs.Loads.{Loads};
 ghost use Rattle.store.specs.Reads.{Reads};
 
 use crate::storage::Store;
@@ -162,12 +161,7 @@ impl<S: Alter> Store<S> {
     /// the other, each with its keyings of the current round and the verdicts on its papers. It changes
     /// nothing, and adds nothing to what a stop may leave. `Memory` or `Store` where a row can't be read.
     pub fn load_doubtful(&mut self, ward: u32) -> Result<Option<Vec<DoubtfulPaper>>, Fault>
-        ensures shows { HasCleanDisk (state S.Store self.new) → (s : OfficeState) → IsAt s (state S.Store self.old)
-            → IfOk result (λ found. option_map (λ papers. map doubtful_view papers.items) found ≡ doubtful_at s ward) }
-        ensures cause { HasCleanDisk (state S.Store self.new) → (s : OfficeState) → IsAt s (state S.Store self.old) → IfErr result (FailsBy (state S.Store self.old) (state S.Store self.new)) }
-        ensures opens { HasCleanDisk (state S.Store self.new) → OnOk result (IsTrue (state S.Store self.new).is_open) }
-        ensures reads { OnlyReads (state S.Store self.old) (state S.Store self.new) }
-        ensures keeps { HasCleanDisk (state S.Store self.new) → (s : OfficeState) → IsAt s (state S.Store self.old) → IsAt s (state S.Store self.new) }
+        ensures { Loads S.Store self.old self.new result (λ s found. option_map (λ papers. map doubtful_view papers.items) found ≡ doubtful_at s ward) }
     {
         find_doubtful(self.alloc, &mut self.conn, ward)
     }
