@@ -9,6 +9,8 @@ from pathlib import Path
 ROOT = Path(__file__).resolve().parent.parent
 NOISE = re.compile(r'//[^\n]*|b?"(?:\\.|[^"\\])*"|b?\'(?:\\.[^\'\n]*|[^\'\\\n])\'', re.S)
 TOKEN = re.compile(r"\b(?:impl|trait)\b[^{};]*\{|\bfn\s+\w+|[{}]")
+# words of specs/ that are a function's whole contract, each with its record, whose fields are the clauses
+WORDS = {"Migrates": "Migrates", "CopiesTo": "CopiesTo", "Loads": "LoadsAt"}
 CONTRACT = re.compile(r"\b(ensures|requires)\b\*?\s*(\w*)\*?\s*$")
 
 
@@ -24,6 +26,7 @@ class Function:
     comment: str                # the comment above it, without its slashes
     ensures: list = field(default_factory=list)
     requires: list = field(default_factory=list)
+    word: str = ""              # the first word of a clause of its own without a name
     head: str = ""              # from `fn` to its contract, without comments and literals
     body: str = ""              # the body, without comments and literals
     start: int = 0              # where it begins and ends in its file
@@ -94,6 +97,8 @@ def read_contract(function, text, at):
                 function.head, function.body, function.end = text[function.start:place], text[place:at], at
                 break
             (function.ensures if clause.group(1) == "ensures" else function.requires).append(clause.group(2))
+            if clause.group() and clause.group(1) == "ensures" and not clause.group(2):
+                function.word = re.match(r"\W*(\w*)", text[place:at]).group(1)
             heads.append(place)
     if heads:
         function.head = re.split(r"\b(?:ensures|requires)\b", function.head)[0]
@@ -126,6 +131,14 @@ def functions_in(path, source):
     return found
 
 
+def fields_in(text):
+    """{record of a file of specs/: the names of its fields}"""
+    found = {}
+    for match in re.finditer(r"^( *)pub record (\w+)[^\n]* where\n((?:\1  [^\n]*\n)+)", text, re.M):
+        found[match.group(2)] = re.findall(rf"^{match.group(1)}  pub (\w+) :", match.group(3), re.M)
+    return found
+
+
 class Crate:
     """A crate's sources: texts by path below its folder, functions, and wrong bodies by name."""
 
@@ -133,6 +146,9 @@ class Crate:
         self.name = folder.name
         self.texts = {str(path.relative_to(folder)): path.read_text() for path in sorted((folder / "src").rglob("*.rt"))}
         self.functions = [f for path, text in self.texts.items() for f in functions_in(path, text)]
+        self.records = {}
+        for path in sorted(folder.glob("specs/**/*.antt")):
+            self.records.update(fields_in(path.read_text() + "\n"))
         self.edits = {path.stem: path.read_text() for path in sorted(folder.glob("must-fail/*.edit"))}
         self.folder = folder
 
@@ -145,7 +161,17 @@ class Crate:
         return "src/lib.rt" in self.texts and function.public and (is_open or (function.owners or [function.name])[0] in shown)
 
 
+def spread(functions, records):
+    """Puts the fields of a record in the place of a lone clause that says no more than that record."""
+    for function in functions:
+        record = WORDS.get(function.word)
+        if function.ensures == [""] and record in records:
+            function.ensures = list(records[record])
+
+
 def crates():
     """All crates in the order of crates.txt, lowest first."""
     names = [line.split(":")[0].strip() for line in (ROOT / "crates.txt").read_text().splitlines() if ":" in line.split("#")[0]]
-    return [Crate(ROOT / "crates" / name) for name in names]
+    found = [Crate(ROOT / "crates" / name) for name in names]
+    spread([function for crate in found for function in crate.functions], {name: fields for crate in found for name, fields in crate.records.items()})
+    return found

@@ -201,7 +201,7 @@ impl<S: Alter> Office<S> {
         }
     }
 
-    /// A text as it was written; none of rows that no office has, which closes the office.
+    /// Tells a text as it was written. Where the rows let none be written, as those of no office do, the office is closed.
     fn told(&mut self, written: Result<Option<String>, AllocError>) -> Result<String, Stop>
         ensures told { IfOk result (λ text. written ≡ Ok (Some text)) }
         ensures stopped { self.old.closed ≡ false → IfErr result (StopsWriting self.new.closed) }

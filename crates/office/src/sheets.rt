@@ -59,7 +59,7 @@ impl Text {
     }
 }
 
-/// A candidate's number and name; none where the number is out of range, as no candidate's of an office is.
+/// A candidate's number and name. `None` where the number is out of range, which no candidate of an office has.
 fn candidate_line(candidate: &Candidate) -> Result<Option<(u8, String)>, AllocError>
     ensures is { IfOk result (λ found. IfSome found (λ line. (line.0, string_bytes line.1) ≡ candidate_shown (candidate_entry candidate.now))) }
     ensures some { IfOk result (λ found. is_candidate_number candidate.now.number ≡ true → IsSome found) }
@@ -70,8 +70,7 @@ fn candidate_line(candidate: &Candidate) -> Result<Option<(u8, String)>, AllocEr
     Ok(Some((number, candidate.name.clone()?)))
 }
 
-/// The numbers and names of candidates, in their order; none where a number is out of range, as no
-/// candidate's of an office is.
+/// The numbers and names of candidates, in their order. `None` where a number is out of range.
 fn candidate_lines(
     alloc: Global,
     candidates: &[Candidate],
@@ -102,8 +101,8 @@ fn poll_of(sheet: &WardSheet) -> Option<Poll>
     }
 }
 
-/// A ward that was counted, as the texts show it, with these lines of its candidates and its papers; none
-/// where it can't be printed: a number is out of range, as none of an office is.
+/// A ward that was counted, as the texts show it, with these lines of its candidates and its papers. `None` where
+/// it can't be printed, since a number is out of range, as it is in no office.
 fn ward_of<'a>(
     counted: &'a CountedWard,
     candidates: &'a [(u8, String)],
@@ -196,7 +195,8 @@ fn written(
     }
 }
 
-/// A text of a ward, of the stages that are done; none of rows that no office has. An error is want of memory.
+/// A text of a ward, of the stages that are done. `None` where the rows let none be written, as those of no office
+/// do. An error is want of memory.
 pub(crate) fn text_of(
     alloc: Global,
     sheet: &WardSheet,
@@ -215,7 +215,7 @@ pub(crate) fn text_of(
     Ok(Some(written(alloc, counted, &ward, text)?))
 }
 
-/// The declaration of a ward, by who is elected; none of rows that no office has. An error is want of memory.
+/// The declaration of a ward, by who is elected, in the same way.
 pub(crate) fn declaration(
     alloc: Global,
     counted: &CountedWard,

@@ -12,6 +12,7 @@ pub mod TellLemmas
 pub mod ReopenLemmas
 pub mod CopyLemmas
 pub mod ListsLemmas
+pub mod ListedLemmas
 pub mod TallyLemmas
 pub mod WorkLemmas
 pub mod PartLemmas

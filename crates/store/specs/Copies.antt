@@ -1,17 +1,20 @@
 -- An office, copied into a database with nothing in it.
-use Rattle.std.specs.Prelude.{◌≡◌, ◌⊎◌, ⊤, ◌==◌, Bool, filter, length}
+use Rattle.std.specs.Prelude.{◌≡◌, ◌⊎◌, ⊤, ◌==◌, Bool, true, false, filter, length, Result, Err, IfOk, IfErr}
 use Rattle.sqlite.specs.Tree.{Trees}
+use Rattle.sqlite_trees.specs.declared.store.Store.{Ghosts}
 use Rattle.sqlite.specs.Effect.{Database}
-use Rattle.sqlite.specs.State.{State}
+use Rattle.sqlite.specs.Held.{Held, state}
+use Rattle.sqlite.specs.State.{State, HasCleanDisk}
 use Rattle.register.specs.Offices.{OfficeState, KeyedEntry}
 use Rattle.tables.specs.declared.fault.Fault.TheVariants.{Memory, Store as StoreFailed}
-use Rattle.tables.specs.Contents.{Stores}
-use Rattle.tables.specs.Reading.{FailsBy, FailsToList}
+use Rattle.tables.specs.Contents.{RestsAt, Stores}
+use Rattle.tables.specs.Presence.{has_some_table, IsOurs}
+use Rattle.tables.specs.Reading.{OnlyReads, FailsBy, FailsToList}
 use Rattle.store.specs.declared.copying.Holdings.{Holdings}
 use Rattle.store.specs.declared.copying.CopyFault.{CopyFault}
 use Rattle.store.specs.declared.copying.CopyFault.TheVariants.{Office, Taken, Copy}
-use Rattle.store.specs.Offices.{tables_of, HoldsState}
-use Rattle.store.specs.Openings.{IsToldBy}
+use Rattle.store.specs.Offices.{tables_of, HoldsState, StoresState, IsAt, Wears}
+use Rattle.store.specs.Openings.{IsBlank, IsLeftAt, IsToldBy}
 
 -- the first paper of a keying: each keying of a batch in a round has one
 abbrev pub is_first_paper : KeyedEntry → Bool
@@ -26,12 +29,12 @@ holdings_of s = record {
   receipts = length s.receipts;
 }
 
--- whatever a stop leaves of the copy now it left before, or it is the tables of this state
+-- a stop leaves of the copy what it could leave before, or the tables of this state
 abbrev pub LeavesNoneOrAll : OfficeState → State → State → Type 0
 LeavesNoneOrAll s old new = (trees : Trees) → new.may_leave trees → old.may_leave trees ⊎ Stores (tables_of s) trees
 
--- why no copy is told: what an opening tells at this database, and where that is a fault of its store, why; or, where it holds a state, memory
--- was wanting for the copy, or the copy's store failed
+-- why no copy is told: what an opening tells at this database, and why, where that is a fault of its store; or the database holds a state, and
+-- memory was wanting for the copy, or its store failed
 abbrev pub IsToldInCopying : Database → State → State → CopyFault → Type 0
 IsToldInCopying db old new (Office fault) = IsToldBy db fault × FailsToList db old new fault
 IsToldInCopying db old new Taken = ⊥
@@ -48,3 +51,41 @@ abbrev pub IsUnbegun : CopyFault → Type 0
 IsUnbegun (Office fault) = ⊤
 IsUnbegun Taken = ⊤
 IsUnbegun (Copy fault) = ⊥
+
+-- ---- a copy
+
+module _ {S T : Type 0} (store : Ghosts S) (other : Ghosts T) (conn conn_after : Held S) (copy copy_after : Held T) (result : Result Holdings CopyFault) where
+  -- the office before and after
+  abbrev old : State
+  old = state store conn
+
+  abbrev new : State
+  new = state store conn_after
+
+  -- the database that the copy is made in, and the copy
+  abbrev blank : State
+  blank = state other copy
+
+  abbrev full : State
+  full = state other copy_after
+
+  -- What comes of a copy of an office that is found by its rows alone (`copied`, `told`), or at a state (`same`, `stops`, `cause`); what the copy holds
+  -- whatever it was made of (`made`, `whole`); and where nothing is written.
+  pub record CopiesTo : Type 0 where
+    pub copied : HasCleanDisk new → (db : Database) → IsOurs db.schema → RestsAt db old
+        → IfOk result (λ h. (s : OfficeState) × HoldsState db s × (h ≡ holdings_of s) × (HasCleanDisk full → IsBlank blank → IsAt s full))
+    pub same : HasCleanDisk new → (db : Database) → RestsAt db old → (s : OfficeState) → IsLeftAt s db → IfOk result (λ h. (h ≡ holdings_of s) × (HasCleanDisk full → IsBlank blank → IsAt s full))
+    pub stops : HasCleanDisk new → HasCleanDisk full → (db : Database) → RestsAt db old → (s : OfficeState) → IsLeftAt s db → IsBlank blank → LeavesNoneOrAll s blank full
+    pub made : HasCleanDisk full → IsBlank blank → IfOk result (λ h. (x : OfficeState) × (h ≡ holdings_of x) × IsAt x full)
+    pub whole : HasCleanDisk full → IsBlank blank → (trees : Trees) → full.may_leave trees → blank.may_leave trees ⊎ ((x : OfficeState) × StoresState x trees)
+    pub told : HasCleanDisk new → (db : Database) → IsOurs db.schema → RestsAt db old → IsBlank blank → IfErr result (IsToldInCopying db old new)
+    pub cause : HasCleanDisk new → (db : Database) → RestsAt db old → (s : OfficeState) → IsLeftAt s db → IsBlank blank → IfErr result (StopsInCopying old new)
+    pub reads : OnlyReads old new
+    pub untouched : IfErr result (λ e. IsUnbegun e → copy_after ≡ copy)
+    pub taken : has_some_table blank.now.schema ≡ true → conn.in_transaction ≡ false → (result ≡ Err Taken) × (copy_after ≡ copy)
+    pub inside : conn.in_transaction ≡ true → (result ≡ Err (Office StoreFailed)) × (conn_after ≡ conn) × (copy_after ≡ copy)
+    pub inside_too : copy.in_transaction ≡ true → conn.in_transaction ≡ false → (result ≡ Err Taken) × (copy_after ≡ copy)
+    pub wears : Wears blank full
+    pub clean : HasCleanDisk full → HasCleanDisk blank
+    pub outside : conn.in_transaction ≡ false → conn_after.in_transaction ≡ false
+    pub outside_too : copy.in_transaction ≡ false → copy_after.in_transaction ≡ false

@@ -6,6 +6,7 @@ pub mod Keyings
 pub mod Tallies
 pub mod Elections
 pub mod Reads
+pub mod Loads
 pub mod Settled
 pub mod Migrations
 pub mod Overviews

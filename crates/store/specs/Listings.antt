@@ -1,8 +1,11 @@
 -- The parts in which an opening lists the entries of a database.
-use Rattle.std.specs.Prelude.{◌≡◌, ◌<◌, ℕ, true, map, ⊤}
+use Rattle.std.specs.Prelude.{◌≡◌, ◌<◌, ℕ, true, false, map, ⊤, Result, IfOk, IfErr, OnOk, IsTrue}
 use Rattle.std.specs.List.Sorted.{IsStrictlySortedBy}
+use Rattle.sqlite_trees.specs.declared.store.Store.{Ghosts}
 use Rattle.sqlite.specs.Schema.{Schema}
 use Rattle.sqlite.specs.Effect.{Database}
+use Rattle.sqlite.specs.Held.{Held, state}
+use Rattle.sqlite.specs.State.{State, HasCleanDisk}
 use Rattle.register.specs.declared.wards.Ward.{Ward as WardValue}
 use Rattle.register.specs.declared.candidates.Candidate.{Candidate as CandidateValue}
 use Rattle.register.specs.declared.batches.Batch.{Batch as BatchValue}
@@ -21,8 +24,8 @@ use Rattle.tables.specs.declared.table.Table.{Table}
 use Rattle.tables.specs.declared.table.Table.TheVariants.{Ward, Candidate, Batch, Keying, Verdict, Lot, Receipt, Bundle, Vote}
 use Rattle.tables.specs.Schema.{BeginsTo, place_of}
 use Rattle.tables.specs.Rows.{row_cmp}
-use Rattle.tables.specs.Contents.{HoldsTable}
-use Rattle.tables.specs.Reading.{ListsEntries}
+use Rattle.tables.specs.Contents.{HoldsTable, RestsAt}
+use Rattle.tables.specs.Reading.{OnlyReads, FailsToList, ListsEntries}
 use Rattle.store.specs.declared.listing.Contests.{Contests}
 use Rattle.store.specs.declared.listing.Papers.{Papers}
 use Rattle.store.specs.declared.listing.Records.{Records}
@@ -30,6 +33,21 @@ use Rattle.store.specs.declared.listing.Counts.{Counts}
 use Rattle.store.specs.EntryRows.{row_of_ward, row_of_candidate, row_of_batch, row_of_keyed, row_of_judged, row_of_lot, row_of_receipt, row_of_placed, row_of_figure}
 use Rattle.store.specs.Offices.{tables_of, tables_with}
 use Rattle.store.specs.Openings.{has_entries}
+
+-- A listing of rows, at whatever database of this kind the connection rests: what it tells of that, which fault the rows give, and why it fails.
+-- It changes nothing, and the connection is open where it tells something.
+pub record ListsAt {X : Type 0} (old new : State) (result : Result X Fault) (IsKind : Database → Type 0) (IsTold : Database → X → Type 0) (Gives : Database → Fault → Type 0) : Type 0 where
+  pub lists : HasCleanDisk new → (db : Database) → IsKind db → RestsAt db old → IfOk result (IsTold db)
+  pub told : HasCleanDisk new → (db : Database) → IsKind db → RestsAt db old → IfErr result (Gives db)
+  pub fails : HasCleanDisk new → (db : Database) → IsKind db → RestsAt db old → IfErr result (FailsToList db old new)
+  pub opens : HasCleanDisk new → OnOk result (IsTrue new.is_open)
+  pub reads : OnlyReads old new
+  pub outside : new.in_transaction ≡ false
+
+abbrev pub Lists : {S X : Type 0} → Ghosts S → Held S → Held S → Result X Fault → (Database → Type 0) → (Database → X → Type 0) → (Database → Fault → Type 0) → Type 0
+Lists store old new result IsKind IsTold Gives = ListsAt (state store old) (state store new) result IsKind IsTold Gives
+
+-- ---- the parts
 
 -- the schema begins with so many of the tables
 abbrev pub BeginsFirst : ℕ → Schema → Type 0

@@ -1,9 +1,11 @@
 -- An office that a program before this one made, and what it becomes.
-use Rattle.std.specs.Prelude.{◌≡◌, ◌⊎◌, ◌==◌, ℕ, Bool, false, List, [], ◌∷◌, codes, ⊤}
+use Rattle.std.specs.Prelude.{◌≡◌, ◌⊎◌, ◌==◌, ℕ, Bool, true, false, List, [], ◌∷◌, codes, ⊤, Result, Err, IfOk, IfErr}
 use Rattle.std.specs.List.{list_any, starts_with}
 use Rattle.sqlite.specs.Tree.{Trees}
-use Rattle.sqlite.specs.Effect.{Database}
-use Rattle.sqlite.specs.State.{State}
+use Rattle.sqlite_trees.specs.declared.store.Store.{Ghosts}
+use Rattle.sqlite.specs.Effect.{Database, IsDatabase}
+use Rattle.sqlite.specs.Held.{Held, state}
+use Rattle.sqlite.specs.State.{State, HasCleanDisk}
 use Rattle.register.specs.Offices.{OfficeState}
 use Rattle.register.specs.Items.{IsState}
 use Rattle.register.specs.Tabulated.{TabulationEntries, tabulation_of, AdditionEntries, with_addition}
@@ -12,15 +14,16 @@ use Rattle.tables.specs.declared.fault.Fault.TheVariants.{Memory, Store, Damaged
 use Rattle.tables.specs.declared.table.Table.TheVariants.{Office}
 use Rattle.tables.specs.declared.presence.Form.{Form}
 use Rattle.tables.specs.declared.presence.Form.TheVariants.{WithoutThird, WithoutCounts as WithoutCountTables}
-use Rattle.tables.specs.Contents.{Contents, changed, Stores}
+use Rattle.tables.specs.Contents.{Contents, SameContents, RestsAt, changed, Stores}
 use Rattle.tables.specs.Making.{HasFirst, RestsFirst, StoresFirst}
-use Rattle.tables.specs.Reading.{FailsToList}
+use Rattle.tables.specs.Presence.{IsOurs, IsOlderSchema}
+use Rattle.tables.specs.Reading.{OnlyReads, FailsToList}
 use Rattle.store.specs.declared.older.OlderForm.{OlderForm}
 use Rattle.store.specs.declared.older.OlderForm.TheVariants.{WithCounts, WithoutCounts}
 use Rattle.store.specs.declared.migration.Migrated.{Migrated}
 use Rattle.store.specs.declared.migration.Migrated.TheVariants.{Done, Already}
 use Rattle.store.specs.EntryRows.{office_row}
-use Rattle.store.specs.Offices.{no_tabulation, tables_of, tables_with, HoldsState}
+use Rattle.store.specs.Offices.{no_tabulation, tables_of, tables_with, HoldsState, IsAt, Wears}
 use Rattle.store.specs.Openings.{HasNoOffice, IsNewer, HoldsNoState}
 
 -- ---- an older office
@@ -69,7 +72,7 @@ pub record StoresOlder (form : OlderForm) (s : OfficeState) (trees : Trees) : Ty
   pub is : IsOlderState s
   pub stores : StoresFirst (tables_in form) (older_tables form s) trees
 
--- what a stop left before may be left now, and these are the older tables of this state; or they are its tables of this version
+-- a stop leaves what it could leave before, the older tables of this state, or the tables of this state in this version
 abbrev pub LeavesOldOrNew : OlderForm → OfficeState → State → State → Type 0
 LeavesOldOrNew form s old new = (trees : Trees) → new.may_leave trees → (old.may_leave trees × StoresOlder form s trees) ⊎ Stores (tables_of s) trees
 
@@ -136,6 +139,36 @@ TellsOlder db WrongDatabase = ⊥
 TellsOlder db NewerSchema = ⊥
 TellsOlder db OlderSchema = ⊥
 
--- whatever a stop leaves now it left before, or it is the tables, of this version, of a state whose older tables the database held
+-- a stop leaves what it could leave before, or the tables, in this version, of a state whose older tables the database held
 abbrev pub LeavesOlderOr : Database → State → State → Type 0
 LeavesOlderOr db old new = (trees : Trees) → new.may_leave trees → old.may_leave trees ⊎ ((s : OfficeState) × (form : OlderForm) × HoldsOlder form db s × Stores (tables_of s) trees)
+
+-- ---- a migration
+
+module _ {S : Type 0} (store : Ghosts S) (before after : Held S) (result : Result Migrated Fault) where
+  abbrev old : State
+  old = state store before
+
+  abbrev new : State
+  new = state store after
+
+  -- What a migration comes to over an older office, over one of this version, and over any database that may hold either; and what the rows of older
+  -- offices tell. It is said of what each office holds whether it is found at a state (`moved`, `stops`, `already`) or by its rows alone.
+  pub record Migrates : Type 0 where
+    pub moved : HasCleanDisk new → (form : OlderForm) (s : OfficeState) → RestsOlder form s old → IfOk result (λ m. (m ≡ Done) × IsAt s new)
+    pub stops : HasCleanDisk new → (form : OlderForm) (s : OfficeState) → RestsOlder form s old → LeavesOldOrNew form s old new
+    pub refuses : HasCleanDisk new → (form : OlderForm) (s : OfficeState) → RestsOlder form s old → IfErr result (λ f. (f ≡ Memory) ⊎ (f ≡ Store))
+    pub already : HasCleanDisk new → (db : Database) → RestsAt db old → (s : OfficeState) → HoldsState db s → IfOk result (λ m. (m ≡ Already) × IsAt s new)
+    pub reads : HasCleanDisk new → (db : Database) → RestsAt db old → (s : OfficeState) → HoldsState db s → OnlyReads old new
+    pub opened : HasCleanDisk new → (db : Database) → IsOurs db.schema → IsOlderSchema db.schema → RestsAt db old → IfOk result (λ m. (s : OfficeState) × WasAt db m s × IsAt s new)
+    pub leaves : HasCleanDisk new → (db : Database) → IsOurs db.schema → IsOlderSchema db.schema → RestsAt db old → LeavesOlderOr db old new
+    pub told : HasCleanDisk new → (db : Database) → IsOurs db.schema → IsOlderSchema db.schema → RestsAt db old → IfErr result (IsToldInMigration db)
+    pub fails : HasCleanDisk new → (db : Database) → IsOurs db.schema → IsOlderSchema db.schema → RestsAt db old → IfErr result (FailsToMigrate db old new)
+    pub unchanged : IfErr result (λ f. (f ≡ Memory) ⊎ ((f ≡ Store) ⊎ OnlyReads old new))
+    pub wears : Wears old new
+    pub clean : HasCleanDisk new → HasCleanDisk old
+    pub inside : before.in_transaction ≡ true → (result ≡ Err Store) × (after ≡ before)
+    pub outside : before.in_transaction ≡ false → after.in_transaction ≡ false
+    pub alone : (db : Database) (form other : OlderForm) (s t : OfficeState) → HoldsOlder form db s → HoldsOlder other db t → (form ≡ other) × (s ≡ t)
+    pub equal : (form : OlderForm) (s t : OfficeState) → IsOlderState s → IsOlderState t → SameContents (older_tables form s) (older_tables form t) → s ≡ t
+    pub again : (form : OlderForm) (s : OfficeState) (db : Database) → IsDatabase db → StoresOlder form s db.trees → HoldsOlder form db s

@@ -1,17 +1,12 @@
 //! All entries of the tables, as an opening reads them.
 
-ghost use Rattle.std.specs.Prelude.{◌≡◌, false, [], IfOk, IfErr, OnOk, IsTrue};
-ghost use Rattle.sqlite.specs.Effect.{Database};
-ghost use Rattle.sqlite.specs.State.{HasCleanDisk};
-ghost use Rattle.sqlite.specs.Held.{state};
+ghost use Rattle.std.specs.Prelude.{◌≡◌, false, [], IfOk};
 ghost use Rattle.register.specs.Offices.{MapsRise};
 ghost use Rattle.rowcheck.specs.States.{state_of, tabulated};
 ghost use Rattle.tables.specs.Schema.{IsOfficeSchema};
-ghost use Rattle.tables.specs.Contents.{RestsAt};
-ghost use Rattle.tables.specs.Reading.{OnlyReads, FailsToList};
 ghost use Rattle.store.specs.Offices.{no_tabulation};
 ghost use Rattle.store.specs.Openings.{TellsNoState, ListsMaps};
-ghost use Rattle.store.specs.Listings.{BeginsFirst, TellsStrange, ListsFirst, ListsContests, ContestsRise, ListsPapers, PapersRise, ListsRecords, RecordsRise, ListsCounts, CountsRise};
+ghost use Rattle.store.specs.Listings.{Lists, BeginsFirst, TellsStrange, ListsFirst, ListsContests, ContestsRise, ListsPapers, PapersRise, ListsRecords, RecordsRise, ListsCounts, CountsRise};
 
 use crate::entries::batches::Batches;
 use crate::entries::bundles::PlacedBundles;
@@ -65,16 +60,8 @@ struct Counts {
 /// The wards and the candidates of a database. `Damaged` where the rows are those of no state.
 fn all_contests<S: Alter>(alloc: Global, conn: &mut Connection<S>) -> Result<Contests, Fault>
     requires { conn.old.in_transaction ≡ false }
-    ensures lists { HasCleanDisk (state S.Store conn.new) → (db : Database) → BeginsFirst 8 db.schema → RestsAt db (state S.Store conn.old)
-        → IfOk result (ListsContests db) }
-    ensures told { HasCleanDisk (state S.Store conn.new) → (db : Database) → BeginsFirst 8 db.schema → RestsAt db (state S.Store conn.old)
-        → IfErr result (TellsStrange 8 db) }
-    ensures fails { HasCleanDisk (state S.Store conn.new) → (db : Database) → BeginsFirst 8 db.schema → RestsAt db (state S.Store conn.old)
-        → IfErr result (FailsToList db (state S.Store conn.old) (state S.Store conn.new)) }
+    ensures lists { Lists S.Store conn.old conn.new result (λ db. BeginsFirst 8 db.schema) ListsContests (TellsStrange 8) }
     ensures rise { IfOk result ContestsRise }
-    ensures opens { HasCleanDisk (state S.Store conn.new) → OnOk result (IsTrue (state S.Store conn.new).is_open) }
-    ensures reads { OnlyReads (state S.Store conn.old) (state S.Store conn.new) }
-    ensures outside { conn.new.in_transaction ≡ false }
 {
     let wards = all_entries::<Wards, S>(alloc, conn)?;
     let candidates = all_entries::<Candidates, S>(alloc, conn)?;
@@ -84,16 +71,8 @@ fn all_contests<S: Alter>(alloc: Global, conn: &mut Connection<S>) -> Result<Con
 /// The batches of a database, and their papers. `Damaged` where the rows are those of no state.
 fn all_papers<S: Alter>(alloc: Global, conn: &mut Connection<S>) -> Result<Papers, Fault>
     requires { conn.old.in_transaction ≡ false }
-    ensures lists { HasCleanDisk (state S.Store conn.new) → (db : Database) → BeginsFirst 8 db.schema → RestsAt db (state S.Store conn.old)
-        → IfOk result (ListsPapers db) }
-    ensures told { HasCleanDisk (state S.Store conn.new) → (db : Database) → BeginsFirst 8 db.schema → RestsAt db (state S.Store conn.old)
-        → IfErr result (TellsStrange 8 db) }
-    ensures fails { HasCleanDisk (state S.Store conn.new) → (db : Database) → BeginsFirst 8 db.schema → RestsAt db (state S.Store conn.old)
-        → IfErr result (FailsToList db (state S.Store conn.old) (state S.Store conn.new)) }
+    ensures lists { Lists S.Store conn.old conn.new result (λ db. BeginsFirst 8 db.schema) ListsPapers (TellsStrange 8) }
     ensures rise { IfOk result PapersRise }
-    ensures opens { HasCleanDisk (state S.Store conn.new) → OnOk result (IsTrue (state S.Store conn.new).is_open) }
-    ensures reads { OnlyReads (state S.Store conn.old) (state S.Store conn.new) }
-    ensures outside { conn.new.in_transaction ≡ false }
 {
     let batches = all_entries::<Batches, S>(alloc, conn)?;
     let keyings = all_entries::<KeyedPapers, S>(alloc, conn)?;
@@ -108,16 +87,8 @@ fn all_papers<S: Alter>(alloc: Global, conn: &mut Connection<S>) -> Result<Paper
 /// The lots and the receipts of a database. `Damaged` where the rows are those of no state.
 fn all_records<S: Alter>(alloc: Global, conn: &mut Connection<S>) -> Result<Records, Fault>
     requires { conn.old.in_transaction ≡ false }
-    ensures lists { HasCleanDisk (state S.Store conn.new) → (db : Database) → BeginsFirst 8 db.schema → RestsAt db (state S.Store conn.old)
-        → IfOk result (ListsRecords db) }
-    ensures told { HasCleanDisk (state S.Store conn.new) → (db : Database) → BeginsFirst 8 db.schema → RestsAt db (state S.Store conn.old)
-        → IfErr result (TellsStrange 8 db) }
-    ensures fails { HasCleanDisk (state S.Store conn.new) → (db : Database) → BeginsFirst 8 db.schema → RestsAt db (state S.Store conn.old)
-        → IfErr result (FailsToList db (state S.Store conn.old) (state S.Store conn.new)) }
+    ensures lists { Lists S.Store conn.old conn.new result (λ db. BeginsFirst 8 db.schema) ListsRecords (TellsStrange 8) }
     ensures rise { IfOk result RecordsRise }
-    ensures opens { HasCleanDisk (state S.Store conn.new) → OnOk result (IsTrue (state S.Store conn.new).is_open) }
-    ensures reads { OnlyReads (state S.Store conn.old) (state S.Store conn.new) }
-    ensures outside { conn.new.in_transaction ≡ false }
 {
     let lots = all_entries::<Lots, S>(alloc, conn)?;
     let receipts = all_entries::<Receipts, S>(alloc, conn)?;
@@ -127,16 +98,8 @@ fn all_records<S: Alter>(alloc: Global, conn: &mut Connection<S>) -> Result<Reco
 /// What is tabulated in a database of the counts. `Damaged` where the rows are those of no state.
 fn all_counts<S: Alter>(alloc: Global, conn: &mut Connection<S>) -> Result<Counts, Fault>
     requires { conn.old.in_transaction ≡ false }
-    ensures lists { HasCleanDisk (state S.Store conn.new) → (db : Database) → BeginsFirst 10 db.schema → RestsAt db (state S.Store conn.old)
-        → IfOk result (ListsCounts db) }
-    ensures told { HasCleanDisk (state S.Store conn.new) → (db : Database) → BeginsFirst 10 db.schema → RestsAt db (state S.Store conn.old)
-        → IfErr result (TellsStrange 10 db) }
-    ensures fails { HasCleanDisk (state S.Store conn.new) → (db : Database) → BeginsFirst 10 db.schema → RestsAt db (state S.Store conn.old)
-        → IfErr result (FailsToList db (state S.Store conn.old) (state S.Store conn.new)) }
+    ensures lists { Lists S.Store conn.old conn.new result (λ db. BeginsFirst 10 db.schema) ListsCounts (TellsStrange 10) }
     ensures rise { IfOk result CountsRise }
-    ensures opens { HasCleanDisk (state S.Store conn.new) → OnOk result (IsTrue (state S.Store conn.new).is_open) }
-    ensures reads { OnlyReads (state S.Store conn.old) (state S.Store conn.new) }
-    ensures outside { conn.new.in_transaction ≡ false }
 {
     let bundles = all_entries::<PlacedBundles, S>(alloc, conn)?;
     let figures = all_entries::<StageFigures, S>(alloc, conn)?;
@@ -147,18 +110,10 @@ fn all_counts<S: Alter>(alloc: Global, conn: &mut Connection<S>) -> Result<Count
 /// the rows are those of no state.
 pub(crate) fn first_rows<S: Alter>(alloc: Global, conn: &mut Connection<S>) -> Result<Rows, Fault>
     requires { conn.old.in_transaction ≡ false }
-    ensures lists { HasCleanDisk (state S.Store conn.new) → (db : Database) → BeginsFirst 8 db.schema → RestsAt db (state S.Store conn.old)
-        → IfOk result (λ rows. ListsFirst 8 db (state_of rows) (tabulated rows)) }
-    ensures told { HasCleanDisk (state S.Store conn.new) → (db : Database) → BeginsFirst 8 db.schema → RestsAt db (state S.Store conn.old)
-        → IfErr result (TellsStrange 8 db) }
-    ensures fails { HasCleanDisk (state S.Store conn.new) → (db : Database) → BeginsFirst 8 db.schema → RestsAt db (state S.Store conn.old)
-        → IfErr result (FailsToList db (state S.Store conn.old) (state S.Store conn.new)) }
+    ensures lists { Lists S.Store conn.old conn.new result (λ db. BeginsFirst 8 db.schema) (λ db rows. ListsFirst 8 db (state_of rows) (tabulated rows)) (TellsStrange 8) }
     ensures rise { IfOk result (λ rows. MapsRise (state_of rows)) }
     ensures no_thirds { IfOk result (λ rows. (state_of rows).thirds ≡ []) }
     ensures no_counts { IfOk result (λ rows. tabulated rows ≡ no_tabulation) }
-    ensures opens { HasCleanDisk (state S.Store conn.new) → OnOk result (IsTrue (state S.Store conn.new).is_open) }
-    ensures reads { OnlyReads (state S.Store conn.old) (state S.Store conn.new) }
-    ensures outside { conn.new.in_transaction ≡ false }
 {
     let Contests { wards, candidates } = all_contests(alloc, conn)?;
     let Papers {
@@ -184,17 +139,9 @@ pub(crate) fn first_rows<S: Alter>(alloc: Global, conn: &mut Connection<S>) -> R
 /// The same of the first ten tables, with what is tabulated of the counts.
 pub(crate) fn counted_rows<S: Alter>(alloc: Global, conn: &mut Connection<S>) -> Result<Rows, Fault>
     requires { conn.old.in_transaction ≡ false }
-    ensures lists { HasCleanDisk (state S.Store conn.new) → (db : Database) → BeginsFirst 10 db.schema → RestsAt db (state S.Store conn.old)
-        → IfOk result (λ rows. ListsFirst 10 db (state_of rows) (tabulated rows)) }
-    ensures told { HasCleanDisk (state S.Store conn.new) → (db : Database) → BeginsFirst 10 db.schema → RestsAt db (state S.Store conn.old)
-        → IfErr result (TellsStrange 10 db) }
-    ensures fails { HasCleanDisk (state S.Store conn.new) → (db : Database) → BeginsFirst 10 db.schema → RestsAt db (state S.Store conn.old)
-        → IfErr result (FailsToList db (state S.Store conn.old) (state S.Store conn.new)) }
+    ensures lists { Lists S.Store conn.old conn.new result (λ db. BeginsFirst 10 db.schema) (λ db rows. ListsFirst 10 db (state_of rows) (tabulated rows)) (TellsStrange 10) }
     ensures rise { IfOk result (λ rows. MapsRise (state_of rows)) }
     ensures no_thirds { IfOk result (λ rows. (state_of rows).thirds ≡ []) }
-    ensures opens { HasCleanDisk (state S.Store conn.new) → OnOk result (IsTrue (state S.Store conn.new).is_open) }
-    ensures reads { OnlyReads (state S.Store conn.old) (state S.Store conn.new) }
-    ensures outside { conn.new.in_transaction ≡ false }
 {
     let mut rows = first_rows(alloc, conn)?;
     let Counts { bundles, figures } = all_counts(alloc, conn)?;
@@ -207,16 +154,8 @@ pub(crate) fn counted_rows<S: Alter>(alloc: Global, conn: &mut Connection<S>) ->
 /// are those of no state.
 pub(crate) fn all_rows<S: Alter>(alloc: Global, conn: &mut Connection<S>) -> Result<Rows, Fault>
     requires { conn.old.in_transaction ≡ false }
-    ensures lists { HasCleanDisk (state S.Store conn.new) → (db : Database) → IsOfficeSchema db.schema → RestsAt db (state S.Store conn.old)
-        → IfOk result (λ rows. ListsMaps db (state_of rows) (tabulated rows)) }
-    ensures told { HasCleanDisk (state S.Store conn.new) → (db : Database) → IsOfficeSchema db.schema → RestsAt db (state S.Store conn.old)
-        → IfErr result (TellsNoState db) }
-    ensures fails { HasCleanDisk (state S.Store conn.new) → (db : Database) → IsOfficeSchema db.schema → RestsAt db (state S.Store conn.old)
-        → IfErr result (FailsToList db (state S.Store conn.old) (state S.Store conn.new)) }
+    ensures lists { Lists S.Store conn.old conn.new result (λ db. IsOfficeSchema db.schema) (λ db rows. ListsMaps db (state_of rows) (tabulated rows)) TellsNoState }
     ensures rise { IfOk result (λ rows. MapsRise (state_of rows)) }
-    ensures opens { HasCleanDisk (state S.Store conn.new) → OnOk result (IsTrue (state S.Store conn.new).is_open) }
-    ensures reads { OnlyReads (state S.Store conn.old) (state S.Store conn.new) }
-    ensures outside { conn.new.in_transaction ≡ false }
 {
     let mut rows = counted_rows(alloc, conn)?;
     let thirds = all_entries::<ThirdClerks, S>(alloc, conn)?;

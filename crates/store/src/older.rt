@@ -15,7 +15,7 @@ ghost use Rattle.tables.specs.Reading.{OnlyReads, FailsToList};
 ghost use Rattle.register.specs.declared.receipt.Receipt.{Receipt as ReceiptValue};
 ghost use Rattle.store.specs.declared.older.OlderForm.{OlderForm};
 ghost use Rattle.store.specs.Openings.{HasVersion, IsTabulatedAs};
-ghost use Rattle.store.specs.Listings.{BeginsFirst, TellsStrange, ListsFirst};
+ghost use Rattle.store.specs.Listings.{Lists, BeginsFirst, TellsStrange, ListsFirst};
 ghost use Rattle.store.specs.Migrations.{tables_in, name_of, tabulation_in, is_about_third, IsBare, IsOlderOf, Lacks, FoundOlder, TellsOlder};
 
 use crate::listing::{counted_rows, first_rows};
@@ -65,17 +65,9 @@ fn older_rows<S: Alter>(
     form: OlderForm,
 ) -> Result<Rows, Fault>
     requires { conn.old.in_transaction ≡ false }
-    ensures lists { HasCleanDisk (state S.Store conn.new) → (db : Database) → BeginsFirst (tables_in form) db.schema → RestsAt db (state S.Store conn.old)
-        → IfOk result (λ rows. ListsFirst (tables_in form) db (state_of rows) (tabulated rows)) }
-    ensures told { HasCleanDisk (state S.Store conn.new) → (db : Database) → BeginsFirst (tables_in form) db.schema → RestsAt db (state S.Store conn.old)
-        → IfErr result (TellsStrange (tables_in form) db) }
-    ensures fails { HasCleanDisk (state S.Store conn.new) → (db : Database) → BeginsFirst (tables_in form) db.schema → RestsAt db (state S.Store conn.old)
-        → IfErr result (FailsToList db (state S.Store conn.old) (state S.Store conn.new)) }
+    ensures lists { Lists S.Store conn.old conn.new result (λ db. BeginsFirst (tables_in form) db.schema) (λ db rows. ListsFirst (tables_in form) db (state_of rows) (tabulated rows)) (TellsStrange (tables_in form)) }
     ensures rise { IfOk result (λ rows. MapsRise (state_of rows)) }
     ensures bare { IfOk result (λ rows. IsBare form (state_of rows) (tabulated rows)) }
-    ensures opens { HasCleanDisk (state S.Store conn.new) → OnOk result (IsTrue (state S.Store conn.new).is_open) }
-    ensures reads { OnlyReads (state S.Store conn.old) (state S.Store conn.new) }
-    ensures outside { conn.new.in_transaction ≡ false }
 {
     match form {
         OlderForm::WithCounts => counted_rows(alloc, conn),

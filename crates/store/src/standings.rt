@@ -1,6 +1,6 @@
 //! How a ward stands, its count, its papers, and the columns of a batch's papers, read from the tables.
 
-ghost use Rattle.std.specs.Prelude.{◌≡◌, ◌+◌, ◌-◌, ◌^◌, min, if◌then◌else◌, false, [], ◌∷◌, map, option_map, IfOk, IfErr, OnOk, IsTrue};
+ghost use Rattle.std.specs.Prelude.{◌≡◌, ◌+◌, ◌-◌, ◌^◌, min, if◌then◌else◌, false, [], ◌∷◌, map, option_map, IfOk, IsTrue};
 ghost use Rattle.sqlite.specs.State.{HasCleanDisk};
 ghost use Rattle.sqlite.specs.Held.{state};
 ghost use Rattle.register.specs.Offices.{OfficeState, ward_entry, batch_entry, ward_at, candidates_of, lots_of};
@@ -11,9 +11,9 @@ ghost use Rattle.register.specs.Polls.{piles_of, ballots_in, StandFor, are_liste
 ghost use Rattle.register.specs.Elections.{lot_pair, election_of};
 ghost use Rattle.store.specs.Elections.{IsBookFor, IsCountedInFor, IsSheetFor};
 ghost use Rattle.register.specs.Standings.{status_entry, status_of, status_at, columns_at};
-ghost use Rattle.tables.specs.Reading.{OnlyReads, FailsBy};
 ghost use Rattle.store.specs.Offices.{IsAt};
 ghost use Rattle.store.specs.Tallies.{IsTally, tally_by};
+ghost use Rattle.store.specs.Loads.{Loads};
 ghost use Rattle.store.specs.Reads.{Reads};
 
 use crate::storage::Store;
@@ -184,11 +184,7 @@ impl<S: Alter> Store<S> {
     /// with its keyings of the current round and the verdicts on its papers. It changes nothing, and adds
     /// nothing to what a stop may leave. `Memory` or `Store` where a row can't be read.
     pub fn load_status(&mut self, ward: u32) -> Result<Option<Status>, Fault>
-        ensures shows { HasCleanDisk (state S.Store self.new) → (s : OfficeState) → IsAt s (state S.Store self.old) → IfOk result (λ found. option_map status_entry found ≡ status_at s ward) }
-        ensures cause { HasCleanDisk (state S.Store self.new) → (s : OfficeState) → IsAt s (state S.Store self.old) → IfErr result (FailsBy (state S.Store self.old) (state S.Store self.new)) }
-        ensures opens { HasCleanDisk (state S.Store self.new) → OnOk result (IsTrue (state S.Store self.new).is_open) }
-        ensures reads { OnlyReads (state S.Store self.old) (state S.Store self.new) }
-        ensures keeps { HasCleanDisk (state S.Store self.new) → (s : OfficeState) → IsAt s (state S.Store self.old) → IsAt s (state S.Store self.new) }
+        ensures { Loads S.Store self.old self.new result (λ s found. option_map status_entry found ≡ status_at s ward) }
     {
         find_status(self.alloc, &mut self.conn, ward)
     }
@@ -197,11 +193,7 @@ impl<S: Alter> Store<S> {
     /// is there where the ward is in count; once a stage is done no paper is read for it. It changes nothing,
     /// and adds nothing to what a stop may leave. `Memory` or `Store` where a row can't be read.
     pub fn load_counted(&mut self, ward: u32) -> Result<Option<CountedWard>, Fault>
-        ensures shows { HasCleanDisk (state S.Store self.new) → (s : OfficeState) → IsAt s (state S.Store self.old) → IfOk result (λ found. IsCountedInFor (option_map (election_of s) (ward_at s ward)) found) }
-        ensures cause { HasCleanDisk (state S.Store self.new) → (s : OfficeState) → IsAt s (state S.Store self.old) → IfErr result (FailsBy (state S.Store self.old) (state S.Store self.new)) }
-        ensures opens { HasCleanDisk (state S.Store self.new) → OnOk result (IsTrue (state S.Store self.new).is_open) }
-        ensures reads { OnlyReads (state S.Store self.old) (state S.Store self.new) }
-        ensures keeps { HasCleanDisk (state S.Store self.new) → (s : OfficeState) → IsAt s (state S.Store self.old) → IsAt s (state S.Store self.new) }
+        ensures { Loads S.Store self.old self.new result (λ s found. IsCountedInFor (option_map (election_of s) (ward_at s ward)) found) }
     {
         find_counted(self.alloc, &mut self.conn, ward)
     }
@@ -210,11 +202,7 @@ impl<S: Alter> Store<S> {
     /// of its papers are rejected, which is counted from the papers. It changes nothing, and adds nothing to
     /// what a stop may leave. `Memory` or `Store` where a row can't be read.
     pub fn load_sheet(&mut self, ward: u32) -> Result<Option<WardSheet>, Fault>
-        ensures shows { HasCleanDisk (state S.Store self.new) → (s : OfficeState) → IsAt s (state S.Store self.old) → IfOk result (λ found. IsSheetFor (option_map (election_of s) (ward_at s ward)) found) }
-        ensures cause { HasCleanDisk (state S.Store self.new) → (s : OfficeState) → IsAt s (state S.Store self.old) → IfErr result (FailsBy (state S.Store self.old) (state S.Store self.new)) }
-        ensures opens { HasCleanDisk (state S.Store self.new) → OnOk result (IsTrue (state S.Store self.new).is_open) }
-        ensures reads { OnlyReads (state S.Store self.old) (state S.Store self.new) }
-        ensures keeps { HasCleanDisk (state S.Store self.new) → (s : OfficeState) → IsAt s (state S.Store self.old) → IsAt s (state S.Store self.new) }
+        ensures { Loads S.Store self.old self.new result (λ s found. IsSheetFor (option_map (election_of s) (ward_at s ward)) found) }
     {
         find_sheet(self.alloc, &mut self.conn, ward)
     }
@@ -224,11 +212,7 @@ impl<S: Alter> Store<S> {
     /// changes nothing, and adds nothing to what a stop may leave. `Memory` or `Store` where a row can't be
     /// read.
     pub fn load_book(&mut self, ward: u32) -> Result<Option<Count>, Fault>
-        ensures shows { HasCleanDisk (state S.Store self.new) → (s : OfficeState) → IsAt s (state S.Store self.old) → IfOk result (λ found. IsBookFor (option_map (election_of s) (ward_at s ward)) found) }
-        ensures cause { HasCleanDisk (state S.Store self.new) → (s : OfficeState) → IsAt s (state S.Store self.old) → IfErr result (FailsBy (state S.Store self.old) (state S.Store self.new)) }
-        ensures opens { HasCleanDisk (state S.Store self.new) → OnOk result (IsTrue (state S.Store self.new).is_open) }
-        ensures reads { OnlyReads (state S.Store self.old) (state S.Store self.new) }
-        ensures keeps { HasCleanDisk (state S.Store self.new) → (s : OfficeState) → IsAt s (state S.Store self.old) → IsAt s (state S.Store self.new) }
+        ensures { Loads S.Store self.old self.new result (λ s found. IsBookFor (option_map (election_of s) (ward_at s ward)) found) }
     {
         find_book(self.alloc, &mut self.conn, ward)
     }
@@ -237,11 +221,7 @@ impl<S: Alter> Store<S> {
     /// taken, by batch and paper, and how many are rejected for each of the five reasons. It changes
     /// nothing, and adds nothing to what a stop may leave. `Memory` or `Store` where a row can't be read.
     pub fn load_papers(&mut self, ward: u32) -> Result<Ballots<Vec<Prefs>>, Fault>
-        ensures shows { HasCleanDisk (state S.Store self.new) → (s : OfficeState) → IsAt s (state S.Store self.old) → IfOk result (λ found. StandFor are_listed found (ballots_in (columns_of (candidates_of s ward)) (piles_of s ward))) }
-        ensures cause { HasCleanDisk (state S.Store self.new) → (s : OfficeState) → IsAt s (state S.Store self.old) → IfErr result (FailsBy (state S.Store self.old) (state S.Store self.new)) }
-        ensures opens { HasCleanDisk (state S.Store self.new) → OnOk result (IsTrue (state S.Store self.new).is_open) }
-        ensures reads { OnlyReads (state S.Store self.old) (state S.Store self.new) }
-        ensures keeps { HasCleanDisk (state S.Store self.new) → (s : OfficeState) → IsAt s (state S.Store self.old) → IsAt s (state S.Store self.new) }
+        ensures { Loads S.Store self.old self.new result (λ s found. StandFor are_listed found (ballots_in (columns_of (candidates_of s ward)) (piles_of s ward))) }
     {
         find_ballots(self.alloc, &mut self.conn, Vec::new(self.alloc), ward)
     }
@@ -250,13 +230,9 @@ impl<S: Alter> Store<S> {
     /// have it, which stand for those of `load_papers`, up to their order. It changes
     /// nothing, and adds nothing to what a stop may leave. `Memory` or `Store` where a row can't be read.
     pub fn load_bundles(&mut self, ward: u32) -> Result<Ballots<Bundles>, Fault>
-        ensures shows { HasCleanDisk (state S.Store self.new) → (s : OfficeState) → IsAt s (state S.Store self.old) → IfOk result (λ found. StandFor are_bundled found (ballots_in (columns_of (candidates_of s ward)) (piles_of s ward))) }
+        ensures loads { Loads S.Store self.old self.new result (λ s found. StandFor are_bundled found (ballots_in (columns_of (candidates_of s ward)) (piles_of s ward))) }
         ensures same { HasCleanDisk (state S.Store self.new) → (s : OfficeState) → IsAt s (state S.Store self.old)
             → IfOk result (λ found. IsPermutation (ballots_in (columns_of (candidates_of s ward)) (piles_of s ward)).papers (papers_of found.papers)) }
-        ensures cause { HasCleanDisk (state S.Store self.new) → (s : OfficeState) → IsAt s (state S.Store self.old) → IfErr result (FailsBy (state S.Store self.old) (state S.Store self.new)) }
-        ensures opens { HasCleanDisk (state S.Store self.new) → OnOk result (IsTrue (state S.Store self.new).is_open) }
-        ensures reads { OnlyReads (state S.Store self.old) (state S.Store self.new) }
-        ensures keeps { HasCleanDisk (state S.Store self.new) → (s : OfficeState) → IsAt s (state S.Store self.old) → IsAt s (state S.Store self.new) }
     {
         bundles_count_alike();
         find_ballots(self.alloc, &mut self.conn, Bundles::new(self.alloc), ward)
@@ -266,11 +242,7 @@ impl<S: Alter> Store<S> {
     /// stages. It changes nothing, and adds nothing to what a stop may leave. `Memory` or `Store` where a
     /// row can't be read.
     pub fn load_lots(&mut self, ward: u32) -> Result<Vec<(u8, u8)>, Fault>
-        ensures shows { HasCleanDisk (state S.Store self.new) → (s : OfficeState) → IsAt s (state S.Store self.old) → IfOk result (λ found. found.items ≡ map lot_pair (lots_of s ward)) }
-        ensures cause { HasCleanDisk (state S.Store self.new) → (s : OfficeState) → IsAt s (state S.Store self.old) → IfErr result (FailsBy (state S.Store self.old) (state S.Store self.new)) }
-        ensures opens { HasCleanDisk (state S.Store self.new) → OnOk result (IsTrue (state S.Store self.new).is_open) }
-        ensures reads { OnlyReads (state S.Store self.old) (state S.Store self.new) }
-        ensures keeps { HasCleanDisk (state S.Store self.new) → (s : OfficeState) → IsAt s (state S.Store self.old) → IsAt s (state S.Store self.new) }
+        ensures { Loads S.Store self.old self.new result (λ s found. found.items ≡ map lot_pair (lots_of s ward)) }
     {
         recorded_lots(self.alloc, &mut self.conn, ward)
     }
@@ -278,11 +250,7 @@ impl<S: Alter> Store<S> {
     /// The columns of the papers of the batch with this number, if there is one. It changes nothing, and
     /// adds nothing to what a stop may leave. `Memory` or `Store` where a row can't be read.
     pub fn load_columns(&mut self, batch: u32) -> Result<Option<Columns>, Fault>
-        ensures shows { HasCleanDisk (state S.Store self.new) → (s : OfficeState) → IsAt s (state S.Store self.old) → IfOk result (λ found. found ≡ columns_at s batch) }
-        ensures cause { HasCleanDisk (state S.Store self.new) → (s : OfficeState) → IsAt s (state S.Store self.old) → IfErr result (FailsBy (state S.Store self.old) (state S.Store self.new)) }
-        ensures opens { HasCleanDisk (state S.Store self.new) → OnOk result (IsTrue (state S.Store self.new).is_open) }
-        ensures reads { OnlyReads (state S.Store self.old) (state S.Store self.new) }
-        ensures keeps { HasCleanDisk (state S.Store self.new) → (s : OfficeState) → IsAt s (state S.Store self.old) → IsAt s (state S.Store self.new) }
+        ensures { Loads S.Store self.old self.new result (λ s found. found ≡ columns_at s batch) }
     {
         find_columns(self.alloc, &mut self.conn, batch)
     }

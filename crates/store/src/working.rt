@@ -1,14 +1,13 @@
 //! The work of a clerk, read from the tables.
 
-ghost use Rattle.std.specs.Prelude.{◌≡◌, if◌then◌else◌, false, map, filter, option_map, Some, None, IfOk, IfErr, OnOk, IsTrue};
+ghost use Rattle.std.specs.Prelude.{◌≡◌, if◌then◌else◌, false, map, filter, option_map, Some, None, IsTrue};
 ghost use Rattle.sqlite.specs.State.{HasCleanDisk};
 ghost use Rattle.sqlite.specs.Held.{state};
 ghost use Rattle.register.specs.declared.phase.Phase.TheVariants.{Keying};
-ghost use Rattle.register.specs.Offices.{OfficeState, ward_entry, batch_entry};
+ghost use Rattle.register.specs.Offices.{ward_entry, batch_entry};
 ghost use Rattle.register.specs.Parts.{is_in_phase};
 ghost use Rattle.register.specs.Standings.{work_entry, is_work, work_on, work_of};
-ghost use Rattle.tables.specs.Reading.{OnlyReads, FailsBy};
-ghost use Rattle.store.specs.Offices.{IsAt};
+ghost use Rattle.store.specs.Loads.{Loads};
 ghost use Rattle.store.specs.Reads.{Reads};
 
 use crate::storage::Store;
@@ -122,11 +121,7 @@ impl<S: Alter> Store<S> {
     /// first paper of his keying. It changes nothing, and adds nothing to what a stop may leave. `Memory` or
     /// `Store` where a row can't be read.
     pub fn load_work(&mut self, clerk: u32) -> Result<Vec<Work>, Fault>
-        ensures shows { HasCleanDisk (state S.Store self.new) → (s : OfficeState) → IsAt s (state S.Store self.old) → IfOk result (λ found. map work_entry found.items ≡ work_of s clerk) }
-        ensures cause { HasCleanDisk (state S.Store self.new) → (s : OfficeState) → IsAt s (state S.Store self.old) → IfErr result (FailsBy (state S.Store self.old) (state S.Store self.new)) }
-        ensures opens { HasCleanDisk (state S.Store self.new) → OnOk result (IsTrue (state S.Store self.new).is_open) }
-        ensures reads { OnlyReads (state S.Store self.old) (state S.Store self.new) }
-        ensures keeps { HasCleanDisk (state S.Store self.new) → (s : OfficeState) → IsAt s (state S.Store self.old) → IsAt s (state S.Store self.new) }
+        ensures { Loads S.Store self.old self.new result (λ s found. map work_entry found.items ≡ work_of s clerk) }
     {
         find_work(self.alloc, &mut self.conn, clerk)
     }

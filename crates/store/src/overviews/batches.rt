@@ -1,16 +1,15 @@
 //! How the batches of a ward stand, read from the tables.
 
-ghost use Rattle.std.specs.Prelude.{◌≡◌, ℕ, false, map, option_map, None, IfOk, IfErr, OnOk, IsTrue, string_bytes};
+ghost use Rattle.std.specs.Prelude.{◌≡◌, ℕ, false, map, option_map, None, IfOk, IfErr, IsTrue, string_bytes};
 ghost use Rattle.sqlite.specs.State.{HasCleanDisk};
 ghost use Rattle.sqlite.specs.Held.{state};
 ghost use Rattle.register.specs.Offices.{OfficeState, batch_entry, keyed_entry, judged_entry};
 ghost use Rattle.register.specs.Papers.{agreed};
 ghost use Rattle.tables.specs.declared.fault.Fault.{Fault};
-ghost use Rattle.tables.specs.Reading.{OnlyReads, FailsBy};
 ghost use Rattle.store.specs.Keyings.{keyings_by};
-ghost use Rattle.store.specs.Offices.{IsAt};
 ghost use Rattle.store.specs.Overviews.{standing_by, clerk_view, pile_in, batch_view, batch_view_with, batch_views, batch_views_at};
 ghost use Rattle.store.specs.Piles.{KeyingsAre, view_by, read_view, read_view_of, overview_in};
+ghost use Rattle.store.specs.Loads.{Loads};
 ghost use Rattle.store.specs.Reads.{Reads};
 
 use crate::overviews::clerks::{ClerkOverview, clerk_list, clerk_overviews};
@@ -254,12 +253,7 @@ impl<S: Alter> Store<S> {
     /// as texts, by which twins are found. It changes nothing, and adds nothing to what a stop may leave.
     /// `Memory` or `Store` where a row can't be read.
     pub fn load_batches(&mut self, ward: u32) -> Result<Option<Vec<BatchOverview>>, Fault>
-        ensures shows { HasCleanDisk (state S.Store self.new) → (s : OfficeState) → IsAt s (state S.Store self.old)
-            → IfOk result (λ found. option_map (λ batches. map batch_view batches.items) found ≡ batch_views_at s ward) }
-        ensures cause { HasCleanDisk (state S.Store self.new) → (s : OfficeState) → IsAt s (state S.Store self.old) → IfErr result (FailsBy (state S.Store self.old) (state S.Store self.new)) }
-        ensures opens { HasCleanDisk (state S.Store self.new) → OnOk result (IsTrue (state S.Store self.new).is_open) }
-        ensures reads { OnlyReads (state S.Store self.old) (state S.Store self.new) }
-        ensures keeps { HasCleanDisk (state S.Store self.new) → (s : OfficeState) → IsAt s (state S.Store self.old) → IsAt s (state S.Store self.new) }
+        ensures { Loads S.Store self.old self.new result (λ s found. option_map (λ batches. map batch_view batches.items) found ≡ batch_views_at s ward) }
     {
         find_batches(self.alloc, &mut self.conn, ward)
     }

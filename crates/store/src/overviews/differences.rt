@@ -1,15 +1,13 @@
 //! Where the keyings of a batch differ, read from the tables.
 
-ghost use Rattle.std.specs.Prelude.{◌≡◌, ◌∷◌, [], false, not, ◌&&◌, map, filter, option_map, IfOk, IfErr, OnOk, IsTrue};
-ghost use Rattle.sqlite.specs.State.{HasCleanDisk};
+ghost use Rattle.std.specs.Prelude.{◌≡◌, ◌∷◌, [], false, ◌&&◌, map, filter, option_map, IfOk, IfErr};
 ghost use Rattle.sqlite.specs.Held.{state};
-ghost use Rattle.register.specs.Offices.{OfficeState, batch_entry, keyed_entry};
+ghost use Rattle.register.specs.Offices.{batch_entry, keyed_entry};
 ghost use Rattle.register.specs.Papers.{is_keyed, of_three, differ};
 ghost use Rattle.tables.specs.declared.fault.Fault.{Fault};
-ghost use Rattle.tables.specs.Reading.{OnlyReads, FailsBy};
 ghost use Rattle.store.specs.Keyings.{keyings_by};
-ghost use Rattle.store.specs.Offices.{IsAt};
 ghost use Rattle.store.specs.Overviews.{has_alike, is_apart, apart_among, papers_apart, differences_view, differences_by, differences_of, differences_at};
+ghost use Rattle.store.specs.Loads.{Loads};
 ghost use Rattle.store.specs.Reads.{Reads};
 
 use crate::storage::Store;
@@ -145,12 +143,7 @@ impl<S: Alter> Store<S> {
     /// of three are equal. It changes nothing, and adds nothing to what a stop may leave. `Memory` or `Store`
     /// where a row can't be read.
     pub fn load_differences(&mut self, batch: u32) -> Result<Option<Differences>, Fault>
-        ensures shows { HasCleanDisk (state S.Store self.new) → (s : OfficeState) → IsAt s (state S.Store self.old)
-            → IfOk result (λ found. option_map differences_view found ≡ differences_at s batch) }
-        ensures cause { HasCleanDisk (state S.Store self.new) → (s : OfficeState) → IsAt s (state S.Store self.old) → IfErr result (FailsBy (state S.Store self.old) (state S.Store self.new)) }
-        ensures opens { HasCleanDisk (state S.Store self.new) → OnOk result (IsTrue (state S.Store self.new).is_open) }
-        ensures reads { OnlyReads (state S.Store self.old) (state S.Store self.new) }
-        ensures keeps { HasCleanDisk (state S.Store self.new) → (s : OfficeState) → IsAt s (state S.Store self.old) → IsAt s (state S.Store self.new) }
+        ensures { Loads S.Store self.old self.new result (λ s found. option_map differences_view found ≡ differences_at s batch) }
     {
         find_differences(self.alloc, &mut self.conn, batch)
     }

@@ -1,15 +1,14 @@
 //! The doubtful papers of a ward, read from the tables.
 
-ghost use Rattle.std.specs.Prelude.{◌≡◌, ◌==◌, ◌++◌, false, map, filter, find, option_map, IfOk, IfErr, OnOk, IsTrue};
+ghost use Rattle.std.specs.Prelude.{◌≡◌, ◌==◌, ◌++◌, false, map, option_map, IfOk, IsTrue};
 ghost use Rattle.std.specs.List.{flat_map};
 ghost use Rattle.sqlite.specs.State.{HasCleanDisk};
 ghost use Rattle.sqlite.specs.Held.{state};
-ghost use Rattle.register.specs.Offices.{OfficeState, batch_entry, keyed_entry, judged_entry};
+ghost use Rattle.register.specs.Offices.{batch_entry, keyed_entry, judged_entry};
 ghost use Rattle.register.specs.Papers.{is_doubtful};
 ghost use Rattle.tables.specs.declared.fault.Fault.{Fault};
-ghost use Rattle.tables.specs.Reading.{OnlyReads, FailsBy};
-ghost use Rattle.store.specs.Offices.{IsAt};
 ghost use Rattle.store.specs.Overviews.{verdict_on, doubtful_view, doubtful_view_of, doubtful_among, doubtful_in, doubtful_views, doubtful_at};
+ghost use Rattle.store.specs.Loads.{Loads};
 ghost use Rattle.store.specs.Reads.{Reads};
 
 use crate::storage::Store;
@@ -42,7 +41,7 @@ fn copy_of(judged: &JudgedPaper) -> Result<JudgedPaper, AllocError>
     })
 }
 
-/// Among some verdicts that on the paper of this number, if there is one.
+/// The verdict on the paper of this number, if it is among these.
 fn verdict_on(verdicts: &[JudgedPaper], paper: u32) -> Result<Option<JudgedPaper>, AllocError>
     ensures { IfOk result (λ found. option_map judged_entry found ≡ verdict_on (map judged_entry verdicts.now) paper) }
 {
@@ -54,7 +53,7 @@ fn verdict_on(verdicts: &[JudgedPaper], paper: u32) -> Result<Option<JudgedPaper
     Ok(None)
 }
 
-/// A doubtful paper, with the verdict that some have on it.
+/// A doubtful paper, with the verdict on it, if it is among these.
 fn doubtful_paper(keyed: &KeyedPaper, verdicts: &[JudgedPaper]) -> Result<DoubtfulPaper, AllocError>
     ensures { IfOk result (λ found. doubtful_view found ≡ doubtful_view_of (map judged_entry verdicts.now) (keyed_entry keyed.now)) }
 {
@@ -65,7 +64,7 @@ fn doubtful_paper(keyed: &KeyedPaper, verdicts: &[JudgedPaper]) -> Result<Doubtf
     })
 }
 
-/// Puts the doubtful papers among some, each with the verdict that some have on it, behind others.
+/// Puts the doubtful ones of some papers behind those found before, each with the verdict on it, if it is among these.
 fn put_doubtful(
     found: &mut Vec<DoubtfulPaper>,
     papers: &[KeyedPaper],
@@ -162,12 +161,7 @@ impl<S: Alter> Store<S> {
     /// the other, each with its keyings of the current round and the verdicts on its papers. It changes
     /// nothing, and adds nothing to what a stop may leave. `Memory` or `Store` where a row can't be read.
     pub fn load_doubtful(&mut self, ward: u32) -> Result<Option<Vec<DoubtfulPaper>>, Fault>
-        ensures shows { HasCleanDisk (state S.Store self.new) → (s : OfficeState) → IsAt s (state S.Store self.old)
-            → IfOk result (λ found. option_map (λ papers. map doubtful_view papers.items) found ≡ doubtful_at s ward) }
-        ensures cause { HasCleanDisk (state S.Store self.new) → (s : OfficeState) → IsAt s (state S.Store self.old) → IfErr result (FailsBy (state S.Store self.old) (state S.Store self.new)) }
-        ensures opens { HasCleanDisk (state S.Store self.new) → OnOk result (IsTrue (state S.Store self.new).is_open) }
-        ensures reads { OnlyReads (state S.Store self.old) (state S.Store self.new) }
-        ensures keeps { HasCleanDisk (state S.Store self.new) → (s : OfficeState) → IsAt s (state S.Store self.old) → IsAt s (state S.Store self.new) }
+        ensures { Loads S.Store self.old self.new result (λ s found. option_map (λ papers. map doubtful_view papers.items) found ≡ doubtful_at s ward) }
     {
         find_doubtful(self.alloc, &mut self.conn, ward)
     }

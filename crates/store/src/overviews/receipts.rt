@@ -1,12 +1,10 @@
 //! The receipts of an actor, or of all, read from the tables.
 
-ghost use Rattle.std.specs.Prelude.{◌≡◌, false, map, IfOk, IfErr, OnOk, IsTrue};
-ghost use Rattle.sqlite.specs.State.{HasCleanDisk};
+ghost use Rattle.std.specs.Prelude.{◌≡◌, false, map};
 ghost use Rattle.sqlite.specs.Held.{state};
-ghost use Rattle.register.specs.Offices.{OfficeState, receipt_entry};
-ghost use Rattle.tables.specs.Reading.{OnlyReads, FailsBy};
-ghost use Rattle.store.specs.Offices.{IsAt};
+ghost use Rattle.register.specs.Offices.{receipt_entry};
 ghost use Rattle.store.specs.Overviews.{receipts_of};
+ghost use Rattle.store.specs.Loads.{Loads};
 ghost use Rattle.store.specs.Reads.{Reads};
 
 use crate::storage::Store;
@@ -16,7 +14,7 @@ use sqlite::{Alter, Connection};
 use std::alloc::Global;
 use tables::Fault;
 
-/// The receipts of this actor, or where none is told of all.
+/// The receipts of this actor, or of all actors where none is named.
 fn find_receipts<S: Alter>(
     alloc: Global,
     conn: &mut Connection<S>,
@@ -32,15 +30,11 @@ fn find_receipts<S: Alter>(
 }
 
 impl<S: Alter> Store<S> {
-    /// The receipts of an actor (0 is the office, a clerk 1 to 999), by id; where no actor is told, those of
-    /// all, by actor and id. It changes nothing, and adds nothing to what a stop may leave. `Memory` or
+    /// The receipts of an actor (0 is the office, a clerk 1 to 999), by id; where no actor is named, those
+    /// of all, by actor and id. It changes nothing, and adds nothing to what a stop may leave. `Memory` or
     /// `Store` where a row can't be read.
     pub fn load_receipts(&mut self, actor: Option<u32>) -> Result<Vec<Receipt>, Fault>
-        ensures shows { HasCleanDisk (state S.Store self.new) → (s : OfficeState) → IsAt s (state S.Store self.old) → IfOk result (λ found. map receipt_entry found.items ≡ receipts_of s actor) }
-        ensures cause { HasCleanDisk (state S.Store self.new) → (s : OfficeState) → IsAt s (state S.Store self.old) → IfErr result (FailsBy (state S.Store self.old) (state S.Store self.new)) }
-        ensures opens { HasCleanDisk (state S.Store self.new) → OnOk result (IsTrue (state S.Store self.new).is_open) }
-        ensures reads { OnlyReads (state S.Store self.old) (state S.Store self.new) }
-        ensures keeps { HasCleanDisk (state S.Store self.new) → (s : OfficeState) → IsAt s (state S.Store self.old) → IsAt s (state S.Store self.new) }
+        ensures { Loads S.Store self.old self.new result (λ s found. map receipt_entry found.items ≡ receipts_of s actor) }
     {
         find_receipts(self.alloc, &mut self.conn, actor)
     }

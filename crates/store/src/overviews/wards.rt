@@ -1,14 +1,13 @@
 //! How all wards stand, read from the tables.
 
-ghost use Rattle.std.specs.Prelude.{◌≡◌, true, false, map, Some, IfOk, IfErr, OnOk, IsTrue};
+ghost use Rattle.std.specs.Prelude.{◌≡◌, true, false, map, Some, IsTrue};
 ghost use Rattle.sqlite.specs.State.{HasCleanDisk};
 ghost use Rattle.sqlite.specs.Held.{state};
-ghost use Rattle.register.specs.Offices.{OfficeState, ward_entry, ward_at};
+ghost use Rattle.register.specs.Offices.{ward_entry, ward_at};
 ghost use Rattle.register.specs.Elections.{ElectionEntry, elected_of, is_counted, is_declared};
 ghost use Rattle.register.specs.Tabulated.{IsCountedWard};
-ghost use Rattle.tables.specs.Reading.{OnlyReads, FailsBy};
-ghost use Rattle.store.specs.Offices.{IsAt};
 ghost use Rattle.store.specs.Overviews.{declared_in, ward_view, ward_view_of, ward_views};
+ghost use Rattle.store.specs.Loads.{Loads};
 ghost use Rattle.store.specs.Reads.{Reads};
 
 use crate::standings::ward_status;
@@ -122,11 +121,7 @@ impl<S: Alter> Store<S> {
     /// that is declared, by its count as it was kept. It changes nothing, and adds nothing to what a stop may
     /// leave. `Memory` or `Store` where a row can't be read.
     pub fn load_wards(&mut self) -> Result<Vec<WardOverview>, Fault>
-        ensures shows { HasCleanDisk (state S.Store self.new) → (s : OfficeState) → IsAt s (state S.Store self.old) → IfOk result (λ found. map ward_view found.items ≡ ward_views s) }
-        ensures cause { HasCleanDisk (state S.Store self.new) → (s : OfficeState) → IsAt s (state S.Store self.old) → IfErr result (FailsBy (state S.Store self.old) (state S.Store self.new)) }
-        ensures opens { HasCleanDisk (state S.Store self.new) → OnOk result (IsTrue (state S.Store self.new).is_open) }
-        ensures reads { OnlyReads (state S.Store self.old) (state S.Store self.new) }
-        ensures keeps { HasCleanDisk (state S.Store self.new) → (s : OfficeState) → IsAt s (state S.Store self.old) → IsAt s (state S.Store self.new) }
+        ensures { Loads S.Store self.old self.new result (λ s found. map ward_view found.items ≡ ward_views s) }
     {
         find_wards(self.alloc, &mut self.conn)
     }

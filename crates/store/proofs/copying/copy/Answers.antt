@@ -1,5 +1,5 @@
 -- Why `copy` keeps its promise.
-use Rattle.std.proofs.Common.{◌≡◌, ap, ◌∙◌, subst}
+use Rattle.std.proofs.Common.{◌≡◌, ap, ◌∙◌, subst, rules}
 use Rattle.sqlite.specs.Held.{state}
 use Rattle.register.specs.Offices.{OfficeState}
 use Rattle.rowcheck.specs.States.{state_of, tabulated}
@@ -9,59 +9,92 @@ use Rattle.store.proofs.ReopenLemmas.{left_ours, left_told, left_failed}
 use Rattle.store.proofs.CopyLemmas.{copy_is_at, copy_stops, copy_whole, read_left}
 use Rattle.store.proofs.copying.copy.Goals as goal
 
-pub returns-in-Ok-commit_copy-clause-copied : goal.returns-in-Ok-commit_copy-clause-copied
-returns-in-Ok-commit_copy-clause-copied g c clean db ours rests =
-    let s = state_of c.in-Ok.rows in
-    let t = tabulated c.in-Ok.rows in
-    let st = state g.T.Store c.commit_copy.new.copy in
-    let found = c.in-Ok.ensures.holds clean db ours rests in
-    (s, found.0, c.holdings_of.ensures, λ honest blank. copy_is_at s t st c.in-Ok.ensures.judged (λ trees is_open may. g.met.T.Store.settled c.commit_copy.new.copy.store trees is_open may) (c.in-Ok-commit_copy.ensures.done honest blank))
-
-pub returns-in-Ok-commit_copy-clause-same : goal.returns-in-Ok-commit_copy-clause-same
-returns-in-Ok-commit_copy-clause-same g c clean db rests s left =
+pub returns-in-Ok-commit_copy : goal.returns-in-Ok-commit_copy
+returns-in-Ok-commit_copy g c =
     let x = state_of c.in-Ok.rows in
     let t = tabulated c.in-Ok.rows in
-    let st = state g.T.Store c.commit_copy.new.copy in
-    let found = c.in-Ok.ensures.holds clean db (left_ours s db left) rests in
-    let is : x ≡ s = read_left s x db left found.0 in (
-      c.holdings_of.ensures ∙ ap holdings_of is,
-      λ honest blank. subst (λ (y : OfficeState). IsAt y st) is (copy_is_at x t st c.in-Ok.ensures.judged (λ trees is_open may. g.met.T.Store.settled c.commit_copy.new.copy.store trees is_open may) (c.in-Ok-commit_copy.ensures.done honest blank)),
-    )
+    let blank = state g.T.Store c.args.copy.now in
+    let full = state g.T.Store c.commit_copy.new.copy in
+    let read = c.in-Ok.ensures in
+    let made = c.in-Ok-commit_copy.ensures in
+    record {
+      copied = λ clean db ours rests. (
+        x,
+        (read.holds clean db ours rests).0,
+        c.holdings_of.ensures,
+        λ honest new. copy_is_at x t full read.judged (λ trees is_open may. g.met.T.Store.settled c.commit_copy.new.copy.store trees is_open may) (made.done honest new),
+      );
+      same = λ clean db rests s left.
+          let is : x ≡ s = read_left s x db left (read.holds clean db (left_ours s db left) rests).0 in (
+            c.holdings_of.ensures ∙ ap holdings_of is,
+            λ honest new. subst (λ (y : OfficeState). IsAt y full) is (copy_is_at x t full read.judged (λ trees is_open may. g.met.T.Store.settled c.commit_copy.new.copy.store trees is_open may) (made.done honest new)),
+          );
+      stops = λ clean honest db rests s left new.
+          let found = read.holds clean db (left_ours s db left) rests in
+          subst (λ (y : OfficeState). LeavesNoneOrAll y blank full) (read_left s x db left found.0) (copy_stops x t blank full found.1 honest (c.commit_copy.ensures.survives new));
+      made = λ honest new. (x, c.holdings_of.ensures, copy_is_at x t full read.judged (λ trees is_open may. g.met.T.Store.settled c.commit_copy.new.copy.store trees is_open may) (made.done honest new));
+      whole = λ honest new. copy_whole x t blank full read.judged honest (c.commit_copy.ensures.survives new);
+      told = λ clean db ours rests new. tt;
+      cause = λ clean db rests s left new. tt;
+      reads = c.checked_rows.ensures.reads;
+      untouched = tt;
+      taken = search rules;
+      inside = search rules;
+      inside_too = search rules;
+      wears = c.commit_copy.ensures.wears;
+      clean = c.commit_copy.ensures.clean;
+      outside = λ was. c.checked_rows.ensures.outside;
+      outside_too = λ was. c.commit_copy.ensures.outside;
+    }
 
-pub returns-in-Ok-commit_copy-clause-stops : goal.returns-in-Ok-commit_copy-clause-stops
-returns-in-Ok-commit_copy-clause-stops g c clean honest db rests s left blank =
+pub returns-in-Ok : goal.returns-in-Ok
+returns-in-Ok g c =
     let x = state_of c.in-Ok.rows in
     let t = tabulated c.in-Ok.rows in
-    let old = state g.T.Store c.args.copy.now in
-    let st = state g.T.Store c.commit_copy.new.copy in
-    let found = c.in-Ok.ensures.holds clean db (left_ours s db left) rests in
-    subst (λ (y : OfficeState). LeavesNoneOrAll y old st) (read_left s x db left found.0) (copy_stops x t old st found.1 honest (c.commit_copy.ensures.survives blank))
+    let blank = state g.T.Store c.args.copy.now in
+    let full = state g.T.Store c.commit_copy.new.copy in
+    let read = c.in-Ok.ensures in
+    record {
+      copied = λ clean db ours rests. tt;
+      same = λ clean db rests s left. tt;
+      stops = λ clean honest db rests s left new.
+          let found = read.holds clean db (left_ours s db left) rests in
+          subst (λ (y : OfficeState). LeavesNoneOrAll y blank full) (read_left s x db left found.0) (copy_stops x t blank full found.1 honest (c.commit_copy.ensures.survives new));
+      made = λ honest new. tt;
+      whole = λ honest new. copy_whole x t blank full read.judged honest (c.commit_copy.ensures.survives new);
+      told = λ clean db ours rests new. (search rules, (x, (read.holds clean db ours rests).0));
+      cause = search rules;
+      reads = c.checked_rows.ensures.reads;
+      untouched = search rules;
+      taken = search rules;
+      inside = search rules;
+      inside_too = search rules;
+      wears = c.commit_copy.ensures.wears;
+      clean = c.commit_copy.ensures.clean;
+      outside = λ was. c.checked_rows.ensures.outside;
+      outside_too = λ was. c.commit_copy.ensures.outside;
+    }
 
-pub returns-in-Ok-clause-stops : goal.returns-in-Ok-clause-stops
-returns-in-Ok-clause-stops g c clean honest db rests s left blank =
-    let x = state_of c.in-Ok.rows in
-    let t = tabulated c.in-Ok.rows in
-    let old = state g.T.Store c.args.copy.now in
-    let st = state g.T.Store c.commit_copy.new.copy in
-    let found = c.in-Ok.ensures.holds clean db (left_ours s db left) rests in
-    subst (λ (y : OfficeState). LeavesNoneOrAll y old st) (read_left s x db left found.0) (copy_stops x t old st found.1 honest (c.commit_copy.ensures.survives blank))
-
-pub returns-in-Ok-commit_copy-clause-made : goal.returns-in-Ok-commit_copy-clause-made
-returns-in-Ok-commit_copy-clause-made g c honest blank =
-    let s = state_of c.in-Ok.rows in
-    let t = tabulated c.in-Ok.rows in
-    let st = state g.T.Store c.commit_copy.new.copy in
-    (s, c.holdings_of.ensures, copy_is_at s t st c.in-Ok.ensures.judged (λ trees is_open may. g.met.T.Store.settled c.commit_copy.new.copy.store trees is_open may) (c.in-Ok-commit_copy.ensures.done honest blank))
-
-pub returns-in-Ok-commit_copy-clause-whole : goal.returns-in-Ok-commit_copy-clause-whole
-returns-in-Ok-commit_copy-clause-whole g c honest blank =
-    copy_whole (state_of c.in-Ok.rows) (tabulated c.in-Ok.rows) (state g.T.Store c.args.copy.now) (state g.T.Store c.commit_copy.new.copy) c.in-Ok.ensures.judged honest (c.commit_copy.ensures.survives blank)
-
-pub returns-in-Ok-clause-whole : goal.returns-in-Ok-clause-whole
-returns-in-Ok-clause-whole g c honest blank =
-    copy_whole (state_of c.in-Ok.rows) (tabulated c.in-Ok.rows) (state g.T.Store c.args.copy.now) (state g.T.Store c.commit_copy.new.copy) c.in-Ok.ensures.judged honest (c.commit_copy.ensures.survives blank)
-
-pub returns-clause-cause : goal.returns-clause-cause
-returns-clause-cause g c clean db rests s left blank =
-    let ours = left_ours s db left in
-    left_failed s db (state g.S.Store c.args.conn.now) (state g.S.Store c.checked_rows.new.conn) c.in-Err.fault left (c.in-Err.ensures.told clean db ours rests) (c.in-Err.ensures.fails clean db ours rests)
+pub returns : goal.returns
+returns g c =
+    let read = c.in-Err.ensures in
+    record {
+      copied = λ clean db ours rests. tt;
+      same = λ clean db rests s left. tt;
+      stops = search rules;
+      made = λ honest new. tt;
+      whole = search rules;
+      told = λ clean db ours rests new. (read.told clean db ours rests, read.fails clean db ours rests);
+      cause = λ clean db rests s left new.
+          let ours = left_ours s db left in
+          left_failed s db (state g.S.Store c.args.conn.now) (state g.S.Store c.checked_rows.new.conn) c.in-Err.fault left (read.told clean db ours rests) (read.fails clean db ours rests);
+      reads = c.checked_rows.ensures.reads;
+      untouched = search rules;
+      taken = search rules;
+      inside = search rules;
+      inside_too = search rules;
+      wears = search rules;
+      clean = λ honest. honest;
+      outside = λ was. c.checked_rows.ensures.outside;
+      outside_too = λ was. was;
+    }

@@ -1,0 +1,21 @@
+-- What a store tells a caller of the state that it keeps, and what it leaves.
+use Rattle.std.specs.Prelude.{Result, IfOk, IfErr, OnOk, IsTrue}
+use Rattle.sqlite_trees.specs.declared.store.Store.{Ghosts}
+use Rattle.sqlite.specs.Held.{Held, state}
+use Rattle.sqlite.specs.State.{State, HasCleanDisk}
+use Rattle.register.specs.Offices.{OfficeState}
+use Rattle.tables.specs.declared.fault.Fault.{Fault}
+use Rattle.tables.specs.Reading.{OnlyReads, FailsBy}
+use Rattle.store.specs.Offices.{IsAt}
+
+-- A load, at whatever state the store keeps: what it tells is so of that state, and it fails only where memory is wanting or the store failed.
+-- It changes nothing and keeps the state, and the connection is open where it tells something.
+pub record LoadsAt {X : Type 0} (old new : State) (result : Result X Fault) (IsTold : OfficeState → X → Type 0) : Type 0 where
+  pub shows : HasCleanDisk new → (s : OfficeState) → IsAt s old → IfOk result (IsTold s)
+  pub cause : HasCleanDisk new → (s : OfficeState) → IsAt s old → IfErr result (FailsBy old new)
+  pub opens : HasCleanDisk new → OnOk result (IsTrue new.is_open)
+  pub reads : OnlyReads old new
+  pub keeps : HasCleanDisk new → (s : OfficeState) → IsAt s old → IsAt s new
+
+abbrev pub Loads : {S X : Type 0} → Ghosts S → Held S → Held S → Result X Fault → (OfficeState → X → Type 0) → Type 0
+Loads store old new result IsTold = LoadsAt (state store old) (state store new) result IsTold
