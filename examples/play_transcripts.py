@@ -2,7 +2,7 @@
 """Plays the transcripts in examples/transcripts/: what is asked of the office is asked of the program, and what it tells compared.
 
 usage: examples/play_transcripts.py [NAME..]        the transcripts of these names, or all; prints a line for each
-       COUNT_OFFICE names the program, or it is that of `./count-office`
+       COUNT_OFFICE names the program, and CHECK_COUNT the checker, or they are those of `./count-office`
 
 A transcript has plays, each over a new file, in a folder of its own:
 
@@ -27,6 +27,8 @@ A transcript has plays, each over a new file, in a folder of its own:
     2~ error: .. 'now'                     that it begins so, and what stands in it
     # UPDATE ward SET phase = 2            statements, by the stock SQLite
     @ 4                                    the work of a clerk, asked for over HTTP; told a line a batch
+    % "3 2\\n" "3 0\\n"                    the checker, on the files `ballots` and `text`, where the first words in the ballots are
+                                           replaced by the second; `%% ..` in the text, `%` alone nowhere
     > GET /clerks/1000/work HTTP/1.1       what a client sends, parted by line ends of HTTP, and the status and body of the answer
     >
     >
@@ -113,7 +115,7 @@ class Play:
         self.name, self.begins_with, self.acts = name, begins_with, [("may change", [])]
 
 
-BEGINNINGS = ("$$", "$", "#", "@", "=")
+BEGINNINGS = ("$$", "$", "#", "@", "=", "%%", "%")
 
 
 def read_line(asked, number, line):
@@ -151,16 +153,16 @@ def read(path):
     return plays
 
 
-def program():
-    """The program that COUNT_OFFICE names, or the one that the script count-office keeps."""
-    named = os.environ.get("COUNT_OFFICE")
-    if named:
-        return os.path.realpath(named)
-    subprocess.run([HERE.parent / "count-office", "--help"], stdout=subprocess.DEVNULL, check=True)
-    return str(HERE.parent / "out" / "count-office")
+def program(named, *words):
+    """The program that a variable names, or the one that the script count-office keeps for these words."""
+    path = os.environ.get(named)
+    if path:
+        return os.path.realpath(path)
+    subprocess.run([HERE.parent / "count-office", *words, "--help"], stdout=subprocess.DEVNULL, check=True)
+    return str(HERE.parent / "out" / named.lower().replace("_", "-"))
 
 
-PROGRAM = program()
+PROGRAM, CHECKER = program("COUNT_OFFICE"), program("CHECK_COUNT", "-", "check")
 
 
 def copied(folder, other):
@@ -203,6 +205,22 @@ def give(folder, words):
     done = subprocess.run([PROGRAM, TOWN, *words], cwd=folder, stdin=subprocess.DEVNULL, capture_output=True, timeout=SECONDS)
     if done.returncode and files(folder) != before:
         raise Wrong(f"behind status {done.returncode} there are other files: {sorted(files(folder) ^ before)}")
+    return done.returncode, done.stdout.decode(), done.stderr.decode()
+
+
+def check(folder, asked):
+    """Asks the checker of ballots and a text, of which one has some words replaced by others."""
+    for name in ("ballots", "text"):
+        shutil.copyfile(folder / name, folder / f"checked {name}")
+    if asked.line:
+        changed = folder / ("checked ballots" if asked.kind == "%" else "checked text")
+        words = [json.loads(word) for word in re.findall(r'"(?:[^"\\]|\\.)*"', asked.line)]
+        old, new = (word.encode() for word in words)
+        if old not in changed.read_bytes():
+            raise Wrong("there is nothing to replace")
+        changed.write_bytes(changed.read_bytes().replace(old, new, 1))
+    done = subprocess.run([CHECKER, "checked ballots", "checked text"], cwd=folder, stdin=subprocess.DEVNULL, capture_output=True,
+                          timeout=SECONDS)
     return done.returncode, done.stdout.decode(), done.stderr.decode()
 
 
@@ -289,6 +307,8 @@ def play_one(folder, asked):
         change(folder, asked.line)
     elif asked.kind == "@":
         compare(asked, (0, work_of(folder, asked.line), ""))
+    elif asked.kind in ("%", "%%"):
+        compare(asked, check(folder, asked))
     elif asked.kind == ">":
         told, wanted = ask(folder, asked.file), answer_of(asked.out)
         if told != wanted:
