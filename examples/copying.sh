@@ -9,12 +9,12 @@ printf 'paper,1,2,3\n1,1,2,\n2,,1,\n' >"$folder/four.csv"
 
 # The office, where no file may grow past 20480 bytes.
 cramped_office() {
-    (ulimit -f 20 && "$here/../count-office" "$@")
+    (ulimit -f 20 && "$here/launch" "$@")
 }
 
 # The office, whose output has no room.
 mute_office() {
-    "$here/../count-office" "$@" >/dev/full
+    "$here/launch" "$@" >/dev/full
 }
 
 # Tells which files there are.

@@ -7,7 +7,7 @@ echo 'Ann, Bob and Cy' >"$folder/names.txt"
 
 # The office, where no file may grow past 1024 bytes.
 cramped_office() {
-    (ulimit -f 1 && "$here/../count-office" "$@")
+    (ulimit -f 1 && "$here/launch" "$@")
 }
 
 # Tells which files there are.

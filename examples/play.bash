@@ -1,9 +1,15 @@
 # What the examples share: each sources this file, plays orders, and compares what each writes to standard
 # output and to standard error, and its status, with the text beside it.
 set -euo pipefail
+# Lists of files stand in the order of their bytes.
+export LC_ALL=C
 
 here=$(dirname "$(readlink -f "${BASH_SOURCE[0]}")")
-office=$here/../count-office
+# The program is the one that COUNT_OFFICE names, and the checker the one that CHECK_COUNT names, or those of ./count-office.
+office=$here/launch
+for named in COUNT_OFFICE CHECK_COUNT; do
+    if [[ -n ${!named-} ]]; then export "$named=$(readlink -f "${!named}")"; fi
+done
 folder=$(mktemp -d)
 trap 'rm -rf "$folder"' EXIT
 
