@@ -10,6 +10,8 @@ source "$(dirname "$(readlink -f "${BASH_SOURCE[0]}")")/play.bash"
     done
     # without a database too
     play status --help
+    # and the version
+    play town.db --version
 
     # words that are no order
     play

@@ -151,8 +151,8 @@ def unlisted(place, _):
     return place.call().must_be(4, "CHECKOUT/crates.txt has no line for count_office", "")
 
 
-@case("a program that can't be started")
-def unstartable(place, _):
+@case("a program that can't be started, {}", "by an order", "by `--version`")
+def unstartable(place, how):
     made(place)
     place.write(os.path.join(place.out, "count-office"), "#!/no/such/program\n", 0o755)
-    return place.call().must_be(4, "CHECKOUT/out/count-office could not be started; see what is told above", "")
+    return place.call(*(["--version"] if "version" in how else [])).must_be(4, "CHECKOUT/out/count-office could not be started; see what is told above", "")

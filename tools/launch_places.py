@@ -25,6 +25,7 @@ notes='NOTES'
 if [ "$1" = version ]; then echo >>"$notes/asked"; exec cat "$notes/version"; fi
 crate=${PWD##*/}
 echo "begins $crate $1 $PWD" >>"$notes/log"
+modules='loaded=0 checked=9'
 if [ -f "$notes/does" ]; then . "$notes/does"; fi
 mkdir -p out
 if [ "$1" = run ]; then
@@ -34,6 +35,7 @@ if [ "$1" = run ]; then
 fi
 echo "ends $crate" >>"$notes/log"
 echo "$crate: proved"
+echo "crate $crate: modules $modules"
 """
 
 WRITER = """#!/bin/sh
@@ -88,7 +90,7 @@ def found(name):
 class Place:
     """A checkout of its own, with all that a call of its script may see."""
 
-    def __init__(self, folder, script):
+    def __init__(self, folder, script, building):
         self.folder = folder
         self.wrong = []
         self.checkout, self.bin, self.tmp, self.home, self.notes = (
@@ -97,7 +99,10 @@ class Place:
             os.makedirs(path)
         self.script = os.path.join(self.checkout, "count-office")
         self.out = os.path.join(self.checkout, "out")
-        self.write(self.script, script.replace("/proc/meminfo", "'" + os.path.join(folder, "meminfo") + "'"), 0o755)
+        self.building = os.path.join(self.checkout, "tools", "building.bash")
+        self.write(self.script, self.with_memory(script), 0o755)
+        if building:
+            self.write(self.building, self.with_memory(building))
         self.write(os.path.join(folder, "meminfo"), "MemAvailable: 64000000 kB\n")
         self.write(os.path.join(self.checkout, "crates.txt"), CRATES)
         for crate, lines in (("low", 1), ("left", 9), ("right", 3)):
@@ -112,6 +117,9 @@ class Place:
         self.command("nproc", "#!/bin/sh\necho 4\n")
         self.command("rt", RT)
 
+    def with_memory(self, text):
+        return text.replace("/proc/meminfo", "'" + os.path.join(self.folder, "meminfo") + "'")
+
     def write(self, path, text, mode=0o644):
         """Writes a file anew. What stands there goes first, so that nothing is written through a link to a command of the machine."""
         os.makedirs(os.path.dirname(path), exist_ok=True)
@@ -120,6 +128,13 @@ class Place:
         with SPAWNING, os.fdopen(os.open(path, os.O_WRONLY | os.O_CREAT | os.O_EXCL, mode), "w", encoding="utf-8") as file:
             file.write(text)
             os.fchmod(file.fileno(), mode)
+
+    def change(self, path, old, new):
+        """Changes the text of a file, in which the old one has to stand."""
+        with open(path, encoding="utf-8") as file:
+            text = file.read()
+        self.must(old in text, f"{old} doesn't stand in {os.path.basename(path)}")
+        self.write(path, text.replace(old, new), os.stat(path).st_mode & 0o777)
 
     def source(self, crate, name="lib.rt"):
         return os.path.join(self.checkout, "crates", crate, "src", name)

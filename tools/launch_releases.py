@@ -35,7 +35,7 @@ def release(place, program=PROGRAM):
         digest = file.read().split()[0]
     shutil.rmtree(place.out)
     text = packed(program)
-    place.write(path_in(place, "BUILT-FROM"), f"version: 9.8.7\nsources of count-office: {digest}\n")
+    place.write(path_in(place, "BUILT-FROM"), f"version: 9.8.7\ncommit: 0123abcd\ntoolchain: released kit\nsources of count-office: {digest}\n")
     place.write(path_in(place, "SHA256SUMS"), f"{hashlib.sha256(text).hexdigest()}  {NAME}.tar.xz\n{'0' * 64}  {NAME}.tar.gz\n")
     with open(path_in(place, f"{NAME}.tar.xz"), "wb") as file:
         file.write(text)

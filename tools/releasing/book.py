@@ -3,7 +3,7 @@ import html
 import re
 import subprocess
 
-PAGES = ['ELECTION', 'FORMATS', 'RULES', 'HTTP', 'DATABASE']
+PAGES = ['INSTALLING', 'ELECTION', 'FORMATS', 'RULES', 'HTTP', 'DATABASE']
 
 STYLE = """
 body { max-width: 50rem; margin: 2rem auto; padding: 0 1rem; font: 1rem/1.5 system-ui, sans-serif; color: #111; background: #fff; }

@@ -58,7 +58,7 @@ def quoted(text):
 def zsh(orders):
     names = ''.join('        %s\n' % quoted('%s:%s' % (order.name, order.about.replace(':', '\\:'))) for order in orders)
     filed = '|'.join(order.name for order in orders if takes_file(order))
-    with_id = '|'.join(order.name for order in orders if '--id' in options_of(order))
+    options = ''.join('            (%s) compadd -- %s ;;\n' % (order.name, ' '.join(options_of(order))) for order in orders)
     return '''#compdef count-office
 # What zsh offers behind `count-office`: the path of an office, an order, and the order's options or files.
 _count_office() {
@@ -66,32 +66,53 @@ _count_office() {
     orders=(
 %s    )
     if ((CURRENT == 2)); then
-        _files
+        if [[ $PREFIX == -* ]]; then compadd -- --help --version; else _files; fi
     elif [[ $words[2] == - ]]; then
         if ((CURRENT == 3)); then compadd check; else _files; fi
     elif ((CURRENT == 3)); then
         _describe order orders
     elif [[ $PREFIX == -* ]]; then
-        compadd -- --help
-        case $words[3] in (%s) compadd -- --id ;; esac
+        case $words[3] in
+%s        esac
     else
         case $words[3] in (%s) _files ;; esac
     fi
 }
 _count_office "$@"
-''' % (names, with_id, filed)
+''' % (names, options, filed)
+
+
+FISH = """# What fish offers behind `count-office`: the path of an office, an order, and the order's options or files.
+function __count_office_words -d 'Whether so many words stand before the one that is typed'
+    test (count (commandline -opc)) -eq $argv[1]
+end
+function __count_office_checks -d 'Whether the checker is asked'
+    set -l words (commandline -opc)
+    test (count $words) -ge 2; and test "$words[2]" = -
+end
+function __count_office_gives -d 'Whether this order is given'
+    set -l words (commandline -opc)
+    test (count $words) -ge 3; and test "$words[2]" != -; and test "$words[3]" = $argv[1]
+end
+complete -c count-office -n '__count_office_words 1' -l help -d 'Print help'
+complete -c count-office -n '__count_office_words 1' -l version -d 'Print the version'
+complete -c count-office -n '__count_office_words 2; and __count_office_checks' -f -a check -d 'Check a sheet against its ballots'
+"""
 
 
 def fish(orders):
-    lines = ['# What fish offers behind `count-office`: the path of an office, an order, and the order\'s options or files.',
-             'function __count_office_words', '    count (commandline -opc)', 'end']
+    lines = FISH.splitlines()
     for order in orders:
-        lines.append("complete -c count-office -n 'test (__count_office_words) -eq 2' -f -a %s -d %s" % (order.name, quoted(order.about)))
+        lines.append("complete -c count-office -n '__count_office_words 2; and not __count_office_checks' -f -a %s -d %s" % (order.name, quoted(order.about)))
     for order in orders:
-        seen = "-n '__fish_seen_subcommand_from %s'" % order.name
-        lines.append('complete -c count-office %s %s -l help -d %s' % (seen, '-F' if takes_file(order) else '-f', quoted('Print help')))
-        if '--id' in options_of(order):
-            lines.append('complete -c count-office %s -l id -x -d %s' % (seen, quoted('An id that you choose for this order')))
+        seen = "-n '__count_office_gives %s'" % order.name
+        if not takes_file(order):
+            lines.append('complete -c count-office %s -f' % seen)
+        lines.append('complete -c count-office %s -l help -d %s' % (seen, quoted('Print help')))
+        for option in order.options:
+            if option.name.startswith('--'):
+                given = '-x ' if '<' in option.name else ''
+                lines.append('complete -c count-office %s -l %s %s-d %s' % (seen, option.name.split()[0][2:], given, quoted(option.text)))
     return '\n'.join(lines) + '\n'
 
 

@@ -40,7 +40,7 @@ def office_page(program, version, date):
     lines = head('COUNT\\-OFFICE', date, version)
     lines += ['.SH NAME', 'count\\-office \\- runs the office of an election by the single transferable vote of Scotland']
     lines += ['.SH SYNOPSIS', '\\fBcount\\-office\\fR \\fIDB\\fR \\fIORDER\\fR [\\fIWORDS\\fR]', '.br',
-              '\\fBcount\\-office \\- check\\fR \\fIBALLOTS\\fR \\fISHEET\\fR']
+              '\\fBcount\\-office \\- check\\fR \\fIBALLOTS\\fR \\fISHEET\\fR', '.br', '\\fBcount\\-office \\-\\-version\\fR']
     lines += ['.SH DESCRIPTION'] + [escaped(line) if line else '.PP' for line in about[1:] if True]
     lines += ['.SH ORDERS']
     for order in helps.orders(program):

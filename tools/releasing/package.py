@@ -15,23 +15,36 @@ Description: office of an election by the single transferable vote of Scotland
  work, counts, and prints stage sheets and declarations that anyone can check.
 """
 
-# The user as whom an office is served, where systemd is there.
+# The user as whom an office is served, where systemd is there. Offices that are served go on in the new program.
 AFTER_INSTALL = """#!/bin/sh
 set -e
-if [ "$1" = configure ] && command -v systemd-sysusers >/dev/null; then
-    systemd-sysusers count-office.conf
+if [ "$1" = configure ]; then
+    if command -v systemd-sysusers >/dev/null; then systemd-sysusers count-office.conf; fi
+    if [ -d /run/systemd/system ]; then
+        systemctl daemon-reload
+        if [ -n "$2" ]; then systemctl try-restart 'count-office@*.service'; fi
+    fi
 fi
 """
 
-# Nothing of the package is left but the files of offices.
+# An upgrade leaves what is served as it is until the new program is there.
+BEFORE_REMOVAL = """#!/bin/sh
+set -e
+if [ "$1" = remove ] && [ -d /run/systemd/system ]; then systemctl stop 'count-office@*.service'; fi
+"""
+
+# Nothing of the package is left but the files of offices, and the user who owns them.
 AFTER_REMOVAL = """#!/bin/sh
 set -e
 if [ "$1" = remove ] || [ "$1" = purge ]; then
+    rm -f /etc/systemd/system/*.wants/count-office@*.service
+    if [ -d /run/systemd/system ]; then systemctl daemon-reload; fi
     if [ -z "$(ls -A /var/lib/count-office 2>/dev/null)" ]; then
         rmdir /var/lib/count-office 2>/dev/null || true
         if command -v userdel >/dev/null && getent passwd count-office >/dev/null; then userdel count-office; fi
     fi
 fi
+if [ "$1" = purge ]; then rm -rf /etc/count-office; fi
 """
 
 
@@ -59,6 +72,7 @@ def package(files, version, architecture, time):
         control = CONTROL.format(version=version, architecture=architecture, size=size).encode()
         write(os.path.join(root, 'DEBIAN', 'control'), control, 0o644, time)
         write(os.path.join(root, 'DEBIAN', 'postinst'), AFTER_INSTALL.encode(), 0o755, time)
+        write(os.path.join(root, 'DEBIAN', 'prerm'), BEFORE_REMOVAL.encode(), 0o755, time)
         write(os.path.join(root, 'DEBIAN', 'postrm'), AFTER_REMOVAL.encode(), 0o755, time)
         same_time(root, time)
         made = os.path.join(room, 'made.deb')

@@ -23,7 +23,7 @@ mod traces;
 
 use desk::perform::perform;
 use desk::{
-    CopyState, Failure, Folder, Order, Progress, WordsFault, copy_office, order, serve_on,
+    CopyState, Failure, Folder, Order, Progress, Task, WordsFault, copy_office, order, serve_on,
     tell_failure, tell_words,
 };
 use fresh::Fresh;
@@ -77,11 +77,30 @@ fn not_text(alloc: Global) -> WordsFault {
 }
 
 /// Whether somebody sees the error output and not the replies of a file's records.
-fn wants_progress(rt: &HostRuntime, order: &Order<'_>) -> bool {
-    order.file().is_some() && rt.stderr().is_terminal() && !rt.stdout().is_terminal()
+fn wants_progress(rt: &HostRuntime, task: &Task<'_>) -> bool {
+    task.file().is_some() && rt.stderr().is_terminal() && !rt.stdout().is_terminal()
 }
 
-/// Does an order over an opened connection to the office at a path, with the file that it names, and those that a script names.
+/// Does a task over an opened connection to the office, with the files of this machine that it names.
+fn perform_watched<S: Alter, O: Sink, E: Sink>(
+    rt: &HostRuntime,
+    task: &Task<'_>,
+    conn: Connection<S>,
+    out: &mut O,
+    err: &mut E,
+) -> (u8, Connection<S>)
+    requires out { O.failed out.old < 2 ^ 64 - 1 }
+    requires err { E.failed err.old < 2 ^ 64 - 1 }
+{
+    let paths = Paths { rt };
+    if wants_progress(rt, task) {
+        let mut watched = Progress::new(out, rt.stderr());
+        return perform(rt.alloc(), task, conn, &paths, &mut watched, err);
+    }
+    perform(rt.alloc(), task, conn, &paths, out, err)
+}
+
+/// Does an order over an opened connection to the office at a path.
 fn perform_on<S: Alter, O: Sink, E: Sink>(
     rt: &HostRuntime,
     office: &str,
@@ -94,23 +113,14 @@ fn perform_on<S: Alter, O: Sink, E: Sink>(
     requires err { E.failed err.old < 2 ^ 64 - 1 }
 {
     match order {
+        Order::Perform(task) => perform_watched(rt, task, conn, out, err),
         Order::Serve {
             port,
             connections,
             origin,
-        } => {
-            return serve(rt, conn, *port, *connections, *origin, err);
-        }
-        Order::Copy { path } => return copy(rt, conn, office, path, out, err),
-        _ => {}
+        } => serve(rt, conn, *port, *connections, *origin, err),
+        Order::Copy { path } => copy(rt, conn, office, path, out, err),
     }
-    let paths = Paths { rt };
-    let file = order.file().and_then(|path| File::open(rt, path).ok());
-    if wants_progress(rt, order) {
-        let mut watched = Progress::new(out, rt.stderr());
-        return perform(rt.alloc(), order, conn, file, &paths, &mut watched, err);
-    }
-    perform(rt.alloc(), order, conn, file, &paths, out, err)
 }
 
 /// Listens on a port of this machine.
@@ -298,7 +308,7 @@ fn why_unopened(site: Site, order: &Order<'_>) -> Option<Fault>
 {
     match site {
         Site::Taken => None,
-        Site::Free | Site::Empty if matches!(order, Order::Init) => None,
+        Site::Free | Site::Empty if matches!(order, Order::Perform(Task::Init)) => None,
         Site::Free | Site::Empty | Site::LogAlone => Some(Fault::WrongDatabase),
         Site::LogUnseen => Some(Fault::Store),
     }
@@ -362,8 +372,8 @@ fn tell_help_of<O: Sink, E: Sink>(rt: &HostRuntime, name: &str, out: &mut O, err
     }
 }
 
-/// Does what the program's words ask, and gives the status. Help is told without a database too, also that
-/// of an order.
+/// Does what the program's words ask, and gives the status. Help and the version are told without a database too,
+/// also the help of an order.
 fn run<O: Sink, E: Sink>(rt: &HostRuntime, out: &mut O, err: &mut E) -> u8
     requires out { O.failed out.old < 2 ^ 64 - 1 }
     requires err { E.failed err.old < 2 ^ 64 - 1 }
@@ -378,6 +388,7 @@ fn run<O: Sink, E: Sink>(rt: &HostRuntime, out: &mut O, err: &mut E) -> u8
     };
     match words.as_slice() {
         ["--help" | "-h"] => follow(rt, &["DB", "--help"], out, err),
+        ["--version" | "-V"] => follow(rt, &["DB", "--version"], out, err),
         [name, "--help" | "-h"] => tell_help_of(rt, name, out, err),
         all => follow(rt, all, out, err),
     }

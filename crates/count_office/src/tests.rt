@@ -1,4 +1,5 @@
-//! The orders as they are typed and printed, over disks that can be stopped.
+//! What only a test in the process can meet: stores, outputs and clients that fail, and calls that no order makes.
+//! (Refusals, replies, words, overviews and rows that no office has are played by examples/transcripts.sh.)
 
 // What is done and told, over any store.
 mod steps;
@@ -8,25 +9,17 @@ mod transcripts;
 mod disks;
 // Clients over HTTP.
 mod clients;
+// Offices that tests go on with.
+mod begun;
 // The tests.
 mod copies;
-mod counts;
-mod help;
 mod http;
-mod keyings;
 mod lists;
 mod loads;
-mod lots;
 mod noise;
-mod nominations;
-mod offices;
 mod older;
 mod outputs;
-mod overviews;
 mod progress;
 mod replays;
 mod sockets;
 mod stops;
-mod thirds;
-mod words;
-mod work;

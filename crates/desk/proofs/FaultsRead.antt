@@ -2,7 +2,7 @@
 use Rattle.std.proofs.Common.{◌≡◌, [], ◌∷◌, refl}
 use Rattle.std.specs.Prelude.{codes}
 use Rattle.clap.proofs.OnLiterals.{clap_on_literals}
-use Rattle.clap.specs.declared.error.kind.ErrorKind.TheVariants.{DisplayHelp, DisplayHelpOnMissingArgumentOrSubcommand, InvalidSubcommand, MissingRequiredArgument, UnknownArgument, ValueValidation}
+use Rattle.clap.specs.declared.error.kind.ErrorKind.TheVariants.{DisplayHelp, DisplayHelpOnMissingArgumentOrSubcommand, DisplayVersion, InvalidSubcommand, MissingRequiredArgument, UnknownArgument, ValueValidation}
 use Rattle.desk.specs.Orders.{orders}
 use Rattle.desk.specs.Words.{office_words, wrong_with}
 
@@ -13,6 +13,14 @@ an_order = refl
 help : wrong_with (codes "DB" ∷ codes "close" ∷ codes "--help" ∷ []) ≡ DisplayHelp ∷ []
 unfolding office_words orders clap_on_literals
 help = refl
+
+version : wrong_with (codes "DB" ∷ codes "--version" ∷ []) ≡ DisplayVersion ∷ []
+unfolding office_words orders clap_on_literals
+version = refl
+
+version_for_short : wrong_with (codes "DB" ∷ codes "-V" ∷ []) ≡ DisplayVersion ∷ []
+unfolding office_words orders clap_on_literals
+version_for_short = refl
 
 no_words : wrong_with (codes "DB" ∷ []) ≡ DisplayHelpOnMissingArgumentOrSubcommand ∷ []
 unfolding office_words orders clap_on_literals

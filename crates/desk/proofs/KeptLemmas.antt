@@ -1,5 +1,5 @@
 -- What is kept of an order, and what a connection that stays at rest leaves.
-use Rattle.std.proofs.Common.{◌≡◌, ◌≢◌, ◌⊎◌, ◌≤◌, ◌+◌, ◌∙◌, inl, inr, ℕ, Bool, true, false, List, [], ◌∷◌, ◌++◌, length, take, IsTrue, refl, sym, ap, subst, arith, suc}
+use Rattle.std.proofs.Common.{◌≡◌, ◌≢◌, ◌⊎◌, ◌≤◌, ◌+◌, ◌∙◌, inl, inr, ℕ, Bool, true, false, List, [], ◌∷◌, Option, None, length, take, IsTrue, refl, sym, ap, subst, arith, suc}
 use Rattle.clap.specs.Words.{Text}
 use Rattle.sqlite.specs.Tree.{Trees}
 use Rattle.sqlite.specs.Schema.{Schema}
@@ -7,7 +7,7 @@ use Rattle.sqlite.specs.Effect.{Database}
 use Rattle.sqlite.specs.State.{State, HasCleanDisk}
 use Rattle.sqlite_schema.specs.Names.{same_name}
 use Rattle.register.specs.Offices.{OfficeState, empty_office}
-use Rattle.register.specs.Machine.{after, after_one, step_of}
+use Rattle.register.specs.Machine.{after, after_one}
 use Rattle.register.specs.declared.command.Request.{Request}
 use Rattle.tables.specs.Contents.{Contents, IsOffice, RestsAt, Stores}
 use Rattle.tables.specs.Presence.{has_some_table, has_every_table, form_of, IsOlderSchema}
@@ -20,14 +20,18 @@ use Rattle.store.specs.Offices.{LeavesState, tables_of}
 use Rattle.store.specs.Openings.{IsBlank, IsLeftAt}
 use Rattle.store.specs.Migrations.{IsToldInMigration}
 use Rattle.store.proofs.ReopenLemmas.{left_holds, left_told}
-use Rattle.office.specs.Answers.{Told, again, done, no, told_of}
 use Rattle.office.proofs.RunLemmas.{beginning}
-use Rattle.desk.specs.Folders.{File}
-use Rattle.desk.specs.Errands.{IsAnswered, IsAnswerAbove, IsEndOf, IsKept, IsPlain, IsReplyAbove, IsRun, IsSent, IsStopped, Sends, SendsSome, TellsAnswers, TellsFault, TellsOther}
-use Rattle.desk.specs.Pages.{Cut, uncut, cut_behind, cut_error, IsShown, Outputs, Page, cut_below, failed, page_told}
-use Rattle.desk.specs.declared.lines.Failure.TheVariants.{Office}
-use Rattle.desk.specs.Requests.{Errand, Work, copying, making, migrating, replaying, running, serving}
-use Rattle.desk.proofs.PageLemmas.{broken_ends}
+use Rattle.desk.specs.Folders.{Folder}
+use Rattle.desk.specs.Headline.{Course, IsAnswered, IsPerformed, IsPlain, IsPlayed, IsSent, IsStopped, IsUnsent, IsUntouched, Performs, answer, ended, replied_above}
+use Rattle.desk.specs.Pages.{Cut, uncut, IsShown, Outputs, Page, cut_below, empty_page}
+use Rattle.desk.specs.Parts.{ComesTo}
+use Rattle.desk.specs.Told.{IsTold}
+use Rattle.desk.specs.declared.orders.Task.{Task}
+use Rattle.desk.specs.declared.orders.Task.TheVariants as task
+use Rattle.desk.specs.declared.scripts.Turn.{Turn}
+use Rattle.desk.proofs.CourseLemmas.{IsGood}
+use Rattle.desk.proofs.PageLemmas.{fronted_status}
+use Rattle.desk.proofs.TellingLemmas.{shown_zero, whole_below}
 
 -- ---- a connection at rest
 
@@ -108,133 +112,98 @@ wrong_same fault wrong (inr (inr there)) = there.2
 abbrev pub IsAfterSome : OfficeState → List Request → ℕ → OfficeState → Type 0
 IsAfterSome s rs n x = (k : ℕ) × (n ≤ k) × (k ≤ n + 1) × (k ≤ length rs) × (x ≡ after s (take k rs))
 
--- what requests that were sent leave
-abbrev pub LeavesSome : Cut → OfficeState → List Request → Page → State → Type 0
-LeavesSome cut s rs page st = (n : ℕ) × (n ≤ length rs) × LeavesState st (IsAfterSome s rs n) × (page.status ≡ 0 → cut ≡ uncut → n ≡ length rs) × TellsAnswers s rs n cut page
+-- what is kept of requests that were sent from a state on
+pub record Kept (s : OfficeState) (c : Course) (st : State) : Type 0 where
+  pub within : c.answered ≤ length c.requests
+  pub leaves : LeavesState st (IsAfterSome s c.requests c.answered)
+  pub all : IsGood c → c.answered ≡ length c.requests
 
-pub reply_status : (t : Told) (rest page : Page) → IsReplyAbove t rest page → page.status ≡ rest.status
-reply_status (done reply) rest page is = ap (λ (p : Page). p.status) is
-reply_status (again reply) rest page is = ap (λ (p : Page). p.status) is
-reply_status (no why) rest page is = absurd is
-
--- the last answer is told: a reply, where an output failed
-last_told : (t : Told) (P : Cut → Page → Type 0) (cut : Cut) (page : Page) → page ≡ page_told t → (page.status ≡ 0 → cut ≢ uncut) → IsAnswerAbove t 0 P cut page
-last_told (done reply) P cut page is ends = inr (refl, is, ends (ap (λ (p : Page). p.status) is))
-last_told (again reply) P cut page is ends = inr (refl, is, ends (ap (λ (p : Page). p.status) is))
-last_told (no why) P cut page is ends = (refl, is)
-
--- a reply is told above what comes of the requests behind it
-told_above : (t : Told) (others : ℕ) (P : Cut → Page → Type 0) (later cut : Cut) (rest page : Page) → IsReplyAbove t rest page → cut ≡ cut_below (page_told t).out later → P later rest → IsAnswerAbove t others P cut page
-told_above (done reply) others P later cut rest page is stands told = inl (rest, later, is, stands, told)
-told_above (again reply) others P later cut rest page is stands told = inl (rest, later, is, stands, told)
-told_above (no why) others P later cut rest page is stands told = absurd is
-
--- no output failed, so none did behind the text
-pub whole_below : (text : Text) (cut later : Cut) → cut ≡ cut_below text later → cut ≡ uncut → later ≡ uncut
-whole_below text cut uncut is whole = refl
-whole_below text cut (cut_behind took) is whole = let bad : cut_behind (text ++ took) ≡ uncut = sym is ∙ whole in absurd (cc bad)
-whole_below text cut cut_error is whole = let bad : cut_error ≡ uncut = sym is ∙ whole in absurd (cc bad)
-
-last_leaves : (cut : Cut) (s : OfficeState) (r : Request) (rs : List Request) (page : Page) (closed : Bool) (begun st : State) → (page.status ≡ 0 → cut ≢ uncut) → IsAnswered s (step_of s r) page closed begun st → LeavesSome cut s (r ∷ rs) page st
-last_leaves cut s r rs page closed begun st ends (inl told) = (
-  1,
-  omega arith,
-  (λ trees may. let it = told.1.at.leaves trees may in (it.0, (1, omega arith, omega arith, omega arith, it.1), it.2)),
-  (λ zero whole. absurd (ends zero whole)),
-  last_told (told_of (step_of s r)) (TellsAnswers (after_one s r) rs 0) cut page told.0 ends,
-)
-last_leaves cut s r rs page closed begun st ends (inr (fault, is, cause, inl kept)) = (
-  0,
-  omega arith,
-  (λ trees may. let it = kept.open_at.at.leaves trees may in (it.0, (0, omega arith, omega arith, omega arith, it.1), it.2)),
-  (λ zero whole. let three : page.status ≡ 3 = ap (λ (p : Page). p.status) is in absurd (omega arith)),
-  inr (fault, is),
-)
-last_leaves cut s r rs page closed begun st ends (inr (fault, is, cause, inr shut)) = (
-  0,
-  omega arith,
-  (λ trees may. let it = shut.leaves trees may in elim it.1 [
-    | inl before ↦ (it.0, (0, omega arith, omega arith, omega arith, before), it.2)
-    | inr next ↦ (it.0, (1, omega arith, omega arith, omega arith, next), it.2)
-  ]),
-  (λ zero whole. let three : page.status ≡ 3 = ap (λ (p : Page). p.status) is in absurd (omega arith)),
-  inr (fault, is),
-)
-
-pub sent_leaves : (cut : Cut) (s : OfficeState) (rs : List Request) (page : Page) (closed : Bool) (begun st : State) → IsSent cut s rs page closed begun st → LeavesSome cut s rs page st
-sent_leaves cut s [] page closed begun st sent =
-    (0, omega arith, (λ trees may. let it = sent.2.at.leaves trees may in (it.0, (0, omega arith, omega arith, omega arith, it.1), it.2)), (λ zero whole. refl), inl (sent.0, sent.1))
-sent_leaves cut s (r ∷ rs) page closed begun st (inl goes) =
-    let t = told_of (step_of s r) in
-    let rest = sent_leaves goes.1 (after_one s r) rs goes.0 closed begun st goes.4 in (
-      suc rest.0,
-      omega arith,
-      (λ trees may. let it = rest.2 trees may in (it.0, (suc it.1.0, omega arith, omega arith, omega arith, it.1.4), it.2)),
-      (λ zero whole. ap suc (rest.3 (sym (reply_status t goes.0 page goes.2) ∙ zero) (whole_below (page_told t).out cut goes.1 goes.3 whole))),
-      told_above t rest.0 (TellsAnswers (after_one s r) rs rest.0) goes.1 cut goes.0 page goes.2 goes.3 rest.4,
-    )
-sent_leaves cut s (r ∷ rs) page closed begun st (inr last) = last_leaves cut s r rs page closed begun st last.0 last.1
-
--- a status 0 comes of a page that was told whole
-pub shown_zero : (cut : Cut) (old new : Outputs) (page : Page) (status : ℕ) → IsShown cut old new page status → status ≡ 0 → (cut ≡ uncut) × (page.status ≡ 0)
-shown_zero uncut old new page status all zero = (refl, sym all.ends ∙ zero)
-shown_zero (cut_behind took) old new page status broken zero = let three : status ≡ 3 = broken_ends broken in absurd (omega arith)
-shown_zero cut_error old new page status broken zero = let three : status ≡ 3 = broken.ends in absurd (omega arith)
-
-sends_some : (s : OfficeState) (errand : Errand) (file : File) (requests : List Request) → Sends s errand file requests → SendsSome s (running errand) file requests
-sends_some s errand file [] sends = tt
-sends_some s errand file (r ∷ rs) sends = sends
-
--- a fault is told where nothing was sent
-pub fault_other : (s : OfficeState) (work : Work) (file : File) (page : Page) (fault : Fault) (begun st : State) → page ≡ failed (Office fault) → IsEndOf work begun st fault → TellsOther s work file page
-fault_other s making file page fault begun st is ends = (fault, is)
-fault_other s (serving port connections) file page fault begun st is ends = absurd ends
-fault_other s copying file page fault begun st is ends = absurd ends
-fault_other s (running errand) file page fault begun st is ends = inr (fault, is)
-fault_other s (replaying folder) file page fault begun st is ends = inr (inr (fault, is))
-fault_other s migrating file page fault begun st is ends = inr (fault, is)
-
--- where there was nothing to send, nothing is told
-pub sent_other : (cut : Cut) (s : OfficeState) (errand : Errand) (file : File) (requests : List Request) (page : Page) (closed : Bool) (begun st : State) → Sends s errand file requests → IsSent cut s requests page closed begun st
-    → requests ≡ [] → TellsOther s (running errand) file page
-sent_other cut s errand file [] page closed begun st sends sent none = inl (inl (sends, sent.1))
-sent_other cut s errand file (r ∷ rs) page closed begun st sends sent none = absurd (cc none)
-
--- nothing was sent, and a stop leaves the state as it was
-pub nothing_kept : (earlier : List Request) (work : Work) (file : File) (cut : Cut) (page : Page) (status : ℕ) (st : State) → TellsOther (after empty_office earlier) work file page → LeavesState st (λ x. x ≡ after empty_office earlier)
-    → IsKept earlier work file cut page status st
-nothing_kept earlier work file cut page status st tells leaves = record {
-  requests = [];
-  sends = tt;
-  answered = 0;
-  told = λ some. absurd (some refl);
-  other = λ none. tells;
-  leaves = λ trees may. let it = leaves trees may in (it.0, beginning earlier [] 0 0 (omega arith) (omega arith) (omega arith) it.0 it.1, it.2);
-  all = λ zero. refl;
+-- nothing was sent
+pub kept_none : (s : OfficeState) (line : Option ℕ) (page : Page) (cut : Cut) (st : State) → LeavesState st (λ x. x ≡ s) → Kept s (ended line [] 0 page cut) st
+kept_none s line page cut st leaves = record {
+  within = omega arith;
+  leaves = λ trees may. let it = leaves trees may in (it.0, (0, omega arith, omega arith, omega arith, it.1), it.2);
+  all = λ fine. refl;
 }
 
-pub stopped_tells : (s : OfficeState) (page : Page) (closed : Bool) (begun st : State) → IsStopped s page closed begun st → TellsFault page
-stopped_tells s page closed begun st stopped = (stopped.0, stopped.1)
-
-pub stopped_leaves : (s : OfficeState) (page : Page) (closed : Bool) (begun st : State) → IsStopped s page closed begun st → LeavesState st (λ x. x ≡ s)
-stopped_leaves s page closed begun st (fault, is, cause, inl kept) = kept.open_at.at.leaves
-stopped_leaves s page closed begun st (fault, is, cause, inr shut) = shut.leaves
-
-pub run_kept : (earlier : List Request) (errand : Errand) (file : File) (cut : Cut) (old new : Outputs) (page : Page) (status : ℕ) (closed : Bool) (begun st : State) → IsShown cut old new page status
-    → IsRun cut (after empty_office earlier) errand file page closed begun st → IsKept earlier (running errand) file cut page status st
-run_kept earlier errand file cut old new page status closed begun st shown (inl sent) =
-    let it = sent_leaves cut (after empty_office earlier) sent.0 page closed begun st sent.2 in
+-- one request more, before others
+kept_more : (s : OfficeState) (r : Request) (text : Text) (rest : Course) (st : State) → Kept (after_one s r) rest st → Kept s (replied_above r text rest) st
+kept_more s r text rest st kept =
+    let low = kept.within in
     record {
-      requests = sent.0;
-      sends = sends_some (after empty_office earlier) errand file sent.0 sent.1;
-      answered = it.0;
-      told = λ some. it.4;
-      other = sent_other cut (after empty_office earlier) errand file sent.0 page closed begun st sent.1 sent.2;
-      leaves = λ trees may. let x = it.2 trees may in (x.0, beginning earlier sent.0 it.0 x.1.0 x.1.1 x.1.2 x.1.3 x.0 x.1.4, x.2);
-      all = λ zero. let whole = shown_zero cut old new page status shown zero in it.3 whole.1 whole.0;
+      within = omega (arith, low);
+      leaves = λ trees may. let it = kept.leaves trees may in let (k, least, most, inside, is) = it.1 in (it.0, (suc k, omega (arith, least), omega (arith, most), omega (arith, inside), is), it.2);
+      all = λ fine. let same : rest.answered ≡ length rest.requests = kept.all (fine.0, whole_below text (cut_below text rest.cut) rest.cut refl fine.1) in omega (arith, same);
     }
-run_kept earlier errand file cut old new page status closed begun st shown (inr (inl told)) =
-    nothing_kept earlier (running errand) file cut page status st (inl (inr told.0)) told.1.at.leaves
-run_kept earlier errand file cut old new page status closed begun st shown (inr (inr stopped)) =
-    let tells = stopped_tells (after empty_office earlier) page closed begun st stopped in
-    nothing_kept earlier (running errand) file cut page status st (inr tells) (stopped_leaves (after empty_office earlier) page closed begun st stopped)
+
+-- the last that was sent
+kept_last : (old : State) (closed : Bool) (st : State) (line : Option ℕ) (s : OfficeState) (r : Request) (rs : List Request) (answered : ℕ) (page : Page) (cut : Cut) → (page.status ≡ 0 → cut ≢ uncut) → IsAnswered old closed st s r answered page
+    → Kept s (ended line (r ∷ rs) answered page cut) st
+kept_last old closed st line s r rs answered page cut ends it = record {
+  within = by it;
+  leaves = leaves it;
+  all = λ fine. absurd (ends (sym (fronted_status line page) ∙ fine.0) fine.1);
+}
+  where
+    by : IsAnswered old closed st s r answered page → answered ≤ suc (length rs)
+    by (inl told) = let one = told.0 in omega (arith, one)
+    by (inr met) = let none = met.0 in omega (arith, none)
+
+    leaves : IsAnswered old closed st s r answered page → LeavesState st (IsAfterSome s (r ∷ rs) answered)
+    leaves (inl told) = λ trees may. let x = told.2.at.leaves trees may in let one = told.0 in (x.0, (1, omega (arith, one), omega (arith, one), omega arith, x.1), x.2)
+    leaves (inr (none, (fault, is, (cause, inl stays)))) = λ trees may. let x = stays.open_at.at.leaves trees may in (x.0, (0, omega (arith, none), omega (arith, none), omega arith, x.1), x.2)
+    leaves (inr (none, (fault, is, (cause, inr shut)))) = λ trees may. let x = shut.leaves trees may in elim x.1 [
+      | inl before ↦ (x.0, (0, omega (arith, none), omega (arith, none), omega arith, before), x.2)
+      | inr next ↦ (x.0, (1, omega (arith, none), omega (arith, none), omega arith, next), x.2)
+    ]
+
+kept_sent : {Then : OfficeState → Course → Type 0} (old : State) (closed : Bool) (st : State) (line : Option ℕ) → ((x : OfficeState) (e : Course) → Then x e → Kept x e st) → (s : OfficeState) (rs : List Request) (c : Course)
+    → IsSent old closed st line Then s rs c → Kept s c st
+kept_sent old closed st line so s [] c sent = so s c sent
+kept_sent old closed st line so s (r ∷ rs) c (inl (rest, zero, is, more)) =
+    subst (λ e. Kept s e st) (sym is) (kept_more s r (answer s r).out rest st (kept_sent old closed st line so (after_one s r) rs rest more))
+kept_sent old closed st line so s (r ∷ rs) c (inr (answered, page, cut, is, ends, it)) = subst (λ e. Kept s e st) (sym is) (kept_last old closed st line s r rs answered page cut ends it)
+
+stopped_leaves : (old : State) (closed : Bool) (st : State) (s : OfficeState) (page : Page) → IsStopped old closed st s page → LeavesState st (λ x. x ≡ s)
+stopped_leaves old closed st s page (fault, is, (cause, inl stays)) = stays.open_at.at.leaves
+stopped_leaves old closed st s page (fault, is, (cause, inr shut)) = shut.leaves
+
+kept_unsent : (old : State) (closed : Bool) (st : State) (line : Option ℕ) (Tells : Page → Type 0) (s : OfficeState) (c : Course) → IsUnsent old closed st line Tells s c → Kept s c st
+kept_unsent old closed st line Tells s c (page, cut, is, inl told) = subst (λ e. Kept s e st) (sym is) (kept_none s line page cut st told.1.at.leaves)
+kept_unsent old closed st line Tells s c (page, cut, is, inr stopped) = subst (λ e. Kept s e st) (sym is) (kept_none s line page cut st (stopped_leaves old closed st s page stopped))
+
+kept_played : (old : State) (closed : Bool) (st : State) (folder : Folder) (s : OfficeState) (turns : List Turn) (c : Course) → IsPlayed old closed st folder s turns c → Kept s c st
+kept_played old closed st folder s [] c played = subst (λ e. Kept s e st) (sym played.0) (kept_none s None empty_page uncut st played.1.at.leaves)
+kept_played old closed st folder s (turn ∷ turns) c (file, found, inl (own, sends, sent)) = kept_sent old closed st turn.line (λ x e more. kept_played old closed st folder x turns e more) s own c sent
+kept_played old closed st folder s (turn ∷ turns) c (file, found, inr unsent) = kept_unsent old closed st turn.line (IsTold s turn.errand file) s c unsent
+
+kept_untouched : (Tells : Page → Type 0) (s : OfficeState) (c : Course) (st : State) → IsUntouched Tells s c st → Kept s c st
+kept_untouched Tells s c st (page, cut, is, told, leaves) = subst (λ e. Kept s e st) (sym is) (kept_none s None page cut st leaves)
+
+kept_performed : (folder : Folder) (s : OfficeState) (task : Task) (c : Course) (old new : State) → Performs folder s task c old new → Kept s c new
+kept_performed folder s task.Init c old new it = kept_untouched _ s c new it
+kept_performed folder s task.Migrate c old new it = kept_untouched _ s c new it
+kept_performed folder s (task.InOffice job) c old new (inr it) = kept_untouched _ s c new it
+kept_performed folder s (task.InOffice job) c old new (inl (closed, inl (turns, are, played))) = kept_played old closed new folder s turns c played
+kept_performed folder s (task.InOffice job) c old new (inl (closed, inr unsent)) = kept_unsent old closed new None _ s c unsent
+
+-- ---- the promise
+
+pub performed : (folder : Folder) (s : OfficeState) (task : Task) (cut : Cut) (before then : Outputs) (page : Page) (ends : ℕ) (old new : State) → IsShown cut before then page ends
+    → ComesTo cut page (λ course. Performs folder s task course old new) → IsPerformed folder s task cut page ends old new
+performed folder s task cut before then page ends old new shown (requests, answered, comes) =
+    let kept = kept_performed folder s task (record { requests = requests; answered = answered; page = page; cut = cut }) old new comes in
+    record {
+      requests = requests;
+      answered = answered;
+      comes = comes;
+      keeps = λ earlier is trees may.
+          let x = kept.leaves trees may in
+          let (k, low, high, within, there) = x.1 in
+          (x.0, beginning earlier requests answered k low high within x.0 (there ∙ ap (λ y. after y (take k requests)) is), x.2);
+      all = λ zero. let fine = shown_zero cut before then page ends shown zero in kept.all (fine.1, fine.0);
+    }
+
+-- where nothing was sent
+pub untouched : (Tells : Page → Type 0) (s : OfficeState) (cut : Cut) (page : Page) (st : State) → Tells page → LeavesState st (λ x. x ≡ s) → ComesTo cut page (λ course. IsUntouched Tells s course st)
+untouched Tells s cut page st tells leaves = ([], 0, (page, cut, refl, tells, leaves))

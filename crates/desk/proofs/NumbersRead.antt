@@ -1,11 +1,11 @@
 -- A text is parsed as the number that it is.
 use Rattle.std.proofs.Common.{◌≡◌, ◌<◌, ◌^◌, ℕ, Bool, List, Option, Some, None, true, false, refl, arith}
-use Rattle.std.specs.Prelude.{Result, Ok, Err, unwrap_or}
+use Rattle.std.specs.Prelude.{Result, Ok, Err}
 use Rattle.std.specs.Str.Parse.{IsNumeral, ParsesUnsigned, digits_value, without_leading_plus}
 use Rattle.clap.specs.Matches.{ReadsOne}
 use Rattle.clap.specs.declared.builder.value_parser.ValueParser.TheVariants as parser
 use Rattle.clap.proofs.ValueTestLemmas.{accepts-Accepts, Accepts-accepts}
-use Rattle.desk.specs.Numbers.{is_number, number_if, number_of}
+use Rattle.desk.specs.Numbers.{is_number, number_in}
 
 -- digits of a number of 32 bits, behind a plus or not
 abbrev pub FitsNumber : List ℕ → Type 0
@@ -26,17 +26,8 @@ unfitting_is_none t unfit = by (is_number t) refl
 -- what a typed getter of `clap` reads of a text; `G` is what the getter says of the text and of its own result
 pub read_number : (E : Type 0) (G : List ℕ → Result ℕ E → Type 0) (t : List ℕ) (r : Option ℕ)
     → ((u : List ℕ) (x : Result ℕ E) → G u x → ParsesUnsigned 32 10 u x)
-    → ReadsOne G t r → unwrap_or r 0 ≡ number_of t
+    → ReadsOne G t r → r ≡ number_in t
 read_number E G t (Some v) parses reads =
     let parsed = parses t (Ok v) reads in
     rw (parsed.1, fitting_is_number t parsed.0) refl
 read_number E G t None parses reads = rw (unfitting_is_none t (parses t (Err reads.0) reads.1)) refl
-
--- the same of a text that may be no number
-pub read_found : (E : Type 0) (G : List ℕ → Result ℕ E → Type 0) (t : List ℕ) (r : Option ℕ)
-    → ((u : List ℕ) (x : Result ℕ E) → G u x → ParsesUnsigned 32 10 u x)
-    → ReadsOne G t r → r ≡ number_if (Some t)
-read_found E G t (Some v) parses reads =
-    let parsed = parses t (Ok v) reads in
-    rw (parsed.1, fitting_is_number t parsed.0) refl
-read_found E G t None parses reads = rw (unfitting_is_none t (parses t (Err reads.0) reads.1)) refl

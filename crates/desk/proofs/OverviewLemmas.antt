@@ -9,7 +9,7 @@ use Rattle.tables.specs.declared.fault.Fault.TheVariants.{Memory}
 use Rattle.office.specs.Reads.{Read, StopsBy}
 use Rattle.office.specs.declared.answers.Stop.{Stop}
 use Rattle.office.specs.declared.answers.Stop.TheVariants.{Refused, Fault}
-use Rattle.desk.specs.Errands.{IsFound}
+use Rattle.desk.specs.Parts.{IsFound}
 use Rattle.desk.specs.Overviews.{lines_of}
 use Rattle.desk.specs.Pages.{Page, failed, line, page_found, page_stopped, printed}
 use Rattle.desk.specs.declared.lines.Failure.TheVariants.{Office}
@@ -28,12 +28,12 @@ pub lines_found : {W X V : Type 0} (items : W → List X) (text : V → Text) (v
     → IsFound s (λ views. printed (lines_of text views)) told page closed old st
 lines_found items text view s told (Ok w) page closed old st read (inl is) stops cause =
     inl (is ∙ ap printed (lines_viewed text view (items w)) ∙ sym (ap (page_found (λ views. printed (lines_of text views))) read.0), read.1)
-lines_found items text view s told (Ok w) page closed old st read (inr is) stops cause = inr (Memory, is, inl refl, inl (record { memory = refl; open_at = read.1 }))
+lines_found items text view s told (Ok w) page closed old st read (inr is) stops cause = inr (Memory, is, (inl refl, inl (record { memory = refl; open_at = read.1 })))
 lines_found items text view s told (Err (Refused why)) page closed old st read lines is cause = inl (is ∙ sym (ap (page_found (λ views. printed (lines_of text views))) read.0), read.1)
-lines_found items text view s told (Err (Fault fault)) page closed old st read lines is cause = inr (fault, is, cause, read)
+lines_found items text view s told (Err (Fault fault)) page closed old st read lines is cause = inr (fault, is, (cause, read))
 
 -- why nothing was found is told
 pub stop_found : {X Y : Type 0} (view : Y → X) (shown : X → Page) (s : OfficeState) (told : Result X Reason) (stop : Stop) (page : Page) (closed : Bool) (old st : State) → Read view s told (Err stop) closed st → StopsBy old st stop
     → page ≡ page_stopped stop → IsFound s shown told page closed old st
 stop_found view shown s told (Refused why) page closed old st read cause is = inl (is ∙ sym (ap (page_found shown) read.0), read.1)
-stop_found view shown s told (Fault fault) page closed old st read cause is = inr (fault, is, cause, read)
+stop_found view shown s told (Fault fault) page closed old st read cause is = inr (fault, is, (cause, read))

@@ -18,7 +18,7 @@ use Rattle.desk.specs.declared.scripts.ScriptFault.{ScriptFault}
 use Rattle.desk.specs.declared.scripts.ScriptFault.TheVariants as script
 use Rattle.desk.specs.declared.scripts.Turn.{Turn}
 use Rattle.desk.specs.Cuttings.{IsFaultOfLine, IsFaultOfLines}
-use Rattle.desk.proofs.SentLemmas.{next_left}
+use Rattle.desk.proofs.CourseLemmas.{next_left}
 
 -- one line more
 pub turns_more : (lines : List Typed) (turns : List Turn) (line : Typed) (turn : Turn) → AreTurns lines turns → IsTurn line turn → AreTurns (lines ++ line ∷ []) (turns ++ turn ∷ [])

@@ -256,5 +256,5 @@ module _ {R W S : Type 0} (given : Option (List ℕ)) (streams : Streams R W) (s
         last = it.last;
         in_turn = it.in_turn;
         open_at = λ was. subst (λ x. IsOpenAt x new.closed (state_of new.held)) (sym (fold-append after_one empty_office earlier it.answered)) (it.open_at was);
-        leaves = leaves_as (state_of new.held) _ _ (λ x some. beginning earlier (it.answered ++ it.last) (length it.answered) some.0 some.1 some.2 some.3 x some.4) it.leaves;
+        keeps = leaves_as (state_of new.held) _ _ (λ x some. beginning earlier (it.answered ++ it.last) (length it.answered) some.0 some.1 some.2 some.3 x some.4) it.leaves;
       }

@@ -1,5 +1,5 @@
 -- The status of words that `clap` doesn't take.
-use Rattle.std.proofs.Common.{◌≡◌, ◌∙◌, ◌⊎◌, ℕ, List, [], ◌∷◌, true, refl, subst, sym, ap, inl, inr}
+use Rattle.std.proofs.Common.{◌≡◌, ◌∙◌, ◌⊎◌, ℕ, List, [], ◌∷◌, Some, true, refl, subst, sym, ap, inl, inr}
 use Rattle.std.specs.Prelude.{◌==◌}
 use Rattle.std.specs.List.{list_any}
 use Rattle.std.proofs.Math.Bool.{or-true}
@@ -11,7 +11,8 @@ use Rattle.clap.specs.declared.error.kind.ErrorKind.{ErrorKind}
 use Rattle.clap.specs.declared.error.kind.ErrorKind.TheVariants as kind
 use Rattle.clap.proofs.OnLiterals.{clap_on_literals}
 use Rattle.desk.specs.Orders.{orders}
-use Rattle.desk.specs.Words.{IsToldOf, TellsRefusal, office_words, status_of_kind, wrong_with}
+use Rattle.desk.specs.Versions.{version_text}
+use Rattle.desk.specs.Words.{IsToldOf, TellsOwnText, TellsRefusal, office_words, status_of_kind, wrong_with}
 use Rattle.desk.specs.declared.words.WordsFault.{WordsFault}
 use Rattle.desk.specs.declared.words.WordsFault.TheVariants as words_fault
 
@@ -21,6 +22,10 @@ among_gives_status : (k : ErrorKind) (kinds : Kinds) (status : ℕ) → status �
 among_gives_status k [] status is none = absurd none
 among_gives_status k (x ∷ xs) status is (inl same) = rw (eq-eqb (status_of_kind x) status (ap status_of_kind (sym same) ∙ sym is)) refl
 among_gives_status k (x ∷ xs) status is (inr later) = rw (among_gives_status k xs status is later) (or-true _)
+
+-- a kind that is one of one kind is that
+only_kind : (k : ErrorKind) (kinds : Kinds) → kinds ≡ kind.DisplayVersion ∷ [] → IsAmong k kinds → k ≡ kind.DisplayVersion
+only_kind k kinds only among = elim (subst (IsAmong k) only among) [ inl same ↦ same | inr none ↦ absurd none ]
 
 -- and so is that of a kind that isn't want of memory
 refusal_gives_status : (k : ErrorKind) (kinds : Kinds) (status : ℕ) → status ≡ status_of_kind k → (k ≡ kind.OutOfMemory → ⊥) → (k ≡ kind.OutOfMemory) ⊎ IsAmong k kinds
@@ -38,6 +43,16 @@ refusal_is_told k kinds (words_fault.Words text status) tells among = (refusal_g
 -- where the kind that was asked for is that of the error
 pub refusal_told : (k given : ErrorKind) (kinds : Kinds) (fault : WordsFault) → given ≡ k → TellsRefusal given fault → (k ≡ kind.OutOfMemory) ⊎ IsAmong k kinds → IsToldOf kinds fault
 refusal_told k given kinds fault same tells among = refusal_is_told k kinds fault (subst (λ x. TellsRefusal x fault) same tells) among
+
+-- where words ask for the version, it is told
+pub version_asked : (k given : ErrorKind) (kinds : Kinds) (fault : WordsFault) → given ≡ k → kinds ≡ kind.DisplayVersion ∷ [] → (k ≡ kind.OutOfMemory) ⊎ IsAmong k kinds
+    → (given ≡ kind.OutOfMemory → fault ≡ words_fault.Memory) → (given ≡ kind.DisplayVersion → TellsOwnText (Some version_text) fault) → TellsOwnText (Some version_text) fault
+version_asked k given kinds fault same only (inl memory) none told = rw (none (same ∙ memory)) tt
+version_asked k given kinds fault same only (inr among) none told = told (same ∙ only_kind k kinds only among)
+
+-- words that are taken don't ask for it
+pub none_asked : (kinds : Kinds) → kinds ≡ [] → kinds ≡ kind.DisplayVersion ∷ [] → ⊥
+none_asked kinds none asked = cc
 
 office_is_free : is_simple_and_free office_words ≡ true
 unfolding office_words orders clap_on_literals

@@ -1,5 +1,5 @@
 -- What the program's values of a script stand for.
-use Rattle.std.specs.Prelude.{◌≡◌, ◌⊎◌, ⊤, Bool, List, Result, Ok, Err, map, option_map}
+use Rattle.std.specs.Prelude.{◌≡◌, ◌⊎◌, ⊤, Bool, List, [], None, Result, Ok, Err, map, option_map}
 use Rattle.std.specs.Borrow.{Bor}
 use Rattle.std.specs.declared.vec.Vec.{Vec}
 use Rattle.std.specs.declared.alloc.Global.{Global}
@@ -7,9 +7,9 @@ use Rattle.clap.specs.Words.{Text}
 use Rattle.sqlite.specs.State.{State}
 use Rattle.register.specs.Offices.{OfficeState}
 use Rattle.office.specs.Answers.{IsOpenAt}
-use Rattle.desk.specs.Errands.{IsReplayed}
+use Rattle.desk.specs.Headline.{Course, IsPlayed, ended}
 use Rattle.desk.specs.Folders.{Folder}
-use Rattle.desk.specs.Pages.{Cut, Page, script_page}
+use Rattle.desk.specs.Pages.{Cut, script_page}
 use Rattle.desk.specs.Scripts.{AreTurns, Cutting, IsFirstFlaw, IsFlawOf, Numbered, Typed}
 use Rattle.desk.specs.declared.cutting.Cutter.{Cutter}
 use Rattle.desk.specs.declared.scripts.Line.{Line}
@@ -47,7 +47,7 @@ IsFaultOfLines lines fault.Memory = ⊤
 IsFaultOfLines lines (fault.Line number flaw) = IsFirstFlaw lines number flaw
 
 -- what comes of a script's lines: their turns are taken; or what is wrong with them is told, and nothing is sent
-abbrev pub IsReplayOf : Folder → Cut → OfficeState → List Typed → Page → Bool → State → State → Type 0
-IsReplayOf folder cut s lines page closed old st =
-    ((turns : List Turn) × AreTurns lines turns × IsReplayed folder cut s turns page closed old st)
-    ⊎ ((why : ScriptFault) × (page ≡ script_page why) × IsFaultOfLines lines why × IsOpenAt s closed st)
+abbrev pub IsReplayOf : Folder → OfficeState → List Typed → Course → State → Bool → State → Type 0
+IsReplayOf folder s lines course old closed st =
+    ((turns : List Turn) × AreTurns lines turns × IsPlayed old closed st folder s turns course)
+    ⊎ ((why : ScriptFault) × (cut : Cut) × (course ≡ ended None [] 0 (script_page why) cut) × IsFaultOfLines lines why × IsOpenAt s closed st)

@@ -1,6 +1,7 @@
 -- Files, as far as they tell their bytes.
-use Rattle.std.specs.Prelude.{ℕ, List, Option}
+use Rattle.std.specs.Prelude.{◌≡◌, ℕ, List, Option, Some, None, IfSome}
 use Rattle.clap.specs.Words.{Text}
+use Rattle.keyfile.specs.Reading.{Known}
 
 -- a file that is named: none where it can't be opened, and of one that is, its bytes, as far as they are told
 abbrev pub File : Type 0
@@ -9,3 +10,13 @@ File = Option (Option (List ℕ))
 -- what is at each path, as far as that is known
 abbrev pub Folder : Type 0
 Folder = Text → Option File
+
+-- the file at a path: what the folder has there, as far as that is known; none, where no path is named
+abbrev pub IsFileAt : Folder → Option Text → File → Type 0
+IsFileAt folder None file = file ≡ None
+IsFileAt folder (Some path) file = IfSome (folder path) (λ found. file ≡ found)
+
+-- the file holds a text of a kind
+abbrev pub HoldsText : File → (Text → Type 0) → Type 0
+HoldsText None P = ⊥
+HoldsText (Some told) P = Known told P

@@ -9,11 +9,6 @@ use Rattle.clap.specs.declared.builder.value_parser.ValueParser.TheVariants as p
 abbrev pub is_number : Text → Bool
 is_number t = accepts false (parser.Unsigned 0 4294967295) t
 
--- the number that a text is, and 0 where it is none
-abbrev pub number_of : Text → ℕ
-number_of t = if is_number t then digits_value 10 (without_leading_plus t) else 0
-
--- the number that a text is, if there is one and it is a number
-abbrev pub number_if : Option Text → Option ℕ
-number_if None = None
-number_if (Some t) = if is_number t then Some (digits_value 10 (without_leading_plus t)) else None
+-- the number that a text is, if it is one
+abbrev pub number_in : Text → Option ℕ
+number_in t = if is_number t then Some (digits_value 10 (without_leading_plus t)) else None

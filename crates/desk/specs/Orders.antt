@@ -1,19 +1,26 @@
--- The orders of the program: the name and the words of each, and the values that an order has.
-use Rattle.std.specs.Prelude.{ℕ, zero, suc, List, [], ◌∷◌, ◌++◌, Option, Some, codes, map, option_map, string_bytes}
+-- The orders of the program: the name and the words of each, and what it means by their values.
+use Rattle.std.specs.Prelude.{ℕ, Bool, true, false, List, [], ◌∷◌, ◌++◌, Option, codes, map, option_map}
 use Rattle.clap.specs.Words.{Text}
+use Rattle.office.specs.declared.sheets.Text.{Text as WardText}
 use Rattle.office.specs.declared.sheets.Text.TheVariants as ward_text
 use Rattle.wire.specs.Origins.{origin_text}
-use Rattle.wire.specs.declared.origin.Origin.{Origin}
 use Rattle.desk.specs.Verdicts.{Judgement}
-use Rattle.desk.specs.Requests.{Asked, asked_by, batch_to_add, batch_to_key_again, batch_for_third_clerk, candidate_to_add, candidate_to_withdraw, keying_to_keep, lot_to_record, paper_to_judge, stage_to_count, ward_to_add, ward_to_close, ward_to_declare, ward_to_seal}
+use Rattle.desk.specs.Requests as asks
+use Rattle.desk.specs.Requests.{Asked, Sent, by_office, sent_as}
 use Rattle.desk.specs.declared.table.Kind.{Kind}
 use Rattle.desk.specs.declared.table.Kind.TheVariants as kind
 use Rattle.desk.specs.declared.table.Word.{Word}
 use Rattle.desk.specs.declared.table.Entry.{Entry}
+use Rattle.desk.specs.declared.orders.Errand.{Errand}
 use Rattle.desk.specs.declared.orders.Errand.TheVariants as errand
+use Rattle.desk.specs.declared.orders.Question.{Question}
 use Rattle.desk.specs.declared.orders.Question.TheVariants as question
 use Rattle.desk.specs.declared.orders.Order.{Order}
 use Rattle.desk.specs.declared.orders.Order.TheVariants as order
+use Rattle.desk.specs.declared.orders.Job.TheVariants as job
+use Rattle.desk.specs.declared.orders.Task.TheVariants as task
+
+-- ---- the words of an order
 
 -- a word that an order takes
 pub record WordEntry : Type 0 where
@@ -21,17 +28,17 @@ pub record WordEntry : Type 0 where
   pub kind : Kind
 
 -- an order's name and words
-pub record OrderEntry : Type 0 where
+pub record OrderWords : Type 0 where
   pub name : Text
   pub words : List WordEntry
 
--- the entry that a word of the program's table is
+-- the word that one of the program's table is
 abbrev pub word_of : Word → WordEntry
 word_of w = record { name = w.name.now; kind = w.kind }
 
--- the entry that a row of the program's table is
-abbrev pub entry_of : Entry → OrderEntry
-entry_of e = record { name = e.name.now; words = map word_of e.words.now }
+-- the name and the words that an entry of the program's table has
+abbrev pub words_of : Entry → OrderWords
+words_of e = record { name = e.name.now; words = map word_of e.words.now }
 
 -- a word that is a number of 0 to 4294967295
 abbrev pub number : Text → WordEntry
@@ -64,102 +71,110 @@ id = record { name = codes "id"; kind = kind.Id }
 abbrev pub origin : WordEntry
 origin = record { name = codes "origin"; kind = kind.Origin }
 
--- an order of this name takes these words, in their sequence
-abbrev pub takes : Text → List WordEntry → OrderEntry
-takes name words = record { name = name; words = words }
+-- ---- what an order means
+
+-- what is to be done; or nothing, since the word of a verdict says none, or the one of an origin is none
+pub data Meant : Type 0 where
+  make : Meant
+  migrate : Meant
+  send : Sent → Meant
+  import_candidates : Text → Text → Meant
+  import_keying : ℕ → ℕ → ℕ → Text → Text → Meant
+  tell_status : ℕ → Meant
+  print : ℕ → WardText → Meant
+  ask : Question → Meant
+  replay : Text → Meant
+  copy : Text → Meant
+  serve : ℕ → ℕ → Option Text → Meant
+  no_verdict : Meant
+  no_origin : Meant
+
+-- what an errand is, its request and its texts as such
+abbrev pub told_errand : Errand → Meant
+told_errand (errand.Send r) = send (sent_as r)
+told_errand (errand.ImportCandidates file id) = import_candidates file.now id.now
+told_errand (errand.ImportKeying k) = import_keying k.clerk k.batch k.round k.file.now k.id.now
+told_errand (errand.TellStatus ward) = tell_status ward
+told_errand (errand.Print ward text) = print ward text
+told_errand (errand.Ask question) = ask question
+
+-- what an order is
+abbrev pub told : Order → Meant
+told (order.Perform task.Init) = make
+told (order.Perform task.Migrate) = migrate
+told (order.Perform (task.InOffice (job.Run errand))) = told_errand errand
+told (order.Perform (task.InOffice (job.Replay file))) = replay file.now
+told (order.Copy path) = copy path.now
+told (order.Serve port connections origin) = serve port connections (option_map origin_text origin)
+
+-- ---- the orders
+
+-- what the value of a word is
+abbrev pub ValueOf : Kind → Type 0
+ValueOf kind.Number = ℕ
+ValueOf kind.NumberOrNone = Option ℕ
+ValueOf kind.Port = ℕ
+ValueOf kind.Connections = ℕ
+ValueOf kind.Text = Text
+ValueOf kind.Verdict = Judgement
+ValueOf kind.Id = Text
+ValueOf kind.Origin = Option Text
+
+-- what comes of the values of some words, in their sequence
+abbrev pub Of : List WordEntry → Type 0 → Type 0
+Of [] T = T
+Of (w ∷ ws) T = ValueOf w.kind → Of ws T
+
+-- an order's name and words, what it means, by the values of its words, and whether that is a command of the office
+pub record OrderEntry : Type 0 where
+  pub typed : OrderWords
+  pub means : Of typed.words Meant
+  pub is_command : Bool
+
+-- an order of this name takes these words, in their sequence, and means this of their values
+abbrev pub takes : Text → (words : List WordEntry) → Of words Meant → OrderEntry
+takes name words means = record { typed = record { name = name; words = words }; means = means; is_command = false }
+
+-- the office sends a command, of the values of some words, under the id that stands behind them
+abbrev pub under_id : (words : List WordEntry) → Of words Asked → Of (words ++ id ∷ []) Meant
+under_id [] asked = λ id. send (by_office id asked)
+under_id (w ∷ ws) asked = λ value. under_id ws (asked value)
+
+-- an order of this name takes these words and an id, and sends a command of the office
+abbrev pub sends : Text → (words : List WordEntry) → Of words Asked → OrderEntry
+sends name words asked = record { typed = record { name = name; words = words ++ id ∷ [] }; means = under_id words asked; is_command = true }
 
 -- the table of orders, in the sequence of an election
 unfoldable pub orders : List OrderEntry
 orders =
-    takes (codes "init") []
-    ∷ takes (codes "ward") (number (codes "WARD") ∷ number (codes "SEATS") ∷ text (codes "NAME") ∷ id ∷ [])
-    ∷ takes (codes "candidate") (number (codes "WARD") ∷ number (codes "CANDIDATE") ∷ text (codes "NAME") ∷ id ∷ [])
-    ∷ takes (codes "import-candidates") (text (codes "FILE") ∷ id ∷ [])
-    ∷ takes (codes "withdraw") (number (codes "WARD") ∷ number (codes "CANDIDATE") ∷ id ∷ [])
-    ∷ takes (codes "close") (number (codes "WARD") ∷ id ∷ [])
-    ∷ takes (codes "batch") (number (codes "BATCH") ∷ number (codes "WARD") ∷ number (codes "SIZE") ∷ number (codes "FIRST_CLERK") ∷ number (codes "SECOND_CLERK") ∷ id ∷ [])
-    ∷ takes (codes "import-keying") (number (codes "CLERK") ∷ number (codes "BATCH") ∷ number (codes "ROUND") ∷ text (codes "FILE") ∷ id ∷ [])
-    ∷ takes (codes "again") (number (codes "BATCH") ∷ id ∷ [])
-    ∷ takes (codes "third") (number (codes "BATCH") ∷ number (codes "CLERK") ∷ id ∷ [])
-    ∷ takes (codes "judge") (number (codes "BATCH") ∷ number (codes "PAPER") ∷ verdict (codes "VERDICT") ∷ id ∷ [])
-    ∷ takes (codes "seal") (number (codes "WARD") ∷ id ∷ [])
-    ∷ takes (codes "advance") (number (codes "WARD") ∷ id ∷ [])
-    ∷ takes (codes "lot") (number (codes "WARD") ∷ number (codes "STAGE") ∷ number (codes "CANDIDATE") ∷ id ∷ [])
-    ∷ takes (codes "declare") (number (codes "WARD") ∷ id ∷ [])
-    ∷ takes (codes "status") (number (codes "WARD") ∷ [])
-    ∷ takes (codes "sheet") (number (codes "WARD") ∷ [])
-    ∷ takes (codes "result") (number (codes "WARD") ∷ [])
-    ∷ takes (codes "serve") (port (codes "PORT") ∷ connections (codes "CONNECTIONS") ∷ origin ∷ [])
-    ∷ takes (codes "migrate") []
-    ∷ takes (codes "wards") []
-    ∷ takes (codes "batches") (number (codes "WARD") ∷ [])
-    ∷ takes (codes "doubtful") (number (codes "WARD") ∷ [])
-    ∷ takes (codes "differences") (number (codes "BATCH") ∷ [])
-    ∷ takes (codes "receipts") (number_or_none (codes "ACTOR") ∷ [])
-    ∷ takes (codes "replay") (text (codes "FILE") ∷ [])
-    ∷ takes (codes "copy") (text (codes "NEW") ∷ [])
-    ∷ takes (codes "ballots") (number (codes "WARD") ∷ [])
-    ∷ takes (codes "page") (number (codes "WARD") ∷ [])
-    ∷ takes (codes "table") (number (codes "WARD") ∷ [])
+    takes (codes "init") [] make
+    ∷ sends (codes "ward") (number (codes "WARD") ∷ number (codes "SEATS") ∷ text (codes "NAME") ∷ []) asks.ward_to_add
+    ∷ sends (codes "candidate") (number (codes "WARD") ∷ number (codes "CANDIDATE") ∷ text (codes "NAME") ∷ []) asks.candidate_to_add
+    ∷ takes (codes "import-candidates") (text (codes "FILE") ∷ id ∷ []) import_candidates
+    ∷ sends (codes "withdraw") (number (codes "WARD") ∷ number (codes "CANDIDATE") ∷ []) asks.candidate_to_withdraw
+    ∷ sends (codes "close") (number (codes "WARD") ∷ []) asks.ward_to_close
+    ∷ sends (codes "batch") (number (codes "BATCH") ∷ number (codes "WARD") ∷ number (codes "SIZE") ∷ number (codes "FIRST_CLERK") ∷ number (codes "SECOND_CLERK") ∷ []) asks.batch_to_add
+    ∷ takes (codes "import-keying") (number (codes "CLERK") ∷ number (codes "BATCH") ∷ number (codes "ROUND") ∷ text (codes "FILE") ∷ id ∷ []) import_keying
+    ∷ sends (codes "again") (number (codes "BATCH") ∷ []) asks.batch_to_key_again
+    ∷ sends (codes "third") (number (codes "BATCH") ∷ number (codes "CLERK") ∷ []) asks.batch_for_third_clerk
+    ∷ sends (codes "judge") (number (codes "BATCH") ∷ number (codes "PAPER") ∷ verdict (codes "VERDICT") ∷ []) asks.paper_to_judge
+    ∷ sends (codes "seal") (number (codes "WARD") ∷ []) asks.ward_to_seal
+    ∷ sends (codes "advance") (number (codes "WARD") ∷ []) asks.stage_to_count
+    ∷ sends (codes "lot") (number (codes "WARD") ∷ number (codes "STAGE") ∷ number (codes "CANDIDATE") ∷ []) asks.lot_to_record
+    ∷ sends (codes "declare") (number (codes "WARD") ∷ []) asks.ward_to_declare
+    ∷ takes (codes "status") (number (codes "WARD") ∷ []) tell_status
+    ∷ takes (codes "sheet") (number (codes "WARD") ∷ []) (λ ward. print ward ward_text.Sheet)
+    ∷ takes (codes "result") (number (codes "WARD") ∷ []) (λ ward. print ward ward_text.Declaration)
+    ∷ takes (codes "serve") (port (codes "PORT") ∷ connections (codes "CONNECTIONS") ∷ origin ∷ []) serve
+    ∷ takes (codes "migrate") [] migrate
+    ∷ takes (codes "wards") [] (ask question.Wards)
+    ∷ takes (codes "batches") (number (codes "WARD") ∷ []) (λ ward. ask (question.Batches ward))
+    ∷ takes (codes "doubtful") (number (codes "WARD") ∷ []) (λ ward. ask (question.Doubtful ward))
+    ∷ takes (codes "differences") (number (codes "BATCH") ∷ []) (λ batch. ask (question.Differences batch))
+    ∷ takes (codes "receipts") (number_or_none (codes "ACTOR") ∷ []) (λ actor. ask (question.Receipts actor))
+    ∷ takes (codes "replay") (text (codes "FILE") ∷ []) replay
+    ∷ takes (codes "copy") (text (codes "NEW") ∷ []) copy
+    ∷ takes (codes "ballots") (number (codes "WARD") ∷ []) (λ ward. print ward ward_text.Ballots)
+    ∷ takes (codes "page") (number (codes "WARD") ∷ []) (λ ward. print ward ward_text.Page)
+    ∷ takes (codes "table") (number (codes "WARD") ∷ []) (λ ward. print ward ward_text.Table)
     ∷ []
-
--- a value of an order; a number or an origin that may be left out is none then, and a verdict is none where its word says none, as an origin
--- that is given is
-pub data Value : Type 0 where
-  numbered : ℕ → Value
-  numbered_or_none : Option ℕ → Value
-  worded : Text → Value
-  judged : Option Judgement → Value
-  served_to : Option (Option Text) → Value
-
--- the name of the order that sends a command of the office, and the values of the command in the sequence of the order's words; a keying is
--- sent for a clerk, by none of these
-abbrev pub words_of : Asked → Text × List Value
-words_of (ward_to_add ward seats name) = (codes "ward", numbered ward ∷ numbered seats ∷ worded name ∷ [])
-words_of (ward_to_close ward) = (codes "close", numbered ward ∷ [])
-words_of (candidate_to_add ward candidate name) = (codes "candidate", numbered ward ∷ numbered candidate ∷ worded name ∷ [])
-words_of (candidate_to_withdraw ward candidate) = (codes "withdraw", numbered ward ∷ numbered candidate ∷ [])
-words_of (batch_to_add batch ward size first_clerk second_clerk) = (codes "batch", numbered batch ∷ numbered ward ∷ numbered size ∷ numbered first_clerk ∷ numbered second_clerk ∷ [])
-words_of (batch_to_key_again batch) = (codes "again", numbered batch ∷ [])
-words_of (batch_for_third_clerk batch clerk) = (codes "third", numbered batch ∷ numbered clerk ∷ [])
-words_of (keying_to_keep batch round papers) = ([], [])
-words_of (paper_to_judge batch paper judgement) = (codes "judge", numbered batch ∷ numbered paper ∷ judged (Some judgement) ∷ [])
-words_of (ward_to_seal ward) = (codes "seal", numbered ward ∷ [])
-words_of (stage_to_count ward) = (codes "advance", numbered ward ∷ [])
-words_of (lot_to_record ward stage candidate) = (codes "lot", numbered ward ∷ numbered stage ∷ numbered candidate ∷ [])
-words_of (ward_to_declare ward) = (codes "declare", numbered ward ∷ [])
-
--- the order that sends a command of the office under an id
-abbrev pub office_words_of : Asked → Text → Text × List Value
-office_words_of asked under = ((words_of asked).0, (words_of asked).1 ++ worded under ∷ [])
-
--- the order that sends a request; none sends another's than the office's own
-abbrev pub words_sent : ℕ → Asked → Text → Text × List Value
-words_sent zero asked under = office_words_of asked under
-words_sent (suc clerk) asked under = ([], [])
-
--- the origin whose pages are served through a proxy, if one was given
-abbrev pub origin_served : Option Origin → Option (Option Text)
-origin_served given = option_map (λ o. Some (origin_text o)) given
-
--- an order's name, and its values in the sequence of its words
-abbrev pub told : Order → Text × List Value
-told order.Init = (codes "init", [])
-told order.Migrate = (codes "migrate", [])
-told (order.Run (errand.Send r)) = words_sent r.actor (asked_by r.command) (string_bytes r.id)
-told (order.Run (errand.ImportCandidates file id)) = (codes "import-candidates", worded file.now ∷ worded id.now ∷ [])
-told (order.Run (errand.ImportKeying k)) = (codes "import-keying", numbered k.clerk ∷ numbered k.batch ∷ numbered k.round ∷ worded k.file.now ∷ worded k.id.now ∷ [])
-told (order.Run (errand.TellStatus ward)) = (codes "status", numbered ward ∷ [])
-told (order.Run (errand.Print ward ward_text.Sheet)) = (codes "sheet", numbered ward ∷ [])
-told (order.Run (errand.Print ward ward_text.Declaration)) = (codes "result", numbered ward ∷ [])
-told (order.Run (errand.Print ward ward_text.Ballots)) = (codes "ballots", numbered ward ∷ [])
-told (order.Run (errand.Print ward ward_text.Page)) = (codes "page", numbered ward ∷ [])
-told (order.Run (errand.Print ward ward_text.Table)) = (codes "table", numbered ward ∷ [])
-told (order.Run (errand.Ask question.Wards)) = (codes "wards", [])
-told (order.Run (errand.Ask (question.Batches ward))) = (codes "batches", numbered ward ∷ [])
-told (order.Run (errand.Ask (question.Doubtful ward))) = (codes "doubtful", numbered ward ∷ [])
-told (order.Run (errand.Ask (question.Differences batch))) = (codes "differences", numbered batch ∷ [])
-told (order.Run (errand.Ask (question.Receipts actor))) = (codes "receipts", numbered_or_none actor ∷ [])
-told (order.Replay file) = (codes "replay", worded file.now ∷ [])
-told (order.Copy path) = (codes "copy", worded path.now ∷ [])
-told (order.Serve port connections origin) = (codes "serve", numbered port ∷ numbered connections ∷ served_to (origin_served origin) ∷ [])

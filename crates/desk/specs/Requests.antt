@@ -1,5 +1,5 @@
 -- The requests that orders send to the office.
-use Rattle.std.specs.Prelude.{ℕ, suc, List, [], ◌∷◌, ◌++◌, codes, map, string_bytes, Option, Some, None, Result, Ok, Err}
+use Rattle.std.specs.Prelude.{◌≡◌, ℕ, suc, List, [], ◌∷◌, ◌++◌, codes, map, string_bytes, Option, Some, None, Result, Ok, Err}
 use Rattle.std.specs.Fmt.{decimal}
 use Rattle.clap.specs.Words.{Text}
 use Rattle.register.specs.declared.command.Command.{Command}
@@ -11,17 +11,20 @@ use Rattle.register.specs.declared.batches.BatchCommand.TheVariants as batch_com
 use Rattle.register.specs.declared.counts.CountCommand.TheVariants as count_command
 use Rattle.register.specs.declared.verdicts.Verdict.{Verdict}
 use Rattle.register.specs.declared.verdicts.Verdict.TheVariants as verdict
-use Rattle.office.specs.declared.sheets.Text.{Text as WardText}
+use Rattle.register.specs.declared.refusal.Reason.{Reason}
 use Rattle.keyfile.specs.Candidates.{CandidateEntry}
+use Rattle.keyfile.specs.Files.{Format, file_rows}
+use Rattle.keyfile.specs.Keying.{keying}
+use Rattle.keyfile.specs.Records.{file_records}
 use Rattle.keyfile.specs.declared.fault.FileFault.{FileFault}
-use Rattle.desk.specs.Folders.{Folder}
+use Rattle.desk.specs.Folders.{File, HoldsText}
 use Rattle.desk.specs.Verdicts.{Judgement, accepted, rejected}
 use Rattle.desk.specs.declared.orders.KeyingFile.{KeyingFile}
-use Rattle.desk.specs.declared.orders.Question.{Question}
-use Rattle.desk.specs.declared.orders.Errand.{Errand as OrderErrand}
-use Rattle.desk.specs.declared.orders.Errand.TheVariants as order_errand
-use Rattle.desk.specs.declared.orders.Order.{Order}
-use Rattle.desk.specs.declared.orders.Order.TheVariants as order
+use Rattle.desk.specs.declared.orders.Errand.{Errand}
+use Rattle.desk.specs.declared.orders.Errand.TheVariants as errand
+use Rattle.desk.specs.declared.orders.Job.TheVariants as job
+use Rattle.desk.specs.declared.orders.Task.{Task}
+use Rattle.desk.specs.declared.orders.Task.TheVariants as task
 
 -- what a command asks, its names as text
 pub data Asked : Type 0 where
@@ -74,53 +77,18 @@ sent_as r = record { actor = r.actor; id = string_bytes r.id; asked = asked_by r
 abbrev pub by_office : Text → Asked → Sent
 by_office id asked = record { actor = 0; id = id; asked = asked }
 
--- what is done in an opened office
-pub data Errand : Type 0 where
-  sending : Sent → Errand
-  importing_candidates : Text → Errand
-  importing_keying : KeyingFile → Errand
-  telling_status : ℕ → Errand
-  printing : ℕ → WardText → Errand
-  asking : Question → Errand
-
--- what is to be done for an order
-pub data Work : Type 0 where
-  making : Work
-  migrating : Work
-  running : Errand → Work
-  serving : ℕ → ℕ → Work
-  replaying : Folder → Work
-  copying : Work
-
--- what an order does in an opened office
-abbrev pub errand_of : OrderErrand → Errand
-errand_of (order_errand.Send request) = sending (sent_as request)
-errand_of (order_errand.ImportCandidates file id) = importing_candidates id.now
-errand_of (order_errand.ImportKeying keying) = importing_keying keying
-errand_of (order_errand.TellStatus ward) = telling_status ward
-errand_of (order_errand.Print ward text) = printing ward text
-errand_of (order_errand.Ask question) = asking question
-
--- what is done for an order; the files that a script names lie in a folder
-abbrev pub work_for : Folder → Order → Work
-work_for folder order.Init = making
-work_for folder order.Migrate = migrating
-work_for folder (order.Run errand) = running (errand_of errand)
-work_for folder (order.Serve port connections origin) = serving port connections
-work_for folder (order.Replay file) = replaying folder
-work_for folder (order.Copy path) = copying
-
 -- the file that an errand names
-abbrev pub file_of_errand : OrderErrand → Option Text
-file_of_errand (order_errand.ImportCandidates file id) = Some file.now
-file_of_errand (order_errand.ImportKeying keying) = Some keying.file.now
-file_of_errand other = None
-
--- the file that an order names
-abbrev pub file_of : Order → Option Text
-file_of (order.Run errand) = file_of_errand errand
-file_of (order.Replay file) = Some file.now
+abbrev pub file_of : Errand → Option Text
+file_of (errand.ImportCandidates file id) = Some file.now
+file_of (errand.ImportKeying keying) = Some keying.file.now
 file_of other = None
+
+-- the file that a task names
+abbrev pub file_of_task : Task → Option Text
+file_of_task task.Init = None
+file_of_task task.Migrate = None
+file_of_task (task.InOffice (job.Run errand)) = file_of errand
+file_of_task (task.InOffice (job.Replay file)) = Some file.now
 
 -- the id of the request for the record of some number: the order's, a hyphen, and that number
 unfoldable pub id_at : Text → ℕ → Text
@@ -148,3 +116,12 @@ keying_by k papers = record { actor = k.clerk; id = k.id.now; asked = keying_to_
 abbrev pub keyings_for : KeyingFile → Result (List Text) FileFault → Result (List Sent) FileFault
 keyings_for k (Ok papers) = Ok (keying_by k papers ∷ [])
 keyings_for k (Err fault) = Err fault
+
+-- the file holds these requests
+abbrev pub HoldsRequests : {Row : Type 0} → Format Row → (Result (List Row) FileFault → Result (List Sent) FileFault) → File → List Request → Type 0
+HoldsRequests format sent file requests = HoldsText file (λ bytes. sent (file_rows format (file_records bytes)) ≡ Ok (map sent_as requests))
+
+-- the file of a keying of a batch whose columns are told so
+abbrev pub HoldsKeying : Result (List ℕ) Reason → (Result (List (List ℕ)) FileFault → Result (List Sent) FileFault) → File → List Request → Type 0
+HoldsKeying (Ok columns) sent file requests = HoldsRequests (keying columns) sent file requests
+HoldsKeying (Err why) sent file requests = ⊥

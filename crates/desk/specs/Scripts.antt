@@ -9,6 +9,8 @@ use Rattle.desk.specs.declared.orders.Errand.{Errand}
 use Rattle.desk.specs.declared.orders.Errand.TheVariants as errand
 use Rattle.desk.specs.declared.orders.Order.{Order}
 use Rattle.desk.specs.declared.orders.Order.TheVariants as order
+use Rattle.desk.specs.declared.orders.Job.TheVariants as job
+use Rattle.desk.specs.declared.orders.Task.TheVariants as task
 use Rattle.desk.specs.declared.words.WordsFault.TheVariants as words_fault
 use Rattle.desk.specs.declared.cutting.Place.{Place}
 use Rattle.desk.specs.declared.cutting.Place.TheVariants.{Between, Within, Quoted}
@@ -133,18 +135,18 @@ sends_requests other = false
 
 -- and so does an order
 abbrev pub stands_in_script : Order → Bool
-stands_in_script (order.Run errand) = sends_requests errand
+stands_in_script (order.Perform (task.InOffice (job.Run errand))) = sends_requests errand
 stands_in_script other = false
 
 -- the words are those of an order that stands in a script, and this is its errand
 pub record Means (words : List Text) (errand : Errand) : Type 0 where
   pub right : wrong_with words ≡ []
-  pub means : meaning (subcommand_of office_words words) ≡ Some (told (order.Run errand))
+  pub means : meaning (subcommand_of office_words words) ≡ Some (told (order.Perform (task.InOffice (job.Run errand))))
   pub sends : sends_requests errand ≡ true
 
 -- a line is this turn
 pub record IsTurn (line : Typed) (turn : Turn) : Type 0 where
-  pub line_number : turn.line ≡ line.number
+  pub line_number : turn.line ≡ Some line.number
   pub means : IsOkAnd line.words (λ words. Means words turn.errand)
 
 -- the lines are these turns, one each

@@ -7,9 +7,9 @@ use Rattle.sqlite.specs.State.{HasCleanDisk, State}
 use Rattle.register.specs.Machine.{after}
 use Rattle.register.specs.Offices.{OfficeState, empty_office}
 use Rattle.register.specs.declared.command.Request.{Request}
-use Rattle.store.specs.Offices.{IsAt, LeavesState}
+use Rattle.store.specs.Offices.{IsAt}
 use Rattle.office.specs.Answers.{IsOpenAt}
-use Rattle.office.specs.Runs.{IsAfterBeginning}
+use Rattle.office.specs.Runs.{Keeps}
 use Rattle.office.specs.Values.{OfficeValue}
 use Rattle.votes.specs.Counted.{failed_calls}
 use Rattle.votes.specs.declared.counted.Counted.{Counted}
@@ -113,7 +113,7 @@ pub record IsKeptOf {R W : Type 0} (given : Option (List ℕ)) (streams : Stream
   pub last : List Request
   pub in_turn : AnswersInTurn given streams (after empty_office earlier) clients answered last
   pub open_at : closed ≡ false → IsOpenAt (after empty_office (earlier ++ answered)) closed st
-  pub leaves : LeavesState st (IsAfterBeginning earlier (answered ++ last) (length answered))
+  pub keeps : Keeps earlier (answered ++ last) (length answered) st
 
 -- Clients came in, as many as were wanted, or none further came. Each was served by the office that those before him left, and this is kept
 -- of them.

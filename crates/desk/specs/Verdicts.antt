@@ -1,8 +1,8 @@
 -- What the word of a verdict says.
-use Rattle.std.specs.Prelude.{ℕ, nat_eq, drop, length, Option, Some, None, codes, if◌then◌else◌}
+use Rattle.std.specs.Prelude.{ℕ, nat_eq, drop, length, Option, Some, None, codes, if◌then◌else◌, option_map}
 use Rattle.std.specs.List.{starts_with}
 use Rattle.clap.specs.Words.{Text}
-use Rattle.desk.specs.Numbers.{is_number, number_of}
+use Rattle.desk.specs.Numbers.{number_in}
 
 -- a verdict on a doubtful paper: it counts with these marks, or it is rejected for the reason of this code
 pub data Judgement : Type 0 where
@@ -16,7 +16,7 @@ behind front t = if starts_with nat_eq t front then Some (drop (length front) t)
 -- a rejection, by what stands behind `reject:`
 abbrev pub rejection_in : Option Text → Option Judgement
 rejection_in None = None
-rejection_in (Some code) = if is_number code then Some (rejected (number_of code)) else None
+rejection_in (Some code) = option_map rejected (number_in code)
 
 -- a verdict, by what stands behind `accept:`, and if nothing does, behind `reject:`
 abbrev pub judged_by : Option Text → Option Text → Option Judgement

@@ -1,6 +1,6 @@
 -- What `clap` takes for the words of an order, and the order that its matches mean, by the table of orders.
-use Rattle.std.specs.Prelude.{◌≡◌, ◌≢◌, ◌==◌, ⊤, ℕ, Bool, true, false, List, [], ◌∷◌, Option, Some, None, pos, codes, map, find, is_none, option_map, string_bytes, unwrap_or, IfSome}
-use Rattle.std.specs.Option.{option_map_or}
+use Rattle.std.specs.Prelude.{◌≡◌, ◌≢◌, ◌==◌, ◌&&◌, ⊤, ℕ, Bool, true, false, List, [], ◌∷◌, Option, Some, None, pos, IfSome}
+use Rattle.std.specs.Prelude.{codes, map, find, option_and_then, option_map, string_bytes, unwrap_or}
 use Rattle.std.specs.List.{list_any}
 use Rattle.std.specs.Str.{bytes_eq}
 use Rattle.clap.specs.Words.{App, Kinds, Row, Rule, Text, fault_of, first_of, new_app, new_rule, one_of, with_rule, with_subcommand}
@@ -8,14 +8,16 @@ use Rattle.clap.specs.Simple.{on_top}
 use Rattle.clap.specs.declared.builder.value_parser.ValueParser.{ValueParser}
 use Rattle.clap.specs.declared.builder.value_parser.ValueParser.TheVariants as parser
 use Rattle.clap.specs.declared.error.kind.ErrorKind.{ErrorKind}
-use Rattle.clap.specs.declared.error.kind.ErrorKind.TheVariants.{DisplayHelp, OutOfMemory}
+use Rattle.clap.specs.declared.error.kind.ErrorKind.TheVariants.{DisplayHelp, DisplayVersion, OutOfMemory}
 use Rattle.desk.specs.declared.words.WordsFault.{WordsFault}
 use Rattle.desk.specs.declared.words.WordsFault.TheVariants as words_fault
 use Rattle.desk.specs.declared.table.Kind.{Kind}
 use Rattle.desk.specs.declared.table.Kind.TheVariants as kind
-use Rattle.desk.specs.Numbers.{number_if, number_of}
-use Rattle.desk.specs.Orders.{OrderEntry, Value, WordEntry, judged, numbered, numbered_or_none, orders, served_to, worded}
-use Rattle.desk.specs.Verdicts.{judgement_in}
+use Rattle.desk.specs.Numbers.{number_in}
+use Rattle.desk.specs.Orders.{Meant, Of, OrderWords, ValueOf, WordEntry, no_origin, no_verdict, orders, send}
+use Rattle.desk.specs.Requests.{asked_by, by_office}
+use Rattle.desk.specs.Verdicts.{Judgement, judgement_in}
+use Rattle.register.specs.declared.command.Command.{Command}
 use Rattle.wire.specs.Origins.{origin_in}
 
 -- the numbers that a word may be
@@ -65,93 +67,93 @@ with_words app [] = app
 with_words app (w ∷ ws) = with_words (with_rule app (rule_of_kind w.kind w.name)) ws
 
 -- the words of an order
-abbrev pub order_words : OrderEntry → App
+abbrev pub order_words : OrderWords → App
 order_words e = with_words (new_app e.name) e.words
 
 -- a command, and these orders more
-abbrev pub with_orders : App → List OrderEntry → App
+abbrev pub with_orders : App → List OrderWords → App
 with_orders app [] = app
 with_orders app (e ∷ es) = with_orders (with_subcommand app (order_words e).top) es
 
 -- DB, and then an order, which may not be left out
 abbrev pub start_words : App
-start_words = on_top (λ s. record s { subcommand_required = true; arg_required_else_help = true; disable_help_subcommand = true })
+start_words = on_top (λ s. record s { subcommand_required = true; arg_required_else_help = true; disable_help_subcommand = true; has_version = true })
     (new_app (codes "count-office"))
 
 -- all orders of the program
 unfoldable pub office_words : App
-office_words = with_orders start_words orders
+office_words = with_orders start_words (map (λ e. e.typed) orders)
 
--- the number that was matched under a name, and 0 without one
-abbrev pub number_at : Text → List Row → ℕ
-number_at name rows = option_map_or number_of (one_of name rows) 0
+-- ---- the order that the matches mean
 
 -- the number that was matched under a name, if there is one
 abbrev pub number_found : Text → List Row → Option ℕ
-number_found name rows = number_if (one_of name rows)
+number_found name rows = option_and_then number_in (one_of name rows)
+
+-- the number that was matched under a name, and 0 without one
+abbrev pub number_at : Text → List Row → ℕ
+number_at name rows = unwrap_or (number_found name rows) 0
 
 -- the text that was matched under a name, and the empty one without one
 abbrev pub text_at : Text → List Row → Text
 text_at name rows = unwrap_or (first_of name rows) []
 
--- the value that the matches give a word
-abbrev pub value_of_kind : Kind → List Row → Text → Value
-value_of_kind kind.Number rows name = numbered (number_at name rows)
-value_of_kind kind.NumberOrNone rows name = numbered_or_none (number_found name rows)
-value_of_kind kind.Port rows name = numbered (number_at name rows)
-value_of_kind kind.Connections rows name = numbered (number_at name rows)
-value_of_kind kind.Text rows name = worded (text_at name rows)
-value_of_kind kind.Verdict rows name = judged (judgement_in (text_at name rows))
-value_of_kind kind.Id rows name = worded (text_at name rows)
-value_of_kind kind.Origin rows name = served_to (option_map origin_in (first_of name rows))
+-- what was matched under a name, if a text was: the origin that it is, or none
+abbrev pub origin_at : Text → List Row → Option (Option Text)
+origin_at name rows = option_map origin_in (first_of name rows)
 
--- an order's name and the values that the matches give its words
-abbrev pub read_by : List Row → OrderEntry → Text × List Value
-read_by rows e = (e.name, map (λ w. value_of_kind w.kind rows w.name) e.words)
+-- what comes of a verdict, or that there is none
+abbrev pub judged : Option Judgement → (Judgement → Meant) → Meant
+judged None means = no_verdict
+judged (Some judgement) means = means judgement
 
--- the matches as a name and values, read by the table of orders
-abbrev pub meaning_of : Text → List Row → Option (Text × List Value)
-meaning_of name rows = option_map (read_by rows) (find (λ e. bytes_eq name e.name) orders)
+-- what comes of an origin that may be left out, or that what was given is none
+abbrev pub served_to : Option (Option Text) → (Option Text → Meant) → Meant
+served_to None means = means None
+served_to (Some None) means = no_origin
+served_to (Some (Some origin)) means = means (Some origin)
+
+-- what comes of the value that the matches give a word
+abbrev pub with_value : (k : Kind) → List Row → Text → (ValueOf k → Meant) → Meant
+with_value kind.Number rows name means = means (number_at name rows)
+with_value kind.NumberOrNone rows name means = means (number_found name rows)
+with_value kind.Port rows name means = means (number_at name rows)
+with_value kind.Connections rows name means = means (number_at name rows)
+with_value kind.Text rows name means = means (text_at name rows)
+with_value kind.Verdict rows name means = judged (judgement_in (text_at name rows)) means
+with_value kind.Id rows name means = means (text_at name rows)
+with_value kind.Origin rows name means = served_to (origin_at name rows) means
+
+-- what comes of the values that the matches give some words
+abbrev pub with_values : List Row → (words : List WordEntry) → Of words Meant → Meant
+with_values rows [] means = means
+with_values rows (w ∷ ws) means = with_value w.kind rows w.name (λ value. with_values rows ws (means value))
+
+-- what the matches mean by the order of a name
+abbrev pub meaning_of : Text → List Row → Option Meant
+meaning_of name rows = option_map (λ e. with_values rows e.typed.words e.means) (find (λ e. bytes_eq name e.typed.name) orders)
 
 -- what the matches mean
-abbrev pub meaning : Option (Text × List Row) → Option (Text × List Value)
+abbrev pub meaning : Option (Text × List Row) → Option Meant
 meaning None = None
 meaning (Some found) = meaning_of found.0 found.1
 
+-- the office sends a command under the id that was matched
+abbrev pub sent : List Row → Command → Meant
+sent rows command = send (by_office (text_at (codes "id") rows) (asked_by command))
+
 -- the name is that of an order
 abbrev pub is_order_name : Text → Bool
-is_order_name name = list_any (λ e. bytes_eq name e.name) orders
+is_order_name name = list_any (λ e. bytes_eq name e.typed.name) orders
+
+-- the name is that of an order that sends a command
+abbrev pub is_command_name : Text → Bool
+is_command_name name = list_any (λ e. e.is_command && bytes_eq name e.typed.name) orders
 
 -- the matches name an order
 abbrev pub names_order : Option (Text × List Row) → Bool
 names_order None = false
 names_order (Some found) = is_order_name found.0
-
--- a value is the word of a verdict that says none
-abbrev pub is_bad_verdict : Value → Bool
-is_bad_verdict (numbered n) = false
-is_bad_verdict (numbered_or_none n) = false
-is_bad_verdict (worded t) = false
-is_bad_verdict (judged o) = is_none o
-is_bad_verdict (served_to o) = false
-
--- the matches are an order with a verdict that says none
-abbrev pub has_bad_verdict : Option (Text × List Value) → Bool
-has_bad_verdict None = false
-has_bad_verdict (Some said) = list_any is_bad_verdict said.1
-
--- a value is the word of an origin that is none
-abbrev pub is_bad_origin : Value → Bool
-is_bad_origin (numbered n) = false
-is_bad_origin (numbered_or_none n) = false
-is_bad_origin (worded t) = false
-is_bad_origin (judged o) = false
-is_bad_origin (served_to o) = option_map_or is_none o false
-
--- the matches are an order with an origin that is none
-abbrev pub has_bad_origin : Option (Text × List Value) → Bool
-has_bad_origin None = false
-has_bad_origin (Some said) = list_any is_bad_origin said.1
 
 -- ---- words that are no order
 
@@ -159,9 +161,10 @@ has_bad_origin (Some said) = list_any is_bad_origin said.1
 abbrev pub wrong_with : List Text → Kinds
 wrong_with words = fault_of office_words words
 
--- the status that words end with which ask for help or are not understood
+-- the status that words end with which ask for help or the version, or are not understood
 abbrev pub status_of_kind : ErrorKind → ℕ
 status_of_kind DisplayHelp = 0
+status_of_kind DisplayVersion = 0
 status_of_kind _ = 2
 
 -- what is told of words, by what is wrong with them: a text with that status, and not an empty one; or, where nothing is, that a verdict says none, or an origin is none

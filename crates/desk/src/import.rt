@@ -5,9 +5,10 @@ ghost use Rattle.sqlite.specs.Held.{state};
 ghost use Rattle.tables.specs.Reading.{OnlyReads};
 ghost use Rattle.keyfile.specs.Candidates.{candidates};
 ghost use Rattle.keyfile.specs.Keying.{keying};
-ghost use Rattle.desk.specs.Errands.{HoldsRequests, IsKeyingRead, IsUnread, WhereOpen};
+ghost use Rattle.office.specs.Answers.{WhenOpenAt};
+ghost use Rattle.desk.specs.Parts.{IsKeyingRead, IsUnread};
 ghost use Rattle.desk.specs.Pages.{page_of};
-ghost use Rattle.desk.specs.Requests.{keyings_for, requests_for};
+ghost use Rattle.desk.specs.Requests.{HoldsRequests, keyings_for, requests_for};
 
 use crate::lines::Outcome;
 use crate::orders::KeyingFile;
@@ -84,7 +85,7 @@ pub(crate) fn keying_of<S: Alter, R: Read + Drop>(
     keyed: KeyingFile<'_>,
     file: Option<R>,
 ) -> Result<Request, Outcome>
-    ensures read { WhereOpen office.old.closed (state S.Store office.old.held) (state S.Store office.new.held)
+    ensures read { WhenOpenAt (state S.Store) office.old office.new
         (λ s. IsKeyingRead s keyed.entry (option_map R.remaining file) page_of result office.new.closed (state S.Store office.old.held) (state S.Store office.new.held)) }
     ensures same { OnlyReads (state S.Store office.old.held) (state S.Store office.new.held) }
 {

@@ -1,15 +1,16 @@
 //! The office's desk: words to one order, an order to the office, and what comes of it to lines and a status.
 //!
-//! [`order`](words) reads the words to an [`Order`](orders), and [`perform`](perform) does an order over an
-//! opened connection, to any store of `sqlite`, and prints its lines. An order may read a file, whose path
-//! [`file`](orders) tells. Words that are no order, and other failures, are told by [`lines`](lines). An
-//! order to serve is followed by [`serve_on`](serving), over an opened office, and one to copy by
-//! [`copy_office`](copying), over two connections. Which files, outputs and
-//! sockets these are, the program says.
+//! [`order`](words) reads the words to an [`Order`](orders), and [`perform`](perform) does its task over an
+//! opened connection, to any store of `sqlite`, and prints its lines. A file that it names, or that a script
+//! names, is opened by a [`Folder`](folders). Words that are no order, and other failures, are told by
+//! [`lines`](lines). An order to serve is followed by [`serve_on`](serving), over an opened office, and one to
+//! copy by [`copy_office`](copying), over two connections. Which files, outputs and sockets these are, the
+//! program says.
 //!
 //! ```text
 //! match order(alloc, words) {
-//!     Ok(order) => perform(alloc, &order, conn, file, folder, out, err),    // the status and the connection
+//!     Ok(Order::Perform(task)) => perform(alloc, &task, conn, folder, out, err),    // the status and the connection
+//!     Ok(Order::Serve { .. } | Order::Copy { .. }) => ..,
 //!     Err(fault) => tell_words(&fault, out, err),
 //! }
 //! ```
@@ -20,6 +21,7 @@ mod matched;
 pub mod orders;
 mod table;
 mod verdicts;
+pub mod version;
 pub mod words;
 // A script to orders.
 mod cutting;
@@ -44,7 +46,7 @@ mod standing;
 pub use copying::{CopyState, copy_office};
 pub use folders::Folder;
 pub use lines::{Failure, tell_failure, tell_words};
-pub use orders::{Errand, KeyingFile, Order, Question};
+pub use orders::{Errand, Job, KeyingFile, Order, Question, Task};
 pub use progress::Progress;
 pub use serving::serve_on;
 pub use words::{WordsFault, order};

@@ -1,15 +1,15 @@
 //! The order that matched words mean.
+//!
+//! An order that sends a command has its line in [`command_named`], any other in [`order_named`].
 #![tactic(auto, unfolding(crate::specs::Orders::orders))]
 
-ghost use Rattle.std.specs.Prelude.{◌≡◌, ◌⊎◌, true, false, Err, None, Some, codes, IfErr, IfOk, option_map, string_bytes};
+ghost use Rattle.std.specs.Prelude.{◌≡◌, ◌⊎◌, false, Err, None, Some, codes, IfErr, IfOk, option_map, string_bytes};
 ghost use Rattle.clap.specs.Words.{first_of, found_of, rows_of, subcommand_rows_of};
-ghost use Rattle.desk.specs.Orders.{office_words_of, origin_served, told};
-ghost use Rattle.desk.specs.Requests.{asked_by, judgement_given};
-ghost use Rattle.desk.specs.Verdicts.{judgement_in};
-ghost use Rattle.wire.specs.Origins.{origin_in};
-ghost use Rattle.desk.specs.Words.{has_bad_origin, has_bad_verdict, is_order_name, meaning, meaning_of, names_order, number_at, number_found, text_at};
+ghost use Rattle.desk.specs.Orders.{ask, no_origin, no_verdict, print, told, told_errand};
+ghost use Rattle.wire.specs.Origins.{origin_text};
+ghost use Rattle.desk.specs.Words.{is_command_name, is_order_name, meaning, meaning_of, names_order, number_at, number_found, origin_at, sent, text_at};
 
-use crate::orders::{Errand, KeyingFile, Order, Question};
+use crate::orders::{Errand, Job, KeyingFile, Order, Question, Task};
 use crate::requests::by_office;
 use crate::table::{
     ACTOR, BATCH, CANDIDATE, CLERK, CONNECTIONS, FILE, FIRST_CLERK, ID, NAME, NEW, ORIGIN, PAPER,
@@ -47,11 +47,7 @@ impl From<AllocError> for NoOrder {
     }
 }
 
-fn number_in(matches: &ArgMatches<'_>, word: Word) -> u32
-    ensures { result ≡ number_at word.name.now (rows_of (found_of matches.now)) }
-{
-    matches.get_one::<u32>(word.name).unwrap_or(0)
-}
+// ---- the values of words
 
 fn number_found_in(matches: &ArgMatches<'_>, word: Word) -> Option<u32>
     ensures { result ≡ number_found word.name.now (rows_of (found_of matches.now)) }
@@ -59,13 +55,10 @@ fn number_found_in(matches: &ArgMatches<'_>, word: Word) -> Option<u32>
     matches.get_one::<u32>(word.name)
 }
 
-fn text_in<'a>(matches: &ArgMatches<'a>, word: Word) -> &'a str
-    ensures { result.now ≡ text_at word.name.now (rows_of (found_of matches.now)) }
+fn number_in(matches: &ArgMatches<'_>, word: Word) -> u32
+    ensures { result ≡ number_at word.name.now (rows_of (found_of matches.now)) }
 {
-    match matches.get_str(word.name) {
-        Some(text) => text,
-        None => "",
-    }
+    number_found_in(matches, word).unwrap_or(0)
 }
 
 fn text_found_in<'a>(matches: &ArgMatches<'a>, word: Word) -> Option<&'a str>
@@ -74,10 +67,25 @@ fn text_found_in<'a>(matches: &ArgMatches<'a>, word: Word) -> Option<&'a str>
     matches.get_str(word.name)
 }
 
+fn text_in<'a>(matches: &ArgMatches<'a>, word: Word) -> &'a str
+    ensures { result.now ≡ text_at word.name.now (rows_of (found_of matches.now)) }
+{
+    match text_found_in(matches, word) {
+        Some(text) => text,
+        None => "",
+    }
+}
+
+fn text_copied(alloc: Global, matches: &ArgMatches<'_>, word: Word) -> Result<String, AllocError>
+    ensures { IfOk result (λ text. string_bytes text ≡ text_at word.name.now (rows_of (found_of matches.now))) }
+{
+    String::from_str(alloc, text_in(matches, word))
+}
+
 /// The origin that was matched, if one was.
 fn origin_in<'a>(matches: &ArgMatches<'a>) -> Result<Option<Origin<'a>>, NoOrder>
-    ensures ok { IfOk result (λ found. option_map origin_in (first_of (codes "origin") (rows_of (found_of matches.now))) ≡ origin_served found) }
-    ensures err { IfErr result (λ why. (why ≡ NoOrder.BadOrigin) × (option_map origin_in (first_of (codes "origin") (rows_of (found_of matches.now))) ≡ Some None)) }
+    ensures ok { IfOk result (λ found. origin_at (codes "origin") (rows_of (found_of matches.now)) ≡ option_map (λ o. Some (origin_text o)) found) }
+    ensures err { IfErr result (λ why. (why ≡ NoOrder.BadOrigin) × (origin_at (codes "origin") (rows_of (found_of matches.now)) ≡ Some None)) }
 {
     let Some(text) = text_found_in(matches, ORIGIN) else {
         return Ok(None);
@@ -88,10 +96,83 @@ fn origin_in<'a>(matches: &ArgMatches<'a>) -> Result<Option<Origin<'a>>, NoOrder
     }
 }
 
-fn text_copied(alloc: Global, matches: &ArgMatches<'_>, word: Word) -> Result<String, AllocError>
-    ensures { IfOk result (λ text. string_bytes text ≡ text_at word.name.now (rows_of (found_of matches.now))) }
+// ---- the commands that orders send
+
+fn batch_command(matches: &ArgMatches<'_>) -> Command
+    ensures { meaning_of (codes "batch") (rows_of (found_of matches.now)) ≡ Some (sent (rows_of (found_of matches.now)) result) }
 {
-    String::from_str(alloc, text_in(matches, word))
+    Command::Batch(BatchCommand::Add {
+        batch: number_in(matches, BATCH),
+        ward: number_in(matches, WARD),
+        size: number_in(matches, SIZE),
+        first_clerk: number_in(matches, FIRST_CLERK),
+        second_clerk: number_in(matches, SECOND_CLERK),
+    })
+}
+
+fn verdict_command(alloc: Global, matches: &ArgMatches<'_>) -> Result<Command, NoOrder>
+    ensures ok { IfOk result (λ command. meaning_of (codes "judge") (rows_of (found_of matches.now)) ≡ Some (sent (rows_of (found_of matches.now)) command)) }
+    ensures err { IfErr result (λ why. (why ≡ NoOrder.Memory) ⊎ ((why ≡ NoOrder.BadVerdict) × (meaning_of (codes "judge") (rows_of (found_of matches.now)) ≡ Some no_verdict))) }
+{
+    match verdict_in(alloc, text_in(matches, VERDICT))? {
+        Some(verdict) => Ok(Command::Verdict(VerdictCommand {
+            batch: number_in(matches, BATCH),
+            paper: number_in(matches, PAPER),
+            verdict,
+        })),
+        None => Err(NoOrder::BadVerdict),
+    }
+}
+
+/// The command that the order of this name sends, with the values that were matched.
+fn command_named(alloc: Global, name: &str, matches: &ArgMatches<'_>) -> Result<Command, NoOrder>
+    ensures ok { IfOk result (λ command. meaning_of name.now (rows_of (found_of matches.now)) ≡ Some (sent (rows_of (found_of matches.now)) command)) }
+    ensures unknown { result ≡ Err NoOrder.Unknown → is_command_name name.now ≡ false }
+    ensures bad { result ≡ Err NoOrder.BadVerdict → meaning_of name.now (rows_of (found_of matches.now)) ≡ Some no_verdict }
+    ensures bad_origin { result ≡ Err NoOrder.BadOrigin → meaning_of name.now (rows_of (found_of matches.now)) ≡ Some no_origin }
+{
+    let ward = number_in(matches, WARD);
+    let candidate = number_in(matches, CANDIDATE);
+    let batch = number_in(matches, BATCH);
+    match name {
+        "ward" => Ok(Command::Ward(WardCommand::Add {
+            ward,
+            seats: number_in(matches, SEATS),
+            name: text_copied(alloc, matches, NAME)?,
+        })),
+        "candidate" => Ok(Command::Candidate(CandidateCommand::Add {
+            ward,
+            candidate,
+            name: text_copied(alloc, matches, NAME)?,
+        })),
+        "withdraw" => Ok(Command::Candidate(CandidateCommand::Withdraw { ward, candidate })),
+        "close" => Ok(Command::Ward(WardCommand::Close { ward })),
+        "batch" => Ok(batch_command(matches)),
+        "again" => Ok(Command::Batch(BatchCommand::Again { batch })),
+        "third" => Ok(Command::Batch(BatchCommand::Third {
+            batch,
+            clerk: number_in(matches, CLERK),
+        })),
+        "judge" => verdict_command(alloc, matches),
+        "seal" => Ok(Command::Count(CountCommand::Seal { ward })),
+        "advance" => Ok(Command::Count(CountCommand::Advance { ward })),
+        "lot" => Ok(Command::Count(CountCommand::Lot {
+            ward,
+            stage: number_in(matches, STAGE),
+            candidate,
+        })),
+        "declare" => Ok(Command::Count(CountCommand::Declare { ward })),
+        _ => Err(NoOrder::Unknown),
+    }
+}
+
+// ---- orders
+
+/// The order of an errand in an open office.
+fn in_office<'a>(errand: Errand<'a>) -> Order<'a>
+    ensures { told result ≡ told_errand errand.entry }
+{
+    Order::Perform(Task::InOffice(Job::Run(errand)))
 }
 
 /// Sends a command of the office under the id that was matched.
@@ -100,155 +181,17 @@ fn sending<'a>(
     matches: &ArgMatches<'a>,
     command: Command,
 ) -> Result<Order<'a>, NoOrder>
-    ensures ok { IfOk result (λ o. told o ≡ office_words_of (asked_by command) (text_at (codes "id") (rows_of (found_of matches.now)))) }
+    ensures ok { IfOk result (λ o. told o ≡ sent (rows_of (found_of matches.now)) command) }
     ensures err { IfErr result (λ why. why ≡ NoOrder.Memory) }
 {
     let id = text_copied(alloc, matches, ID)?;
-    Ok(Order::Run(Errand::Send(by_office(id, command))))
-}
-
-fn ward<'a>(alloc: Global, matches: &ArgMatches<'a>) -> Result<Order<'a>, NoOrder>
-    ensures ok { IfOk result (λ o. meaning_of (codes "ward") (rows_of (found_of matches.now)) ≡ Some (told o)) }
-    ensures err { IfErr result (λ why. why ≡ NoOrder.Memory) }
-{
-    let command = WardCommand::Add {
-        ward: number_in(matches, WARD),
-        seats: number_in(matches, SEATS),
-        name: text_copied(alloc, matches, NAME)?,
-    };
-    sending(alloc, matches, Command::Ward(command))
-}
-
-fn candidate<'a>(alloc: Global, matches: &ArgMatches<'a>) -> Result<Order<'a>, NoOrder>
-    ensures ok { IfOk result (λ o. meaning_of (codes "candidate") (rows_of (found_of matches.now)) ≡ Some (told o)) }
-    ensures err { IfErr result (λ why. why ≡ NoOrder.Memory) }
-{
-    let command = CandidateCommand::Add {
-        ward: number_in(matches, WARD),
-        candidate: number_in(matches, CANDIDATE),
-        name: text_copied(alloc, matches, NAME)?,
-    };
-    sending(alloc, matches, Command::Candidate(command))
-}
-
-fn withdraw<'a>(alloc: Global, matches: &ArgMatches<'a>) -> Result<Order<'a>, NoOrder>
-    ensures ok { IfOk result (λ o. meaning_of (codes "withdraw") (rows_of (found_of matches.now)) ≡ Some (told o)) }
-    ensures err { IfErr result (λ why. why ≡ NoOrder.Memory) }
-{
-    let command = CandidateCommand::Withdraw {
-        ward: number_in(matches, WARD),
-        candidate: number_in(matches, CANDIDATE),
-    };
-    sending(alloc, matches, Command::Candidate(command))
-}
-
-fn close<'a>(alloc: Global, matches: &ArgMatches<'a>) -> Result<Order<'a>, NoOrder>
-    ensures ok { IfOk result (λ o. meaning_of (codes "close") (rows_of (found_of matches.now)) ≡ Some (told o)) }
-    ensures err { IfErr result (λ why. why ≡ NoOrder.Memory) }
-{
-    let command = WardCommand::Close {
-        ward: number_in(matches, WARD),
-    };
-    sending(alloc, matches, Command::Ward(command))
-}
-
-fn batch<'a>(alloc: Global, matches: &ArgMatches<'a>) -> Result<Order<'a>, NoOrder>
-    ensures ok { IfOk result (λ o. meaning_of (codes "batch") (rows_of (found_of matches.now)) ≡ Some (told o)) }
-    ensures err { IfErr result (λ why. why ≡ NoOrder.Memory) }
-{
-    let command = BatchCommand::Add {
-        batch: number_in(matches, BATCH),
-        ward: number_in(matches, WARD),
-        size: number_in(matches, SIZE),
-        first_clerk: number_in(matches, FIRST_CLERK),
-        second_clerk: number_in(matches, SECOND_CLERK),
-    };
-    sending(alloc, matches, Command::Batch(command))
-}
-
-fn again<'a>(alloc: Global, matches: &ArgMatches<'a>) -> Result<Order<'a>, NoOrder>
-    ensures ok { IfOk result (λ o. meaning_of (codes "again") (rows_of (found_of matches.now)) ≡ Some (told o)) }
-    ensures err { IfErr result (λ why. why ≡ NoOrder.Memory) }
-{
-    let command = BatchCommand::Again {
-        batch: number_in(matches, BATCH),
-    };
-    sending(alloc, matches, Command::Batch(command))
-}
-
-fn third<'a>(alloc: Global, matches: &ArgMatches<'a>) -> Result<Order<'a>, NoOrder>
-    ensures ok { IfOk result (λ o. meaning_of (codes "third") (rows_of (found_of matches.now)) ≡ Some (told o)) }
-    ensures err { IfErr result (λ why. why ≡ NoOrder.Memory) }
-{
-    let command = BatchCommand::Third {
-        batch: number_in(matches, BATCH),
-        clerk: number_in(matches, CLERK),
-    };
-    sending(alloc, matches, Command::Batch(command))
-}
-
-fn seal<'a>(alloc: Global, matches: &ArgMatches<'a>) -> Result<Order<'a>, NoOrder>
-    ensures ok { IfOk result (λ o. meaning_of (codes "seal") (rows_of (found_of matches.now)) ≡ Some (told o)) }
-    ensures err { IfErr result (λ why. why ≡ NoOrder.Memory) }
-{
-    let command = CountCommand::Seal {
-        ward: number_in(matches, WARD),
-    };
-    sending(alloc, matches, Command::Count(command))
-}
-
-fn advance<'a>(alloc: Global, matches: &ArgMatches<'a>) -> Result<Order<'a>, NoOrder>
-    ensures ok { IfOk result (λ o. meaning_of (codes "advance") (rows_of (found_of matches.now)) ≡ Some (told o)) }
-    ensures err { IfErr result (λ why. why ≡ NoOrder.Memory) }
-{
-    let command = CountCommand::Advance {
-        ward: number_in(matches, WARD),
-    };
-    sending(alloc, matches, Command::Count(command))
-}
-
-fn declare<'a>(alloc: Global, matches: &ArgMatches<'a>) -> Result<Order<'a>, NoOrder>
-    ensures ok { IfOk result (λ o. meaning_of (codes "declare") (rows_of (found_of matches.now)) ≡ Some (told o)) }
-    ensures err { IfErr result (λ why. why ≡ NoOrder.Memory) }
-{
-    let command = CountCommand::Declare {
-        ward: number_in(matches, WARD),
-    };
-    sending(alloc, matches, Command::Count(command))
-}
-
-fn lot<'a>(alloc: Global, matches: &ArgMatches<'a>) -> Result<Order<'a>, NoOrder>
-    ensures ok { IfOk result (λ o. meaning_of (codes "lot") (rows_of (found_of matches.now)) ≡ Some (told o)) }
-    ensures err { IfErr result (λ why. why ≡ NoOrder.Memory) }
-{
-    let command = CountCommand::Lot {
-        ward: number_in(matches, WARD),
-        stage: number_in(matches, STAGE),
-        candidate: number_in(matches, CANDIDATE),
-    };
-    sending(alloc, matches, Command::Count(command))
-}
-
-fn judge<'a>(alloc: Global, matches: &ArgMatches<'a>) -> Result<Order<'a>, NoOrder>
-    ensures ok { IfOk result (λ o. meaning_of (codes "judge") (rows_of (found_of matches.now)) ≡ Some (told o)) }
-    ensures err { IfErr result (λ why. (why ≡ NoOrder.Memory)
-        ⊎ ((why ≡ NoOrder.BadVerdict) × (has_bad_verdict (meaning_of (codes "judge") (rows_of (found_of matches.now))) ≡ true))) }
-{
-    let Some(verdict) = verdict_in(alloc, text_in(matches, VERDICT))? else {
-        return Err(NoOrder::BadVerdict);
-    };
-    let command = VerdictCommand {
-        batch: number_in(matches, BATCH),
-        paper: number_in(matches, PAPER),
-        verdict,
-    };
-    sending(alloc, matches, Command::Verdict(command))
+    Ok(in_office(Errand::Send(by_office(id, command))))
 }
 
 fn import_candidates<'a>(matches: &ArgMatches<'a>) -> Order<'a>
     ensures { meaning_of (codes "import-candidates") (rows_of (found_of matches.now)) ≡ Some (told result) }
 {
-    Order::Run(Errand::ImportCandidates {
+    in_office(Errand::ImportCandidates {
         file: text_in(matches, FILE),
         id: text_in(matches, ID),
     })
@@ -257,7 +200,7 @@ fn import_candidates<'a>(matches: &ArgMatches<'a>) -> Order<'a>
 fn import_keying<'a>(matches: &ArgMatches<'a>) -> Order<'a>
     ensures { meaning_of (codes "import-keying") (rows_of (found_of matches.now)) ≡ Some (told result) }
 {
-    Order::Run(Errand::ImportKeying(KeyingFile {
+    in_office(Errand::ImportKeying(KeyingFile {
         clerk: number_in(matches, CLERK),
         batch: number_in(matches, BATCH),
         round: number_in(matches, ROUND),
@@ -266,116 +209,31 @@ fn import_keying<'a>(matches: &ArgMatches<'a>) -> Order<'a>
     }))
 }
 
-fn status<'a>(matches: &ArgMatches<'a>) -> Order<'a>
-    ensures { meaning_of (codes "status") (rows_of (found_of matches.now)) ≡ Some (told result) }
-{
-    Order::Run(Errand::TellStatus {
-        ward: number_in(matches, WARD),
-    })
-}
-
-fn sheet<'a>(matches: &ArgMatches<'a>) -> Order<'a>
-    ensures { meaning_of (codes "sheet") (rows_of (found_of matches.now)) ≡ Some (told result) }
-{
-    Order::Run(Errand::Print {
-        ward: number_in(matches, WARD),
-        text: Text::Sheet,
-    })
-}
-
-fn result<'a>(matches: &ArgMatches<'a>) -> Order<'a>
-    ensures { meaning_of (codes "result") (rows_of (found_of matches.now)) ≡ Some (told result) }
-{
-    Order::Run(Errand::Print {
-        ward: number_in(matches, WARD),
-        text: Text::Declaration,
-    })
-}
-
-fn ballots<'a>(matches: &ArgMatches<'a>) -> Order<'a>
-    ensures { meaning_of (codes "ballots") (rows_of (found_of matches.now)) ≡ Some (told result) }
-{
-    Order::Run(Errand::Print {
-        ward: number_in(matches, WARD),
-        text: Text::Ballots,
-    })
-}
-
-fn page<'a>(matches: &ArgMatches<'a>) -> Order<'a>
-    ensures { meaning_of (codes "page") (rows_of (found_of matches.now)) ≡ Some (told result) }
-{
-    Order::Run(Errand::Print {
-        ward: number_in(matches, WARD),
-        text: Text::Page,
-    })
-}
-
-fn table<'a>(matches: &ArgMatches<'a>) -> Order<'a>
-    ensures { meaning_of (codes "table") (rows_of (found_of matches.now)) ≡ Some (told result) }
-{
-    Order::Run(Errand::Print {
-        ward: number_in(matches, WARD),
-        text: Text::Table,
-    })
-}
-
-fn batches<'a>(matches: &ArgMatches<'a>) -> Order<'a>
-    ensures { meaning_of (codes "batches") (rows_of (found_of matches.now)) ≡ Some (told result) }
-{
-    Order::Run(Errand::Ask(Question::Batches {
-        ward: number_in(matches, WARD),
-    }))
-}
-
-fn doubtful<'a>(matches: &ArgMatches<'a>) -> Order<'a>
-    ensures { meaning_of (codes "doubtful") (rows_of (found_of matches.now)) ≡ Some (told result) }
-{
-    Order::Run(Errand::Ask(Question::Doubtful {
-        ward: number_in(matches, WARD),
-    }))
-}
-
-fn differences<'a>(matches: &ArgMatches<'a>) -> Order<'a>
-    ensures { meaning_of (codes "differences") (rows_of (found_of matches.now)) ≡ Some (told result) }
-{
-    Order::Run(Errand::Ask(Question::Differences {
-        batch: number_in(matches, BATCH),
-    }))
-}
-
-fn receipts<'a>(matches: &ArgMatches<'a>) -> Order<'a>
-    ensures { meaning_of (codes "receipts") (rows_of (found_of matches.now)) ≡ Some (told result) }
-{
-    Order::Run(Errand::Ask(Question::Receipts {
-        actor: number_found_in(matches, ACTOR),
-    }))
-}
-
-fn replay<'a>(matches: &ArgMatches<'a>) -> Order<'a>
-    ensures { meaning_of (codes "replay") (rows_of (found_of matches.now)) ≡ Some (told result) }
-{
-    Order::Replay {
-        file: text_in(matches, SCRIPT),
-    }
-}
-
-fn copy<'a>(matches: &ArgMatches<'a>) -> Order<'a>
-    ensures { meaning_of (codes "copy") (rows_of (found_of matches.now)) ≡ Some (told result) }
-{
-    Order::Copy {
-        path: text_in(matches, NEW),
-    }
-}
-
 fn serve<'a>(matches: &ArgMatches<'a>) -> Result<Order<'a>, NoOrder>
     ensures ok { IfOk result (λ o. meaning_of (codes "serve") (rows_of (found_of matches.now)) ≡ Some (told o)) }
-    ensures err { IfErr result (λ why. (why ≡ NoOrder.BadOrigin) × (has_bad_origin (meaning_of (codes "serve") (rows_of (found_of matches.now))) ≡ true)) }
+    ensures err { IfErr result (λ why. (why ≡ NoOrder.BadOrigin) × (meaning_of (codes "serve") (rows_of (found_of matches.now)) ≡ Some no_origin)) }
 {
     Ok(Order::Serve {
         port: number_in(matches, PORT),
         connections: number_in(matches, CONNECTIONS),
         origin: origin_in(matches)?,
     })
+}
+
+/// The order that prints a text of the ward that was matched.
+fn printing<'a>(matches: &ArgMatches<'a>, text: Text) -> Order<'a>
+    ensures { told result ≡ print (number_at (codes "WARD") (rows_of (found_of matches.now))) text }
+{
+    in_office(Errand::Print {
+        ward: number_in(matches, WARD),
+        text,
+    })
+}
+
+fn asking<'a>(question: Question) -> Order<'a>
+    ensures { told result ≡ ask question }
+{
+    in_office(Errand::Ask(question))
 }
 
 /// The order of this name, with the values that were matched.
@@ -386,41 +244,36 @@ fn order_named<'a>(
 ) -> Result<Order<'a>, NoOrder>
     ensures ok { IfOk result (λ o. meaning_of name.now (rows_of (found_of matches.now)) ≡ Some (told o)) }
     ensures unknown { result ≡ Err NoOrder.Unknown → is_order_name name.now ≡ false }
-    ensures bad { result ≡ Err NoOrder.BadVerdict → has_bad_verdict (meaning_of name.now (rows_of (found_of matches.now))) ≡ true }
-    ensures bad_origin { result ≡ Err NoOrder.BadOrigin → has_bad_origin (meaning_of name.now (rows_of (found_of matches.now))) ≡ true }
+    ensures bad { result ≡ Err NoOrder.BadVerdict → meaning_of name.now (rows_of (found_of matches.now)) ≡ Some no_verdict }
+    ensures bad_origin { result ≡ Err NoOrder.BadOrigin → meaning_of name.now (rows_of (found_of matches.now)) ≡ Some no_origin }
 {
+    let ward = number_in(matches, WARD);
+    let batch = number_in(matches, BATCH);
+    let actor = number_found_in(matches, ACTOR);
     match name {
-        "init" => Ok(Order::Init),
-        "migrate" => Ok(Order::Migrate),
-        "ward" => ward(alloc, matches),
-        "candidate" => candidate(alloc, matches),
+        "init" => Ok(Order::Perform(Task::Init)),
+        "migrate" => Ok(Order::Perform(Task::Migrate)),
         "import-candidates" => Ok(import_candidates(matches)),
-        "withdraw" => withdraw(alloc, matches),
-        "close" => close(alloc, matches),
-        "batch" => batch(alloc, matches),
         "import-keying" => Ok(import_keying(matches)),
-        "again" => again(alloc, matches),
-        "third" => third(alloc, matches),
-        "judge" => judge(alloc, matches),
-        "seal" => seal(alloc, matches),
-        "advance" => advance(alloc, matches),
-        "lot" => lot(alloc, matches),
-        "declare" => declare(alloc, matches),
-        "status" => Ok(status(matches)),
-        "sheet" => Ok(sheet(matches)),
-        "result" => Ok(result(matches)),
+        "status" => Ok(in_office(Errand::TellStatus { ward })),
+        "sheet" => Ok(printing(matches, Text::Sheet)),
+        "result" => Ok(printing(matches, Text::Declaration)),
+        "ballots" => Ok(printing(matches, Text::Ballots)),
+        "page" => Ok(printing(matches, Text::Page)),
+        "table" => Ok(printing(matches, Text::Table)),
         "serve" => serve(matches),
-        "wards" => Ok(Order::Run(Errand::Ask(Question::Wards))),
-        "batches" => Ok(batches(matches)),
-        "doubtful" => Ok(doubtful(matches)),
-        "differences" => Ok(differences(matches)),
-        "receipts" => Ok(receipts(matches)),
-        "replay" => Ok(replay(matches)),
-        "copy" => Ok(copy(matches)),
-        "ballots" => Ok(ballots(matches)),
-        "page" => Ok(page(matches)),
-        "table" => Ok(table(matches)),
-        _ => Err(NoOrder::Unknown),
+        "wards" => Ok(asking(Question::Wards)),
+        "batches" => Ok(asking(Question::Batches { ward })),
+        "doubtful" => Ok(asking(Question::Doubtful { ward })),
+        "differences" => Ok(asking(Question::Differences { batch })),
+        "receipts" => Ok(asking(Question::Receipts { actor })),
+        "replay" => Ok(Order::Perform(Task::InOffice(Job::Replay {
+            file: text_in(matches, SCRIPT),
+        }))),
+        "copy" => Ok(Order::Copy {
+            path: text_in(matches, NEW),
+        }),
+        _ => sending(alloc, matches, command_named(alloc, name, matches)?),
     }
 }
 
@@ -428,8 +281,8 @@ fn order_named<'a>(
 pub(crate) fn order_in<'a>(alloc: Global, matches: &ArgMatches<'a>) -> Result<Order<'a>, NoOrder>
     ensures ok { IfOk result (λ o. meaning (subcommand_rows_of matches.now) ≡ Some (told o)) }
     ensures unknown { result ≡ Err NoOrder.Unknown → names_order (subcommand_rows_of matches.now) ≡ false }
-    ensures bad { result ≡ Err NoOrder.BadVerdict → has_bad_verdict (meaning (subcommand_rows_of matches.now)) ≡ true }
-    ensures bad_origin { result ≡ Err NoOrder.BadOrigin → has_bad_origin (meaning (subcommand_rows_of matches.now)) ≡ true }
+    ensures bad { result ≡ Err NoOrder.BadVerdict → meaning (subcommand_rows_of matches.now) ≡ Some no_verdict }
+    ensures bad_origin { result ≡ Err NoOrder.BadOrigin → meaning (subcommand_rows_of matches.now) ≡ Some no_origin }
 {
     match matches.subcommand() {
         Some((name, inner)) => order_named(alloc, name, inner),

@@ -1,7 +1,7 @@
 //! The orders that the program takes.
 
 ghost use Rattle.std.specs.Prelude.{◌≡◌, option_map};
-ghost use Rattle.desk.specs.Requests.{file_of, file_of_errand};
+ghost use Rattle.desk.specs.Requests.{file_of, file_of_task};
 ghost use Rattle.desk.specs.Scripts.{sends_requests};
 
 use office::Text;
@@ -54,7 +54,7 @@ pub enum Errand<'a> {
 impl<'a> Errand<'a> {
     /// The path of the file that the errand reads, if it reads one.
     pub fn file(&self) -> Option<&'a str>
-        ensures { option_map (λ path. path.now) result ≡ file_of_errand self.now }
+        ensures { option_map (λ path. path.now) result ≡ file_of self.now }
     {
         match self {
             Errand::ImportCandidates { file, .. } => Some(file),
@@ -74,40 +74,52 @@ impl<'a> Errand<'a> {
     }
 }
 
+/// What is done in an office that is opened for it.
+#[derive(Debug, Drop)]
+pub enum Job<'a> {
+    /// Run this errand.
+    Run(Errand<'a>),
+    /// Run the errands of a script in turn.
+    Replay { file: &'a str },
+}
+
+/// What is done over a connection to the office's database, and needs no more than that.
+#[derive(Debug, Drop)]
+pub enum Task<'a> {
+    /// Make an office.
+    Init,
+    /// Bring an office that an earlier program made over to this one.
+    Migrate,
+    /// Open the office, and do this in it.
+    InOffice(Job<'a>),
+}
+
+impl<'a> Task<'a> {
+    /// The path of the file that the task reads, if it reads one.
+    pub fn file(&self) -> Option<&'a str>
+        ensures { option_map (λ path. path.now) result ≡ file_of_task self.now }
+    {
+        match self {
+            Task::InOffice(Job::Run(errand)) => errand.file(),
+            Task::InOffice(Job::Replay { file }) => Some(file),
+            Task::Init | Task::Migrate => None,
+        }
+    }
+}
+
 /// What the program is to do.
 #[derive(Debug, Drop)]
 pub enum Order<'a> {
-    /// Make an office.
-    Init,
-    /// Open the office, and do this in it.
-    Run(Errand<'a>),
-    /// Open the office, and send the orders of a script in turn.
-    Replay {
-        file: &'a str,
-    },
+    /// Do this over the office's database.
+    Perform(Task<'a>),
     /// Make a copy of the office, in a file that isn't there yet.
     Copy {
         path: &'a str,
     },
-    /// Bring an office that an earlier program made over to this one.
-    Migrate,
     /// Answer so many connections on a port of this machine, and pages of an origin through a proxy, if one is given.
     Serve {
         port: u32,
         connections: u32,
         origin: Option<Origin<'a>>,
     },
-}
-
-impl<'a> Order<'a> {
-    /// The path of the file that the order reads, if it reads one.
-    pub fn file(&self) -> Option<&'a str>
-        ensures { option_map (λ path. path.now) result ≡ file_of self.now }
-    {
-        match self {
-            Order::Run(errand) => errand.file(),
-            Order::Replay { file } => Some(file),
-            _ => None,
-        }
-    }
 }

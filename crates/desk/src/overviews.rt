@@ -8,7 +8,8 @@ ghost use Rattle.register.specs.Offices.{judged_entry, receipt_entry};
 ghost use Rattle.register.specs.Texts.{behind, listed};
 ghost use Rattle.store.specs.Overviews.{batch_view, clerk_view, differences_view, doubtful_view, ward_view};
 ghost use Rattle.tables.specs.Reading.{OnlyReads};
-ghost use Rattle.desk.specs.Errands.{IsAskedOf, WhereOpen};
+ghost use Rattle.office.specs.Answers.{WhenOpenAt};
+ghost use Rattle.desk.specs.Parts.{IsAskedOf};
 ghost use Rattle.desk.specs.Overviews.{batch_line, clerk_words, differences_line, doubtful_line, elected_words, keyed_word, open_words, receipt_line, seats_words, size_words, standing_word, twin_words, untaken_words, verdict_words, ward_line};
 ghost use Rattle.desk.specs.Pages.{failed, line, page_of, page_stopped, printed};
 
@@ -335,7 +336,7 @@ fn outcome_of<T: Lined + Drop>(alloc: Global, found: Result<Vec<T>, Stop>) -> Ou
 
 /// On which papers a batch differs, in a line; or why that isn't told.
 fn differences_of<S: Alter>(alloc: Global, office: &mut Office<S>, batch: u32) -> Outcome
-    ensures found { WhereOpen office.old.closed (state S.Store office.old.held) (state S.Store office.new.held)
+    ensures found { WhenOpenAt (state S.Store) office.old office.new
         (λ s. IsAskedOf s (Question.Differences batch) (page_of result) office.new.closed (state S.Store office.old.held) (state S.Store office.new.held)) }
     ensures same { OnlyReads (state S.Store office.old.held) (state S.Store office.new.held) }
 {
@@ -354,7 +355,7 @@ pub(crate) fn answer_to<S: Alter>(
     office: &mut Office<S>,
     question: Question,
 ) -> Outcome
-    ensures found { WhereOpen office.old.closed (state S.Store office.old.held) (state S.Store office.new.held)
+    ensures found { WhenOpenAt (state S.Store) office.old office.new
         (λ s. IsAskedOf s question (page_of result) office.new.closed (state S.Store office.old.held) (state S.Store office.new.held)) }
     ensures same { OnlyReads (state S.Store office.old.held) (state S.Store office.new.held) }
 {

@@ -3,7 +3,8 @@
 ghost use Rattle.sqlite.specs.Held.{state};
 ghost use Rattle.office.specs.Sheets.{text_told};
 ghost use Rattle.tables.specs.Reading.{OnlyReads};
-ghost use Rattle.desk.specs.Errands.{IsFound, WhereOpen};
+ghost use Rattle.office.specs.Answers.{WhenOpenAt};
+ghost use Rattle.desk.specs.Parts.{IsFound};
 ghost use Rattle.desk.specs.Pages.{page_of, printed};
 
 use crate::lines::Outcome;
@@ -12,7 +13,7 @@ use sqlite::Alter;
 
 /// A text of a ward, or why it isn't told.
 pub(crate) fn text_of<S: Alter>(office: &mut Office<S>, ward: u32, text: Text) -> Outcome
-    ensures found { WhereOpen office.old.closed (state S.Store office.old.held) (state S.Store office.new.held)
+    ensures found { WhenOpenAt (state S.Store) office.old office.new
         (λ s. IsFound s printed (text_told text s ward) (page_of result) office.new.closed (state S.Store office.old.held) (state S.Store office.new.held)) }
     ensures same { OnlyReads (state S.Store office.old.held) (state S.Store office.new.held) }
 {

@@ -1,39 +1,83 @@
-//! The orders of a script, sent in turn.
+//! The turns of an order: an errand, or the orders of a script, taken in turn.
 
-ghost use Rattle.std.specs.Prelude.{◌≡◌, ◌-◌, ◌^◌, ◌<◌, true, map, option_map, IfErr, IfOk};
+ghost use Rattle.std.specs.Prelude.{◌≡◌, ◌∷◌, [], ◌-◌, ◌^◌, ◌<◌, true, map, option_map, IfErr, IfOk};
 ghost use Rattle.std.specs.List.{list_all};
 ghost use Rattle.sqlite.specs.State.{HasCleanDisk};
 ghost use Rattle.sqlite.specs.Held.{state};
 ghost use Rattle.store.specs.Offices.{Wears};
+ghost use Rattle.office.specs.Answers.{WhenOpenAt};
 ghost use Rattle.desk.specs.Cuttings.{IsReplayOf, line_entry, said_entry};
-ghost use Rattle.desk.specs.Errands.{HoldsText, IsFileAt, IsReplay, IsReplayed, IsUnreadScript, WhereOpen};
-ghost use Rattle.desk.specs.Pages.{Tells, outputs_of, page_of};
-ghost use Rattle.desk.specs.Requests.{file_of_errand};
+ghost use Rattle.desk.specs.Folders.{HoldsText, IsFileAt};
+ghost use Rattle.desk.specs.Headline.{IsDone, IsPlayed};
+ghost use Rattle.desk.specs.Pages.{IsQuiet, Tells, outputs_of, page_of};
+ghost use Rattle.desk.specs.Parts.{ComesTo, IsUnreadScript};
+ghost use Rattle.desk.specs.Requests.{file_of};
 ghost use Rattle.desk.specs.Scripts.{lines_of, numbered_from, sends_requests};
 
 use crate::folders::Folder;
-use crate::import::UNOPENED;
+use crate::import::{UNOPENED, candidate_requests, keying_of};
 use crate::lines::{Outcome, tell, tell_script_fault};
-use crate::perform::run;
+use crate::orders::{Errand, Job};
+use crate::overviews::answer_to;
+use crate::printing::text_of;
 use crate::scripts::{Line, Said, ScriptFault, Turn, all_said, lines_in, turns_in};
+use crate::sending::send_all;
+use crate::standing::standing_of;
 use office::Office;
 use sqlite::Alter;
 use std::alloc::Global;
 use std::io::{ErrorKind, Read};
+use std::slice;
 use store::Fault;
 use votes::Sink;
 
-/// The file that a turn reads, opened.
-fn opened<F: Folder>(folder: &F, turn: &Turn<'_>) -> Option<F::File>
-    ensures { IsFileAt (F.held folder.now) (file_of_errand turn.now.errand) (option_map F.File.remaining result) }
+/// The file that an errand reads, opened.
+fn opened<F: Folder>(folder: &F, errand: &Errand<'_>) -> Option<F::File>
+    ensures { IsFileAt (F.held folder.now) (file_of errand.now) (option_map F.File.remaining result) }
 {
-    match turn.errand.file() {
+    match errand.file() {
         Some(path) => folder.open(path),
         None => None,
     }
 }
 
-/// Sends the orders of a script in turn, and tells each reply. The first refusal or fault ends it, and is told behind
+/// Does an errand in an opened office, tells what comes of it, and gives the status. Where it is that of a script's
+/// line, what `err` is told begins with the number of that line.
+fn run<S: Alter, F: Folder, O: Sink, E: Sink>(
+    alloc: Global,
+    office: &mut Office<S>,
+    line: Option<usize>,
+    errand: &Errand<'_>,
+    folder: &F,
+    out: &mut O,
+    err: &mut E,
+) -> u8
+    requires out { O.failed out.old < 2 ^ 64 - 1 }
+    requires err { E.failed err.old < 2 ^ 64 - 1 }
+    ensures ran { let outputs = outputs_of O.taken O.failed E.taken E.failed in Tells (outputs out.old err.old) (outputs out.new err.new) result
+        (λ cut page. IsQuiet page × WhenOpenAt (state S.Store) office.old office.new (λ s. ComesTo cut page (λ course.
+        IsPlayed (state S.Store office.old.held) office.new.closed (state S.Store office.new.held) (F.held folder.now) s (record { line = line; errand = errand.now } ∷ []) course))) }
+    ensures wears { Wears (state S.Store office.old.held) (state S.Store office.new.held) }
+    ensures clean { HasCleanDisk (state S.Store office.new.held) → HasCleanDisk (state S.Store office.old.held) }
+{
+    let file = opened(folder, errand);
+    match errand {
+        Errand::Send(request) => send_all(office, line, slice::from_ref(request), out, err),
+        Errand::ImportCandidates { id, .. } => match candidate_requests(alloc, id, file) {
+            Ok(requests) => send_all(office, line, &requests, out, err),
+            Err(outcome) => tell(line, &outcome, out, err),
+        },
+        Errand::ImportKeying(keyed) => match keying_of(alloc, office, *keyed, file) {
+            Ok(request) => send_all(office, line, &[request], out, err),
+            Err(outcome) => tell(line, &outcome, out, err),
+        },
+        Errand::TellStatus { ward } => tell(line, &standing_of(alloc, office, *ward), out, err),
+        Errand::Print { ward, text } => tell(line, &text_of(office, *ward, *text), out, err),
+        Errand::Ask(question) => tell(line, &answer_to(alloc, office, *question), out, err),
+    }
+}
+
+/// Takes turns one after the other, and tells each reply. The first refusal or fault ends it, and is told behind
 /// the number of its line; so does the first output that fails. A file is opened when its turn comes. The status is
 /// that of the last that was told.
 fn send_turns<S: Alter, F: Folder, O: Sink, E: Sink>(
@@ -48,14 +92,13 @@ fn send_turns<S: Alter, F: Folder, O: Sink, E: Sink>(
     requires err { E.failed err.old < 2 ^ 64 - 1 }
     requires turns { list_all (λ turn. sends_requests turn.errand) turns.now ≡ true }
     ensures sent { let outputs = outputs_of O.taken O.failed E.taken E.failed in Tells (outputs out.old err.old) (outputs out.new err.new) result
-        (λ cut page. WhereOpen office.old.closed (state S.Store office.old.held) (state S.Store office.new.held)
-        (λ s. IsReplayed (F.held folder.now) cut s turns.now page office.new.closed (state S.Store office.old.held) (state S.Store office.new.held))) }
+        (λ cut page. WhenOpenAt (state S.Store) office.old office.new (λ s. ComesTo cut page (λ course.
+        IsPlayed (state S.Store office.old.held) office.new.closed (state S.Store office.new.held) (F.held folder.now) s turns.now course))) }
     ensures wears { Wears (state S.Store office.old.held) (state S.Store office.new.held) }
     ensures clean { HasCleanDisk (state S.Store office.new.held) → HasCleanDisk (state S.Store office.old.held) }
 {
     for turn in turns {
-        let file = opened(folder, turn);
-        let status = run(alloc, office, Some(turn.line), &turn.errand, file, out, err);
+        let status = run(alloc, office, turn.line, &turn.errand, folder, out, err);
         if status != 0 {
             return status;
         }
@@ -76,8 +119,8 @@ fn send_lines<S: Alter, F: Folder, O: Sink, E: Sink>(
     requires out { O.failed out.old < 2 ^ 64 - 1 }
     requires err { E.failed err.old < 2 ^ 64 - 1 }
     ensures sent { let outputs = outputs_of O.taken O.failed E.taken E.failed in Tells (outputs out.old err.old) (outputs out.new err.new) result
-        (λ cut page. WhereOpen office.old.closed (state S.Store office.old.held) (state S.Store office.new.held)
-        (λ s. IsReplayOf (F.held folder.now) cut s (map said_entry lines.now) page office.new.closed (state S.Store office.old.held) (state S.Store office.new.held))) }
+        (λ cut page. WhenOpenAt (state S.Store) office.old office.new (λ s. ComesTo cut page (λ course.
+        IsReplayOf (F.held folder.now) s (map said_entry lines.now) course (state S.Store office.old.held) office.new.closed (state S.Store office.new.held)))) }
     ensures wears { Wears (state S.Store office.old.held) (state S.Store office.new.held) }
     ensures clean { HasCleanDisk (state S.Store office.new.held) → HasCleanDisk (state S.Store office.old.held) }
 {
@@ -120,10 +163,10 @@ fn script_of<R: Read + Drop>(alloc: Global, file: Option<R>) -> Result<Vec<Line>
 
 /// Sends the orders of a script's file in turn, once all its lines were understood. The status is 2 where one isn't,
 /// which is told with its number, and nothing is sent.
-pub(crate) fn replay<S: Alter, R: Read + Drop, F: Folder, O: Sink, E: Sink>(
+fn replay<S: Alter, F: Folder, O: Sink, E: Sink>(
     alloc: Global,
     office: &mut Office<S>,
-    file: Option<R>,
+    path: &str,
     folder: &F,
     out: &mut O,
     err: &mut E,
@@ -131,17 +174,40 @@ pub(crate) fn replay<S: Alter, R: Read + Drop, F: Folder, O: Sink, E: Sink>(
     requires out { O.failed out.old < 2 ^ 64 - 1 }
     requires err { E.failed err.old < 2 ^ 64 - 1 }
     ensures ran { let outputs = outputs_of O.taken O.failed E.taken E.failed in Tells (outputs out.old err.old) (outputs out.new err.new) result
-        (λ cut page. WhereOpen office.old.closed (state S.Store office.old.held) (state S.Store office.new.held)
-        (λ s. IsReplay (F.held folder.now) cut s (option_map R.remaining file) page office.new.closed (state S.Store office.old.held) (state S.Store office.new.held))) }
+        (λ cut page. WhenOpenAt (state S.Store) office.old office.new (λ s. ComesTo cut page (λ course.
+        IsDone (state S.Store office.old.held) office.new.closed (state S.Store office.new.held) (F.held folder.now) s (Job.Replay path.entry) course))) }
     ensures wears { Wears (state S.Store office.old.held) (state S.Store office.new.held) }
     ensures clean { HasCleanDisk (state S.Store office.new.held) → HasCleanDisk (state S.Store office.old.held) }
 {
-    let lines = match script_of(alloc, file) {
+    let lines = match script_of(alloc, folder.open(path)) {
         Ok(lines) => lines,
         Err(outcome) => return tell(None, &outcome, out, err),
     };
     match all_said(alloc, &lines) {
         Ok(said) => send_lines(alloc, office, &said, folder, out, err),
         Err(_) => tell_script_fault(&ScriptFault::Memory, err),
+    }
+}
+
+/// Does a job in an opened office, tells what comes of it, and gives the status.
+pub(crate) fn follow<S: Alter, F: Folder, O: Sink, E: Sink>(
+    alloc: Global,
+    office: &mut Office<S>,
+    job: &Job<'_>,
+    folder: &F,
+    out: &mut O,
+    err: &mut E,
+) -> u8
+    requires out { O.failed out.old < 2 ^ 64 - 1 }
+    requires err { E.failed err.old < 2 ^ 64 - 1 }
+    ensures did { let outputs = outputs_of O.taken O.failed E.taken E.failed in Tells (outputs out.old err.old) (outputs out.new err.new) result
+        (λ cut page. WhenOpenAt (state S.Store) office.old office.new (λ s. ComesTo cut page (λ course.
+        IsDone (state S.Store office.old.held) office.new.closed (state S.Store office.new.held) (F.held folder.now) s job.now course))) }
+    ensures wears { Wears (state S.Store office.old.held) (state S.Store office.new.held) }
+    ensures clean { HasCleanDisk (state S.Store office.new.held) → HasCleanDisk (state S.Store office.old.held) }
+{
+    match job {
+        Job::Run(errand) => run(alloc, office, None, errand, folder, out, err),
+        Job::Replay { file } => replay(alloc, office, file, folder, out, err),
     }
 }

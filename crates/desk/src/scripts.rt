@@ -1,11 +1,11 @@
 //! A script: orders in a text, a line each, read to errands.
 
-ghost use Rattle.std.specs.Prelude.{◌≡◌, map, IfErr, IfOk, IfSome, Some};
+ghost use Rattle.std.specs.Prelude.{◌≡◌, false, map, IfErr, IfNone, IfOk, IfSome, Some};
 ghost use Rattle.desk.specs.Cuttings.{IsFaultOfLine, IsFaultOfLines, line_entry, said_entry, said_words};
-ghost use Rattle.desk.specs.Scripts.{AreTurns, IsFlawOfWords, IsTurn, Means, line_flaw_text, lines_of, numbered_from, typed, typed_line};
+ghost use Rattle.desk.specs.Scripts.{AreTurns, IsFlawOfWords, IsTurn, Means, line_flaw_text, lines_of, numbered_from, stands_in_script, typed, typed_line};
 
 use crate::cutting;
-use crate::orders::{Errand, Order};
+use crate::orders::{Errand, Job, Order, Task};
 use crate::words::{BAD_ORIGIN, WordsFault, order};
 use std::alloc::{AllocError, Global};
 use std::str;
@@ -73,10 +73,10 @@ pub(crate) struct Said<'a> {
     words: Result<Vec<&'a str>, Garbled>,
 }
 
-/// An order of a script, and the number of its line.
+/// An errand whose turn comes, and the number of its line, where it is one of a script.
 #[derive(Drop)]
 pub(crate) struct Turn<'a> {
-    pub(crate) line: usize,
+    pub(crate) line: Option<usize>,
     pub(crate) errand: Errand<'a>,
 }
 
@@ -145,14 +145,30 @@ pub(crate) fn all_said<'a>(alloc: Global, lines: &'a [Line]) -> Result<Vec<Said<
     Ok(all)
 }
 
+/// The errand that an order is, if it is one.
+fn errand_of(order: Order<'_>) -> Option<Errand<'_>>
+    ensures some { IfSome result (λ errand. order.entry ≡ Order.Perform (Task.InOffice (Job.Run errand))) }
+    ensures none { IfNone result (stands_in_script order.entry ≡ false) }
+{
+    match order {
+        Order::Perform(Task::InOffice(Job::Run(errand))) => Some(errand),
+        Order::Perform(Task::InOffice(Job::Replay { .. })) => None,
+        Order::Perform(Task::Init | Task::Migrate) => None,
+        Order::Copy { .. } | Order::Serve { .. } => None,
+    }
+}
+
 /// The errand that words mean, or what is wrong with them; None where memory was wanting.
 fn errand_in<'a>(alloc: Global, words: &'a [&'a str]) -> Result<Errand<'a>, Option<LineFlaw>>
     ensures ok { IfOk result (λ errand. Means (map (λ s. s.now) words.entry.now) errand) }
     ensures err { IfErr result (λ why. IfSome why (λ flaw. IsFlawOfWords (map (λ s. s.now) words.entry.now) flaw)) }
 {
     match order(alloc, words) {
-        Ok(Order::Run(errand)) if errand.sends() => Ok(errand),
-        Ok(_) => Err(Some(LineFlaw::Elsewhere)),
+        Ok(order) => match errand_of(order) {
+            Some(errand) if errand.sends() => Ok(errand),
+            Some(_) => Err(Some(LineFlaw::Elsewhere)),
+            None => Err(Some(LineFlaw::Elsewhere)),
+        },
         Err(WordsFault::Memory) => Err(None),
         Err(WordsFault::Verdict) => Err(Some(LineFlaw::Verdict)),
         Err(WordsFault::Origin) => Err(Some(LineFlaw::Origin)),
@@ -172,7 +188,7 @@ fn turn_in<'a, 'b>(alloc: Global, said: &'a Said<'b>) -> Result<Turn<'a>, Script
     };
     match errand_in(alloc, words) {
         Ok(errand) => Ok(Turn {
-            line: said.number,
+            line: Some(said.number),
             errand,
         }),
         Err(Some(flaw)) => Err(ScriptFault::Line(said.number, flaw)),

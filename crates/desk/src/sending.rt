@@ -1,12 +1,13 @@
 //! Requests sent to an office, and what came of them.
 
-ghost use Rattle.std.specs.Prelude.{◌≡◌, ◌-◌, ◌^◌, ◌<◌};
+ghost use Rattle.std.specs.Prelude.{◌≡◌, ◌-◌, ◌^◌, ◌<◌, ℕ};
 ghost use Rattle.sqlite.specs.State.{HasCleanDisk};
 ghost use Rattle.sqlite.specs.Held.{state};
-ghost use Rattle.register.specs.Machine.{step_of};
 ghost use Rattle.store.specs.Offices.{Wears};
-ghost use Rattle.desk.specs.Errands.{IsAnswered, IsSent, WhereOpen};
-ghost use Rattle.desk.specs.Pages.{IsQuiet, TellsOf, outputs_of, page_of};
+ghost use Rattle.office.specs.Answers.{WhenOpenAt};
+ghost use Rattle.desk.specs.Headline.{IsAnswered, IsSent};
+ghost use Rattle.desk.specs.Pages.{IsQuiet, Tells, outputs_of, page_of};
+ghost use Rattle.desk.specs.Parts.{ComesTo, IsOver};
 
 use crate::lines::{Outcome, tell};
 use office::{Answer, Office};
@@ -16,13 +17,14 @@ use votes::Sink;
 
 /// What comes of one request to an office.
 fn outcome_of<S: Alter>(office: &mut Office<S>, request: &Request) -> Outcome
-    ensures told { WhereOpen office.old.closed (state S.Store office.old.held) (state S.Store office.new.held)
-        (λ s. IsAnswered s (step_of s request.now) (page_of result) office.new.closed (state S.Store office.old.held) (state S.Store office.new.held)) }
+    ensures told { WhenOpenAt (state S.Store) office.old office.new
+        (λ s. (answered : ℕ) × IsAnswered (state S.Store office.old.held) office.new.closed (state S.Store office.new.held) s request.now answered (page_of result)) }
     ensures wears { Wears (state S.Store office.old.held) (state S.Store office.new.held) }
     ensures clean { HasCleanDisk (state S.Store office.new.held) → HasCleanDisk (state S.Store office.old.held) }
 {
     match office.handle(request.actor, request.id.as_str(), &request.command) {
-        Ok(Answer::Done(reply) | Answer::Kept(reply)) => Outcome::Replied(reply),
+        Ok(Answer::Done(reply)) => Outcome::Replied(reply),
+        Ok(Answer::Kept(reply)) => Outcome::Replied(reply),
         Ok(Answer::Refused(refusal)) => Outcome::Refused(refusal),
         Err(fault) => Outcome::Failed(fault),
     }
@@ -40,9 +42,9 @@ pub(crate) fn send_all<S: Alter, O: Sink, E: Sink>(
 ) -> u8
     requires out { O.failed out.old < 2 ^ 64 - 1 }
     requires err { E.failed err.old < 2 ^ 64 - 1 }
-    ensures sent { let outputs = outputs_of O.taken O.failed E.taken E.failed in TellsOf line (outputs out.old err.old) (outputs out.new err.new) result
-        (λ cut page. IsQuiet page × WhereOpen office.old.closed (state S.Store office.old.held) (state S.Store office.new.held)
-        (λ s. IsSent cut s requests.now page office.new.closed (state S.Store office.old.held) (state S.Store office.new.held))) }
+    ensures sent { let outputs = outputs_of O.taken O.failed E.taken E.failed in Tells (outputs out.old err.old) (outputs out.new err.new) result
+        (λ cut page. IsQuiet page × WhenOpenAt (state S.Store) office.old office.new (λ s. ComesTo cut page (λ course.
+        IsSent (state S.Store office.old.held) office.new.closed (state S.Store office.new.held) line (IsOver office.new.closed (state S.Store office.new.held)) s requests.now course))) }
     ensures wears { Wears (state S.Store office.old.held) (state S.Store office.new.held) }
     ensures clean { HasCleanDisk (state S.Store office.new.held) → HasCleanDisk (state S.Store office.old.held) }
 {

@@ -5,7 +5,8 @@ ghost use Rattle.sqlite.specs.Held.{state};
 ghost use Rattle.register.specs.Standings.{status_entry};
 ghost use Rattle.tables.specs.Reading.{OnlyReads};
 ghost use Rattle.office.specs.Reads.{status_told};
-ghost use Rattle.desk.specs.Errands.{IsFound, WhereOpen};
+ghost use Rattle.office.specs.Answers.{WhenOpenAt};
+ghost use Rattle.desk.specs.Parts.{IsFound};
 ghost use Rattle.desk.specs.Pages.{page_of, replied};
 ghost use Rattle.desk.specs.Standings.{batch_words, count_words, phase_word, status_text, ward_words};
 
@@ -68,7 +69,7 @@ pub(crate) fn status_text(alloc: Global, status: &Status) -> Result<String, Allo
 
 /// How a ward stands, in words; or why that isn't told.
 pub(crate) fn standing_of<S: Alter>(alloc: Global, office: &mut Office<S>, ward: u32) -> Outcome
-    ensures found { WhereOpen office.old.closed (state S.Store office.old.held) (state S.Store office.new.held)
+    ensures found { WhenOpenAt (state S.Store) office.old office.new
         (λ s. IsFound s (λ status. replied (status_text status)) (status_told s ward) (page_of result) office.new.closed (state S.Store office.old.held) (state S.Store office.new.held)) }
     ensures same { OnlyReads (state S.Store office.old.held) (state S.Store office.new.held) }
 {

@@ -1,12 +1,11 @@
 //! The table of orders: the name of each, its words, and its help.
 //!
-//! One order more is an entry of [`ORDERS`], which says its words, and a function of
-//! [`matched`](crate::matched), which says what each word is to the order; where it sends no command, a
-//! variant of [`Errand`](crate::orders::Errand) too. In specs/Orders.antt it is an entry of `orders` and a
-//! line of `words_of` or `told`.
+//! One order more is an entry of [`ORDERS`], an arm of [`matched`](crate::matched), which makes of its words what it
+//! means, and a line of `orders` in specs/Orders.antt, which says what that is. Where it sends no command, it may want a
+//! variant of [`Errand`](crate::orders::Errand) too.
 
 ghost use Rattle.std.specs.Prelude.{◌≡◌, map};
-ghost use Rattle.desk.specs.Orders.{entry_of, orders};
+ghost use Rattle.desk.specs.Orders.{orders, words_of};
 
 /// What a word of an order holds.
 #[derive(Clone, Copy)]
@@ -377,7 +376,7 @@ const ORDERS: [Entry; 30] = [
 #[tactic(auto, unfolding(crate::specs::Orders::orders))]
 /// The table of orders.
 pub(crate) fn entries() -> &'static [Entry]
-    ensures { map entry_of result.now ≡ orders }
+    ensures { map words_of result.now ≡ map (λ e. e.typed) orders }
 {
     &ORDERS
 }

@@ -1,17 +1,19 @@
 //! The words of the command line, read to one order.
 
-ghost use Rattle.std.specs.Prelude.{◌≡◌, ◌≢◌, ◌⊎◌, true, false, [], Some, map, string_bytes, IfOk, IfErr};
+ghost use Rattle.std.specs.Prelude.{◌≡◌, ◌≢◌, ◌⊎◌, ◌∷◌, true, false, [], Some, map, string_bytes, IfOk, IfErr};
 ghost use Rattle.clap.specs.Words.{app_of, subcommand_of, takes, with_rule, with_subcommand};
 ghost use Rattle.clap.specs.declared.builder.command.Command.TheViews.{out-Command as fields_of};
-ghost use Rattle.desk.specs.Orders.{entry_of, told};
-ghost use Rattle.desk.specs.Words.{IsOwnText, IsToldOf, TellsOwnText, TellsRefusal, free_number_rule, has_bad_origin, has_bad_verdict, id_rule, meaning, number_rule, office_words, option_rule, order_words, rule_of_kind, start_words, status_of_kind, text_rule, with_orders, wrong_with};
+ghost use Rattle.desk.specs.Orders.{no_origin, no_verdict, told, words_of};
+ghost use Rattle.desk.specs.Versions.{version_text};
+ghost use Rattle.desk.specs.Words.{IsOwnText, IsToldOf, TellsOwnText, TellsRefusal, free_number_rule, id_rule, meaning, number_rule, office_words, option_rule, order_words, rule_of_kind, start_words, status_of_kind, text_rule, with_orders, wrong_with};
 
 use crate::matched::{NoOrder, order_in};
 use crate::orders::Order;
 use crate::table::{Entry, Heading, Kind, MAX_CONNECTIONS, MAX_PORT, Word, entries};
+use crate::version::{VERSION, version_text};
 use clap::builder::ValueParser;
 use clap::error::ErrorKind;
-use clap::{Arg, Command, value_parser};
+use clap::{Arg, Command, Error, value_parser};
 use std::alloc::{AllocError, Global};
 use std::fmt::Display;
 
@@ -178,7 +180,7 @@ fn with_word<'a>(alloc: Global, command: Command<'a>, word: Word) -> Result<Comm
 
 /// The command that reads the words of one order.
 fn order_command<'a>(alloc: Global, entry: Entry) -> Result<Command<'a>, AllocError>
-    ensures app { IfOk result (λ c. app_of c ≡ order_words (entry_of entry)) }
+    ensures app { IfOk result (λ c. app_of c ≡ order_words (words_of entry)) }
     ensures local { IfOk result (λ c. (fields_of c).has_globals ≡ false) }
 {
     let mut command = Command::new(alloc, entry.name)
@@ -196,6 +198,7 @@ fn start_command<'a>(alloc: Global) -> Command<'a>
 {
     Command::new(alloc, "count-office")
         .about(ABOUT)
+        .version(VERSION)
         .after_help(END_OF_HELP)
         .subcommand_required(true)
         .arg_required_else_help(true)
@@ -215,7 +218,7 @@ fn with_order<'a>(
     command: Command<'a>,
     entry: Entry,
 ) -> Result<Command<'a>, AllocError>
-    ensures app { IfOk result (λ c. app_of c ≡ with_subcommand (app_of command.entry) (order_words (entry_of entry)).top) }
+    ensures app { IfOk result (λ c. app_of c ≡ with_subcommand (app_of command.entry) (order_words (words_of entry)).top) }
     ensures local { (fields_of command.entry).has_globals ≡ false → IfOk result (λ c. (fields_of c).has_globals ≡ false) }
 {
     command.subcommand(order_command(alloc, entry)?)
@@ -227,7 +230,7 @@ fn with_orders<'a>(
     mut command: Command<'a>,
     entries: &[Entry],
 ) -> Result<Command<'a>, AllocError>
-    ensures app { IfOk result (λ c. app_of c ≡ with_orders (app_of command.entry) (map entry_of entries.now)) }
+    ensures app { IfOk result (λ c. app_of c ≡ with_orders (app_of command.entry) (map words_of entries.now)) }
     ensures local { (fields_of command.entry).has_globals ≡ false → IfOk result (λ c. (fields_of c).has_globals ≡ false) }
 {
     for entry in entries {
@@ -245,12 +248,12 @@ fn office_command<'a>(alloc: Global) -> Result<Command<'a>, AllocError>
     with_orders(alloc, named(start_command(alloc))?, entries())
 }
 
-/// The status that words end with which ask for help or are not understood.
+/// The status that words end with which ask for help or the version, or are not understood.
 fn status_of(kind: ErrorKind) -> u8
     ensures { result ≡ status_of_kind kind }
 {
     match kind {
-        ErrorKind::DisplayHelp => 0,
+        ErrorKind::DisplayHelp | ErrorKind::DisplayVersion => 0,
         _ => 2,
     }
 }
@@ -289,20 +292,44 @@ fn refused<D: Display>(alloc: Global, kind: ErrorKind, shown: &D) -> WordsFault
     }
 }
 
+/// What is told of the version.
+fn version_told(alloc: Global) -> WordsFault
+    ensures told { TellsRefusal ErrorKind.DisplayVersion result }
+    ensures text { TellsOwnText (Some version_text) result }
+{
+    match version_text(alloc) {
+        Ok(text) => WordsFault::Words { text, status: 0 },
+        Err(_) => WordsFault::Memory,
+    }
+}
+
+/// What is told of words that `clap` doesn't take: the version, where they ask for it, and else what its error displays.
+fn denied(alloc: Global, kind: ErrorKind, error: &Error) -> WordsFault
+    ensures memory { kind ≡ ErrorKind.OutOfMemory → result ≡ WordsFault.Memory }
+    ensures told { TellsRefusal kind result }
+    ensures version { kind ≡ ErrorKind.DisplayVersion → TellsOwnText (Some version_text) result }
+{
+    if kind == ErrorKind::DisplayVersion {
+        return version_told(alloc);
+    }
+    refused(alloc, kind, error)
+}
+
 /// Reads the words, of which the first is DB, to one order.
 ///
 /// The order and its values are those that `clap` matches in the words, read by the table of orders.
 /// Words that `clap` takes are refused for want of memory, for a verdict whose word says none, and for an origin whose
 /// word is none, alone.
 /// Words that it doesn't take are no order: they are told, in a text that isn't empty, with status 0 where what
-/// is wrong with them first is that they ask for help, and else with 2, or want of memory is told.
+/// is wrong with them first is that they ask for help or the version, and else with 2, or want of memory is told.
 pub fn order<'a>(alloc: Global, words: &'a [&'a str]) -> Result<Order<'a>, WordsFault>
     ensures accepts { IfOk result (λ _. wrong_with (map (λ s. s.now) words.entry.now) ≡ []) }
     ensures denies { IfErr result (IsToldOf (wrong_with (map (λ s. s.now) words.entry.now))) }
+    ensures version { wrong_with (map (λ s. s.now) words.entry.now) ≡ ErrorKind.DisplayVersion ∷ [] → IfErr result (TellsOwnText (Some version_text)) }
     ensures ok { IfOk result (λ o. meaning (subcommand_of office_words (map (λ s. s.now) words.entry.now)) ≡ Some (told o)) }
     ensures err { takes office_words (map (λ s. s.now) words.entry.now) ≡ true → IfErr result (λ e. (e ≡ WordsFault.Memory)
-        ⊎ (((e ≡ WordsFault.Verdict) × (has_bad_verdict (meaning (subcommand_of office_words (map (λ s. s.now) words.entry.now))) ≡ true))
-        ⊎ ((e ≡ WordsFault.Origin) × (has_bad_origin (meaning (subcommand_of office_words (map (λ s. s.now) words.entry.now))) ≡ true)))) }
+        ⊎ (((e ≡ WordsFault.Verdict) × (meaning (subcommand_of office_words (map (λ s. s.now) words.entry.now)) ≡ Some no_verdict))
+        ⊎ ((e ≡ WordsFault.Origin) × (meaning (subcommand_of office_words (map (λ s. s.now) words.entry.now)) ≡ Some no_origin)))) }
 {
     let command = match office_command(alloc) {
         Ok(command) => command,
@@ -310,7 +337,7 @@ pub fn order<'a>(alloc: Global, words: &'a [&'a str]) -> Result<Order<'a>, Words
     };
     let matches = match command.try_get_matches_from(words) {
         Ok(matches) => matches,
-        Err(error) => return Err(refused(alloc, error.kind(), &error)),
+        Err(error) => return Err(denied(alloc, error.kind(), &error)),
     };
     match order_in(alloc, &matches) {
         Ok(order) => Ok(order),

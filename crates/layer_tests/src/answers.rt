@@ -1,18 +1,16 @@
-//! What the checker is asked for, what it tells on its two outputs, and how it ends.
+//! What the checker tells over files that can't be read, memory that is wanting, and outputs that fail. (What else it tells is
+//! played in examples/checking.sh and examples/transcripts/checks.txt.)
 
-use crate::recounts::{BALLOTS, DECLARATION, SHEET, TIED};
+use crate::recounts::{BALLOTS, SHEET};
 use recount::{Folder, Unread, WordsFault, run};
 use std::alloc::Global;
 use std::process::Abort;
 use std::test::Fail;
 use votes::Counted;
 
-/// The first line of what is told of the sheet, and of the declaration.
+/// What is told of the sheet.
 const IS_SHEET: &str =
     "the text is the stage sheet that these ballots, rejected papers and lots give\n";
-
-const IS_DECLARATION: &str =
-    "the text is the declaration that these ballots, rejected papers and lots give\n";
 
 /// Two files that can be read, and others that can't.
 #[derive(Clone, Copy)]
@@ -49,7 +47,6 @@ impl Folder for Shelf<'_> {
 fn asks(
     rt: &(impl Abort + AllocGlobal),
     words: Result<&str, WordsFault>,
-    (ballots, text): (&str, &str),
     told: (&str, &str, u8),
 ) -> Result<(), Fail> {
     let alloc = rt.alloc();
@@ -65,8 +62,8 @@ fn asks(
     };
     let folder = Shelf {
         alloc,
-        ballots,
-        text,
+        ballots: BALLOTS,
+        text: SHEET,
     };
     let (mut out, mut err) = (Vec::new(alloc), Vec::new(alloc));
     let status = run(
@@ -82,133 +79,19 @@ fn asks(
     Ok(())
 }
 
-#[test]
-fn words(rt: HostRuntime) -> Result<(), Fail> {
-    let files = (BALLOTS, SHEET);
-    let unasked = "error: give the path of the ballots, and that of the sheet; --help tells more\n";
-    for words in ["", "text", "ballots text text"] {
-        asks(&rt, Ok(words), files, ("", unasked, 2))?;
-    }
+/// The checker is asked, and what it can't read is told.
+fn asks_all(rt: &(impl Abort + AllocGlobal)) -> Result<(), Fail> {
     let not_text = ("", "error: a word is not UTF-8\n", 2);
-    asks(&rt, Err(WordsFault::NotUtf8), files, not_text)?;
+    asks(rt, Err(WordsFault::NotUtf8), not_text)?;
     let memory = ("", "error: memory is wanting\n", 3);
-    asks(&rt, Err(WordsFault::Memory), files, memory)?;
-    asks(&rt, Ok("large text"), files, memory)?;
-    asks(&rt, Ok("ballots large"), files, memory)?;
+    asks(rt, Err(WordsFault::Memory), memory)?;
+    asks(rt, Ok("large text"), memory)?;
+    asks(rt, Ok("ballots large"), memory)?;
     for words in ["no\u{1b}ne nothing", "ballots no\u{1b}ne"] {
         let unread = ("", "error: no?ne can't be read: there is none\n", 3);
-        asks(&rt, Ok(words), files, unread)?;
+        asks(rt, Ok(words), unread)?;
     }
-    asks(&rt, Ok("ballots text"), files, (IS_SHEET, "", 0))?;
-    asks(
-        &rt,
-        Ok("ballots text"),
-        (BALLOTS, DECLARATION),
-        (IS_DECLARATION, "", 0),
-    )?;
-    // the two swapped, and the ballots beside themselves
-    let swapped =
-        "error: line 1 of the ballots: not the highest number of a candidate, and the seats\n";
-    asks(&rt, Ok("text ballots"), files, ("", swapped, 2))?;
-    let itself = "line 1 differs, and should be:\nWard 7 Harbour\n";
-    asks(&rt, Ok("ballots ballots"), files, ("", itself, 1))?;
-    Ok(())
-}
-
-#[test]
-fn differences(rt: HostRuntime) -> Result<(), Fail> {
-    let first = "line 1 differs, and should be:\nWard 7 Harbour\n";
-    let longer = "line 5 differs: the text should end before it\n";
-    let texts = [
-        ("", first, ""),
-        ("Ward 8 Harbour\n", first, ""),
-        (
-            "\u{feff}Ward 7 Harbour\n",
-            first,
-            "(it begins with a byte order mark, as another program writes it; a sheet doesn't)\n",
-        ),
-        (
-            "Ward 7 Harbour\r\n",
-            first,
-            "(its lines end with carriage returns, as another system writes them; a sheet's don't)\n",
-        ),
-        ("Ward 7 Harbour", first, "(its last line has no line end)\n"),
-        (
-            "Ward 7 Harbour\nElected\n 1 Ann\n 3 Cy\n 2 Bob\n",
-            longer,
-            "",
-        ),
-        (
-            "Ward 7 Harbour\nElected\n 1 Ann\n 3 Cy\n 2 Bob",
-            longer,
-            "(its last line has no line end)\n",
-        ),
-    ];
-    for (text, line, hint) in texts {
-        let told = format!(in rt.alloc(); "{line}{hint}")?;
-        asks(
-            &rt,
-            Ok("ballots text"),
-            (BALLOTS, text),
-            ("", told.as_str(), 1),
-        )?;
-    }
-    // a name that could steer a terminal
-    let (front, back) = BALLOTS.split_once("Harbour").ok_or("no name")?;
-    let name = "H\u{1b}[2J\u{7f}\u{9b}\t\u{202e}\u{2066}\u{200f}\u{61c}ü\u{a0}";
-    let ballots = format!(in rt.alloc(); "{front}{name}{back}")?;
-    let told = "line 1 differs, and should be:\nWard 7 H?[2J???????ü\u{a0}\n";
-    asks(
-        &rt,
-        Ok("ballots text"),
-        (ballots.as_str(), SHEET),
-        ("", told, 1),
-    )?;
-    Ok(())
-}
-
-#[test]
-fn hindrances(rt: HostRuntime) -> Result<(), Fail> {
-    let drawn = |stage: &str| format!(in rt.alloc(); "{TIED}# Lot at stage {stage}\n");
-    let (amiss, needless) = (drawn("2: 1")?, drawn("1: 3")?);
-    let files = [
-        ("3 0\n", "line 1 of the ballots: no seats"),
-        (
-            "3 2\n1 1 0\n0\n\"Ann\"\n",
-            "line 5 of the ballots: the file ends before the ward's name",
-        ),
-        (
-            "1 1\n1 1 0\n0\n\"Ann\"\n\"Harbour\"",
-            "no more candidates than seats",
-        ),
-        (
-            TIED,
-            "no lot is recorded for stage 2, where these are tied: 2 3",
-        ),
-        (amiss.as_str(), "the lot for stage 2 names none of the tied"),
-        (
-            needless.as_str(),
-            "no lot is recorded for stage 2, where these are tied: 2 3",
-        ),
-    ];
-    for (ballots, why) in files {
-        let told = format!(in rt.alloc(); "error: {why}\n")?;
-        asks(
-            &rt,
-            Ok("ballots text"),
-            (ballots, SHEET),
-            ("", told.as_str(), 2),
-        )?;
-    }
-    let both = format!(in rt.alloc(); "{TIED}# Lot at stage 2: 3\n# Lot at stage 255: 3\n")?;
-    let told = "error: a lot is recorded for stage 255, and none is drawn there\n";
-    asks(
-        &rt,
-        Ok("ballots text"),
-        (both.as_str(), SHEET),
-        ("", told, 2),
-    )?;
-    Ok(())
+    asks(rt, Ok("ballots text"), (IS_SHEET, "", 0))
 }
 
 /// The status, and what was taken, where the outputs take so many bytes.
@@ -243,7 +126,8 @@ fn breaks(
 }
 
 #[test]
-fn outputs_that_fail(rt: HostRuntime) -> Result<(), Fail> {
+fn what_fails_is_told(rt: HostRuntime) -> Result<(), Fail> {
+    asks_all(&rt)?;
     breaks(
         &rt,
         SHEET,

@@ -107,103 +107,96 @@ pub const BODY: &str = r#"{"id":"h1","round":1,"papers":["1,2,","D"]}"#;
 /// What it asks.
 pub const KEYED: &str = "4 keys 12 round 1 as h1: [1,2,] [D]";
 
+/// First lines, behind each of which no length is one.
+const TARGETS: [(&str, &str); 20] = [
+    ("GET /clerks/4/work HTTP/1.1", "Work { clerk: 4 }"),
+    ("GET /clerks/99999/work HTTP/1.0", "Work { clerk: 99999 }"),
+    ("GET /wards/7/sheet HTTP/1.1", "Sheet { ward: 7 }"),
+    ("GET /wards/7/result HTTP/1.1", "Declaration { ward: 7 }"),
+    ("GET /wards/07/sheet HTTP/1.1", "NotFound"),
+    ("GET /wards/100000/sheet HTTP/1.1", "NotFound"),
+    ("GET /wards/+7/sheet HTTP/1.1", "NotFound"),
+    ("GET /wards//sheet HTTP/1.1", "NotFound"),
+    ("GET /wards/7/sheet/ HTTP/1.1", "NotFound"),
+    ("GET /wards/7/sheet?x HTTP/1.1", "NotFound"),
+    ("GET /wards/%37/sheet HTTP/1.1", "NotFound"),
+    ("GET /w\u{e4}rds/7/sheet HTTP/1.1", "NotFound"),
+    ("POST /nothing HTTP/1.1", "NotFound"),
+    ("POST /wards/7/sheet HTTP/1.1", "only Get"),
+    ("get /wards/7/sheet HTTP/1.1", "only Get"),
+    ("GET /clerks/4/batches/12/keying HTTP/1.1", "only Post"),
+    ("PUT /clerks/4/batches/12/keying HTTP/1.1", "only Post"),
+    ("POST /clerks/4/batches/0/keying HTTP/1.1", "NotFound"),
+    ("GET /wards/7/sheet HTTP/2.0", "BadRequest"),
+    ("X", "BadRequest"),
+];
+
+/// Headers of a keying whose body has 43 bytes.
+const LENGTHS: [(&str, &str); 14] = [
+    ("Content-Length: 43\r\n", KEYED),
+    ("cONTENT-lENGTH:\t0043 \r\nHost: x\r\n", KEYED),
+    ("Content-Length: 42\r\n", "BadRequest"),
+    ("Content-Length: 44\r\n", "BadRequest"),
+    ("", "BadRequest"),
+    ("Content-Length:\r\n", "BadRequest"),
+    ("Content-Length: +43\r\n", "BadRequest"),
+    ("Content-Length: 4 3\r\n", "BadRequest"),
+    ("Content-Length: 43\r\nContent-Length: 43\r\n", "BadRequest"),
+    (
+        "Content-Length: 43\r\nTransfer-Encoding: identity\r\n",
+        "BadRequest",
+    ),
+    ("Transfer-Encoding: chunked\r\n", "BadRequest"),
+    ("Content-Length: 1048577\r\n", "TooLarge"),
+    (
+        "Content-Length: 123456789012345678901234567890\r\n",
+        "TooLarge",
+    ),
+    (
+        "Content-Length: 1048577\r\nContent-Length: 1048577\r\n",
+        "BadRequest",
+    ),
+];
+
+/// Bodies of a keying, of the length that its header says.
+const BODIES: [(&str, &str); 13] = [
+    (
+        r#" { "papers" : [] , "round" : 4294967295 , "id" : "" } "#,
+        "4 keys 12 round 4294967295 as :",
+    ),
+    (
+        r#"{"id":"a","id":"b","round":1,"papers":["\u0044"]}"#,
+        "4 keys 12 round 1 as b: [D]",
+    ),
+    (r#"{"id":"h1","round":1,"papers":[],"x":1}"#, "BadRequest"),
+    (r#"{"id":"h1","round":1}"#, "BadRequest"),
+    (r#"{"id":"h1","round":"1","papers":[]}"#, "BadRequest"),
+    (
+        r#"{"id":"h1","round":4294967296,"papers":[]}"#,
+        "BadRequest",
+    ),
+    (r#"{"id":"h1","round":1.0,"papers":[]}"#, "BadRequest"),
+    (r#"{"id":"h1","round":-0,"papers":[]}"#, "BadRequest"),
+    (r#"{"id":"h1","round":1,"papers":[1]}"#, "BadRequest"),
+    (r#"{"id":1,"round":1,"papers":[]}"#, "BadRequest"),
+    (r#"["h1",1,[]]"#, "BadRequest"),
+    (r#"{"id":"h1","round":1,"papers":[]"#, "BadRequest"),
+    ("", "BadRequest"),
+];
+
 #[test]
-fn targets_and_methods(rt: HostRuntime) -> Result<(), Fail> {
-    let cases = [
-        ("GET /clerks/4/work HTTP/1.1", "Work { clerk: 4 }"),
-        ("GET /clerks/99999/work HTTP/1.0", "Work { clerk: 99999 }"),
-        ("GET /wards/7/sheet HTTP/1.1", "Sheet { ward: 7 }"),
-        ("GET /wards/7/result HTTP/1.1", "Declaration { ward: 7 }"),
-        ("GET /wards/07/sheet HTTP/1.1", "NotFound"),
-        ("GET /wards/100000/sheet HTTP/1.1", "NotFound"),
-        ("GET /wards/+7/sheet HTTP/1.1", "NotFound"),
-        ("GET /wards//sheet HTTP/1.1", "NotFound"),
-        ("GET /wards/7/sheet/ HTTP/1.1", "NotFound"),
-        ("GET /wards/7/sheet?x HTTP/1.1", "NotFound"),
-        ("GET /wards/%37/sheet HTTP/1.1", "NotFound"),
-        ("GET /w\u{e4}rds/7/sheet HTTP/1.1", "NotFound"),
-        ("POST /nothing HTTP/1.1", "NotFound"),
-        ("POST /wards/7/sheet HTTP/1.1", "only Get"),
-        ("get /wards/7/sheet HTTP/1.1", "only Get"),
-        ("GET /clerks/4/batches/12/keying HTTP/1.1", "only Post"),
-        ("PUT /clerks/4/batches/12/keying HTTP/1.1", "only Post"),
-        ("POST /clerks/4/batches/0/keying HTTP/1.1", "NotFound"),
-        ("GET /wards/7/sheet HTTP/2.0", "BadRequest"),
-        ("X", "BadRequest"),
-    ];
-    for (line, asked) in cases {
+fn targets_lengths_and_bodies(rt: HostRuntime) -> Result<(), Fail> {
+    for (line, asked) in TARGETS {
         let request = format!(in rt.alloc(); "{line}\r\nContent-Length: x\r\n\r\n")?;
         asks(&rt, request.as_bytes(), asked)?;
     }
-    Ok(())
-}
-
-#[test]
-fn lengths_of_bodies(rt: HostRuntime) -> Result<(), Fail> {
-    let cases = [
-        ("Content-Length: 43\r\n", KEYED),
-        ("cONTENT-lENGTH:\t0043 \r\nHost: x\r\n", KEYED),
-        ("Content-Length: 42\r\n", "BadRequest"),
-        ("Content-Length: 44\r\n", "BadRequest"),
-        ("", "BadRequest"),
-        ("Content-Length:\r\n", "BadRequest"),
-        ("Content-Length: +43\r\n", "BadRequest"),
-        ("Content-Length: 4 3\r\n", "BadRequest"),
-        ("Content-Length: 43\r\nContent-Length: 43\r\n", "BadRequest"),
-        (
-            "Content-Length: 43\r\nTransfer-Encoding: identity\r\n",
-            "BadRequest",
-        ),
-        ("Transfer-Encoding: chunked\r\n", "BadRequest"),
-        ("Content-Length: 1048577\r\n", "TooLarge"),
-        (
-            "Content-Length: 123456789012345678901234567890\r\n",
-            "TooLarge",
-        ),
-        (
-            "Content-Length: 1048577\r\nContent-Length: 1048577\r\n",
-            "BadRequest",
-        ),
-    ];
-    for (headers, asked) in cases {
+    for (headers, asked) in LENGTHS {
         asks(&rt, keying(rt.alloc(), headers, BODY)?.as_bytes(), asked)?;
     }
-    Ok(())
-}
-
-#[test]
-fn bodies(rt: HostRuntime) -> Result<(), Fail> {
-    let cases = [
-        (
-            r#" { "papers" : [] , "round" : 4294967295 , "id" : "" } "#,
-            "4 keys 12 round 4294967295 as :",
-        ),
-        (
-            r#"{"id":"a","id":"b","round":1,"papers":["\u0044"]}"#,
-            "4 keys 12 round 1 as b: [D]",
-        ),
-        (r#"{"id":"h1","round":1,"papers":[],"x":1}"#, "BadRequest"),
-        (r#"{"id":"h1","round":1}"#, "BadRequest"),
-        (r#"{"id":"h1","round":"1","papers":[]}"#, "BadRequest"),
-        (
-            r#"{"id":"h1","round":4294967296,"papers":[]}"#,
-            "BadRequest",
-        ),
-        (r#"{"id":"h1","round":1.0,"papers":[]}"#, "BadRequest"),
-        (r#"{"id":"h1","round":-0,"papers":[]}"#, "BadRequest"),
-        (r#"{"id":"h1","round":1,"papers":[1]}"#, "BadRequest"),
-        (r#"{"id":1,"round":1,"papers":[]}"#, "BadRequest"),
-        (r#"["h1",1,[]]"#, "BadRequest"),
-        (r#"{"id":"h1","round":1,"papers":[]"#, "BadRequest"),
-        ("", "BadRequest"),
-    ];
-    for (body, asked) in cases {
+    for (body, asked) in BODIES {
         let headers = format!(in rt.alloc(); "Content-Length: {}\r\n", body.len())?;
-        asks(
-            &rt,
-            keying(rt.alloc(), headers.as_str(), body)?.as_bytes(),
-            asked,
-        )?;
+        let request = keying(rt.alloc(), headers.as_str(), body)?;
+        asks(&rt, request.as_bytes(), asked)?;
     }
     Ok(())
 }

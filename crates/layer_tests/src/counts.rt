@@ -62,12 +62,9 @@ fn with_all(mut columns: Columns, more: &[u8]) -> Columns {
 }
 
 /// Counts a worked election to each of its stages in turn, and asks what comes next there.
-fn goes_to_each(
-    rt: &impl Abort,
-    alloc: Global,
-    worked: &Worked,
-    papers: &[Prefs],
-) -> Result<(), Fail> {
+fn goes_to_each(rt: &impl Abort, alloc: Global, worked: &Worked) -> Result<(), Fail> {
+    let papers = papers_of(alloc, worked.papers)?;
+    let papers = papers.as_slice();
     let candidates = first_columns(worked.candidates);
     assert!(rt;
         is_contest(&candidates, worked.seats, papers),
@@ -83,15 +80,6 @@ fn goes_to_each(
         assert!(rt; found == stages && before == elected, "{}", worked.name);
         assert!(rt; due == Due::Act(expected.action), "{}", worked.name);
         elected = with_all(elected, expected.elected);
-    }
-    Ok(())
-}
-
-#[test]
-fn counts_go_to_each_stage(rt: HostRuntime) -> Result<(), Fail> {
-    for worked in &WORKED {
-        let papers = papers_of(rt.alloc(), worked.papers)?;
-        goes_to_each(&rt, rt.alloc(), worked, &papers)?;
     }
     Ok(())
 }

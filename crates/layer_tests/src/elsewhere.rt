@@ -112,58 +112,52 @@ fn asks_with(
     Ok(())
 }
 
+/// Which headers an office takes that was given an origin with a port, and which one that was given another without.
+const PROXIED: [(&str, bool, bool); 17] = [
+    ("Origin: https://count.example.org:8443", true, false),
+    ("Origin: https://count.example.org", false, false),
+    ("Origin: https://count.example.org:8444", false, false),
+    ("Origin: https://count.example.org:84430", false, false),
+    ("Origin: http://count.example.org:8443", false, false),
+    ("Origin: http://count.example.org", false, true),
+    ("Origin: http://count.example.org:80", false, false),
+    ("Origin: http://Count.example.org", false, false),
+    (
+        "Origin: http://count.example.org.evil.example",
+        false,
+        false,
+    ),
+    ("Host: count.example.org:8443", true, false),
+    ("Host: count.example.org", true, true),
+    ("Host: count.example.org:844", false, false),
+    ("Host: count.example.or", false, false),
+    ("Host: count.example.org:", false, false),
+    ("Host: example.org", false, false),
+    ("Host: .", false, false),
+    ("Host: https://count.example.org", false, false),
+];
+
 #[test]
-fn pages_from_elsewhere(rt: HostRuntime) -> Result<(), Fail> {
-    let proxied = Origin::parse("https://count.example.org:8443");
-    assert!(rt; proxied.is_some());
+fn pages_from_elsewhere_and_through_a_proxy(rt: HostRuntime) -> Result<(), Fail> {
+    let with_port = Origin::parse("https://count.example.org:8443");
+    let without = Origin::parse("http://count.example.org");
+    assert!(rt; with_port.is_some() && without.is_some());
     for headers in FOREIGN {
         asks_with(&rt, None, headers, true)?;
-        asks_with(&rt, proxied, headers, true)?;
+        asks_with(&rt, with_port, headers, true)?;
     }
     for headers in OWN {
         asks_with(&rt, None, headers, false)?;
-        asks_with(&rt, proxied, headers, false)?;
+        asks_with(&rt, with_port, headers, false)?;
+    }
+    for (headers, by_port, by_none) in PROXIED {
+        asks_with(&rt, None, headers, true)?;
+        asks_with(&rt, with_port, headers, !by_port)?;
+        asks_with(&rt, without, headers, !by_none)?;
     }
     asks(
         &rt,
         b"GET /nothing\r\nOrigin: http://evil.example\r\n\r\n",
         "BadRequest",
-    )?;
-    Ok(())
-}
-
-#[test]
-fn pages_through_a_proxy(rt: HostRuntime) -> Result<(), Fail> {
-    let with_port = Origin::parse("https://count.example.org:8443");
-    let without = Origin::parse("http://count.example.org");
-    // Which headers an office takes that was given the one origin, and which with the other.
-    let cases = [
-        ("Origin: https://count.example.org:8443", true, false),
-        ("Origin: https://count.example.org", false, false),
-        ("Origin: https://count.example.org:8444", false, false),
-        ("Origin: https://count.example.org:84430", false, false),
-        ("Origin: http://count.example.org:8443", false, false),
-        ("Origin: http://count.example.org", false, true),
-        ("Origin: http://count.example.org:80", false, false),
-        ("Origin: http://Count.example.org", false, false),
-        (
-            "Origin: http://count.example.org.evil.example",
-            false,
-            false,
-        ),
-        ("Host: count.example.org:8443", true, false),
-        ("Host: count.example.org", true, true),
-        ("Host: count.example.org:844", false, false),
-        ("Host: count.example.or", false, false),
-        ("Host: count.example.org:", false, false),
-        ("Host: example.org", false, false),
-        ("Host: .", false, false),
-        ("Host: https://count.example.org", false, false),
-    ];
-    for (headers, by_port, by_none) in cases {
-        asks_with(&rt, None, headers, true)?;
-        asks_with(&rt, with_port, headers, !by_port)?;
-        asks_with(&rt, without, headers, !by_none)?;
-    }
-    Ok(())
+    )
 }

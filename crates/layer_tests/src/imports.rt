@@ -154,11 +154,7 @@ fn files_are_read_whole_or_refused(rt: HostRuntime) -> Result<(), Fail> {
     let candidates = "ward,candidate,name\n7,1,Ann\n7,2,\"Bob, jr\"\n";
     let text = candidates_text(rt.alloc(), candidates.as_bytes())?;
     assert_eq!(&rt; text.as_str(), "|7 1 Ann|7 2 Bob, jr");
-    Ok(())
-}
-
-#[test]
-fn a_keying_has_at_most_500_papers(rt: HostRuntime) -> Result<(), Fail> {
+    // a keying has at most 500 papers
     let mut file = String::from_str(rt.alloc(), "paper,1,2,3\n")?;
     for number in 1..502 {
         write!(file, "{number},1,2,\n")?;
@@ -168,11 +164,7 @@ fn a_keying_has_at_most_500_papers(rt: HostRuntime) -> Result<(), Fail> {
         text.as_str(),
         "file fault 7 at record 501: too many records"
     );
-    Ok(())
-}
-
-#[test]
-fn a_failed_read_is_told_at_its_record(rt: HostRuntime) -> Result<(), Fail> {
+    // a read that fails is told at its record
     let left = "paper,1,2,3\n1,,,\n2,,".as_bytes();
     let text = keying_text(rt.alloc(), Torn { left })?;
     assert_eq!(&rt; text.as_str(), "file fault 8 at record 2: read failed");

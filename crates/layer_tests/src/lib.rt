@@ -1,5 +1,5 @@
-//! Tests of the layers from `votes` to `wire`, each by its public calls. Those of `register` and `rowcheck` are met by
-//! the orders of `count_office`, which play each command and each of its refusals.
+//! Tests of the layers from `votes` to `wire`, each by its public calls. `register` and `rowcheck` are met by the
+//! orders that examples/transcripts.sh plays: each command and each of its refusals.
 //!
 //! A crate's tests are proved together with the whole crate. Here, above them all, they load what the
 //! layers state, and nothing of those is proved a second time.
@@ -21,8 +21,6 @@ mod imports;
 mod pages;
 #[cfg(test)]
 mod papers;
-#[cfg(test)]
-mod readings;
 #[cfg(test)]
 mod recounts;
 #[cfg(test)]

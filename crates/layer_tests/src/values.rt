@@ -136,17 +136,14 @@ fn a_sink_that_fails_keeps_a_beginning(rt: HostRuntime) -> Result<(), Fail> {
     Ok(())
 }
 
+/// A sink that takes nothing is broken; a source gives what it holds; a failure is of one call.
 #[test]
-fn a_sink_that_takes_nothing_is_broken(rt: HostRuntime) {
+fn streams_fail_call_by_call(rt: HostRuntime) {
     let mut sink = Counted::new(Full);
     assert!(&rt; put_all(&mut sink, "".as_bytes()).is_ok());
     assert_eq!(&rt; sink.failures(), 0);
     assert!(&rt; put_all(&mut sink, "x".as_bytes()).is_err());
     assert_eq!(&rt; sink.failures(), 1);
-}
-
-#[test]
-fn a_source_gives_what_it_holds(rt: HostRuntime) {
     let mut source = Counted::new("ballot".as_bytes());
     let mut room = [0; 4];
     assert!(&rt; source.fetch(&mut room) == Ok(4));
@@ -155,10 +152,6 @@ fn a_source_gives_what_it_holds(rt: HostRuntime) {
     assert!(&rt; room.as_slice() == b"otll".as_slice());
     assert!(&rt; source.fetch(&mut room) == Ok(0));
     assert_eq!(&rt; source.failures(), 0);
-}
-
-#[test]
-fn a_failure_is_of_one_call(rt: HostRuntime) {
     let mut torn = Counted::new(Torn {
         page: Vec::new(rt.alloc()),
         fails: false,

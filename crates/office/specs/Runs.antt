@@ -6,6 +6,7 @@ use Rattle.register.specs.Offices.{OfficeState, empty_office}
 use Rattle.register.specs.Machine.{Outcome, step_of, after_one, after, accepted_of}
 use Rattle.tables.specs.declared.fault.Fault.{Fault}
 use Rattle.tables.specs.declared.fault.Fault.TheVariants.{Memory}
+use Rattle.store.specs.Offices.{LeavesState}
 use Rattle.office.specs.declared.answers.Answer.{Answer}
 use Rattle.office.specs.Answers.{told, told_of, IsOpenAt, Handled}
 
@@ -26,6 +27,11 @@ pub record IsAfterBeginning (earlier requests : List Request) (answered : ℕ) (
   pub one_more : count ≤ answered + 1
   pub within : count ≤ length requests
   pub is : s ≡ after empty_office (accepted_of empty_office (earlier ++ take count requests))
+
+-- The promise of the office: whatever a stop leaves is the state after the accepted requests of a beginning, which contains every earlier request, every
+-- answered one of these, and at most one more.
+abbrev pub Keeps : List Request → List Request → ℕ → State → Type 0
+Keeps earlier requests answered st = LeavesState st (IsAfterBeginning earlier requests answered)
 
 -- there was no room for the answers: nothing was handled, and the office stays open at the state before
 pub record HadNoRoom (s : OfficeState) (answered : ℕ) (f : Fault) (closed : Bool) (st : State) : Type 0 where

@@ -18,7 +18,7 @@ ghost use Rattle.store.specs.Openings.{IsBlank, IsToldBy, IsLeftAt};
 ghost use Rattle.register.specs.declared.command.Request.{Request};
 ghost use Rattle.office.specs.Answers.{WhenOpenAt, told, told_of, IsOpenAt, Handled, HandledAgain};
 ghost use Rattle.office.specs.Clerks.{none_is_the_office, own_requests, own_answers};
-ghost use Rattle.office.specs.Runs.{outcomes, AnswersFirst, IsAfterBeginning, StopsAfter};
+ghost use Rattle.office.specs.Runs.{outcomes, AnswersFirst, Keeps, StopsAfter};
 
 use crate::answers::{Answer, Run};
 use crate::deciding::decision_of;
@@ -201,7 +201,7 @@ impl<S: Alter> Office<S> {
         ensures fault { WhenOpenAt (state S.Store) self.old self.new
             (λ s. IfSome result.fault (StopsAfter s requests.now (vec_len result.answers) self.new.closed (state S.Store self.new.held))) }
         ensures headline { HasCleanDisk (state S.Store self.new.held) → self.old.closed ≡ false → (earlier : List Request) → IsAt (after empty_office earlier) (state S.Store self.old.held)
-            → LeavesState (state S.Store self.new.held) (IsAfterBeginning earlier requests.now (vec_len result.answers)) }
+            → Keeps earlier requests.now (vec_len result.answers) (state S.Store self.new.held) }
         ensures blind { WhenOpenAt (state S.Store) self.old self.new
             (λ s. none_is_the_office requests.now ≡ true → (clerk : ℕ)
             → map told (own_answers clerk requests.now result.answers.items) ≡ map told_of (outcomes (seen_by clerk s) (own_requests clerk (take (vec_len result.answers) requests.now)))) }

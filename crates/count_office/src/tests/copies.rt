@@ -1,8 +1,8 @@
 //! A copy of the office in other files: nothing or the whole of it, whenever its own files stop.
 
+use super::begun::{DIFFERING, GIVEN_OUT, NOMINATED};
 use super::disks::{Act, Disks, File, are_same, play_acts};
-use super::keyings::{GIVEN_OUT, NOMINATED};
-use super::thirds::DIFFERING;
+use super::steps::{Case, Step};
 use std::process::Abort;
 use std::test::Fail;
 
@@ -20,9 +20,10 @@ const CALLS: u64 = 2000;
 const NOT_WRITTEN: (u8, &str, &str) = (3, "", "fault 110: copy not written\n");
 
 /// What is told of files in which there is nothing.
-const NOTHING: &str = "$ wards
-3| fault 105: wrong database
-";
+const NOTHING: Case<'static> = (
+    Step::Order(&["DB", "wards"]),
+    (3, "", "fault 105: wrong database\n"),
+);
 
 /// Copies an office onto files that may stop, and judges what is found of the copy: the whole, or nothing where it wasn't
 /// answered. Tells whether it was.
@@ -43,7 +44,7 @@ fn copy_once(
     };
     let (found, copy) = copy.restarted().rows(rt.alloc())?;
     if found.as_str().is_empty() {
-        copy.follow_unchanged(rt, NOTHING)?;
+        copy.hear_unchanged(rt, &[NOTHING])?;
     }
     let is_none = !is_told && found.as_str().is_empty();
     assert!(rt;
@@ -74,36 +75,4 @@ fn copy_each(rt: &(impl Abort + AllocGlobal), file: File) -> Result<(), Fail> {
 fn a_copy_stops_whole(rt: HostRuntime) -> Result<(), Fail> {
     copy_each(&rt, File::Log)?;
     copy_each(&rt, File::Database)
-}
-
-/// What isn't copied: each change of an office, and what is told then.
-const REFUSED: [(&str, &str); 5] = [
-    ("DROP TABLE lot", "103: damaged"),
-    ("UPDATE ward SET name = '' WHERE ward = 7", "103: damaged"),
-    ("DROP TABLE office", "105: wrong database"),
-    ("UPDATE office SET version = 3", "106: newer schema"),
-    ("UPDATE office SET version = 1", "108: older schema"),
-];
-
-#[test]
-fn what_does_not_open_is_not_copied(rt: HostRuntime) -> Result<(), Fail> {
-    let office = play_acts(&rt, &OFFICE)?;
-    for (change, fault) in &REFUSED {
-        let changed = format!(in rt.alloc(); "# {change}\n")?;
-        let wanted = format!(in rt.alloc(); "fault {fault}\n")?;
-        let damaged = office
-            .copied(rt.alloc(), File::Log, u64::MAX)?
-            .follow(&rt, changed.as_str())?;
-        let (rows, damaged) = damaged.rows(rt.alloc())?;
-        let (said, damaged, copy) = damaged.copy_onto(rt.alloc(), Disks::lasting(rt.alloc()))?;
-        let (left, _) = damaged.rows(rt.alloc())?;
-        let (made, _) = copy.rows(rt.alloc())?;
-        assert_eq!(&rt; left.as_str(), rows.as_str());
-        assert!(&rt; made.as_str().is_empty(), "{change}");
-        assert!(&rt;
-            matches!(&said, Some(said) if said.told() == (3, "", wanted.as_str())),
-            "{change}: {said:?}"
-        );
-    }
-    Ok(())
 }

@@ -4,7 +4,7 @@
 ghost use Rattle.std.specs.Prelude.{⊤};
 
 use super::steps::{Case, Said, Step, Told, copied, play};
-use super::transcripts::{Typed, read};
+use super::transcripts::read;
 use sqlite::{Alter, Connection, Error, ErrorCode, FileStore, Files, Options};
 use sqlite_disk::{Crash, Disk, Fuse, Memory};
 use std::alloc::Global;
@@ -179,17 +179,6 @@ impl Disks {
         Ok(disks)
     }
 
-    /// The same of what is asked in a transcript.
-    pub fn follow_unchanged(
-        self,
-        rt: &(impl Abort + AllocGlobal),
-        transcript: &str,
-    ) -> Result<Disks, Fail> {
-        let asked = read(rt.alloc(), transcript)?;
-        let cases: Vec<Case<'_>> = asked.iter().map(|typed| typed.case()).collect(rt.alloc())?;
-        self.hear_unchanged(rt, &cases)
-    }
-
     /// Both clerks of batch 12 key these papers, a file's text.
     fn key(self, rt: &(impl Abort + AllocGlobal), papers: &str) -> Result<Disks, Fail> {
         let mut disks = self;
@@ -227,56 +216,10 @@ impl Disks {
         }
     }
 
-    /// Copies the office onto new files, of which this must be told: both hold the same rows then. It isn't copied onto
-    /// them again. Gives the copy.
-    fn copy(self, rt: &(impl Abort + AllocGlobal), told: &str) -> Result<Disks, Fail> {
-        let (rows, office) = self.rows(rt.alloc())?;
-        let (said, office, copy) = office.copy_onto(rt.alloc(), Disks::lasting(rt.alloc()))?;
-        let (left, office) = office.rows(rt.alloc())?;
-        let (again, _, copy) = office.copy_onto(rt.alloc(), copy)?;
-        let (made, copy) = copy.rows(rt.alloc())?;
-        assert!(rt; rows.as_str() == left.as_str(), "{told}");
-        assert!(rt;
-            are_same(rt.alloc(), rows.as_str(), made.as_str())?,
-            "{told}"
-        );
-        assert!(rt;
-            matches!(&said, Some(said) if said.told() == (0, told, "")),
-            "{said:?}"
-        );
-        assert!(rt;
-            matches!(&again, Some(said) if said.told() == TAKEN),
-            "{again:?}"
-        );
-        Ok(copy)
-    }
-
-    /// Makes a change in a copy, where the office must then tell this of another ward; a fault leaves each row.
-    fn damage(&self, rt: &(impl Abort + AllocGlobal), typed: &Typed<'_>) -> Result<(), Fail> {
-        let (change, told) = typed.case();
-        let copy = self
-            .copied(rt.alloc(), File::Log, u64::MAX)?
-            .hear(rt, &[(change, CHANGED)])?;
-        let quay = [(QUAY, told)];
-        match told.0 {
-            0 => copy.hear(rt, &quay)?,
-            _ => copy.hear_unchanged(rt, &quay)?,
-        };
-        Ok(())
-    }
-
     pub fn act(self, rt: &(impl Abort + AllocGlobal), act: &Act) -> Result<Disks, Fail> {
         match act {
             Act::Typed(transcript) => self.follow(rt, transcript),
-            Act::Unchanged(transcript) => self.follow_unchanged(rt, transcript),
             Act::Keyed(papers) => self.key(rt, papers),
-            Act::Copied(told) => self.copy(rt, told),
-            Act::Damage(changes) => {
-                for typed in &read(rt.alloc(), changes)? {
-                    self.damage(rt, typed)?;
-                }
-                Ok(self)
-            }
         }
     }
 }
@@ -286,22 +229,9 @@ impl Disks {
 pub enum Act {
     /// What is asked and told, as a transcript.
     Typed(&'static str),
-    /// The same, by which no row may change.
-    Unchanged(&'static str),
     /// Both clerks of batch 12 key these papers alike.
     Keyed(&'static str),
-    /// The office is copied onto new files, which this is told of, and gone on with there.
-    Copied(&'static str),
-    /// Changes, each made alone, and what the office then tells when ward 8 is to be added.
-    Damage(&'static str),
 }
-
-/// What is told of a copy where there is one already.
-const TAKEN: Told<'static> = (3, "", "fault 109: copy is there already\n");
-
-const CHANGED: Told<'static> = (0, "", "");
-
-const QUAY: Step<'static> = Step::Order(&["DB", "ward", "8", "2", "Quay", "--id", "w2"]);
 
 /// Plays acts over new files.
 pub fn play_acts(rt: &(impl Abort + AllocGlobal), acts: &[Act]) -> Result<Disks, Fail> {
@@ -310,12 +240,4 @@ pub fn play_acts(rt: &(impl Abort + AllocGlobal), acts: &[Act]) -> Result<Disks,
         disks = disks.act(rt, act)?;
     }
     Ok(disks)
-}
-
-/// Plays each play over new files.
-pub fn play_all(rt: &(impl Abort + AllocGlobal), plays: &[&[Act]]) -> Result<(), Fail> {
-    for acts in plays {
-        play_acts(rt, acts)?;
-    }
-    Ok(())
 }

@@ -1,12 +1,14 @@
 //! What the store reads of a ward's papers and of its count, call by call.
 
-use super::counts::{SEALED, TWO_STAGES};
-use super::disks::{Act, play_acts};
-use super::keyings::NOMINATED;
+use super::begun::{
+    DIFFERING, FOUR_COMES_LATE, GIVEN_OUT, NOMINATED, PAPER_BY_PAPER, SEALED, SET, TWO_STAGES,
+};
+use super::disks::{Act, Disks, play_acts};
 use super::steps::{Said, Step};
 use sqlite::{Alter, Connection};
 use std::alloc::Global;
 use std::fmt::Write;
+use std::process::Abort;
 use std::test::Fail;
 use store::{Fault, Store};
 
@@ -93,17 +95,8 @@ rejected [0, 0, 0, 0, 0]
 lots []
 ";
 
-#[test]
-fn bundles_and_places_are_read_back(rt: HostRuntime) -> Result<(), Fail> {
-    let disks = play_acts(&rt, SEALED)?;
-    let disks = disks.hear(&rt, &[(Step::Loads(7), (0, SEALED_LOADS, ""))])?;
-    let disks = disks.act(&rt, &TWO_STAGES)?;
-    disks.hear(&rt, &[(Step::Loads(7), (0, STAGED_LOADS, ""))])?;
-    Ok(())
-}
-
 /// Two batches of as many equal papers as one may have.
-const GIVEN_OUT: &str = "$ close 7 --id n1
+const TWO_BATCHES: &str = "$ close 7 --id n1
 ward 7 polled
 $ batch 12 7 500 4 9 --id b1
 batch 12 added
@@ -118,25 +111,68 @@ no book
 lots []
 ";
 
-#[test]
-fn a_thousand_equal_papers_are_one_bundle(rt: HostRuntime) -> Result<(), Fail> {
+/// A batch that clerks 5 and 9 took, and not as the lower clerk 4 keyed it.
+const LATE_LOADS: &str = "2 papers
+[1, 2] 1
+[3] 1
+rejected [0, 0, 0, 0, 0]
+no book
+lots []
+";
+
+const LATE: &[Act] = &[
+    Act::Typed(NOMINATED),
+    Act::Typed(GIVEN_OUT),
+    Act::Typed(DIFFERING),
+    Act::Typed(SET),
+    Act::Typed(PAPER_BY_PAPER),
+    Act::Typed(FOUR_COMES_LATE),
+];
+
+/// Hears what is read of ward 7, before it is sealed and after: the papers are walked in another way then.
+fn read_twice(
+    rt: &(impl Abort + AllocGlobal),
+    disks: Disks,
+    seal: &str,
+    told: &str,
+) -> Result<(), Fail> {
+    let read = [(Step::Loads(7), (0, told, ""))];
+    disks.hear(rt, &read)?.follow(rt, seal)?.hear(rt, &read)?;
+    Ok(())
+}
+
+/// Both clerks of both batches key the same list on each paper.
+fn thousand_papers(rt: &(impl Abort + AllocGlobal)) -> Result<Disks, Fail> {
     let mut rows = String::from_str(rt.alloc(), "< paper,1,2,3\n")?;
     for paper in 1..=500 {
         writeln!(rows, "< {paper},1,2,")?;
     }
-    let mut disks = play_acts(&rt, &[Act::Typed(NOMINATED), Act::Typed(GIVEN_OUT)])?;
+    let mut disks = play_acts(rt, &[Act::Typed(NOMINATED), Act::Typed(TWO_BATCHES)])?;
     for (clerk, batch) in [(4, 12), (9, 12), (4, 13), (9, 13)] {
         let keyed = format!(in rt.alloc();
             "$ import-keying {clerk} {batch} 1 FILE --id k{batch}\n{rows}batch {batch} round 1 keyed\n"
         )?;
-        disks = disks.follow(&rt, keyed.as_str())?;
+        disks = disks.follow(rt, keyed.as_str())?;
     }
-    let disks = disks.hear(&rt, &[(Step::Loads(7), (0, EQUAL_LOADS, ""))])?;
-    // walked in another way once the ward is sealed
-    let disks = disks.follow(
+    Ok(disks)
+}
+
+#[test]
+fn papers_and_counts_are_read_back(rt: HostRuntime) -> Result<(), Fail> {
+    play_acts(&rt, SEALED)?
+        .hear(&rt, &[(Step::Loads(7), (0, SEALED_LOADS, ""))])?
+        .act(&rt, &TWO_STAGES)?
+        .hear(&rt, &[(Step::Loads(7), (0, STAGED_LOADS, ""))])?;
+    read_twice(
         &rt,
-        "$ seal 7 --id s1\nward 7 sealed: 1000 valid, 0 rejected, quota 334.00000\n",
+        play_acts(&rt, LATE)?,
+        "$ seal 7 --id s1\nward 7 sealed: 2 valid, 0 rejected, quota 1.00000\n",
+        LATE_LOADS,
     )?;
-    disks.hear(&rt, &[(Step::Loads(7), (0, EQUAL_LOADS, ""))])?;
-    Ok(())
+    read_twice(
+        &rt,
+        thousand_papers(&rt)?,
+        "$ seal 7 --id s1\nward 7 sealed: 1000 valid, 0 rejected, quota 334.00000\n",
+        EQUAL_LOADS,
+    )
 }

@@ -1,13 +1,14 @@
 //! Clients who send what a fixed generator makes of requests: noise, requests with bytes changed, and the beginning of
 //! one run into the end of another.
 
+use super::begun::{BEGUN, KEYED, KEYING};
 use super::clients::Client;
-use super::disks::{Act, play_acts};
-use super::http::{BEGUN, KEYING};
+use super::disks::{Disks, play_acts};
 use super::steps::Step;
 use rand_core::utils::NextWord;
 use rand_pcg::Pcg32;
 use std::alloc::{AllocError, Global};
+use std::process::Abort;
 use std::test::Fail;
 use votes::Counted;
 use wire::{Asked, Denial, read_asked};
@@ -23,20 +24,19 @@ const REQUESTS: [&str; 5] = [
     "PUT /clerks/9/batches/12/keying HTTP/1.1\r\nContent-Length: 2\r\n\r\n{}",
 ];
 
-/// Both clerks have keyed the batch, so that nothing more is taken of it.
-const BOTH_KEYED: &str = r#"> POST /clerks/4/batches/12/keying HTTP/1.1
-> Content-Length: 43
->
-> {"id":"h1","round":1,"papers":["1,2,","D"]}
-200 OK
-{"reply":"batch 12 round 1 keyed"}
-> POST /clerks/9/batches/12/keying HTTP/1.1
-> Content-Length: 43
->
-> {"id":"h1","round":1,"papers":["1,2,","D"]}
-200 OK
-{"reply":"batch 12 round 1 keyed"}
-"#;
+/// Clerk 9 keys the batch as clerk 4 does.
+const NINE: &str =
+    "POST /clerks/9/batches/12/keying HTTP/1.1\r\nContent-Length: 43\r\n\r\n{\"id\":\"h1\",\"round\":1,\"papers\":[\"1,2,\",\"D\"]}";
+
+/// Both clerks key the batch, so that nothing more is taken of it.
+fn keyed_by_both(rt: &(impl Abort + AllocGlobal)) -> Result<Disks, Fail> {
+    let mut disks = play_acts(rt, BEGUN)?;
+    for keying in [KEYING, NINE] {
+        let client = [Some(Client::whole(keying.as_bytes()))];
+        disks = disks.hear(rt, &[(Step::Serve(&client, 1), (0, KEYED, "Ok(())"))])?;
+    }
+    Ok(disks)
+}
 
 /// A number below a bound, or 0 where there is none.
 fn below(numbers: &mut Pcg32, bound: usize) -> usize {
@@ -132,7 +132,7 @@ fn ten_thousand_clients_are_answered_as_they_ask(rt: HostRuntime) -> Result<(), 
         .iter()
         .map(|bytes| Some(Client::whole(bytes)))
         .collect(alloc)?;
-    let (before, disks) = play_acts(&rt, BEGUN)?.follow(&rt, BOTH_KEYED)?.rows(alloc)?;
+    let (before, disks) = keyed_by_both(&rt)?.rows(alloc)?;
     let (said, disks) = disks.play(alloc, &[Step::Serve(&clients, CLIENTS)])?;
     let mut page = said.first().ok_or("nothing was said")?.told().1;
     for bytes in &all {

@@ -59,6 +59,8 @@ fn an_output_that_breaks_has_taken_a_beginning(rt: HostRuntime) -> Result<(), Fa
             (3, "candidate 1 of ward 7 added\ncan", BROKEN),
         ),
         (Step::FileOrder(IMPORT, NAMES), (0, BOTH, "")),
+        // An order that needs a socket.
+        (Step::Order(&["DB", "serve", "8080", "2"]), (3, "", BROKEN)),
     ];
     play_acts(&rt, &[Act::Typed("$ init\noffice ready\n")])?.hear(&rt, &cases)?;
     Ok(())

@@ -1,8 +1,8 @@
 //! Connections over loopback, in one process with their clients.
 
+use super::begun::{BAD_REQUEST, BEGUN, KEYED, KEYING};
 use super::clients::{Dripping, Jumping};
 use super::disks::play_acts;
-use super::http::{BAD_REQUEST, BEGUN, KEYED, KEYING};
 use super::steps::Step;
 use desk::patience::{Limits, Patient};
 use std::cell::Cell;
@@ -27,70 +27,43 @@ fn received(rt: &HostRuntime, mut stream: TcpStream) -> Result<String, Fail> {
     Ok(String::from_utf8(text)?)
 }
 
+/// The second of three is silent, and is let go.
 #[test]
 fn connections_are_answered_in_turn(rt: HostRuntime) -> Result<(), Fail> {
     let disks = play_acts(&rt, BEGUN)?;
     let listener = TcpListener::bind(&rt, "127.0.0.1:0")?;
     let first = connected(&rt, &listener, "X\r\n\r\n")?;
-    let second = connected(&rt, &listener, KEYING)?;
-    disks.hear(&rt, &[(Step::Listen(&listener, 2), (0, "Ok(())", ""))])?;
-    assert_eq!(rt; received(&rt, first)?.as_str(), BAD_REQUEST);
-    assert_eq!(rt; received(&rt, second)?.as_str(), KEYED);
-    Ok(())
-}
-
-#[test]
-fn a_silent_connection_is_let_go(rt: HostRuntime) -> Result<(), Fail> {
-    let disks = play_acts(&rt, BEGUN)?;
-    let listener = TcpListener::bind(&rt, "127.0.0.1:0")?;
     let silent = TcpStream::connect(&rt, listener.local_addr()?)?;
-    let second = connected(&rt, &listener, KEYING)?;
-    disks.hear(&rt, &[(Step::Listen(&listener, 2), (0, "Ok(())", ""))])?;
+    let third = connected(&rt, &listener, KEYING)?;
+    disks.hear(&rt, &[(Step::Listen(&listener, 3), (0, "Ok(())", ""))])?;
+    assert_eq!(rt; received(&rt, first)?.as_str(), BAD_REQUEST);
     assert_eq!(rt; received(&rt, silent)?.as_str(), "");
-    assert_eq!(rt; received(&rt, second)?.as_str(), KEYED);
+    assert_eq!(rt; received(&rt, third)?.as_str(), KEYED);
     Ok(())
 }
 
+/// Both ways of waiting on a socket are limited. A client who sends, or takes, a byte now and then is let go.
 #[test]
-fn both_ways_of_waiting_are_limited(rt: HostRuntime) -> Result<(), Fail> {
+fn waiting_is_limited(rt: HostRuntime) -> Result<(), Fail> {
     let listener = TcpListener::bind(&rt, "127.0.0.1:0")?;
     let stream = TcpStream::connect(&rt, listener.local_addr()?)?;
     let a_while = Duration::from_secs(7);
     stream.limit(a_while)?;
     assert!(rt; stream.read_timeout()? == Some(a_while));
     assert!(rt; stream.write_timeout()? == Some(a_while));
-    Ok(())
-}
-
-#[test]
-fn a_client_who_sends_a_byte_now_and_then_is_let_go(rt: HostRuntime) -> Result<(), Fail> {
-    let (clock, limit) = (Jumping::by(10), Cell::new(Duration::ZERO));
-    let mut sending = Patient::new(Ok(Dripping { limit: &limit }), &clock);
+    let clocks = (Jumping::by(10), Jumping::by(10));
+    let limit = Cell::new(Duration::ZERO);
+    let mut sending = Patient::new(Ok(Dripping { limit: &limit }), &clocks.0);
+    let mut taking = Patient::new(Ok(Dripping { limit: &limit }), &clocks.1);
     let mut room = [0; 8];
     for left in [30, 20, 10] {
         assert_eq!(rt; sending.read(&mut room)?, 1);
         assert!(rt; limit.get() == Duration::from_secs(left));
-    }
-    assert!(rt;
-        sending
-            .read(&mut room)
-            .is_err_and(|error| error.kind() == ErrorKind::TimedOut)
-    );
-    Ok(())
-}
-
-#[test]
-fn a_client_who_takes_a_byte_now_and_then_is_let_go(rt: HostRuntime) -> Result<(), Fail> {
-    let (clock, limit) = (Jumping::by(10), Cell::new(Duration::ZERO));
-    let mut taking = Patient::new(Ok(Dripping { limit: &limit }), &clock);
-    for left in [30, 20, 10] {
         assert_eq!(rt; taking.write(b"answer")?, 1);
         assert!(rt; limit.get() == Duration::from_secs(left));
     }
-    assert!(rt;
-        taking
-            .write(b"answer")
-            .is_err_and(|error| error.kind() == ErrorKind::TimedOut)
-    );
+    let (read, written) = (sending.read(&mut room), taking.write(b"answer"));
+    assert!(rt; read.is_err_and(|error| error.kind() == ErrorKind::TimedOut));
+    assert!(rt; written.is_err_and(|error| error.kind() == ErrorKind::TimedOut));
     Ok(())
 }

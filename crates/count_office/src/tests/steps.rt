@@ -6,7 +6,7 @@ use super::clients::{Client, Coming, Jumping, Taking};
 use super::loads::loads;
 use desk::perform::perform;
 use desk::serving::serve_all;
-use desk::{Folder, copy_office, order, serve_on, tell_words};
+use desk::{Failure, Folder, Order, copy_office, order, serve_on, tell_failure, tell_words};
 use office::{Answer, Office, Run, Stop, Work};
 use register::Request;
 use sqlite::{Alter, Connection};
@@ -33,10 +33,8 @@ pub enum Step<'a> {
     Work(u32),
     /// The store opened, and asked for a ward's papers and its count; what it reads stands as the output.
     Loads(u32),
-    /// The office opened, and a client served that sends these bytes; what it took stands as the output, and
-    /// what came of serving as the error output.
-    Ask(&'a [u8]),
-    /// The same of so many clients in turn, whose connections may break, and of whom one may not be let in.
+    /// The office opened, and so many clients served in turn, whose connections may break, and of whom one may not be let
+    /// in; what they took stands as the output, and what came of serving as the error output.
     Serve(&'a [Option<Client<'a>>], u32),
     /// The office opened, and so many connections answered; how that ended stands as the output.
     Listen(&'a TcpListener, u32),
@@ -49,9 +47,11 @@ pub enum Step<'a> {
 /// Files in memory: the path and the bytes of each.
 pub type Shelf<'a> = &'a [(&'a str, &'a [u8])];
 
-/// What opens them.
+/// What opens them, and the file that the words name.
 #[derive(Clone, Copy)]
 struct Shelved<'a> {
+    named: Option<&'a str>,
+    file: Option<&'a [u8]>,
     files: Shelf<'a>,
 }
 
@@ -59,6 +59,9 @@ impl<'a> Folder for Shelved<'a> {
     type File = &'a [u8];
 
     fn open(&self, path: &str) -> Option<&'a [u8]> {
+        if self.named == Some(path) {
+            return self.file;
+        }
         for (name, bytes) in self.files {
             if *name == path {
                 return Some(bytes);
@@ -143,15 +146,15 @@ fn give<S: Alter + Drop, O: Sink, E: Sink>(
     requires err { E.failed err.old < 2 ^ 64 - 1 }
 {
     match order(alloc, words) {
-        Ok(order) => perform(
-            alloc,
-            &order,
-            conn,
-            file,
-            &Shelved { files: shelf },
-            out,
-            err,
-        ),
+        Ok(Order::Perform(task)) => {
+            let folder = Shelved {
+                named: task.file(),
+                file,
+                files: shelf,
+            };
+            perform(alloc, &task, conn, &folder, out, err)
+        }
+        Ok(Order::Serve { .. } | Order::Copy { .. }) => (tell_failure(Failure::Output, err), conn),
         Err(fault) => (tell_words(&fault, out, err), conn),
     }
 }
@@ -346,7 +349,6 @@ fn done<S: Alter + Drop>(
         Step::List(requests) => list(alloc, conn, requests),
         Step::Work(clerk) => work(alloc, conn, clerk),
         Step::Loads(ward) => loads(alloc, conn, ward),
-        Step::Ask(sends) => serve(alloc, conn, &[Some(Client::whole(sends))], 1),
         Step::Serve(clients, connections) => serve(alloc, conn, clients, connections),
         Step::Listen(listener, connections) => listen(alloc, conn, listener, connections),
         Step::Change(statements) => {

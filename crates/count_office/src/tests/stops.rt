@@ -2,15 +2,11 @@
 //! again, or all that the order makes, and the same order given again ends as if nothing had happened. A client
 //! behind one who met the stop is told that the office is closed.
 
+mod counts;
+
+use super::begun::{BEGUN, KEYED, KEYING, NOMINATED};
 use super::clients::Client;
-use super::counts::{
-    AFTER_A_SURPLUS, EQUAL_SURPLUSES, FIRST_OF_FOURTEEN, FOURTEEN, OPENED as WARD,
-    OPENED_FOR_FIVE as FIVE, PAPERS as NINE_PAPERS, SEAL, SEALED, TWO_STAGES, WAITING_FOR_A_LOT,
-};
 use super::disks::{Act, Disks, File, play_acts};
-use super::http::{BEGUN, KEYED, KEYING};
-use super::keyings::NOMINATED;
-use super::lots::POLLING;
 use super::steps::{Case, STOPPED, STOPPED_ANSWER, Step, Told};
 use super::transcripts::read;
 use std::process::Abort;
@@ -186,40 +182,6 @@ $ judge 12 1 reject:3 --id j1
 batch 12 paper 1 rejected 3
 ";
 
-/// A ward without a batch is sealed.
-const TO_SEAL: &str = "$ seal 7 --id s1
-ward 7 sealed: 0 valid, 0 rejected, quota 1.00000
-";
-
-/// The first stage of a ward with papers: all its bundles come into their table.
-const FIRST_STAGE: &str = "$ advance 7 --id n1
-ward 7 stage 1 first preferences
-";
-
-/// The next one: those of a surplus move.
-const SECOND_STAGE: &str = "$ advance 7 --id n2
-ward 7 stage 2 surplus of 1
-";
-
-/// The last one, and the ward's declaration.
-const LAST_STAGE: &str = "$ advance 7 --id n3
-ward 7 stage 3 exclusion of 2, last vacancies
-";
-
-const DECLARATION: &str = "$ declare 7 --id d1
-ward 7 declared: 1, 3
-";
-
-/// Where the count waits for a lot between two surpluses: the lot. The stage behind it is that of a surplus too.
-const LOT: &str = "$ lot 7 2 1 --id l2
-lot at ward 7 stage 2: candidate 1
-";
-
-/// Where papers that came with a surplus go on with the next: their stage.
-const SECOND_SURPLUS: &str = "$ advance 7 --id n3
-ward 7 stage 3 surplus of 2
-";
-
 /// A batch whose two keyings differ.
 const DIFFERING: &str = "$ close 7 --id n1
 ward 7 polled
@@ -242,20 +204,19 @@ $ again 12 --id g1
 batch 12 round 2 open
 ";
 
-/// A keying over HTTP.
-const CLIENT: &str = r#"> POST /clerks/4/batches/12/keying HTTP/1.1
-> Content-Length: 43
->
-> {"id":"h1","round":1,"papers":["1,2,","D"]}
-200 OK
-{"reply":"batch 12 round 1 keyed"}
-"#;
+/// Stops a keying over HTTP at each call of one file.
+fn stop_client(rt: &(impl Abort + AllocGlobal), file: File) -> Result<(), Fail> {
+    let client = [Some(Client::whole(KEYING.as_bytes()))];
+    let case = (Step::Serve(&client, 1), (0, KEYED, "Ok(())"));
+    stop_each(rt, play_acts(rt, BEGUN)?, case, file)?;
+    Ok(())
+}
 
-/// What was done before, and the orders that are stopped then, one after the other, each at each call.
-const STOPS: [(&[Act], &str); 2] = [
-    (&[Act::Typed(NOMINATED), Act::Typed(DIFFERING)], NEW_ROUND),
-    (BEGUN, CLIENT),
-];
+/// Stops the orders of a new round at each call of one file.
+fn stop_new_round(rt: &(impl Abort + AllocGlobal), file: File) -> Result<(), Fail> {
+    let before = [Act::Typed(NOMINATED), Act::Typed(DIFFERING)];
+    stop_orders(rt, &before, NEW_ROUND, file)
+}
 
 /// Stops orders, each at each call of one file.
 pub fn stop_orders(
@@ -279,10 +240,8 @@ fn the_first_orders_stop_whole_at_their_log(rt: HostRuntime) -> Result<(), Fail>
 
 #[test]
 fn an_order_stops_whole_at_its_log(rt: HostRuntime) -> Result<(), Fail> {
-    for (before, orders) in STOPS {
-        stop_orders(&rt, before, orders, File::Log)?;
-    }
-    Ok(())
+    stop_new_round(&rt, File::Log)?;
+    stop_client(&rt, File::Log)
 }
 
 #[test]
@@ -296,96 +255,11 @@ fn orders_to_a_verdict_stop_whole_at_their_log(rt: HostRuntime) -> Result<(), Fa
     stop_orders(&rt, &before, TO_VERDICT, File::Log)
 }
 
-/// Where a count stands, and the orders that are stopped there.
-const COUNTS: [(&[Act], &str); 7] = [
-    (&[Act::Typed(POLLING)], TO_SEAL),
-    (SEALED, FIRST_STAGE),
-    (
-        &[WARD, NINE_PAPERS, SEAL, Act::Typed(FIRST_STAGE)],
-        SECOND_STAGE,
-    ),
-    (
-        &[WARD, NINE_PAPERS, SEAL, TWO_STAGES, Act::Typed(LAST_STAGE)],
-        DECLARATION,
-    ),
-    (WAITING_FOR_A_LOT, LOT),
-    (
-        &[
-            FIVE,
-            FOURTEEN,
-            EQUAL_SURPLUSES,
-            FIRST_OF_FOURTEEN,
-            Act::Typed(LOT),
-        ],
-        SECOND_STAGE,
-    ),
-    (AFTER_A_SURPLUS, SECOND_SURPLUS),
-];
-
-/// Stops the orders of some counts, each at each call of one file.
-fn stop_counts(
-    rt: &(impl Abort + AllocGlobal),
-    counts: &[(&[Act], &str)],
-    file: File,
-) -> Result<(), Fail> {
-    for (before, orders) in counts {
-        stop_orders(rt, before, orders, file)?;
-    }
-    Ok(())
-}
-
-#[test]
-fn a_count_is_begun_whole_at_its_log(rt: HostRuntime) -> Result<(), Fail> {
-    stop_counts(&rt, &COUNTS[..2], File::Log)
-}
-
-#[test]
-fn a_surplus_stops_whole_at_its_log(rt: HostRuntime) -> Result<(), Fail> {
-    stop_counts(&rt, &COUNTS[2..3], File::Log)
-}
-
-#[test]
-fn a_declaration_stops_whole_at_its_log(rt: HostRuntime) -> Result<(), Fail> {
-    stop_counts(&rt, &COUNTS[3..4], File::Log)
-}
-
-#[test]
-fn a_lot_stops_whole_at_its_log(rt: HostRuntime) -> Result<(), Fail> {
-    stop_counts(&rt, &COUNTS[4..5], File::Log)
-}
-
-#[test]
-fn a_stage_behind_a_lot_stops_whole_at_its_log(rt: HostRuntime) -> Result<(), Fail> {
-    stop_counts(&rt, &COUNTS[5..6], File::Log)
-}
-
-#[test]
-fn a_second_surplus_stops_whole_at_its_log(rt: HostRuntime) -> Result<(), Fail> {
-    stop_counts(&rt, &COUNTS[6..], File::Log)
-}
-
-#[test]
-fn a_count_is_begun_whole_at_its_database(rt: HostRuntime) -> Result<(), Fail> {
-    stop_counts(&rt, &COUNTS[..3], File::Database)
-}
-
-#[test]
-fn a_count_goes_on_whole_at_its_database(rt: HostRuntime) -> Result<(), Fail> {
-    stop_counts(&rt, &COUNTS[3..5], File::Database)
-}
-
-#[test]
-fn a_count_ends_whole_at_its_database(rt: HostRuntime) -> Result<(), Fail> {
-    stop_counts(&rt, &COUNTS[5..], File::Database)
-}
-
 #[test]
 fn an_order_stops_whole_at_its_database(rt: HostRuntime) -> Result<(), Fail> {
     stop_orders(&rt, &[], FIRST, File::Database)?;
-    for (before, orders) in STOPS {
-        stop_orders(&rt, before, orders, File::Database)?;
-    }
-    Ok(())
+    stop_new_round(&rt, File::Database)?;
+    stop_client(&rt, File::Database)
 }
 
 #[test]

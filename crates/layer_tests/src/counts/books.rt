@@ -7,8 +7,9 @@ ghost use Rattle.count.specs.Law.Contest.{IsContest, contest_for};
 ghost use Rattle.count.specs.Law.Places.{place as place_of};
 ghost use Rattle.count.specs.Law.Right.{IsRightForSome};
 
+use super::rows::is_read_back_at_each;
 use super::worked::{WORKED, Worked};
-use super::{first_columns, papers_of, records, with_all};
+use super::{first_columns, goes_to_each, papers_of, records, with_all};
 use count::{
     BundleBook, Bundles, CountBook, CountEnd, Due, KeptCount, NextStage, ParcelBook, Placed, Stage,
     count_to, is_bundled_contest, is_contest, run_count,
@@ -43,20 +44,17 @@ fn comes_as_worked<B: CountBook>(rt: &impl Abort, book: &mut B, worked: &Worked)
     Ok(())
 }
 
-#[test]
-fn both_books_count_alike(rt: HostRuntime) -> Result<(), Fail> {
-    for worked in &WORKED {
-        let candidates = first_columns(worked.candidates);
-        let papers = papers_of(rt.alloc(), worked.papers)?;
-        let bundles = bundles_of(rt.alloc(), &papers)?;
-        assert!(rt; is_contest(&candidates, worked.seats, &papers));
-        assert!(rt; is_bundled_contest(&candidates, worked.seats, &bundles));
-        let mut book = ParcelBook::new(rt.alloc(), candidates, worked.seats, &papers)?;
-        comes_as_worked(&rt, &mut book, worked)?;
-        let mut book = BundleBook::new(rt.alloc(), candidates, worked.seats, &bundles)?;
-        comes_as_worked(&rt, &mut book, worked)?;
-    }
-    Ok(())
+/// Counts a worked election in both books.
+fn both_books_count(rt: &impl Abort, alloc: Global, worked: &Worked) -> Result<(), Fail> {
+    let candidates = first_columns(worked.candidates);
+    let papers = papers_of(alloc, worked.papers)?;
+    let bundles = bundles_of(alloc, &papers)?;
+    assert!(rt; is_contest(&candidates, worked.seats, &papers));
+    assert!(rt; is_bundled_contest(&candidates, worked.seats, &bundles));
+    let mut book = ParcelBook::new(alloc, candidates, worked.seats, &papers)?;
+    comes_as_worked(rt, &mut book, worked)?;
+    let mut book = BundleBook::new(alloc, candidates, worked.seats, &bundles)?;
+    comes_as_worked(rt, &mut book, worked)
 }
 
 /// The bundles of the first worked election after its second stage: a list, how many papers have it, who
@@ -190,9 +188,12 @@ fn goes_on_from_what_was_kept(rt: &impl Abort, alloc: Global, worked: &Worked) -
 }
 
 #[test]
-fn counts_go_on_from_what_was_kept(rt: HostRuntime) -> Result<(), Fail> {
+fn worked_elections_are_counted(rt: HostRuntime) -> Result<(), Fail> {
     for worked in &WORKED {
+        goes_to_each(&rt, rt.alloc(), worked)?;
+        both_books_count(&rt, rt.alloc(), worked)?;
         goes_on_from_what_was_kept(&rt, rt.alloc(), worked)?;
+        is_read_back_at_each(&rt, rt.alloc(), worked)?;
     }
     Ok(())
 }

@@ -59,11 +59,7 @@ fn equal_papers_are_kept_once(rt: HostRuntime) -> Result<(), Fail> {
             "{list:?}: {papers}"
         );
     }
-    Ok(())
-}
-
-#[test]
-fn several_equal_papers_at_once(rt: HostRuntime) -> Result<(), Fail> {
+    // several at once
     let mut bundles = Bundles::new(rt.alloc());
     for (list, number) in &BUNDLES {
         let prefs = Prefs::from_slice(list).ok_or("no ranking")?;

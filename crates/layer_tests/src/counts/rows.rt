@@ -1,7 +1,7 @@
 //! Counts that are read back from the rows of what is tabulated of them, and from nothing else.
 
 use super::books::bundles_of;
-use super::worked::{WORKED, Worked};
+use super::worked::Worked;
 use super::{first_columns, papers_of, records};
 use count::{BundleBook, Bundles, CountBook, count_to, is_bundled_contest};
 use register::tabulated::count_of;
@@ -37,13 +37,11 @@ fn is_read_back(
     Ok(())
 }
 
-#[test]
-fn counts_are_read_back_from_rows(rt: HostRuntime) -> Result<(), Fail> {
-    for worked in &WORKED {
-        let bundles = bundles_of(rt.alloc(), &papers_of(rt.alloc(), worked.papers)?)?;
-        for stages in 1..=worked.stages.len() {
-            is_read_back(&rt, rt.alloc(), worked, &bundles, stages)?;
-        }
+/// The same after each of its stages.
+pub fn is_read_back_at_each(rt: &impl Abort, alloc: Global, worked: &Worked) -> Result<(), Fail> {
+    let bundles = bundles_of(alloc, &papers_of(alloc, worked.papers)?)?;
+    for stages in 1..=worked.stages.len() {
+        is_read_back(rt, alloc, worked, &bundles, stages)?;
     }
     Ok(())
 }

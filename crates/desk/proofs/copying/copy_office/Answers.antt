@@ -1,9 +1,8 @@
 -- Why `copy_office` keeps its promise.
-use Rattle.std.specs.Prelude.{None}
 use Rattle.sqlite.specs.Held.{state}
 use Rattle.desk.specs.Pages.{outputs_of, page_of}
 use Rattle.desk.proofs.CopyingLemmas.{whole_told}
-use Rattle.desk.proofs.SentLemmas.{status_zero}
+use Rattle.desk.proofs.TellingLemmas.{shown_zero}
 use Rattle.desk.proofs.copying.copy_office.Goals as goal
 
 pub returns-clause-copied : goal.returns-clause-copied
@@ -20,5 +19,5 @@ pub returns-clause-made : goal.returns-clause-made
 returns-clause-made g c zero =
     let outputs = outputs_of g.O.Sink.taken g.O.Sink.failed g.E.Sink.taken g.E.Sink.failed in
     let page = page_of c.copied-outcome.result.0 in
-    let none = status_zero None (outputs c.args.out.now c.args.err.now) (outputs c.tell.new.out c.tell.new.err) page c.tell.result zero c.tell.ensures in
+    let none = (shown_zero c.tell.ensures.0 (outputs c.args.out.now c.args.err.now) (outputs c.tell.new.out c.tell.new.err) page c.tell.result c.tell.ensures.1 zero).1 in
     whole_told c.copied-outcome.result.1 page (state g.T.Store c.args.copy.now) (state g.T.Store c.copied-outcome.new.copy) none c.copied-outcome.ensures.holds

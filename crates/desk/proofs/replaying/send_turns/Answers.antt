@@ -1,21 +1,21 @@
 -- Why `send_turns` keeps its promise.
-use Rattle.std.proofs.Common.{◌<◌, ◌++◌, None, Some, length, take, refl, arith}
-use Rattle.std.proofs.lemmas.List.{take_all}
+use Rattle.std.proofs.Common.{◌<◌, ◌++◌, [], None, length, refl, arith}
 use Rattle.sqlite.specs.Held.{state}
 use Rattle.store.proofs.KeepLemmas.{wears_itself, wears_then}
-use Rattle.desk.specs.Pages.{below, cut_below, uncut, empty_page, fronted}
-use Rattle.desk.proofs.CauseLemmas.{since, turn_since}
+use Rattle.desk.specs.Headline.{ended}
+use Rattle.desk.specs.Pages.{below, cut_below, uncut, empty_page}
+use Rattle.desk.proofs.CauseLemmas.{since}
+use Rattle.desk.proofs.CourseLemmas.{above, none_taken, turn_last, turn_more, turns_all}
 use Rattle.desk.proofs.PageLemmas.{shown_below}
-use Rattle.desk.proofs.ReplayLemmas.{turn_last, turn_more, turns_all}
 use Rattle.desk.proofs.ScriptLemmas.{sends_at}
-use Rattle.desk.proofs.SentLemmas.{ended_so, nothing_told, status_zero, told_all, told_more, whole_cut}
+use Rattle.desk.proofs.TellingLemmas.{nothing_told, shown_else, shown_zero, told_all, told_more}
 use Rattle.desk.proofs.replaying.send_turns.Goals as goal
 
 pub loop-turn-init : goal.loop-turn-init
 loop-turn-init g c = record {
   wears = wears_itself (state g.S.Store c.args.office.now.held);
   clean = λ clean. clean;
-  so_far = record { said = _; shown = nothing_told _; is = λ clean is_open s at. record { end = s; replied = (refl, refl); open_at = record { is_open = is_open; at = at } } };
+  so_far = record { said = _; shown = nothing_told _; is = λ clean is_open s at. none_taken _ s _ _ _ (record { is_open = is_open; at = at }) };
 }
 
 pub loop-turn-preserved : goal.loop-turn-preserved
@@ -26,8 +26,7 @@ loop-turn-preserved g c =
     let turn = c.turn-item.result in
     let so_far = c.loop-turn.invariant.so_far in
     let told = c.run-status.ensures.ran in
-    let zero = status_zero (Some turn.line) _ _ told.page c.run-status.result c.if-status-ne0.false (told.cut, told.shown) in
-    let all = whole_cut told.cut _ _ (fronted (Some turn.line) told.page) c.run-status.result c.if-status-ne0.false told.shown in
+    let fine = shown_zero told.cut _ _ told.page c.run-status.result told.shown c.if-status-ne0.false in
     let first = state g.S.Store c.args.office.now.held in
     let mid = state g.S.Store c.loop-turn.office.held in
     let next = state g.S.Store c.run-status.new.office.held in
@@ -36,11 +35,12 @@ loop-turn-preserved g c =
       clean = λ clean. c.loop-turn.invariant.clean (c.run-status.ensures.clean clean);
       so_far = record {
         said = so_far.said ++ told.page.out;
-        shown = told_more (Some turn.line) _ _ _ so_far.said told.page c.run-status.result told.is.0 c.if-status-ne0.false so_far.shown (told.cut, told.shown);
+        shown = told_more told.cut _ _ _ so_far.said told.page c.run-status.result told.is.0 c.if-status-ne0.false so_far.shown told.shown;
         is = λ clean is_open s at.
             let so = so_far.is (c.run-status.ensures.clean clean) is_open s at in
-            turn_more (g.F.Folder.held c.args.folder.now) s turns i turn so_far.said c.loop-turn.office.closed mid told.cut told.page c.run-status.new.office.closed mid next within c.turn-item.is (sends_at turns i turn within c.turn-item.is c.requires.turns) so
-            (record { file = _; found = c.opened-file.ensures; runs = told.is.1 clean so.open_at.is_open so.end so.open_at.at }) zero all;
+            let it = told.is.1 clean so.open_at.is_open so.end so.open_at.at in
+            turn_more first (g.F.Folder.held c.args.folder.now) s turns mid i turn so_far.said c.loop-turn.office.closed mid _ c.run-status.new.office.closed next within c.turn-item.is (sends_at turns i turn within c.turn-item.is c.requires.turns) so it.2
+            (fine.1, fine.0);
       };
     }
 
@@ -55,19 +55,22 @@ returns-then-status-ne0-clause-sent g c =
     let first = state g.S.Store c.args.office.now.held in
     let mid = state g.S.Store c.loop-turn.office.held in
     let next = state g.S.Store c.run-status.new.office.held in
-    let closed = c.run-status.new.office.closed in
-    let folder = g.F.Folder.held c.args.folder.now in
     record {
-      page = below so_far.said (fronted (Some turn.line) told.page);
+      page = below so_far.said told.page;
       cut = cut_below so_far.said told.cut;
-      shown = shown_below told.cut _ _ _ so_far.said (fronted (Some turn.line) told.page) c.run-status.result so_far.shown told.shown;
+      shown = shown_below told.cut _ _ _ so_far.said told.page c.run-status.result so_far.shown told.shown;
       is = λ clean is_open s at.
           let honest = c.run-status.ensures.clean clean in
           let so = so_far.is honest is_open s at in
           let tells = since first mid next honest c.loop-turn.invariant.wears c.run-status.ensures.wears in
-          let ran = turn_since folder told.cut so.end turn told.page closed first mid next tells (record { file = _; found = c.opened-file.ensures; runs = told.is.1 clean so.open_at.is_open so.end so.open_at.at }) in
-          turn_last folder s turns i turn so_far.said c.loop-turn.office.closed mid told.cut told.page closed first next within c.turn-item.is so ran
-          (ended_so (Some turn.line) told.cut _ _ told.page c.run-status.result c.if-status-ne0.true told.shown);
+          let it = told.is.1 clean so.open_at.is_open so.end so.open_at.at in
+          let worse = shown_else told.cut _ _ told.page c.run-status.result told.shown c.if-status-ne0.true in
+          let course = above so.own so_far.said (record { requests = it.0; answered = it.1; page = told.page; cut = told.cut }) in (
+            course.requests,
+            course.answered,
+            turn_last first (g.F.Folder.held c.args.folder.now) s turns mid i turn so_far.said c.loop-turn.office.closed mid _ c.run-status.new.office.closed next within c.turn-item.is tells so it.2
+                (λ fine. worse fine.0 fine.1),
+          );
     }
 
 pub returns-then-status-ne0-clause-wears : goal.returns-then-status-ne0-clause-wears
@@ -76,12 +79,17 @@ returns-then-status-ne0-clause-wears g c = wears_then (state g.S.Store c.args.of
 
 pub returns-clause-sent : goal.returns-clause-sent
 returns-clause-sent g c =
-    let turns = c.args.turns.now in
     let so_far = c.loop-turn.invariant.so_far in
     record {
       page = below so_far.said empty_page;
       cut = uncut;
-      shown = told_all None _ _ so_far.said so_far.shown;
-      is = λ clean is_open s at. turns_all (g.F.Folder.held c.args.folder.now) s turns (take c.loop-turn.turn-index turns) so_far.said c.loop-turn.office.closed (state g.S.Store c.args.office.now.held)
-          (state g.S.Store c.loop-turn.office.held) (take_all _ _ c.loop-turn-test.false) (so_far.is clean is_open s at);
+      shown = told_all _ _ so_far.said so_far.shown;
+      is = λ clean is_open s at.
+          let so = so_far.is clean is_open s at in
+          let course = above so.own so_far.said (ended None [] 0 empty_page uncut) in (
+            course.requests,
+            course.answered,
+            turns_all (state g.S.Store c.args.office.now.held) (g.F.Folder.held c.args.folder.now) s c.args.turns.now c.loop-turn.turn-index so_far.said c.loop-turn.office.closed
+                (state g.S.Store c.loop-turn.office.held) c.loop-turn-test.false so,
+          );
     }

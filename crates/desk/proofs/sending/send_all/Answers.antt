@@ -1,20 +1,20 @@
 -- Why `send_all` keeps its promise.
-use Rattle.std.proofs.Common.{◌<◌, ◌++◌, length, take, refl, arith}
-use Rattle.std.proofs.lemmas.List.{take_all}
+use Rattle.std.proofs.Common.{◌<◌, ◌+◌, ◌++◌, ◌∷◌, [], None, drop, take, length, refl, arith}
 use Rattle.sqlite.specs.Held.{state}
 use Rattle.store.proofs.KeepLemmas.{wears_itself, wears_then}
-use Rattle.register.specs.Machine.{after, step_of}
-use Rattle.desk.specs.Pages.{below, cut_below, uncut, empty_page, page_of}
-use Rattle.desk.proofs.CauseLemmas.{answered_since, since}
-use Rattle.desk.proofs.PageLemmas.{shown_below_front}
-use Rattle.desk.proofs.SentLemmas.{nothing_told, sent_all, sent_last, sent_more, silent, status_zero, told_all, told_more}
+use Rattle.desk.specs.Headline.{ended}
+use Rattle.desk.specs.Pages.{below, cut_below, uncut, empty_page, fronted, page_of}
+use Rattle.desk.proofs.CauseLemmas.{since}
+use Rattle.desk.proofs.CourseLemmas.{above, answered_since, none_sent, sent_all, sent_last, sent_more}
+use Rattle.desk.proofs.PageLemmas.{shown_below}
+use Rattle.desk.proofs.TellingLemmas.{nothing_told, shown_else, shown_zero, silent_front, told_all, told_more}
 use Rattle.desk.proofs.sending.send_all.Goals as goal
 
 pub loop-request-init : goal.loop-request-init
 loop-request-init g c = record {
   wears = wears_itself (state g.S.Store c.args.office.now.held);
   clean = λ clean. clean;
-  so_far = record { said = _; shown = nothing_told _; is = λ clean is_open s at. record { open_at = record { is_open = is_open; at = at }; replies = refl } };
+  so_far = record { said = _; shown = nothing_told _; is = λ clean is_open s at. none_sent s _ _ _ (record { is_open = is_open; at = at }) };
 }
 
 pub loop-request-preserved : goal.loop-request-preserved
@@ -23,21 +23,23 @@ loop-request-preserved g c =
     let i = c.loop-request.request-index in
     let within : i < length rs = omega arith in
     let so_far = c.loop-request.invariant.so_far in
-    let o = c.outcome_of.result in
+    let page = page_of c.outcome_of.result in
+    let told = c.tell-status.ensures in
     let first = state g.S.Store c.args.office.now.held in
     let mid = state g.S.Store c.loop-request.office.held in
     let next = state g.S.Store c.outcome_of.new.office.held in
+    let line = c.args.line in
     record {
       wears = wears_then first mid next c.outcome_of.ensures.clean c.loop-request.invariant.wears c.outcome_of.ensures.wears;
       clean = λ clean. c.loop-request.invariant.clean (c.outcome_of.ensures.clean clean);
       so_far = record {
-        said = so_far.said ++ (page_of o).out;
-        shown = told_more c.args.line _ _ _ so_far.said (page_of o) c.tell-status.result (silent o) c.if-status-ne0.false so_far.shown c.tell-status.ensures;
+        said = so_far.said ++ (fronted line page).out;
+        shown = told_more told.0 _ _ _ so_far.said (fronted line page) c.tell-status.result (silent_front line c.outcome_of.result) c.if-status-ne0.false so_far.shown told.1;
         is = λ clean is_open s at.
             let so = so_far.is (c.outcome_of.ensures.clean clean) is_open s at in
-            sent_more s rs i c.request-item.result so_far.said c.loop-request.office.closed mid (page_of o) c.outcome_of.new.office.closed mid next within c.request-item.is so
-            (c.outcome_of.ensures.told clean so.open_at.is_open (after s (take i rs)) so.open_at.at)
-            (status_zero c.args.line _ _ (page_of o) c.tell-status.result c.if-status-ne0.false c.tell-status.ensures);
+            let it = c.outcome_of.ensures.told clean so.open_at.is_open so.end so.open_at.at in
+            sent_more first line s rs mid i c.request-item.result so_far.said c.loop-request.office.closed mid page it.0 c.outcome_of.new.office.closed next within c.request-item.is so it.1
+            (shown_zero told.0 _ _ (fronted line page) c.tell-status.result told.1 c.if-status-ne0.false).1;
       };
     }
 
@@ -53,19 +55,26 @@ returns-then-status-ne0-clause-sent g c =
     let mid = state g.S.Store c.loop-request.office.held in
     let next = state g.S.Store c.outcome_of.new.office.held in
     let closed = c.outcome_of.new.office.closed in
+    let line = c.args.line in
+    let r = c.request-item.result in
     record {
-      page = below so_far.said page;
+      page = below so_far.said (fronted line page);
       cut = cut_below so_far.said told.0;
-      shown = shown_below_front c.args.line told.0 _ _ _ so_far.said page c.tell-status.result so_far.shown told.1;
+      shown = shown_below told.0 _ _ _ so_far.said (fronted line page) c.tell-status.result so_far.shown told.1;
       is = (
-        silent c.outcome_of.result,
+        silent_front line c.outcome_of.result,
         λ clean is_open s at.
             let honest = c.outcome_of.ensures.clean clean in
             let so = so_far.is honest is_open s at in
-            let here = after s (take i rs) in
             let tells = since first mid next honest c.loop-request.invariant.wears c.outcome_of.ensures.wears in
-            let answered = answered_since here (step_of here c.request-item.result) page closed first mid next tells (c.outcome_of.ensures.told clean so.open_at.is_open here so.open_at.at) in
-            sent_last c.args.line s rs i c.request-item.result so_far.said c.loop-request.office.closed mid told.0 _ _ c.tell-status.result page closed first next within c.request-item.is so answered c.if-status-ne0.true told.1,
+            let it = c.outcome_of.ensures.told clean so.open_at.is_open so.end so.open_at.at in
+            let here = answered_since first mid closed next so.end r it.0 page tells it.1 in
+            let course = above (take i rs) so_far.said (ended line (r ∷ drop (i + 1) rs) it.0 page told.0) in (
+              course.requests,
+              course.answered,
+              sent_last first line s rs i r so_far.said c.loop-request.office.closed mid page told.0 it.0 closed next within c.request-item.is so here
+                  (shown_else told.0 _ _ (fronted line page) c.tell-status.result told.1 c.if-status-ne0.true),
+            ),
       );
     }
 
@@ -76,14 +85,17 @@ returns-then-status-ne0-clause-wears g c = wears_then (state g.S.Store c.args.of
 pub returns-clause-sent : goal.returns-clause-sent
 returns-clause-sent g c =
     let rs = c.args.requests.now in
+    let i = c.loop-request.request-index in
     let so_far = c.loop-request.invariant.so_far in
     record {
       page = below so_far.said empty_page;
       cut = uncut;
-      shown = told_all c.args.line _ _ so_far.said so_far.shown;
+      shown = told_all _ _ so_far.said so_far.shown;
       is = (
         λ zero. refl,
-        λ clean is_open s at. sent_all s rs (take c.loop-request.request-index rs) so_far.said c.loop-request.office.closed (state g.S.Store c.args.office.now.held)
-            (state g.S.Store c.loop-request.office.held) (take_all _ _ c.loop-request-test.false) (so_far.is clean is_open s at),
+        λ clean is_open s at.
+            let so = so_far.is clean is_open s at in
+            let course = above (take i rs) so_far.said (ended None [] 0 empty_page uncut) in
+            (course.requests, course.answered, sent_all (state g.S.Store c.args.office.now.held) c.args.line s rs i so_far.said c.loop-request.office.closed (state g.S.Store c.loop-request.office.held) c.loop-request-test.false so),
       );
     }

@@ -1,11 +1,11 @@
 -- What holds each time round the loop of `send_all`: the requests so far got replies, which were told.
-use Rattle.std.proofs.Common.{take}
 use Rattle.sqlite.specs.State.{HasCleanDisk}
 use Rattle.sqlite.specs.Held.{state}
 use Rattle.store.specs.Offices.{Wears}
-use Rattle.desk.specs.Errands.{WhereOpen}
+use Rattle.office.specs.Answers.{WhenOpenAt}
 use Rattle.desk.specs.Pages.{outputs_of}
-use Rattle.desk.proofs.SentLemmas.{SentSo, ToldSo}
+use Rattle.desk.proofs.CourseLemmas.{SentSo}
+use Rattle.desk.proofs.TellingLemmas.{ToldSo}
 use Rattle.desk.proofs.sending.send_all.Given as goal
 
 abbrev pub invariant-loop-request : goal.invariant-loop-request
@@ -13,6 +13,6 @@ invariant-loop-request g l = record {
   wears : Wears (state g.S.Store l.initial.office.held) (state g.S.Store l.office.held);
   clean : HasCleanDisk (state g.S.Store l.office.held) → HasCleanDisk (state g.S.Store l.initial.office.held);
   so_far : ToldSo (outputs_of g.O.Sink.taken g.O.Sink.failed g.E.Sink.taken g.E.Sink.failed l.initial.out l.initial.err) (outputs_of g.O.Sink.taken g.O.Sink.failed g.E.Sink.taken g.E.Sink.failed l.out l.err)
-      (λ said. WhereOpen l.initial.office.closed (state g.S.Store l.initial.office.held) (state g.S.Store l.office.held)
-      (λ s. SentSo s (take l.request-index l.requests) said l.office.closed (state g.S.Store l.office.held)));
+      (λ said. WhenOpenAt (state g.S.Store) l.initial.office l.office
+      (λ s. SentSo s l.requests l.request-index said l.office.closed (state g.S.Store l.office.held)));
 }

@@ -1,15 +1,22 @@
 use Rattle.std.proofs.Common.{◌∙◌, refl, sym, ap, map, inl, inr, Err}
 use Rattle.std.proofs.lemmas.Bool.{false≢true}
 use Rattle.clap.specs.Words.{kind_of}
-use Rattle.desk.specs.Words.{has_bad_origin, has_bad_verdict, meaning}
+use Rattle.desk.specs.Words.{meaning}
 use Rattle.desk.proofs.OrdersNamed.{matches_are_the_words, matches_name_an_order}
-use Rattle.desk.proofs.WordsRefused.{refusal_told, refused_is_wrong, taken_is_right}
+use Rattle.desk.proofs.WordsRefused.{refusal_told, refused_is_wrong, none_asked, taken_is_right, version_asked}
 use Rattle.desk.proofs.words.order.Goals as goal
+
+pub returns-in-Err-try_get_matches_from-clause-version : goal.returns-in-Err-try_get_matches_from-clause-version
+returns-in-Err-try_get_matches_from-clause-version c = λ asked.
+    let parse = c.in-Err-try_get_matches_from in
+    version_asked (kind_of parse.error) c.kind.result _ c.denied.result c.kind.ensures asked
+    (refused_is_wrong c.in-Ok.command (map (λ s. s.now) c.args.words.now) parse.error c.in-Ok.ensures.app parse.ensures.kinds)
+    c.denied.ensures.memory c.denied.ensures.version
 
 pub returns-in-Err-try_get_matches_from-clause-denies : goal.returns-in-Err-try_get_matches_from-clause-denies
 returns-in-Err-try_get_matches_from-clause-denies c =
     let parse = c.in-Err-try_get_matches_from in
-    refusal_told (kind_of parse.error) c.kind.result _ c.refused.result c.kind.ensures c.refused.ensures.told
+    refusal_told (kind_of parse.error) c.kind.result _ c.denied.result c.kind.ensures c.denied.ensures.told
     (refused_is_wrong c.in-Ok.command (map (λ s. s.now) c.args.words.now) parse.error c.in-Ok.ensures.app parse.ensures.kinds)
 
 pub returns-in-Ok-order_in-clause-accepts : goal.returns-in-Ok-order_in-clause-accepts
@@ -35,7 +42,7 @@ pub returns-in-Err-BadVerdict-clause-err : goal.returns-in-Err-BadVerdict-clause
 returns-in-Err-BadVerdict-clause-err c = λ taken.
     let parse = c.in-Ok-try_get_matches_from in
     let same = matches_are_the_words c.in-Ok.command parse.matches (map (λ s. s.now) c.args.words.now) c.in-Ok.ensures.app parse.ensures.matches in
-    inr (inl (refl, ap (λ found. has_bad_verdict (meaning found)) (sym same) ∙ c.in-Err-BadVerdict.ensures.bad (ap Err c.in-Err-BadVerdict.field-0-is)))
+    inr (inl (refl, ap meaning (sym same) ∙ c.in-Err-BadVerdict.ensures.bad (ap Err c.in-Err-BadVerdict.field-0-is)))
 
 pub returns-in-Err-BadOrigin-clause-denies : goal.returns-in-Err-BadOrigin-clause-denies
 returns-in-Err-BadOrigin-clause-denies c = taken_is_right c.in-Ok.command (map (λ s. s.now) c.args.words.now) c.in-Ok.ensures.app c.in-Ok-try_get_matches_from.ensures.kinds
@@ -44,7 +51,7 @@ pub returns-in-Err-BadOrigin-clause-err : goal.returns-in-Err-BadOrigin-clause-e
 returns-in-Err-BadOrigin-clause-err c = λ taken.
     let parse = c.in-Ok-try_get_matches_from in
     let same = matches_are_the_words c.in-Ok.command parse.matches (map (λ s. s.now) c.args.words.now) c.in-Ok.ensures.app parse.ensures.matches in
-    inr (inr (refl, ap (λ found. has_bad_origin (meaning found)) (sym same) ∙ c.in-Err-BadOrigin.ensures.bad_origin (ap Err c.in-Err-BadOrigin.field-0-is)))
+    inr (inr (refl, ap meaning (sym same) ∙ c.in-Err-BadOrigin.ensures.bad_origin (ap Err c.in-Err-BadOrigin.field-0-is)))
 
 pub returns-clause-err : goal.returns-clause-err
 returns-clause-err c = λ taken.
@@ -52,3 +59,12 @@ returns-clause-err c = λ taken.
     let known = matches_name_an_order c.in-Ok.command parse.matches (map (λ s. s.now) c.args.words.now) c.in-Ok.ensures.app c.in-Ok.ensures.local
     parse.ensures.matches parse.ensures.parsed in
     absurd (false≢true (sym (c.in-Err-Unknown.ensures.unknown (ap Err c.in-Err-Unknown.field-0-is)) ∙ known))
+
+pub returns-in-Err-BadVerdict-clause-version : goal.returns-in-Err-BadVerdict-clause-version
+returns-in-Err-BadVerdict-clause-version c = λ asked. absurd (none_asked _ (taken_is_right c.in-Ok.command (map (λ s. s.now) c.args.words.now) c.in-Ok.ensures.app c.in-Ok-try_get_matches_from.ensures.kinds) asked)
+
+pub returns-in-Err-BadOrigin-clause-version : goal.returns-in-Err-BadOrigin-clause-version
+returns-in-Err-BadOrigin-clause-version c = λ asked. absurd (none_asked _ (taken_is_right c.in-Ok.command (map (λ s. s.now) c.args.words.now) c.in-Ok.ensures.app c.in-Ok-try_get_matches_from.ensures.kinds) asked)
+
+pub returns-clause-version : goal.returns-clause-version
+returns-clause-version c = λ asked. absurd (none_asked _ (taken_is_right c.in-Ok.command (map (λ s. s.now) c.args.words.now) c.in-Ok.ensures.app c.in-Ok-try_get_matches_from.ensures.kinds) asked)

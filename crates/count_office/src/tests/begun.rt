@@ -1,0 +1,294 @@
+//! How far offices have come that tests go on with, and what clients send to them.
+
+use super::disks::Act;
+
+/// Ward 7 with three candidates and two seats.
+pub const NOMINATED: &str = "$ init
+office ready
+$ ward 7 2 Harbour --id w1
+ward 7 added
+$ import-candidates FILE --id c
+< ward,candidate,name
+< 7,1,Ann
+< 7,2,Bob
+< 7,3,Cy
+candidate 1 of ward 7 added
+candidate 2 of ward 7 added
+candidate 3 of ward 7 added
+";
+
+/// Its poll, and batch 12 of two papers for the clerks 4 and 9.
+pub const GIVEN_OUT: &str = "$ close 7 --id n1
+ward 7 polled
+$ batch 12 7 2 4 9 --id b1
+batch 12 added
+";
+
+/// Batch 12 as its clerks 4 and 9 key it unlike.
+pub const DIFFERING: &str = "$ import-keying 4 12 1 FILE --id k1
+< paper,1,2,3
+< 1,1,2,
+< 2,D,,
+batch 12 round 1 keyed
+$ import-keying 9 12 1 FILE --id k1
+< paper,1,2,3
+< 1,2,1,
+< 2,D,,
+batch 12 round 1 keyed
+";
+
+/// Where both have keyed unlike: clerk 5 is none of the batch's yet, and is set.
+pub const SET: &str = "$ import-keying 5 12 1 FILE --id k1
+< paper,1,2,3
+< 1,1,2,
+< 2,D,,
+1| refused 14: clerk not of this batch
+$ third 12 9 --id t1
+1| refused 13: clerks not different
+$ third 12 5 --id t1
+batch 12 third clerk 5
+";
+
+/// Each of his papers is that of one of the others, and yet the batch differs: keyings are compared whole.
+pub const PAPER_BY_PAPER: &str = "$ import-keying 5 12 1 FILE --id k1
+< paper,1,2,3
+< 1,1,2,
+< 2,,1,
+batch 12 round 1 keyed
+$ status 7
+ward 7 keying: 3 candidates, 1 batches, 0 taken, 1 differing, 0 doubtful open, 0 stages
+$ judge 12 2 reject:3 --id j1
+1| refused 20: batch not taken
+$ seal 7 --id s1
+1| refused 24: not ready to seal
+$ again 12 --id a1
+batch 12 round 2 open
+@ 5
+batch 12 ward 7 [1, 2, 3] size 2 round 2: to key
+";
+
+/// Clerks 5 and 9 agree in the next round. What clerk 4 keys then is kept, and the batch stays taken with their papers.
+pub const FOUR_COMES_LATE: &str = "$ import-keying 5 12 2 FILE --id k2
+< paper,1,2,3
+< 1,1,2,
+< 2,D,,
+batch 12 round 2 keyed
+@ 9
+batch 12 ward 7 [1, 2, 3] size 2 round 2: to key
+$ third 12 6 --id t2
+1| refused 19: keyings don't differ
+$ import-keying 9 12 2 FILE --id k2
+< paper,1,2,3
+< 1,1,2,
+< 2,D,,
+batch 12 round 2 keyed
+$ status 7
+ward 7 keying: 3 candidates, 1 batches, 1 taken, 0 differing, 1 doubtful open, 0 stages
+@ 4
+batch 12 ward 7 [1, 2, 3] size 2 round 2: to key
+$ judge 12 2 accept:,,1 --id j1
+batch 12 paper 2 accepted
+$ import-keying 4 12 2 FILE --id k2
+< paper,1,2,3
+< 1,2,1,
+< 2,D,,
+batch 12 round 2 keyed
+$ status 7
+ward 7 keying: 3 candidates, 1 batches, 1 taken, 0 differing, 0 doubtful open, 0 stages
+@ 4
+batch 12 ward 7 [1, 2, 3] size 2 round 2: keyed
+@ 9
+batch 12 ward 7 [1, 2, 3] size 2 round 2: keyed
+$ again 12 --id a2
+1| refused 19: keyings don't differ
+";
+
+/// Ward 7, of one seat, in keying.
+pub const POLLING: &str = "$ init
+office ready
+$ ward 7 1 Harbour --id w1
+ward 7 added
+$ import-candidates FILE --id c
+< ward,candidate,name
+< 7,1,Ann
+< 7,2,Bob
+< 7,3,Cy
+candidate 1 of ward 7 added
+candidate 2 of ward 7 added
+candidate 3 of ward 7 added
+$ close 7 --id n1
+ward 7 polled
+";
+
+/// Nominations in ward 7, and a batch of nine papers.
+pub const OPENED: Act = Act::Typed(
+    "$ init
+office ready
+$ ward 7 2 Harbour --id w1
+ward 7 added
+$ import-candidates FILE --id c
+< ward,candidate,name
+< 7,1,Ann
+< 7,2,Bob
+< 7,3,Cy
+candidate 1 of ward 7 added
+candidate 2 of ward 7 added
+candidate 3 of ward 7 added
+$ close 7 --id n0
+ward 7 polled
+$ batch 12 7 9 4 9 --id b1
+batch 12 added
+",
+);
+
+/// The papers.
+pub const PAPERS: Act = Act::Keyed(
+    "paper,1,2,3
+1,1,2,
+2,1,2,
+3,1,2,
+4,1,2,
+5,1,,2
+6,1,,2
+7,,1,
+8,,,1
+9,,,1
+",
+);
+
+/// They are sealed.
+pub const SEAL: Act = Act::Typed(
+    "$ seal 7 --id s1
+ward 7 sealed: 9 valid, 0 rejected, quota 4.00000
+",
+);
+
+/// Ward 7 with nine papers, up to its seal.
+pub const SEALED: &[Act] = &[OPENED, PAPERS, SEAL];
+
+/// The first two stages of that ward.
+pub const TWO_STAGES: Act = Act::Typed(
+    "$ advance 7 --id n1
+ward 7 stage 1 first preferences
+$ advance 7 --id n2
+ward 7 stage 2 surplus of 1
+",
+);
+
+/// Nominations of five candidates for three seats of ward 7.
+pub const OPENED_FOR_FIVE: Act = Act::Typed(
+    "$ init
+office ready
+$ ward 7 3 Harbour --id w1
+ward 7 added
+$ import-candidates FILE --id c
+< ward,candidate,name
+< 7,1,Ann
+< 7,2,Bob
+< 7,3,Cy
+< 7,4,Dee
+< 7,5,Eve
+candidate 1 of ward 7 added
+candidate 2 of ward 7 added
+candidate 3 of ward 7 added
+candidate 4 of ward 7 added
+candidate 5 of ward 7 added
+$ close 7 --id n0
+ward 7 polled
+",
+);
+
+/// Papers by which two candidates have equal surpluses.
+pub const FOURTEEN: Act = Act::Typed(
+    "$ batch 12 7 14 4 9 --id b1
+batch 12 added
+",
+);
+
+pub const EQUAL_SURPLUSES: Act = Act::Keyed(
+    "paper,1,2,3,4,5
+1,1,,2,,
+2,1,,2,,
+3,1,,2,,
+4,1,,2,,
+5,1,,2,,
+6,,1,,2,
+7,,1,,2,
+8,,1,,2,
+9,,1,,2,
+10,,1,,2,
+11,,,1,,
+12,,,1,,
+13,,,,1,
+14,,,,,1
+",
+);
+
+/// They are sealed, and counted to their first stage.
+pub const FIRST_OF_FOURTEEN: Act = Act::Typed(
+    "$ seal 7 --id s1
+ward 7 sealed: 14 valid, 0 rejected, quota 4.00000
+$ advance 7 --id n1
+ward 7 stage 1 first preferences
+",
+);
+
+/// The count waits for a lot between them.
+pub const WAITING_FOR_A_LOT: &[Act] = &[
+    OPENED_FOR_FIVE,
+    FOURTEEN,
+    EQUAL_SURPLUSES,
+    FIRST_OF_FOURTEEN,
+];
+
+/// Papers of which some go on from the first surplus to the second: the count after the first.
+pub const AFTER_A_SURPLUS: &[Act] = &[
+    OPENED_FOR_FIVE,
+    Act::Typed(
+        "$ batch 12 7 15 4 9 --id b1
+batch 12 added
+",
+    ),
+    Act::Keyed(
+        "paper,1,2,3,4,5
+1,1,2,3,,
+2,1,2,3,,
+3,1,2,3,,
+4,1,2,3,,
+5,1,2,3,,
+6,1,2,3,,
+7,1,2,3,,
+8,1,,,2,
+9,,1,2,,
+10,,1,2,,
+11,,1,2,,
+12,,,1,,
+13,,,,1,
+14,,,,1,
+15,,,,,1
+",
+    ),
+    Act::Typed(
+        "$ seal 7 --id s1
+ward 7 sealed: 15 valid, 0 rejected, quota 4.00000
+$ advance 7 --id n1
+ward 7 stage 1 first preferences
+$ advance 7 --id n2
+ward 7 stage 2 surplus of 1
+",
+    ),
+];
+
+/// Ward 7 in keying, with batch 12 of two papers for the clerks 4 and 9.
+pub const BEGUN: &[Act] = &[Act::Typed(NOMINATED), Act::Typed(GIVEN_OUT)];
+
+/// Clerk 4 keys the batch.
+pub const KEYING: &str =
+    "POST /clerks/4/batches/12/keying HTTP/1.1\r\nContent-Length: 43\r\n\r\n{\"id\":\"h1\",\"round\":1,\"papers\":[\"1,2,\",\"D\"]}";
+
+/// What he is told.
+pub const KEYED: &str =
+    "HTTP/1.1 200 OK\r\nContent-Type: application/json\r\nContent-Length: 34\r\nConnection: close\r\n\r\n{\"reply\":\"batch 12 round 1 keyed\"}";
+
+pub const BAD_REQUEST: &str =
+    "HTTP/1.1 400 Bad Request\r\nContent-Type: application/json\r\nContent-Length: 23\r\nConnection: close\r\n\r\n{\"error\":\"bad request\"}";

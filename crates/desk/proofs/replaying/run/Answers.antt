@@ -1,0 +1,131 @@
+-- Why `run` keeps its promise.
+use Rattle.std.proofs.Common.{◌≡◌, ◌∷◌, [], inl, inr, refl}
+use Rattle.sqlite.specs.Held.{state}
+use Rattle.store.proofs.KeepLemmas.{reads_wear}
+use Rattle.office.specs.Answers.{IsOpenAt}
+use Rattle.tables.specs.declared.fault.Fault.TheVariants.{Memory}
+use Rattle.desk.specs.Pages.{fronted, page_of}
+use Rattle.desk.specs.Parts.{IsOver}
+use Rattle.desk.proofs.CauseLemmas.{since}
+use Rattle.desk.proofs.CourseLemmas.{sent_turned}
+use Rattle.desk.proofs.TellingLemmas.{silent_front}
+use Rattle.desk.proofs.replaying.run.Goals as goal
+
+pub returns-in-Send-clause-ran : goal.returns-in-Send-clause-ran
+returns-in-Send-clause-ran g c =
+    let told = c.send_all.ensures.sent in
+    record {
+      page = told.page;
+      cut = told.cut;
+      shown = told.shown;
+      is = (
+        told.is.0,
+        λ clean is_open s at.
+            let it = told.is.1 clean is_open s at in
+            (it.0, it.1, (_, c.opened-file.ensures, rw c.in-Send.is (inl (c.in-Send.request ∷ [], refl, rw c.from_ref.ensures.value at it.2)))),
+      );
+    }
+
+pub returns-in-Ok-clause-ran : goal.returns-in-Ok-clause-ran
+returns-in-Ok-clause-ran g c =
+    let told = c.send_all-in-Ok.ensures.sent in
+    record {
+      page = told.page;
+      cut = told.cut;
+      shown = told.shown;
+      is = (
+        told.is.0,
+        λ clean is_open s at.
+            let it = told.is.1 clean is_open s at in
+            (it.0, it.1, (_, c.opened-file.ensures, rw c.in-ImportCandidates.is (inl (c.in-Ok.requests.items, c.in-Ok.ensures.rows, rw c.deref.ensures.value at it.2)))),
+      );
+    }
+
+pub returns-in-Err-clause-ran : goal.returns-in-Err-clause-ran
+returns-in-Err-clause-ran g c =
+    let told = c.tell.ensures in
+    record {
+      page = fronted c.args.line (page_of c.in-Err.outcome);
+      cut = told.0;
+      shown = told.1;
+      is = (
+        silent_front c.args.line c.in-Err.outcome,
+        λ clean is_open s at.
+            let here : IsOpenAt s c.args.office.now.closed (state g.S.Store c.args.office.now.held) = record { is_open = is_open; at = at } in (
+              [],
+              0,
+              (
+                _,
+                c.opened-file.ensures,
+                rw c.in-ImportCandidates.is
+                    (inr (page_of c.in-Err.outcome, told.0, refl, elim c.in-Err.ensures.refused [ inl why ↦ inl (why, here) | inr memory ↦ inr (Memory, memory, (inl refl, inl (record { memory = refl; open_at = here }))) ])),
+              ),
+            ),
+      );
+    }
+
+pub returns-in-Ok-keying_of-clause-ran : goal.returns-in-Ok-keying_of-clause-ran
+returns-in-Ok-keying_of-clause-ran g c =
+    let told = c.send_all-in-Ok-keying_of.ensures.sent in
+    record {
+      page = told.page;
+      cut = told.cut;
+      shown = told.shown;
+      is = (
+        told.is.0,
+        λ clean is_open s at.
+            let honest = c.send_all-in-Ok-keying_of.ensures.clean clean in
+            let read = c.in-Ok-keying_of.ensures.read honest is_open s at in
+            let first = state g.S.Store c.args.office.now.held in
+            let mid = state g.S.Store c.keying_of.new.office.held in
+            let next = state g.S.Store c.send_all-in-Ok-keying_of.new.office.held in
+            let closed = c.send_all-in-Ok-keying_of.new.office.closed in
+            let tells = since first mid next honest (reads_wear first mid c.keying_of.ensures.same) c.send_all-in-Ok-keying_of.ensures.wears in
+            let it = told.is.1 clean read.1.is_open s read.1.at in
+            let sent = sent_turned {Then = IsOver closed next} {Else = IsOver closed next} {Q = Unit {0}} first mid closed next c.args.line tells (λ x e over good. over) s (c.in-Ok-keying_of.request ∷ []) _ (λ fine. tt) it.2 in
+            (it.0, it.1, (_, c.opened-file.ensures, rw c.in-ImportKeying.is (inl (c.in-Ok-keying_of.request ∷ [], read.0, sent)))),
+      );
+    }
+
+pub returns-in-Err-keying_of-clause-ran : goal.returns-in-Err-keying_of-clause-ran
+returns-in-Err-keying_of-clause-ran g c =
+    let told = c.tell-in-Err-keying_of.ensures in
+    record {
+      page = fronted c.args.line (page_of c.in-Err-keying_of.outcome);
+      cut = told.0;
+      shown = told.1;
+      is = (
+        silent_front c.args.line c.in-Err-keying_of.outcome,
+        λ clean is_open s at. ([], 0, (_, c.opened-file.ensures, rw c.in-ImportKeying.is (inr (page_of c.in-Err-keying_of.outcome, told.0, refl, c.in-Err-keying_of.ensures.read clean is_open s at)))),
+      );
+    }
+
+pub returns-in-TellStatus-clause-ran : goal.returns-in-TellStatus-clause-ran
+returns-in-TellStatus-clause-ran g c =
+    let told = c.tell-in-TellStatus.ensures in
+    record {
+      page = fronted c.args.line (page_of c.standing_of.result);
+      cut = told.0;
+      shown = told.1;
+      is = (silent_front c.args.line c.standing_of.result, λ clean is_open s at. ([], 0, (_, c.opened-file.ensures, rw c.in-TellStatus.is (inr (page_of c.standing_of.result, told.0, refl, c.standing_of.ensures.found clean is_open s at)))));
+    }
+
+pub returns-in-Print-clause-ran : goal.returns-in-Print-clause-ran
+returns-in-Print-clause-ran g c =
+    let told = c.tell-in-Print.ensures in
+    record {
+      page = fronted c.args.line (page_of c.text_of.result);
+      cut = told.0;
+      shown = told.1;
+      is = (silent_front c.args.line c.text_of.result, λ clean is_open s at. ([], 0, (_, c.opened-file.ensures, rw c.in-Print.is (inr (page_of c.text_of.result, told.0, refl, c.text_of.ensures.found clean is_open s at)))));
+    }
+
+pub returns-in-Ask-clause-ran : goal.returns-in-Ask-clause-ran
+returns-in-Ask-clause-ran g c =
+    let told = c.tell-in-Ask.ensures in
+    record {
+      page = fronted c.args.line (page_of c.answer_to.result);
+      cut = told.0;
+      shown = told.1;
+      is = (silent_front c.args.line c.answer_to.result, λ clean is_open s at. ([], 0, (_, c.opened-file.ensures, rw c.in-Ask.is (inr (page_of c.answer_to.result, told.0, refl, c.answer_to.ensures.found clean is_open s at)))));
+    }

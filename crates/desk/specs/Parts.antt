@@ -1,0 +1,48 @@
+-- What the parts of an order answer.
+use Rattle.std.specs.Prelude.{◌≡◌, ◌⊎◌, ℕ, Bool, List, [], ◌∷◌, None, Result, Ok, Err}
+use Rattle.sqlite.specs.State.{State}
+use Rattle.register.specs.Offices.{OfficeState}
+use Rattle.register.specs.declared.command.Request.{Request}
+use Rattle.register.specs.declared.refusal.Reason.{Reason}
+use Rattle.tables.specs.declared.fault.Fault.TheVariants.{Memory}
+use Rattle.office.specs.Answers.{IsOpenAt}
+use Rattle.office.specs.Reads.{columns_told}
+use Rattle.keyfile.specs.Files.{Format}
+use Rattle.desk.specs.Folders.{File}
+use Rattle.desk.specs.Headline.{Course, IsStopped, ended}
+use Rattle.desk.specs.Overviews.{page_asked}
+use Rattle.desk.specs.Pages.{Cut, Page, uncut, empty_page, failed, page_found}
+use Rattle.desk.specs.Requests.{HoldsKeying, keyings_for}
+use Rattle.desk.specs.Told.{IsRefusedFile, IsRefusedKeying, unopened}
+use Rattle.desk.specs.declared.lines.Failure.TheVariants.{Office}
+use Rattle.desk.specs.declared.orders.KeyingFile.{KeyingFile}
+use Rattle.desk.specs.declared.orders.Question.{Question}
+
+-- of some requests, so many of which were answered, this page came, of which so much was told
+abbrev pub ComesTo : Cut → Page → (Course → Type 0) → Type 0
+ComesTo cut page P = (requests : List Request) × (answered : ℕ) × P (record { requests = requests; answered = answered; page = page; cut = cut })
+
+-- nothing is left to be done, in the office that is open at a state
+abbrev pub IsOver : Bool → State → OfficeState → Course → Type 0
+IsOver closed st s course = (course ≡ ended None [] 0 empty_page uncut) × IsOpenAt s closed st
+
+-- what is found of a state is told, or why there is nothing; or a fault
+abbrev pub IsFound : {X : Type 0} → OfficeState → (X → Page) → Result X Reason → Page → Bool → State → State → Type 0
+IsFound s shown found page closed old st = ((page ≡ page_found shown found) × IsOpenAt s closed st) ⊎ IsStopped old closed st s page
+
+-- what is told of how all stands, or why that isn't; or a fault
+abbrev pub IsAskedOf : OfficeState → Question → Page → Bool → State → State → Type 0
+IsAskedOf s question page closed old st = ((page ≡ page_asked s question) × IsOpenAt s closed st) ⊎ IsStopped old closed st s page
+
+-- why a file that was read isn't taken, or want of memory
+abbrev pub IsUnread : {Row : Type 0} → Format Row → File → Page → Type 0
+IsUnread format file page = IsRefusedFile format file page ⊎ (page ≡ failed (Office Memory))
+
+-- why the text of a script isn't had
+abbrev pub IsUnreadScript : Page → Type 0
+IsUnreadScript page = (page ≡ unopened) ⊎ (page ≡ failed (Office Memory))
+
+-- the keying that a file holds, of a batch at a state; or why there is none
+abbrev pub IsKeyingRead : {O : Type 0} → OfficeState → KeyingFile → File → (O → Page) → Result Request O → Bool → State → State → Type 0
+IsKeyingRead s k file page_of (Ok request) closed old st = HoldsKeying (columns_told s k.batch) (keyings_for k) file (request ∷ []) × IsOpenAt s closed st
+IsKeyingRead s k file page_of (Err outcome) closed old st = (IsRefusedKeying (columns_told s k.batch) file (page_of outcome) × IsOpenAt s closed st) ⊎ IsStopped old closed st s (page_of outcome)
