@@ -271,7 +271,7 @@ taken_then old closed st folder s (turn ∷ ts) own said end others c (file, req
     let sent = replied_then (λ next e. IsPlayed old closed st folder next (ts ++ others) e) old closed st turn.line s requests text mid [] (above left rest c) replied later in
     let whole = subst (λ xs. IsSent old closed st turn.line (λ next e. IsPlayed old closed st folder next (ts ++ others) e) s xs (above requests text (above left rest c))) (append-nil requests) sent in
     let same : above requests text (above left rest c) ≡ above own said c =
-        above_joined requests left text rest c ∙ (ap (λ xs. above xs (text ++ rest) c) (sym own_is) ∙ ap (λ t. above own t c) (sym said_is)) in
+    above_joined requests left text rest c ∙ (ap (λ xs. above xs (text ++ rest) c) (sym own_is) ∙ ap (λ t. above own t c) (sym said_is)) in
     subst (IsPlayed old closed st folder s (turn ∷ (ts ++ others))) same (file, found, inl (requests, sends, whole))
 
 -- All requests of the first of some turns got replies, and these were told: the office is open where they led.

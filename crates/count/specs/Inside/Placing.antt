@@ -5,13 +5,13 @@ use Rattle.paper.specs.Columns.{max_candidates}
 use Rattle.paper.specs.Standing.{from_first}
 use Rattle.count.specs.Advance.{IsDue}
 use Rattle.count.specs.Bundles.{Bundle, papers_of, AreBundles}
-use Rattle.count.specs.Books.{contest_of, placed}
+use Rattle.count.specs.Books.{contest_of}
 use Rattle.count.specs.Kept.{places_after}
 use Rattle.count.specs.Law.Contest.{Contest, History, IsContest, numbers}
 use Rattle.count.specs.Law.Count.{begun}
 use Rattle.count.specs.Law.Elected.{transfers, is_transferred}
 use Rattle.count.specs.Law.Figures.{votes_after, non_transferable_after, lost_after}
-use Rattle.count.specs.Law.Places.{place, first_of}
+use Rattle.count.specs.Law.Places.{first_of}
 use Rattle.count.specs.Law.Right.{IsRightByItself}
 use Rattle.count.specs.Inside.Holdings.{passed_to, new_value, newest_lost}
 use Rattle.count.specs.declared.parcel.TransferRule.{TransferRule}
