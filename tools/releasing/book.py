@@ -3,7 +3,10 @@ import html
 import re
 import subprocess
 
-PAGES = ['INSTALLING', 'ELECTION', 'FORMATS', 'RULES', 'HTTP', 'DATABASE']
+PAGES = [
+    'INSTALLING', 'ELECTION', 'TELLERS', 'AGENTS', 'FORMATS', 'ORDERS', 'REFUSALS', 'IMPORTS', 'SHEETS', 'BALLOTS',
+    'RULES', 'HTTP', 'DATABASE', 'GLOSSARY',
+]
 
 STYLE = """
 body { max-width: 50rem; margin: 2rem auto; padding: 0 1rem; font: 1rem/1.5 system-ui, sans-serif; color: #111; background: #fff; }
@@ -14,7 +17,8 @@ table { border-collapse: collapse; display: block; overflow-x: auto; }
 th, td { border: 1px solid #767676; padding: .25rem .5rem; text-align: left; vertical-align: top; }
 nav ul { columns: 2; }
 @media (max-width: 40rem) { nav ul { columns: 1; } }
-@media print { body { max-width: none; } pre, table { overflow: visible; } }
+blockquote { margin: 1rem 0; padding: .1rem 1rem; border-left: 4px solid #767676; background: #f3f3f3; }
+@media print { body { max-width: none; } pre, table { overflow: visible; } h1 { break-before: page; } h2, h3 { break-after: avoid; } }
 """
 
 

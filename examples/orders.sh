@@ -1,5 +1,5 @@
 #!/usr/bin/env bash
-# Plays the ten lines of an election that README.md shows, in their order, over the files that they name.
+# Plays the ten lines of an election that docs/ORDERS.md shows, in their order, over the files that they name.
 source "$(dirname "$(readlink -f "${BASH_SOURCE[0]}")")/play.bash"
 
 printf '%s\n' ward,candidate,name 7,1,Ann 7,2,Bob 7,3,Cy >"$folder/candidates.csv"
@@ -8,6 +8,6 @@ printf '%s\n' paper,1,2,3 1,1,2, 2,,1, | tee "$folder/clerk4.csv" >"$folder/cler
 while IFS= read -r line <&3; do
     # What stands behind a # is told to readers alone.
     if [[ $line == './count-office town.db '* ]]; then eval "play ${line#./count-office }"; fi
-done 3<"$here/../README.md" >"$folder/played"
+done 3<"$here/../docs/ORDERS.md" >"$folder/played"
 
-compare readme
+compare orders
