@@ -63,8 +63,6 @@ $ seal 7 --id s1
 1| refused 24: not ready to seal
 $ again 12 --id a1
 batch 12 round 2 open
-@ 5
-batch 12 ward 7 [1, 2, 3] size 2 round 2: to key
 ";
 
 /// Clerks 5 and 9 agree in the next round. What clerk 4 keys then is kept, and the batch stays taken with their papers.
@@ -73,8 +71,6 @@ pub const FOUR_COMES_LATE: &str = "$ import-keying 5 12 2 FILE --id k2
 < 1,1,2,
 < 2,D,,
 batch 12 round 2 keyed
-@ 9
-batch 12 ward 7 [1, 2, 3] size 2 round 2: to key
 $ third 12 6 --id t2
 1| refused 19: keyings don't differ
 $ import-keying 9 12 2 FILE --id k2
@@ -84,8 +80,6 @@ $ import-keying 9 12 2 FILE --id k2
 batch 12 round 2 keyed
 $ status 7
 ward 7 keying: 3 candidates, 1 batches, 1 taken, 0 differing, 1 doubtful open, 0 stages
-@ 4
-batch 12 ward 7 [1, 2, 3] size 2 round 2: to key
 $ judge 12 2 accept:,,1 --id j1
 batch 12 paper 2 accepted
 $ import-keying 4 12 2 FILE --id k2
@@ -95,10 +89,6 @@ $ import-keying 4 12 2 FILE --id k2
 batch 12 round 2 keyed
 $ status 7
 ward 7 keying: 3 candidates, 1 batches, 1 taken, 0 differing, 0 doubtful open, 0 stages
-@ 4
-batch 12 ward 7 [1, 2, 3] size 2 round 2: keyed
-@ 9
-batch 12 ward 7 [1, 2, 3] size 2 round 2: keyed
 $ again 12 --id a2
 1| refused 19: keyings don't differ
 ";
