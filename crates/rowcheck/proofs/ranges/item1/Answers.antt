@@ -6,14 +6,14 @@ use Rattle.rowcheck.proofs.ranges.item1.Goals as goal
 pub returns : goal.returns
 returns c =
     rw (
-      c.are_wards-wards.ensures,
-      c.are_candidates-candidates.ensures,
-      c.are_batches-batches.ensures,
-      c.are_thirds-thirds.ensures,
-      c.are_keyed_papers-keyings.ensures,
-      c.are_judged_papers-verdicts.ensures,
-      c.are_lots-lots.ensures,
-      c.are_receipts-receipts.ensures,
+      c.are_in_range-wards.ensures,
+      c.are_in_range-candidates.ensures,
+      c.are_in_range-batches.ensures,
+      c.are_in_range-thirds.ensures,
+      c.are_in_range-keyings.ensures,
+      c.are_in_range-verdicts.ensures,
+      c.are_in_range-lots.ensures,
+      c.are_in_range-receipts.ensures,
       c.deref.ensures.value,
       c.deref-2.ensures.value,
       c.deref-3.ensures.value,

@@ -1,5 +1,5 @@
 use Rattle.register.specs.Items.{is_lot}
-use Rattle.rowcheck.proofs.ranges.is_lot.Goals as goal
+use Rattle.rowcheck.proofs.ranges.DrawnLotRanged.is_in_range.Goals as goal
 
 pub returns : goal.returns
 unfolding is_lot

@@ -1,5 +1,5 @@
 use Rattle.register.specs.Items.{is_third}
-use Rattle.rowcheck.proofs.ranges.is_third.Goals as goal
+use Rattle.rowcheck.proofs.ranges.ThirdClerkRanged.is_in_range.Goals as goal
 
 pub returns : goal.returns
 unfolding is_third

@@ -1,5 +1,5 @@
 use Rattle.register.specs.Items.{is_ward}
-use Rattle.rowcheck.proofs.ranges.is_ward.Goals as goal
+use Rattle.rowcheck.proofs.ranges.WardRanged.is_in_range.Goals as goal
 
 pub returns : goal.returns
 unfolding is_ward

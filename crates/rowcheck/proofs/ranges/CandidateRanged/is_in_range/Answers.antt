@@ -1,5 +1,5 @@
 use Rattle.register.specs.Items.{is_candidate}
-use Rattle.rowcheck.proofs.ranges.is_candidate.Goals as goal
+use Rattle.rowcheck.proofs.ranges.CandidateRanged.is_in_range.Goals as goal
 
 pub returns : goal.returns
 unfolding is_candidate

@@ -1,5 +1,5 @@
 use Rattle.register.specs.Items.{is_batch}
-use Rattle.rowcheck.proofs.ranges.is_batch.Goals as goal
+use Rattle.rowcheck.proofs.ranges.BatchRanged.is_in_range.Goals as goal
 
 pub returns : goal.returns
 unfolding is_batch
