@@ -18,7 +18,7 @@ use crate::polls::Poll;
 use crate::ranges::{LAST_LOT_STAGE, is_candidate_number, is_lot_stage, is_office, is_ward_number};
 use crate::refusal::Reason;
 use crate::tabulated::Addition;
-use crate::texts::{action_text, listed};
+use crate::texts::listed;
 use crate::view::Part;
 use crate::wards::{Ward, phase_objection};
 use count::Due;
@@ -260,7 +260,7 @@ fn action_told(alloc: Global, due: &Option<Due>) -> Result<String, AllocError>
     ensures { IfOk result (λ text. string_bytes text ≡ action_told due.now) }
 {
     match due {
-        Some(Due::Act(action)) => action_text(alloc, *action),
+        Some(Due::Act(action)) => format!(in alloc; "{action}"),
         Some(Due::Lot { .. }) | Some(Due::Finished) | None => Ok(String::new(alloc)),
     }
 }

@@ -35,7 +35,7 @@ pub mod status;
 // What is kept of the counts, and what a stage adds to it.
 mod additions;
 pub mod tabulated;
-// Numbers and actions in words.
+// Numbers in words.
 mod texts;
 // The commands, by subject.
 pub mod batches;

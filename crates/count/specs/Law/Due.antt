@@ -22,11 +22,11 @@ trace stages c = map (λ s. votes_at s c) stages
 abbrev pub is_above : History → ℕ → ℕ → Bool
 is_above stages c d = is_lt (slice_cmp nat_cmp (trace stages d) (trace stages c))
 
--- Transfer of ballot papers: those of a group whom none of it is above
+-- Transfer of ballot papers: those of a group whom nobody in it is above
 abbrev pub highest : History → List ℕ → List ℕ
 highest stages group = filter (λ c. not (list_any (λ d. is_above stages d c) group)) group
 
--- Exclusion of candidates: those of a group who are above none of it
+-- Exclusion of candidates: those of a group who are above nobody in it
 abbrev pub lowest : History → List ℕ → List ℕ
 lowest stages group = filter (λ c. not (list_any (λ d. is_above stages c d) group)) group
 
@@ -39,7 +39,7 @@ abbrev pub exclusion : Contest → History → ℕ → Action
 exclusion contest stages c =
     if length (continuing_after contest stages) - 1 == vacancies_after contest stages then ExcludeLast c else Exclude c
 
--- what is done with a candidate, by what he was tied for or alone in
+-- what is done with a candidate: his surplus is transferred, or he is excluded, by what the group was chosen for
 abbrev pub action_on : Contest → History → Kind → ℕ → Action
 action_on contest stages of_surplus c = Surplus c
 action_on contest stages of_exclusion c = exclusion contest stages c
