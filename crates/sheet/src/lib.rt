@@ -14,6 +14,7 @@
 #![tactic(auto)]
 
 mod ballots;
+mod candidates;
 mod cells;
 mod declaration;
 mod elected;

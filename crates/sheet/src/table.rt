@@ -1,10 +1,11 @@
 //! The table of a block of stages, and its picture.
 
-ghost use Rattle.std.specs.Prelude.{◌≡◌, ◌-◌, ◌+◌, ◌^◌, ◌<◌, length, string_bytes, take};
+ghost use Rattle.std.specs.Prelude.{◌≡◌, ◌-◌, ◌+◌, ◌^◌, ◌<◌, length, take};
 ghost use Rattle.sheet.specs.Entries.{shown};
-ghost use Rattle.sheet.specs.Table.{bar_row, bar_rows, block, block_at, blocks, candidate_row, candidate_rows, head_row, picture, picture_end, picture_head, sum_rows, table};
+ghost use Rattle.sheet.specs.Table.{bar_row, block_at, blocks, candidate_row, head_row, picture, picture_end, picture_head, sum_rows, table};
 ghost use Rattle.sheet.specs.Writing.{Writes};
 
+use crate::candidates::{OfCandidate, write_each};
 use crate::cells::{Cell, write_row};
 use crate::line::{Piece, write_text};
 use crate::look::legend;
@@ -31,41 +32,26 @@ fn write_head_row<W: Sink>(sink: &mut W, place: usize, stages: &[Stage]) -> Resu
     write_row(sink, &opening, Cell::Head, end, place, stages)
 }
 
-/// Writes the row of a candidate, by his number and his name.
-fn write_candidate_row<W: Sink>(
-    sink: &mut W,
+/// The row of a candidate.
+#[derive(Clone, Copy)]
+struct CandidateRow<'a> {
     place: usize,
-    stages: &[Stage],
-    candidate: &(u8, String),
-) -> Result<(), Broken>
-    requires { W.failed sink.old < 2 ^ 64 - 1 }
-    ensures { Writes W.taken W.failed sink.old sink.new (candidate_row place stages.now candidate.now.0 (string_bytes candidate.now.1)) result }
-{
-    let (c, name) = candidate;
-    let opening = [
-        Piece::Text("<tr><th scope=\"row\">"),
-        Piece::Number(u64::from(*c)),
-        Piece::Text(" <bdi>"),
-        Piece::Escaped(name.as_str()),
-        Piece::Text("</bdi></th>"),
-    ];
-    write_row(sink, &opening, Cell::Candidate(*c), "</tr>", place, stages)
+    stages: &'a [Stage],
 }
 
-/// Writes the rows of all candidates.
-fn write_candidate_rows<W: Sink>(
-    sink: &mut W,
-    ward: &Ward,
-    place: usize,
-    stages: &[Stage],
-) -> Result<(), Broken>
-    requires { W.failed sink.old < 2 ^ 64 - 1 }
-    ensures { Writes W.taken W.failed sink.old sink.new (candidate_rows (shown ward.now) place stages.now) result }
-{
-    for candidate in ward.candidates {
-        write_candidate_row(sink, place, stages, candidate)?;
+impl<'a> OfCandidate for CandidateRow<'a> {
+    ghost text = { λ r. candidate_row r.place r.stages.now };
+
+    fn write<W: Sink>(&self, sink: &mut W, candidate: &(u8, String)) -> Result<(), Broken> {
+        let (c, name) = candidate;
+        let opening = [
+            Piece::Text("<tr><th scope=\"row\">"),
+            Piece::Named(*c, name.as_str()),
+            Piece::Text("</th>"),
+        ];
+        let (cell, end) = (Cell::Candidate(*c), "</tr>");
+        write_row(sink, &opening, cell, end, self.place, self.stages)
     }
-    Ok(())
 }
 
 /// Writes the rows of the running sums, and the table's end.
@@ -92,7 +78,7 @@ fn write_table<W: Sink>(
     ensures { Writes W.taken W.failed sink.old sink.new (table (shown ward.now) place stages.now) result }
 {
     write_head_row(sink, place, stages)?;
-    write_candidate_rows(sink, ward, place, stages)?;
+    write_each(sink, ward, &CandidateRow { place, stages })?;
     write_sum_rows(sink, place, stages)
 }
 
@@ -124,43 +110,29 @@ fn write_picture_head<W: Sink>(
     write_row(sink, &opening, Cell::Above, end, place, stages)
 }
 
-/// Writes the row of a candidate in a picture.
-fn write_bar_row<W: Sink>(
-    sink: &mut W,
+/// The row of a candidate in a picture.
+#[derive(Clone, Copy)]
+struct BarRow<'a> {
     scale: Scale,
     place: usize,
-    stages: &[Stage],
-    candidate: &(u8, String),
-) -> Result<(), Broken>
-    requires { W.failed sink.old < 2 ^ 64 - 1 }
-    ensures { Writes W.taken W.failed sink.old sink.new (bar_row scale place stages.now candidate.now.0 (string_bytes candidate.now.1)) result }
-{
-    let (c, name) = candidate;
-    let opening = [
-        Piece::Text("<g transform=\"translate(0 30)\"><text y=\"11\">"),
-        Piece::Number(u64::from(*c)),
-        Piece::Text(" <tspan>"),
-        Piece::Escaped(name.as_str()),
-        Piece::Text("</tspan></text>"),
-    ];
-    write_row(sink, &opening, Cell::Bar(*c, scale), "", place, stages)
+    stages: &'a [Stage],
 }
 
-/// Writes the rows of all candidates in a picture.
-fn write_bar_rows<W: Sink>(
-    sink: &mut W,
-    ward: &Ward,
-    scale: Scale,
-    place: usize,
-    stages: &[Stage],
-) -> Result<(), Broken>
-    requires { W.failed sink.old < 2 ^ 64 - 1 }
-    ensures { Writes W.taken W.failed sink.old sink.new (bar_rows (shown ward.now) scale place stages.now) result }
-{
-    for candidate in ward.candidates {
-        write_bar_row(sink, scale, place, stages, candidate)?;
+impl<'a> OfCandidate for BarRow<'a> {
+    ghost text = { λ r. bar_row r.scale r.place r.stages.now };
+
+    fn write<W: Sink>(&self, sink: &mut W, candidate: &(u8, String)) -> Result<(), Broken> {
+        let (c, name) = candidate;
+        let opening = [
+            Piece::Text("<g transform=\"translate(0 30)\"><text y=\"11\">"),
+            Piece::Number(u64::from(*c)),
+            Piece::Text(" <tspan>"),
+            Piece::Escaped(name.as_str()),
+            Piece::Text("</tspan></text>"),
+        ];
+        let cell = Cell::Bar(*c, self.scale);
+        write_row(sink, &opening, cell, "", self.place, self.stages)
     }
-    Ok(())
 }
 
 /// Writes the end of a group for each candidate, and of the picture.
@@ -187,7 +159,12 @@ fn write_picture<W: Sink>(
     ensures { Writes W.taken W.failed sink.old sink.new (picture (shown ward.now) scale place stages.now) result }
 {
     write_picture_head(sink, ward, place, stages)?;
-    write_bar_rows(sink, ward, scale, place, stages)?;
+    let row = BarRow {
+        scale,
+        place,
+        stages,
+    };
+    write_each(sink, ward, &row)?;
     write_picture_end(sink, ward)
 }
 
