@@ -103,8 +103,8 @@ pub record TabulationRises (t : TabulationEntries) : Type 0 where
   pub figures : IsStrictlySortedBy figure_cmp t.figures
 
 -- the eighth condition: what is tabulated is the tabulation of the state
-abbrev pub item8 : TabulationEntries → OfficeState → Type 0
-item8 t s = t ≡ tabulation_of s
+abbrev pub IsTabulationOf : TabulationEntries → OfficeState → Type 0
+IsTabulationOf t s = t ≡ tabulation_of s
 
 -- ---- what a request adds to it
 

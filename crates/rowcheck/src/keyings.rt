@@ -9,7 +9,7 @@ ghost use Rattle.register.specs.Offices.{MapsRise, batch_entry, third_entry, key
 ghost use Rattle.register.specs.Marks.{is_readable};
 ghost use Rattle.register.specs.Papers.{is_keyed, is_its_clerk, of_three};
 ghost use Rattle.register.specs.Keyed.{is_whole, are_numbered, is_round_of, are_rounds_to};
-ghost use Rattle.register.specs.Items.{item4};
+ghost use Rattle.register.specs.Items.{all_keyed};
 ghost use Rattle.rowcheck.specs.States.{state_of};
 ghost use Rattle.rowcheck.specs.Walks.Keyings.{are_keyed_for, is_rightly_keyed};
 
@@ -166,9 +166,9 @@ fn are_rightly_keyed(rows: &Rows, batches: &[Batch]) -> bool
 /// Whether papers are keyed of batches that are there, in rounds and by clerks of theirs, with marks that
 /// are read; and each keying is whole, and those of an earlier round differ. The fourth condition on the
 /// rows of an office, whose tables stand in the order of their keys, no key twice.
-pub fn item4(rows: &Rows) -> bool
+pub fn all_keyed(rows: &Rows) -> bool
     requires { MapsRise (state_of rows.now) }
-    ensures { result ≡ item4 (state_of rows.now) }
+    ensures { result ≡ all_keyed (state_of rows.now) }
 {
     let owned = are_of_batches(rows, &rows.keyings);
     owned & are_rightly_keyed(rows, &rows.batches)

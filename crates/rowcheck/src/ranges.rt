@@ -3,7 +3,7 @@
 ghost use Rattle.std.specs.Prelude.{◌≡◌, Bool};
 ghost use Rattle.std.specs.List.{list_all};
 ghost use Rattle.register.specs.Offices.{ward_entry, candidate_entry, batch_entry, third_entry, keyed_entry, judged_entry, lot_entry, receipt_entry};
-ghost use Rattle.register.specs.Items.{is_ward, is_candidate, is_batch, is_third, is_keyed_paper, is_judged_paper, is_lot, is_about, is_receipt, item1};
+ghost use Rattle.register.specs.Items.{is_ward, is_candidate, is_batch, is_third, is_keyed_paper, is_judged_paper, is_lot, is_about, is_receipt, all_in_range};
 ghost use Rattle.rowcheck.specs.States.{state_of};
 
 use crate::rows::Rows;
@@ -131,8 +131,8 @@ fn are_in_range<T: Ranged>(rows: &[T]) -> bool
 
 /// Whether numbers, names, ids, phases, subjects and replies are in range: the first condition on the
 /// rows of an office.
-pub fn item1(rows: &Rows) -> bool
-    ensures { result ≡ item1 (state_of rows.now) }
+pub fn all_in_range(rows: &Rows) -> bool
+    ensures { result ≡ all_in_range (state_of rows.now) }
 {
     let wards = are_in_range(&rows.wards);
     let candidates = are_in_range(&rows.candidates);

@@ -1,4 +1,4 @@
--- Why `item7` keeps its promise.
+-- Why `all_counted` keeps its promise.
 use Rattle.std.proofs.Common.{◌≡◌, Option, Some, None, Result, Ok, Err, is_some, ap, refl, sym, ◌∙◌, IfOk, IfSome, subst}
 use Rattle.std.specs.List.{list_all}
 use Rattle.std.proofs.lemmas.List.Folds.{list_all-map}
@@ -6,16 +6,16 @@ use Rattle.register.specs.declared.wards.Ward.{Ward}
 use Rattle.register.specs.declared.counts.DrawnLot.{DrawnLot}
 use Rattle.register.specs.Offices.{LotEntry, ward_entry, lot_entry, ward_at}
 use Rattle.register.specs.Elections.{election_of, is_counted_right}
-use Rattle.register.specs.Items.{item7}
+use Rattle.register.specs.Items.{all_counted}
 use Rattle.register.specs.declared.tabulated.Tabulation.{Tabulation}
 use Rattle.register.specs.Tabulated.{tabulation_entries}
 use Rattle.rowcheck.specs.States.{state_of}
 use Rattle.rowcheck.proofs.FairLemmas.{lots_in_range, all_fair, by_ward}
 use Rattle.rowcheck.proofs.CountedBookLemmas.{tabulation-by_ward}
-use Rattle.rowcheck.proofs.counts.item7.Goals as goal
+use Rattle.rowcheck.proofs.counts.all_counted.Goals as goal
 
 pub returns-then-not-are_of_wards-clause-is : goal.returns-then-not-are_of_wards-clause-is
-unfolding item7
+unfolding all_counted
 returns-then-not-are_of_wards-clause-is c =
     let s = state_of c.args.rows.now in
     rw (
@@ -40,7 +40,7 @@ pub returns-clause-is : goal.returns-clause-is
 returns-clause-is c =
     let rows = c.args.rows.now in
     let placed = ap (list_all (λ (l : DrawnLot). is_some (ward_at (state_of rows) l.ward))) (sym c.deref.ensures.value) ∙ (sym c.are_of_wards.ensures ∙ c.if-not-are_of_wards.false) in
-    let whole : item7 (state_of rows) ≡ list_all (λ (w : Ward). is_counted_right (election_of (state_of rows) (ward_entry w))) c.deref-2.result.now =
+    let whole : all_counted (state_of rows) ≡ list_all (λ (w : Ward). is_counted_right (election_of (state_of rows) (ward_entry w))) c.deref-2.result.now =
     by_ward rows placed ∙ ap (list_all (λ (w : Ward). is_counted_right (election_of (state_of rows) (ward_entry w)))) (sym c.deref-2.ensures.value) in
     subst (λ b. IfOk c.tabulation_in.result (λ (found : Option Tabulation). is_some found ≡ b)) (sym whole) c.tabulation_in.ensures.is
 

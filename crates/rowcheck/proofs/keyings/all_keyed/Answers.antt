@@ -4,7 +4,7 @@ use Rattle.register.specs.Offices.{KeyedEntry, batch_entry, keyed_entry, batch_a
 use Rattle.rowcheck.specs.States.{state_of}
 use Rattle.rowcheck.specs.Walks.Keyings.{is_rightly_keyed}
 use Rattle.rowcheck.proofs.OwnerLemmas.{keyed_by_batch}
-use Rattle.rowcheck.proofs.keyings.item4.Goals as goal
+use Rattle.rowcheck.proofs.keyings.all_keyed.Goals as goal
 
 pub returns : goal.returns
 returns c =
