@@ -38,7 +38,7 @@ pub(crate) fn is_zero(word: &[u8]) -> bool
     word == b"0".as_slice()
 }
 
-/// How many of those with some numbers stand.
+/// How many of the candidates stand whose numbers these words write.
 fn standing_in(highest: u8, withdrawn: &Columns, words: &[&[u8]]) -> Result<usize, Flaw>
     ensures { result ≡ standing_from highest withdrawn.now 0 (map (λ w. w.now) words.now) }
 {

@@ -57,7 +57,7 @@ abbrev pub is_ready : Option PollEntry → Bool
 is_ready None = false
 is_ready (Some poll) = poll.settled
 
--- the reason that a lot gives which the count waits for: its stage, and those who are tied
+-- the reason where the count waits for a lot: the stage that it is for, and those who are tied
 abbrev pub lot_objection : Option Due → Option Reason
 lot_objection (Some (lot_due stage kind tied)) = Some (LotNeeded stage tied)
 lot_objection (Some (Act action)) = None

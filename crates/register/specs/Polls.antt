@@ -64,11 +64,11 @@ judgement_on columns verdicts k = by_reading (by_verdict columns (find (λ (v : 
 abbrev pub judgements_on : List ℕ → List JudgedEntry → List KeyedEntry → List Judgement
 judgements_on columns verdicts keying = map (judgement_on columns verdicts) keying
 
--- and on those that a batch is taken with, if it is taken
+-- the judgements on the papers that a batch is taken with; none where it isn't taken
 abbrev pub judgements_in : List ℕ → Pile → List Judgement
 judgements_in columns pile = judgements_on columns pile.verdicts (agreed pile.keyings)
 
--- and of all batches
+-- the judgements on the papers of all batches
 abbrev pub judgements : List ℕ → List Pile → List Judgement
 judgements columns piles = flat_map (judgements_in columns) piles
 

@@ -28,7 +28,7 @@ use std::alloc::{AllocError, Global};
 /// How many stages are counted where more are said to be done than a count can have.
 const TOO_MANY: u32 = LAST_LOT_STAGE + 1;
 
-/// How many stages to count where so many are said to be done: that many, or where no count has so many one
+/// How many stages to count where so many are said to be done: that many, or, where no count has so many, one
 /// more than any count has.
 fn stages_asked(done: u32) -> u32
     ensures few { done ≤ 31 → result ≡ done }

@@ -118,7 +118,7 @@ fn add_batch(
     )
 }
 
-/// The papers of this ward among those of some batches. An error is want of memory.
+/// The papers of those of some batches which belong to this ward. An error is want of memory.
 fn ballots_among(
     alloc: Global,
     rows: &Rows,

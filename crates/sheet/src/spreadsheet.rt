@@ -6,7 +6,9 @@ ghost use Rattle.votes.specs.Text.{votes_text};
 ghost use Rattle.std.specs.List.{flat_map};
 ghost use Rattle.sheet.specs.Cells.{each_after};
 ghost use Rattle.sheet.specs.Entries.{shown};
-ghost use Rattle.sheet.specs.Spreadsheet.{begins_formula as begins_formula_of, candidate_row as candidate_row_of, head_row as head_row_of, name_cell as name_cell_of, stage_cells, stage_heads, standing as standing_of, standing_word as standing_word_of, sum_row as sum_row_of, spreadsheet, value_before as value_before_of, value_in as value_in_of, writer};
+ghost use Rattle.sheet.specs.Spreadsheet.{begins_formula as begins_formula_of, candidate_row as candidate_row_of, head_row as head_row_of, name_cell as name_cell_of, stage_cells};
+ghost use Rattle.sheet.specs.Spreadsheet.{stage_heads, standing as standing_of, standing_word as standing_word_of, sum_row as sum_row_of, spreadsheet, value_before as value_before_of};
+ghost use Rattle.sheet.specs.Spreadsheet.{value_in as value_in_of, writer};
 ghost use Rattle.sheet.specs.Wards.{CanBePrinted};
 
 use crate::stage::{Fate, fate, votes_of};

@@ -27,7 +27,7 @@ fn length_in(text: &[u8]) -> Result<usize, Denial>
     Ok(length as usize)
 }
 
-/// Whether a header's name is another in any case of its letters.
+/// Whether a header's name is this one, in whatever case of its letters.
 pub(crate) fn is_named(name: &[u8], other: &[u8]) -> bool
     ensures { result ≡ str_eq_ignore_ascii_case name.now other.now }
 {
