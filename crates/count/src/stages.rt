@@ -53,7 +53,7 @@ pub struct Stage {
 
 /// What candidates are tied for.
 #[derive(Clone, Copy, PartialEq, Eq)]
-pub enum Kind {
+pub enum TiedFor {
     /// Equal highest surpluses ("Transfer of ballot papers").
     Surplus,
     /// Equal fewest votes ("Exclusion of candidates").
@@ -69,7 +69,7 @@ pub enum Due {
     /// votes were equal at all stages ("Transfer of ballot papers"; "Exclusion of candidates").
     Lot {
         stage: u8,
-        kind: Kind,
+        kind: TiedFor,
         among: Columns,
     },
     /// No vacancy is left ("Filling of last vacancies").

@@ -34,14 +34,14 @@ pub fn read_candidates<R: Read + Drop>(alloc: Global, r: R) -> Result<Vec<Candid
     ensures rows { Known (R.remaining r) (λ bytes. IfOk result (λ rows. file_rows candidates (file_records bytes) ≡ Ok (map candidate_entry rows.items))) }
     ensures fault { Known (R.remaining r) (λ bytes. IfErr result (IsFaultOf candidates (file_records bytes))) }
 {
-    read_file(alloc, r, &CandidateFile)
+    read_file(alloc, r, &CandidateFormat)
 }
 
 /// The format of the file of candidates.
 #[derive(Drop)]
-struct CandidateFile;
+struct CandidateFormat;
 
-impl FileFormat for CandidateFile {
+impl FileFormat for CandidateFormat {
     type Row = CandidateRow;
 
     ghost Entry = { CandidateEntry };

@@ -35,16 +35,16 @@ pub fn read_keying<R: Read + Drop>(
     // a marks text says what the fields say
     ensures spelled { AreReadAsKeyed columns }
 {
-    read_file(alloc, r, &KeyingFile { columns })
+    read_file(alloc, r, &KeyingFormat { columns })
 }
 
 /// The format of the file of a keying.
 #[derive(Drop)]
-struct KeyingFile {
+struct KeyingFormat {
     columns: Columns,
 }
 
-impl FileFormat for KeyingFile {
+impl FileFormat for KeyingFormat {
     type Row = String;
 
     ghost Entry = { List ℕ };

@@ -8,7 +8,7 @@ use Rattle.recount.specs.Outcomes.{and_then}
 use Rattle.recount.specs.Passing.{behind_number_sign, pass_over}
 use Rattle.recount.specs.Pieces.{Text, is_blank, kind_of, parts, piece, pieces_of}
 use Rattle.recount.specs.Reading.{Reading, before_comment, read_from, with_line, words_before_comment}
-use Rattle.recount.specs.declared.pieces.Kind.TheVariants.{Content}
+use Rattle.recount.specs.declared.pieces.LineKind.TheVariants.{Content}
 use Rattle.recount.specs.declared.pieces.Separator.{Separator}
 use Rattle.recount.specs.declared.pieces.Separator.TheVariants.{Blank, LineFeed}
 

@@ -17,14 +17,14 @@ use Rattle.recount.specs.Pieces.{Text}
 use Rattle.recount.specs.Ranks.{named_from, without}
 use Rattle.recount.specs.Reading.{Named, Reading, begins_with_minus, is_withdrawn_line, with_content_at, with_line_of, with_papers_line, words_before_comment}
 use Rattle.recount.specs.declared.ranks.NextWord.TheVariants.{Preference}
-use Rattle.recount.specs.declared.state.Place.{Place}
-use Rattle.recount.specs.declared.state.Place.TheVariants as place
+use Rattle.recount.specs.declared.state.NextLine.{NextLine}
+use Rattle.recount.specs.declared.state.NextLine.TheVariants as place
 use Rattle.recount.proofs.LineLaws.{AreFigures, IsFigures, Reads, line_content, line_numbers, line_unended, or_both, or_none, reads-line, spaced}
 use Rattle.recount.proofs.NumberLaws.{candidate_back, decimal_alone, decimal_figures, decimal_nonzero, number_back}
 
 -- ---- where a file stands
 
-abbrev pub state : Place → Told → Named → Remarks → Reading
+abbrev pub state : NextLine → Told → Named → Remarks → Reading
 state place papers names remarks = record { place = place; papers = papers; names = names; remarks = remarks }
 
 abbrev pub told : ℕ → ℕ → List ℕ → List Bundle → Told
@@ -104,7 +104,7 @@ unminus n small = (decimal_by_steps (λ n ds. (begins_with_minus ds ≡ false) �
     more n ds high is = longer ds (48 + n % 10) is.0 is.1
 
 -- before all papers, or among them
-abbrev pub papers_at : Bool → Place
+abbrev pub papers_at : Bool → NextLine
 papers_at true = place.Withdrawn
 papers_at false = place.Papers
 

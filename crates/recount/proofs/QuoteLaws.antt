@@ -13,7 +13,7 @@ use Rattle.recount.specs.Pieces.{Text}
 use Rattle.recount.specs.ReadingBack.{IsName}
 use Rattle.recount.specs.Reading.{Named, with_name}
 use Rattle.recount.specs.declared.names.Within.TheVariants.{Inside}
-use Rattle.recount.specs.declared.state.Place.TheVariants as place
+use Rattle.recount.specs.declared.state.NextLine.TheVariants as place
 use Rattle.recount.proofs.NameLemmas.{ascii_text}
 use Rattle.recount.proofs.LineLaws.{Reads, or_both, or_none, reads-line, reads-nothing, reads-then}
 use Rattle.recount.proofs.PaperLaws.{state}

@@ -23,7 +23,7 @@ use Rattle.recount.specs.Reading.{Named, Reading, nothing_told, read, read_from}
 use Rattle.recount.specs.ReadingBack.{CanBeReadBack, IsPollOf, IsReadBack}
 use Rattle.recount.specs.Wards.{candidates_of, numbers_of, poll_by, poll_told, ward_told}
 use Rattle.recount.specs.declared.pieces.Separator.TheVariants.{LineFeed}
-use Rattle.recount.specs.declared.state.Place.TheVariants as place
+use Rattle.recount.specs.declared.state.NextLine.TheVariants as place
 use Rattle.recount.proofs.CandidateLaws.{Rise, any_range, rebuilt}
 use Rattle.recount.proofs.CommentLaws.{AreCounts, lots_read, rejected_reads, ward_reads}
 use Rattle.recount.proofs.FrontLaws.{bundles_read, size_reads, withdrawn_reads}

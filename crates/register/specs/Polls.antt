@@ -16,7 +16,7 @@ use Rattle.paper.specs.Preferences.{preferences, rejection_of}
 use Rattle.register.specs.declared.polls.Judgement.{Judgement}
 use Rattle.register.specs.declared.polls.Judgement.TheVariants.{Valid, Rejected, Open}
 use Rattle.register.specs.declared.polls.Ballots.{Ballots}
-use Rattle.register.specs.declared.polls.Poll.{Poll}
+use Rattle.register.specs.declared.polls.PollTally.{PollTally}
 use Rattle.register.specs.Offices.{BatchEntry, ThirdEntry, KeyedEntry, JudgedEntry, OfficeState, third_at, keying_of, verdicts_of}
 use Rattle.register.specs.Papers.{agreed, are_taken, is_open, keyings_now, taken_papers, batches_of}
 
@@ -165,5 +165,5 @@ pub record StandFor {P : Type 0} (holds : P → List (List ℕ) → Type 0) (bal
   pub settled_is : ballots.settled ≡ entry.settled
 
 -- what a poll stands for
-abbrev pub poll_entry : Poll → PollEntry
+abbrev pub poll_entry : PollTally → PollEntry
 poll_entry poll = record { valid = poll.valid; rejected = poll.rejected; quota = poll.quota; settled = poll.settled }

@@ -17,7 +17,7 @@ use crate::candidates::Candidate;
 use crate::counts::DrawnLot;
 use crate::marks::columns_of;
 use crate::phase::Phase;
-use crate::polls::{Ballots, Poll, REJECTIONS};
+use crate::polls::{Ballots, PollTally, REJECTIONS};
 use crate::ranges::{is_candidate_number, is_lot_stage};
 use crate::wards::{Ward, is_contested};
 use count::{BundleBook, Bundles, Due, KeptCount, is_bundled_contest};
@@ -171,7 +171,7 @@ impl Count {
 impl Election {
     /// The poll of the ward; none where it has no seats, or more than a ward can have; no ward of an
     /// office is such a one. Takes no memory.
-    pub fn poll(&self) -> Option<Poll>
+    pub fn poll(&self) -> Option<PollTally>
         ensures is { IfSome result (λ poll. (e : ElectionEntry) → IsElection self.now e → poll_entry poll ≡ poll_of e.ward.seats e.ballots) }
         ensures some { 1 ≤ self.now.ward.seats → self.now.ward.seats ≤ max_seats → IsSome result }
     {
@@ -179,7 +179,7 @@ impl Election {
             return None;
         }
         let valid = self.ballots.papers.papers();
-        Some(Poll {
+        Some(PollTally {
             valid,
             rejected: self.ballots.rejected,
             quota: quota(valid, self.ward.seats as u8),

@@ -56,7 +56,7 @@ pub use elections::{Count, CountedWard, Election, WardSheet};
 pub use keyings::{KeyedPaper, KeyingCommand};
 pub use machine::{decide, lists_make_states, rows_are_worked, work_is_seen};
 pub use phase::Phase;
-pub use polls::{Ballots, Judgement, KeepsPapers, NoPapers, Poll};
+pub use polls::{Ballots, Judgement, KeepsPapers, NoPapers, PollTally};
 pub use receipt::Receipt;
 pub use refusal::{Reason, Refusal};
 pub use status::{Status, Work};

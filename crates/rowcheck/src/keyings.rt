@@ -13,7 +13,7 @@ ghost use Rattle.register.specs.Items.{all_keyed};
 ghost use Rattle.rowcheck.specs.States.{state_of};
 ghost use Rattle.rowcheck.specs.Walks.Keyings.{are_keyed_for, is_rightly_keyed};
 
-use crate::finding::{Keyings, candidates_of, has_batch, keyings_in, papers_of, third_at};
+use crate::finding::{RoundKeyings, candidates_of, has_batch, keyings_in, papers_of, third_at};
 use crate::rows::Rows;
 use paper::Columns;
 use register::keyings::is_its_clerk;
@@ -114,7 +114,7 @@ fn is_whole_if_keyed(size: u32, keying: &[KeyedPaper]) -> bool
 }
 
 /// Whether each of the keyings that are there has each of so many papers once.
-fn are_whole(size: u32, keyings: &Keyings) -> bool
+fn are_whole(size: u32, keyings: &RoundKeyings) -> bool
     ensures { result ≡ list_all (is_whole size) (of_three (map keyed_entry keyings.now.first.now) (map keyed_entry keyings.now.second.now) (map keyed_entry keyings.now.third.now)) }
 {
     let first = is_whole_if_keyed(size, keyings.first);

@@ -11,8 +11,8 @@ use Rattle.matchit.specs.Rows.{RowsOf}
 use Rattle.matchit.specs.Seek.{first}
 use Rattle.matchit.specs.declared.error.InsertError.{InsertError}
 use Rattle.matchit.specs.declared.params.Params.{Params}
-use Rattle.wire.specs.declared.target.Place.{Place}
-use Rattle.wire.specs.declared.target.Place.TheVariants as place
+use Rattle.wire.specs.declared.target.Destination.{Destination}
+use Rattle.wire.specs.declared.target.Destination.TheVariants as destination
 use Rattle.wire.specs.declared.target.Reading.TheVariants.{Declaration, Sheet, Work}
 use Rattle.wire.specs.declared.target.Target.{Target}
 use Rattle.wire.specs.declared.target.Target.TheVariants.{Keying, Reading}
@@ -31,20 +31,20 @@ abbrev pub number_in : List ℕ → Option ℕ
 number_in text = if is_number text then Some (digits_value 10 text) else None
 
 -- the routes with one more
-abbrev pub with_scanned : Result Scan InsertError → Place → RowsOf (RouteOf Place) → RowsOf (RouteOf Place)
+abbrev pub with_scanned : Result Scan InsertError → Destination → RowsOf (RouteOf Destination) → RowsOf (RouteOf Destination)
 with_scanned (Ok scan) value routes = placed (scan.pattern, route_from scan value) routes
 with_scanned (Err e) value routes = routes
 
-abbrev pub with_route : List ℕ → Place → RowsOf (RouteOf Place) → RowsOf (RouteOf Place)
+abbrev pub with_route : List ℕ → Destination → RowsOf (RouteOf Destination) → RowsOf (RouteOf Destination)
 with_route text value routes = with_scanned (parse_route text) value routes
 
 -- the four routes
-abbrev pub office_routes : RowsOf (RouteOf Place)
+abbrev pub office_routes : RowsOf (RouteOf Destination)
 office_routes =
-    with_route (codes "/wards/{w}/result") place.Declaration
-    (with_route (codes "/wards/{w}/sheet") place.Sheet
-    (with_route (codes "/clerks/{c}/work") place.Work
-    (with_route (codes "/clerks/{c}/batches/{b}/keying") place.Keying [])))
+    with_route (codes "/wards/{w}/result") destination.Declaration
+    (with_route (codes "/wards/{w}/sheet") destination.Sheet
+    (with_route (codes "/clerks/{c}/work") destination.Work
+    (with_route (codes "/clerks/{c}/batches/{b}/keying") destination.Keying [])))
 
 -- what the parameters of a route took of a target, each with its name
 abbrev pub Taken : Type 0
@@ -58,20 +58,20 @@ abbrev pub parameter : List ℕ → Taken → Option ℕ
 parameter name taken = option_and_then number_in (named name taken)
 
 -- what a target names, by where its route leads and by what the parameters took
-abbrev pub named_at : Place → Taken → Option Target
-named_at place.Keying taken =
+abbrev pub named_at : Destination → Taken → Option Target
+named_at destination.Keying taken =
     option_and_then (λ clerk. option_map (λ batch. Keying clerk batch) (parameter (codes "b") taken)) (parameter (codes "c") taken)
-named_at place.Work taken = option_map (λ clerk. Reading (Work clerk)) (parameter (codes "c") taken)
-named_at place.Sheet taken = option_map (λ ward. Reading (Sheet ward)) (parameter (codes "w") taken)
-named_at place.Declaration taken = option_map (λ ward. Reading (Declaration ward)) (parameter (codes "w") taken)
+named_at destination.Work taken = option_map (λ clerk. Reading (Work clerk)) (parameter (codes "c") taken)
+named_at destination.Sheet taken = option_map (λ ward. Reading (Sheet ward)) (parameter (codes "w") taken)
+named_at destination.Declaration taken = option_map (λ ward. Reading (Declaration ward)) (parameter (codes "w") taken)
 
 -- the route of a target; the routes are ASCII, and so is every target of theirs
-abbrev pub route_of : List ℕ → Option (RouteOf Place)
+abbrev pub route_of : List ℕ → Option (RouteOf Destination)
 route_of target = if list_all is_ascii target then first office_routes target else None
 
 -- what a target names
 abbrev pub named_by : List ℕ → Option Target
-named_by target = option_and_then (λ (route : RouteOf Place). named_at route.value (walk route.pattern route.text target route.names 0 0)) (route_of target)
+named_by target = option_and_then (λ (route : RouteOf Destination). named_at route.value (walk route.pattern route.text target route.names 0 0)) (route_of target)
 
 -- ---- the same in plain words
 

@@ -31,7 +31,7 @@ pub(crate) enum Target {
 
 /// Where a route leads.
 #[derive(Clone, Copy)]
-enum Place {
+enum Destination {
     Keying,
     Work,
     Sheet,
@@ -39,14 +39,14 @@ enum Place {
 }
 
 /// The four routes.
-fn office_router(alloc: Global) -> Result<Router<Place>, InsertError>
+fn office_router(alloc: Global) -> Result<Router<Destination>, InsertError>
     ensures { IfOk result (λ router. router ≡ office_routes) }
 {
     let mut router = Router::new(alloc);
-    router.insert("/clerks/{c}/batches/{b}/keying", Place::Keying)?;
-    router.insert("/clerks/{c}/work", Place::Work)?;
-    router.insert("/wards/{w}/sheet", Place::Sheet)?;
-    router.insert("/wards/{w}/result", Place::Declaration)?;
+    router.insert("/clerks/{c}/batches/{b}/keying", Destination::Keying)?;
+    router.insert("/clerks/{c}/work", Destination::Work)?;
+    router.insert("/wards/{w}/sheet", Destination::Sheet)?;
+    router.insert("/wards/{w}/result", Destination::Declaration)?;
     Ok(router)
 }
 
@@ -59,25 +59,25 @@ fn parameter(params: &Params<'_, '_>, name: &str) -> Option<u32>
 }
 
 /// What a target names, by where its route leads and by what the parameters took.
-fn named_at(place: Place, params: &Params<'_, '_>) -> Option<Target>
+fn named_at(destination: Destination, params: &Params<'_, '_>) -> Option<Target>
     requires { AllText (taken_by params.now) }
-    ensures { result ≡ named_at place (taken_by params.now) }
+    ensures { result ≡ named_at destination (taken_by params.now) }
 {
-    match place {
-        Place::Keying => {
+    match destination {
+        Destination::Keying => {
             let clerk = parameter(params, "c")?;
             let batch = parameter(params, "b")?;
             Some(Target::Keying { clerk, batch })
         }
-        Place::Work => {
+        Destination::Work => {
             let clerk = parameter(params, "c")?;
             Some(Target::Reading(Reading::Work { clerk }))
         }
-        Place::Sheet => {
+        Destination::Sheet => {
             let ward = parameter(params, "w")?;
             Some(Target::Reading(Reading::Sheet { ward }))
         }
-        Place::Declaration => {
+        Destination::Declaration => {
             let ward = parameter(params, "w")?;
             Some(Target::Reading(Reading::Declaration { ward }))
         }

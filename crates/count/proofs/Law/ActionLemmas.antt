@@ -16,8 +16,8 @@ use Rattle.count.specs.Advance.{AdvancesBy}
 use Rattle.count.specs.declared.stages.Stage.{Stage}
 use Rattle.count.specs.declared.stages.Action.{Action}
 use Rattle.count.specs.declared.stages.Action.TheVariants.{Exclude, ExcludeLast}
-use Rattle.count.specs.declared.stages.Kind.{Kind}
-use Rattle.count.specs.declared.stages.Kind.TheVariants.{Surplus as of_surplus, Exclusion as of_exclusion}
+use Rattle.count.specs.declared.stages.TiedFor.{TiedFor}
+use Rattle.count.specs.declared.stages.TiedFor.TheVariants.{Surplus as of_surplus, Exclusion as of_exclusion}
 use Rattle.count.specs.declared.stages.Due.TheVariants.{Finished}
 use Rattle.count.proofs.ChoiceLemmas.{and_true, not_true, or_later}
 
@@ -35,17 +35,17 @@ in-filter c p [] h = cc
 in-filter c p (x ∷ xs) h = in_choice c x p xs (p x) (eqb c x) refl refl (in-filter c p xs) h
 
 -- an action that is drawn is on one of the group
-pub record IsOn (contest : Contest) (stages : History) (kind : Kind) (group : List ℕ) (action : Action) : Type 0 where
+pub record IsOn (contest : Contest) (stages : History) (kind : TiedFor) (group : List ℕ) (action : Action) : Type 0 where
   pub candidate : ℕ
   pub in_group : In candidate group
   pub is : action ≡ action_on contest stages kind candidate
 
-drawn_lot : (contest : Contest) (stages : History) (kind : Kind) (group : List ℕ) (x : ℕ) (b : Bool) (action : Action) →
+drawn_lot : (contest : Contest) (stages : History) (kind : TiedFor) (group : List ℕ) (x : ℕ) (b : Bool) (action : Action) →
     list_any (nat_eq x) group ≡ b → cond b (Some (action_on contest stages kind x)) None ≡ Some action → IsOn contest stages kind group action
 drawn_lot contest stages kind group x true action e h = record { candidate = x; in_group = e; is = cc }
 drawn_lot contest stages kind group x false action e h = cc
 
-drawn-among : (contest : Contest) (stages : History) (lot : Option ℕ) (kind : Kind) (group : List ℕ) (action : Action) →
+drawn-among : (contest : Contest) (stages : History) (lot : Option ℕ) (kind : TiedFor) (group : List ℕ) (action : Action) →
     drawn contest stages lot (among contest stages kind group) ≡ Some action → IsOn contest stages kind group action
 drawn-among contest stages None kind [] action h = cc
 drawn-among contest stages (Some x) kind [] action h = cc

@@ -12,8 +12,8 @@ use Rattle.count.specs.Law.Due.{lot_for, due_after, due_for, among, with_surplus
 use Rattle.count.specs.Law.Elected.{continuing_after, elected_after, vacancies_after, is_excluded, has_reached, undecided_fill, with_quota, undecided, excludes}
 use Rattle.count.specs.declared.stages.Stage.{Stage}
 use Rattle.count.specs.declared.stages.Action.TheVariants.{Exclude, ExcludeLast}
-use Rattle.count.specs.declared.stages.Kind.{Kind}
-use Rattle.count.specs.declared.stages.Kind.TheVariants.{Surplus as of_surplus, Exclusion as of_exclusion}
+use Rattle.count.specs.declared.stages.TiedFor.{TiedFor}
+use Rattle.count.specs.declared.stages.TiedFor.TheVariants.{Surplus as of_surplus, Exclusion as of_exclusion}
 use Rattle.count.specs.declared.stages.Due.{Due}
 use Rattle.count.specs.declared.stages.Due.TheVariants.{Act, Lot, Finished}
 use Rattle.count.proofs.Law.ActionLemmas.{filter-le}
@@ -145,7 +145,7 @@ race-enough contest handed (s ∷ s' ∷ before) fair right =
     race_step contest s s' before fair (step-vacant contest s' before (handed (s' ∷ before) s) s.action right.1.was_due) (step-is contest s' before (handed (s' ∷ before) s) s.action right.1.was_due)
     (race-enough contest handed (s' ∷ before) fair right.0)
 
-never_among : (contest : Contest) (stages : History) (kind : Kind) (group : List ℕ) → among contest stages kind group ≡ Finished → ⊥
+never_among : (contest : Contest) (stages : History) (kind : TiedFor) (group : List ℕ) → among contest stages kind group ≡ Finished → ⊥
 never_among contest stages kind [] h = cc
 never_among contest stages kind (c ∷ []) h = cc
 never_among contest stages kind (c ∷ d ∷ rest) h = cc
@@ -165,7 +165,7 @@ pub finished-elected : (contest : Contest) (handed : History → Stage → Optio
 finished-elected contest handed [] fair right h = cc
 finished-elected contest handed (s ∷ before) fair right h = finished_choice contest s before _ refl (few-reach contest handed (s ∷ before) fair right) h
 
-among_several : (contest : Contest) (stages : History) (kind : Kind) (group : List ℕ) → (group ≡ [] → ⊥) → IsAmongSeveral (among contest stages kind group)
+among_several : (contest : Contest) (stages : History) (kind : TiedFor) (group : List ℕ) → (group ≡ [] → ⊥) → IsAmongSeveral (among contest stages kind group)
 among_several contest stages kind [] some = absurd (some refl)
 among_several contest stages kind (c ∷ []) some = tt
 among_several contest stages kind (c ∷ d ∷ rest) some = omega arith
