@@ -25,10 +25,13 @@ mod prefs;
 mod validity;
 // where candidates stand, and the next available preference
 mod standing;
+// numbers in digits, as files and paths have them
+mod digits;
 
 pub use columns::{Columns, MAX_CANDIDATES};
+pub use digits::{are_digits, plain_number_in};
 pub use marked::{Keyed, Marked};
 pub use marks::{MarkFault, Marks};
 pub use prefs::Prefs;
-pub use standing::{Standing, CandidateStatus, available_from, next_available};
+pub use standing::{CandidateStatus, Standing, available_from, next_available};
 pub use validity::{Rejection, judge};

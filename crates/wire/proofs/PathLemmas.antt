@@ -12,7 +12,8 @@ use Rattle.matchit.specs.Rows.{RowsOf, param_token}
 use Rattle.matchit.specs.Seek.{first, segment, step}
 use Rattle.matchit.specs.Route.{scan}
 use Rattle.wire.proofs.RowLemmas.{Fits, Gives, GoBySlash, HasNoSlash, seek-end, seek-gives, seek-part, seek-word, steps}
-use Rattle.wire.specs.Targets.{IsTargetOf, NamesItsOwn, named_at, named_by, number_in, office_routes}
+use Rattle.paper.specs.Digits.{plain_number_in}
+use Rattle.wire.specs.Targets.{IsTargetOf, NamesItsOwn, named_at, named_by, office_routes}
 use Rattle.wire.specs.declared.target.Destination.{Destination}
 use Rattle.wire.specs.declared.target.Destination.TheVariants as destination
 use Rattle.wire.specs.declared.target.Reading.TheVariants.{Declaration, Sheet, Work}
@@ -45,18 +46,18 @@ pub record IsOneRoute (r : OneRoute) : Type 0 where
   pub word_low : list_all is_ascii r.word ≡ true
   pub rest_low : list_all is_ascii (47 ∷ r.rest) ≡ true
   pub stops : (path : List ℕ) (from : ℕ) → wild_stop (r.word ++ (param_token ∷ (47 ∷ r.rest))) (length r.word) path from ≡ from + length (segment (drop from path)) - 1
-  pub names : (part : List ℕ) → named_at r.to (with_taken (part_of r.text r.name.0 r.name.1) part []) ≡ option_map r.kind (number_in part)
-  pub own : (target part : List ℕ) (n : ℕ) → target ≡ path_of r part → number_in part ≡ Some n → IsTargetOf (r.kind n) target
+  pub names : (part : List ℕ) → named_at r.to (with_taken (part_of r.text r.name.0 r.name.1) part []) ≡ option_map r.kind (plain_number_in part)
+  pub own : (target part : List ℕ) (n : ℕ) → target ≡ path_of r part → plain_number_in part ≡ Some n → IsTargetOf (r.kind n) target
 
 -- what a route names of a target is something whose path the target is
 abbrev NamesOwn : List ℕ → RouteOf Destination → Type 0
 NamesOwn target route = (there : Target) → named_at route.value (walk route.pattern route.text target route.names 0 0) ≡ Some there → IsTargetOf there target
 
-read-back : (target part : List ℕ) (kind : ℕ → Target) (there : Target) → ((n : ℕ) → number_in part ≡ Some n → IsTargetOf (kind n) target) → option_map kind (number_in part) ≡ Some there
+read-back : (target part : List ℕ) (kind : ℕ → Target) (there : Target) → ((n : ℕ) → plain_number_in part ≡ Some n → IsTargetOf (kind n) target) → option_map kind (plain_number_in part) ≡ Some there
     → IsTargetOf there target
-read-back target part kind there own named = by (number_in part) refl named
+read-back target part kind there own named = by (plain_number_in part) refl named
   where
-    by : (o : Option ℕ) → number_in part ≡ o → option_map kind o ≡ Some there → IsTargetOf there target
+    by : (o : Option ℕ) → plain_number_in part ≡ o → option_map kind o ≡ Some there → IsTargetOf there target
     by None is named = let no : ⊥ = cc in absurd no
     by (Some n) is named = let same : kind n ≡ there = cc in subst (λ t. IsTargetOf t target) same (own n is)
 
@@ -73,7 +74,7 @@ named-found : (target : List ℕ) (route : RouteOf Destination) → list_all is_
     → named_by target ≡ named_at route.value (walk route.pattern route.text target route.names 0 0)
 named-found target route low found = rw (low, found) refl
 
-one-named : (r : OneRoute) → IsOneRoute r → (part : List ℕ) (n : ℕ) → number_in part ≡ Some n → first office_routes (path_of r part) ≡ Some (route_of_one r)
+one-named : (r : OneRoute) → IsOneRoute r → (part : List ℕ) (n : ℕ) → plain_number_in part ≡ Some n → first office_routes (path_of r part) ≡ Some (route_of_one r)
     → named_by (path_of r part) ≡ Some (r.kind n)
 one-named r is part n own found =
     let numbered = numeric part n own in
@@ -134,9 +135,9 @@ unfolding keying_route
 keying-own target fits = λ there named.
     let path = two-parts (codes "/clerks/") (codes "/batches/") (codes "/keying") target refl refl refl fits in
     let taken = keying-taken target path.one path.two path.is path.one_whole path.two_whole in
-    by there path.one path.two path.is (number_in path.one) (number_in path.two) refl refl (sym (ap (named_at destination.Keying) taken) ∙ named)
+    by there path.one path.two path.is (plain_number_in path.one) (plain_number_in path.two) refl refl (sym (ap (named_at destination.Keying) taken) ∙ named)
   where
-    by : (there : Target) (c b : List ℕ) → target ≡ keying_path c b → (clerk batch : Option ℕ) → number_in c ≡ clerk → number_in b ≡ batch → keying_by clerk batch ≡ Some there
+    by : (there : Target) (c b : List ℕ) → target ≡ keying_path c b → (clerk batch : Option ℕ) → plain_number_in c ≡ clerk → plain_number_in b ≡ batch → keying_by clerk batch ≡ Some there
         → IsTargetOf there target
     by there c b is None batch own other named = let no : ⊥ = cc in absurd no
     by there c b is (Some clerk) None own other named = let no : ⊥ = cc in absurd no
@@ -222,7 +223,7 @@ own-named target (Keying clerk batch) (c, b, is, own, other) =
     ap named_by is
     ∙ named-found (keying_path c b) keying_route low (keying-found c b is_c is_b)
     ∙ ap (named_at destination.Keying) (keying-taken (keying_path c b) c b refl is_c.whole is_b.whole)
-    ∙ ap (λ n. keying_by n (number_in b)) own ∙ ap (keying_by (Some clerk)) other
+    ∙ ap (λ n. keying_by n (plain_number_in b)) own ∙ ap (keying_by (Some clerk)) other
 
 pub NamesItsOwn-all : (target : List ℕ) → NamesItsOwn target
 NamesItsOwn-all target there = (named-own target there, own-named target there)

@@ -1,8 +1,7 @@
 -- What the targets of requests name: four routes, as `matchit` finds them for the whole target, with numbers in them.
-use Rattle.std.specs.Prelude.{◌≡◌, ◌↔◌, ◌++◌, ◌&&◌, ◌∷◌, ◌==◌, Bool, List, [], Option, Some, None, Result, Ok, Err, codes, false, if◌then◌else◌, length, nat_le, not, option_and_then, option_map, ℕ}
-use Rattle.std.specs.Char.{is_ascii, is_ascii_digit}
+use Rattle.std.specs.Prelude.{◌≡◌, ◌↔◌, ◌++◌, List, [], Option, Some, None, Result, Ok, Err, codes, if◌then◌else◌, option_and_then, option_map, ℕ}
+use Rattle.std.specs.Char.{is_ascii}
 use Rattle.std.specs.List.{list_all}
-use Rattle.std.specs.Str.Parse.{digits_value}
 use Rattle.matchit.specs.Order.{placed}
 use Rattle.matchit.specs.Params.{named, walk}
 use Rattle.matchit.specs.Route.{Scan, parse_route}
@@ -11,24 +10,12 @@ use Rattle.matchit.specs.Rows.{RowsOf}
 use Rattle.matchit.specs.Seek.{first}
 use Rattle.matchit.specs.declared.error.InsertError.{InsertError}
 use Rattle.matchit.specs.declared.params.Params.{Params}
+use Rattle.paper.specs.Digits.{plain_number_in}
 use Rattle.wire.specs.declared.target.Destination.{Destination}
 use Rattle.wire.specs.declared.target.Destination.TheVariants as destination
 use Rattle.wire.specs.declared.target.Reading.TheVariants.{Declaration, Sheet, Work}
 use Rattle.wire.specs.declared.target.Target.{Target}
 use Rattle.wire.specs.declared.target.Target.TheVariants.{Keying, Reading}
-
--- the most digits of a number
-abbrev pub most_digits : ℕ
-most_digits = 5
-
--- 1 to 5 digits, the first not 0
-abbrev pub is_number : List ℕ → Bool
-is_number [] = false
-is_number (b ∷ bs) = not (b == 48) && (nat_le (length (b ∷ bs)) most_digits && list_all is_ascii_digit (b ∷ bs))
-
--- the number that a parameter writes
-abbrev pub number_in : List ℕ → Option ℕ
-number_in text = if is_number text then Some (digits_value 10 text) else None
 
 -- the routes with one more
 abbrev pub with_scanned : Result Scan InsertError → Destination → RowsOf (RouteOf Destination) → RowsOf (RouteOf Destination)
@@ -55,7 +42,7 @@ taken_by params = walk params.pattern.now params.text.now params.path.now params
 
 -- the number that the parameter of a name writes
 abbrev pub parameter : List ℕ → Taken → Option ℕ
-parameter name taken = option_and_then number_in (named name taken)
+parameter name taken = option_and_then plain_number_in (named name taken)
 
 -- what a target names, by where its route leads and by what the parameters took
 abbrev pub named_at : Destination → Taken → Option Target
@@ -78,10 +65,10 @@ named_by target = option_and_then (λ (route : RouteOf Destination). named_at ro
 -- the target of something that is served: its path, in which each number is written in 1 to 5 digits, the first not 0
 abbrev pub IsTargetOf : Target → List ℕ → Type 0
 IsTargetOf (Keying clerk batch) target =
-    (c b : List ℕ) × (target ≡ codes "/clerks/" ++ (c ++ (codes "/batches/" ++ (b ++ codes "/keying")))) × (number_in c ≡ Some clerk) × (number_in b ≡ Some batch)
-IsTargetOf (Reading (Work clerk)) target = (c : List ℕ) × (target ≡ codes "/clerks/" ++ (c ++ codes "/work")) × (number_in c ≡ Some clerk)
-IsTargetOf (Reading (Sheet ward)) target = (w : List ℕ) × (target ≡ codes "/wards/" ++ (w ++ codes "/sheet")) × (number_in w ≡ Some ward)
-IsTargetOf (Reading (Declaration ward)) target = (w : List ℕ) × (target ≡ codes "/wards/" ++ (w ++ codes "/result")) × (number_in w ≡ Some ward)
+    (c b : List ℕ) × (target ≡ codes "/clerks/" ++ (c ++ (codes "/batches/" ++ (b ++ codes "/keying")))) × (plain_number_in c ≡ Some clerk) × (plain_number_in b ≡ Some batch)
+IsTargetOf (Reading (Work clerk)) target = (c : List ℕ) × (target ≡ codes "/clerks/" ++ (c ++ codes "/work")) × (plain_number_in c ≡ Some clerk)
+IsTargetOf (Reading (Sheet ward)) target = (w : List ℕ) × (target ≡ codes "/wards/" ++ (w ++ codes "/sheet")) × (plain_number_in w ≡ Some ward)
+IsTargetOf (Reading (Declaration ward)) target = (w : List ℕ) × (target ≡ codes "/wards/" ++ (w ++ codes "/result")) × (plain_number_in w ≡ Some ward)
 
 -- a target names just what it is the path of, and so none names anything else
 abbrev pub NamesItsOwn : List ℕ → Type 0

@@ -6,9 +6,9 @@ ghost use Rattle.httparse.specs.Spans.{IsHeaderWithin, header_bytes};
 ghost use Rattle.wire.specs.Origins.{authority_of, given_by, is_authority, is_foreign, is_foreign_header, is_given, is_given_host, is_host_byte, is_origin, is_own_host, is_own_origin};
 ghost use Rattle.wire.specs.Origins.{is_own_site, is_port_or_none, is_with_port, origin_in, origin_text};
 
-use crate::digits::all_digits;
 use crate::length::is_named;
 use httparse::spans::HeaderSpan;
+use paper::are_digits;
 
 /// The most digits of a port.
 const MOST_DIGITS: usize = 5;
@@ -28,7 +28,7 @@ fn is_port_or_none(text: &[u8]) -> bool
             *first == b':'
                 && digits.len() <= MOST_DIGITS
                 && !digits.is_empty()
-                && all_digits(digits)
+                && are_digits(digits)
         }
         None => true,
     }

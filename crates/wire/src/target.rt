@@ -4,8 +4,8 @@ ghost use Rattle.std.specs.Prelude.{◌≡◌, IfOk};
 ghost use Rattle.matchit.specs.Params.{AllText};
 ghost use Rattle.wire.specs.Targets.{named_at, named_by, office_routes, parameter, taken_by};
 
-use crate::digits::number_in;
 use matchit::{InsertError, Params, Router};
+use paper::plain_number_in;
 use std::alloc::{AllocError, Global};
 use std::str;
 
@@ -55,7 +55,7 @@ fn parameter(params: &Params<'_, '_>, name: &str) -> Option<u32>
     requires { AllText (taken_by params.now) }
     ensures { result ≡ parameter name.now (taken_by params.now) }
 {
-    number_in(params.get(name)?)
+    plain_number_in(params.get(name)?)
 }
 
 /// What a target names, by where its route leads and by what the parameters took.

@@ -1,8 +1,8 @@
--- Why `number_in` keeps its promise.
+-- Why `plain_number_in` keeps its promise.
 use Rattle.std.proofs.Common.{◌∙◌, ap, sym}
-use Rattle.std.specs.Prelude.{unwrap_or, slice_get}
-use Rattle.keyfile.proofs.FieldLemmas.{number_read}
-use Rattle.keyfile.proofs.fields.number_in.Goals as goal
+use Rattle.std.specs.Prelude.{slice_get, unwrap_or}
+use Rattle.paper.proofs.DigitLemmas.{number_read}
+use Rattle.paper.proofs.digits.plain_number_in.Goals as goal
 
 pub returns : goal.returns
 returns c =
@@ -10,4 +10,4 @@ returns c =
     let first = c.unwrap_or-first.ensures ∙ ap (λ o. unwrap_or o 48) (c.copied.ensures ∙ c.first.ensures.value ∙ ap (λ t. slice_get t 0) bytes) in
     c.ok.ensures.value
     ∙ number_read c.args.text.now c.parse.result (λ e. c.if-first-eq48.false (first ∙ e)) (rw bytes at c.if-digits-gt-MOST_DIGITS.false)
-    (sym (rw bytes at c.if-not-all_digits.ensures)) c.parse.ensures.value.0
+    (sym (rw bytes at c.if-not-are_digits.ensures)) c.parse.ensures.value.0
