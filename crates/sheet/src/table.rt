@@ -14,13 +14,22 @@ use crate::ward::Ward;
 use count::Stage;
 use votes::{Broken, Sink};
 
+/// A block of stages of a ward: those from a place on, as a table and as a picture.
+#[derive(Clone, Copy)]
+struct Block<'a> {
+    ward: &'a Ward<'a>,
+    scale: Scale,
+    place: usize,
+    stages: &'a [Stage],
+    ghost within: { place < length stages.now },
+}
+
 /// Writes the heads of a table's columns, with its caption.
-fn write_head_row<W: Sink>(sink: &mut W, place: usize, stages: &[Stage]) -> Result<(), Broken>
-    requires within { place < length stages.now }
-    requires failures { W.failed sink.old < 2 ^ 64 - 1 }
-    ensures { Writes W.taken W.failed sink.old sink.new (head_row place stages.now) result }
+fn write_head_row<W: Sink>(sink: &mut W, block: &Block) -> Result<(), Broken>
+    requires { W.failed sink.old < 2 ^ 64 - 1 }
+    ensures { Writes W.taken W.failed sink.old sink.new (head_row block.now.place block.now.stages.now) result }
 {
-    let (first, last) = (place as u64 + 1, stages.len() as u64);
+    let (first, last) = (block.place as u64 + 1, block.stages.len() as u64);
     let opening = [
         Piece::Text("<div class=\"wide\" role=\"region\" tabindex=\"0\" aria-label=\""),
         Piece::Span(first, last),
@@ -29,18 +38,17 @@ fn write_head_row<W: Sink>(sink: &mut W, place: usize, stages: &[Stage]) -> Resu
         Piece::Text("</caption>\n<thead>\n<tr><th scope=\"col\">Candidate</th>"),
     ];
     let end = "</tr>\n</thead>\n<tbody>";
-    write_row(sink, &opening, Cell::Head, end, place, stages)
+    write_row(sink, &opening, Cell::Head, end, block.place, block.stages)
 }
 
 /// The row of a candidate.
 #[derive(Clone, Copy)]
 struct CandidateRow<'a> {
-    place: usize,
-    stages: &'a [Stage],
+    block: &'a Block<'a>,
 }
 
 impl<'a> OfCandidate for CandidateRow<'a> {
-    ghost text = { λ r. candidate_row r.place r.stages.now };
+    ghost text = { λ r. candidate_row r.block.now.place r.block.now.stages.now };
 
     fn write<W: Sink>(&self, sink: &mut W, candidate: &(u8, String)) -> Result<(), Broken> {
         let (c, name) = candidate;
@@ -50,15 +58,16 @@ impl<'a> OfCandidate for CandidateRow<'a> {
             Piece::Text("</th>"),
         ];
         let (cell, end) = (Cell::Candidate(*c), "</tr>");
-        write_row(sink, &opening, cell, end, self.place, self.stages)
+        write_row(sink, &opening, cell, end, self.block.place, self.block.stages)
     }
 }
 
 /// Writes the rows of the running sums, and the table's end.
-fn write_sum_rows<W: Sink>(sink: &mut W, place: usize, stages: &[Stage]) -> Result<(), Broken>
+fn write_sum_rows<W: Sink>(sink: &mut W, block: &Block) -> Result<(), Broken>
     requires { W.failed sink.old < 2 ^ 64 - 1 }
-    ensures { Writes W.taken W.failed sink.old sink.new (sum_rows place stages.now) result }
+    ensures { Writes W.taken W.failed sink.old sink.new (sum_rows block.now.place block.now.stages.now) result }
 {
+    let (place, stages) = (block.place, block.stages);
     let rest = [Piece::Text("<tr class=\"sum\"><th scope=\"row\">non-transferable</th>")];
     write_row(sink, &rest, Cell::NonTransferable, "</tr>", place, stages)?;
     let lost = [Piece::Text("<tr class=\"sum\"><th scope=\"row\">lost by fractions</th>")];
@@ -66,39 +75,27 @@ fn write_sum_rows<W: Sink>(sink: &mut W, place: usize, stages: &[Stage]) -> Resu
     write_row(sink, &lost, Cell::Lost, end, place, stages)
 }
 
-/// Writes the table of the stages from a place on.
-fn write_table<W: Sink>(
-    sink: &mut W,
-    ward: &Ward,
-    place: usize,
-    stages: &[Stage],
-) -> Result<(), Broken>
-    requires within { place < length stages.now }
-    requires failures { W.failed sink.old < 2 ^ 64 - 1 }
-    ensures { Writes W.taken W.failed sink.old sink.new (table (shown ward.now) place stages.now) result }
+/// Writes the table of a block.
+fn write_table<W: Sink>(sink: &mut W, block: &Block) -> Result<(), Broken>
+    requires { W.failed sink.old < 2 ^ 64 - 1 }
+    ensures { Writes W.taken W.failed sink.old sink.new (table (shown block.now.ward.now) block.now.place block.now.stages.now) result }
 {
-    write_head_row(sink, place, stages)?;
-    write_each(sink, ward, &CandidateRow { place, stages })?;
-    write_sum_rows(sink, place, stages)
+    write_head_row(sink, block)?;
+    write_each(sink, block.ward, &CandidateRow { block })?;
+    write_sum_rows(sink, block)
 }
 
 /// Writes the head of a picture: what it shows, what its bars mean, and the names of the stages.
-fn write_picture_head<W: Sink>(
-    sink: &mut W,
-    ward: &Ward,
-    place: usize,
-    stages: &[Stage],
-) -> Result<(), Broken>
-    requires within { place < length stages.now }
-    requires failures { W.failed sink.old < 2 ^ 64 - 1 }
-    ensures { Writes W.taken W.failed sink.old sink.new (picture_head (shown ward.now) place stages.now) result }
+fn write_picture_head<W: Sink>(sink: &mut W, block: &Block) -> Result<(), Broken>
+    requires { W.failed sink.old < 2 ^ 64 - 1 }
+    ensures { Writes W.taken W.failed sink.old sink.new (picture_head (shown block.now.ward.now) block.now.place block.now.stages.now) result }
 {
-    let (first, last) = (place as u64 + 1, stages.len() as u64);
+    let (first, last) = (block.place as u64 + 1, block.stages.len() as u64);
     let opening = [
         Piece::Text("<div class=\"wide\" role=\"region\" tabindex=\"0\" aria-label=\""),
         Piece::Span(first, last),
         Piece::Text(", as a picture\">\n<svg class=\"moves\" role=\"img\" viewBox=\"-2 0 900 "),
-        Piece::Number(50 + 30 * ward.candidates.len().min(30) as u64),
+        Piece::Number(50 + 30 * block.ward.candidates.len().min(30) as u64),
         Piece::Text("\">\n<title>"),
         Piece::Span(first, last),
         Piece::Text(
@@ -107,19 +104,17 @@ fn write_picture_head<W: Sink>(
         Piece::Text(legend()),
     ];
     let end = "<g transform=\"translate(0 15)\">";
-    write_row(sink, &opening, Cell::Above, end, place, stages)
+    write_row(sink, &opening, Cell::Above, end, block.place, block.stages)
 }
 
 /// The row of a candidate in a picture.
 #[derive(Clone, Copy)]
 struct BarRow<'a> {
-    scale: Scale,
-    place: usize,
-    stages: &'a [Stage],
+    block: &'a Block<'a>,
 }
 
 impl<'a> OfCandidate for BarRow<'a> {
-    ghost text = { λ r. bar_row r.scale r.place r.stages.now };
+    ghost text = { λ r. bar_row r.block.now.scale r.block.now.place r.block.now.stages.now };
 
     fn write<W: Sink>(&self, sink: &mut W, candidate: &(u8, String)) -> Result<(), Broken> {
         let (c, name) = candidate;
@@ -130,8 +125,8 @@ impl<'a> OfCandidate for BarRow<'a> {
             Piece::Escaped(name.as_str()),
             Piece::Text("</tspan></text>"),
         ];
-        let cell = Cell::Bar(*c, self.scale);
-        write_row(sink, &opening, cell, "", self.place, self.stages)
+        let cell = Cell::Bar(*c, self.block.scale);
+        write_row(sink, &opening, cell, "", self.block.place, self.block.stages)
     }
 }
 
@@ -146,26 +141,14 @@ fn write_picture_end<W: Sink>(sink: &mut W, ward: &Ward) -> Result<(), Broken>
     write_text(sink, "</g>\n</svg>\n</div>\n")
 }
 
-/// Writes the picture of the stages from a place on.
-fn write_picture<W: Sink>(
-    sink: &mut W,
-    ward: &Ward,
-    scale: Scale,
-    place: usize,
-    stages: &[Stage],
-) -> Result<(), Broken>
-    requires within { place < length stages.now }
-    requires failures { W.failed sink.old < 2 ^ 64 - 1 }
-    ensures { Writes W.taken W.failed sink.old sink.new (picture (shown ward.now) scale place stages.now) result }
+/// Writes the picture of a block.
+fn write_picture<W: Sink>(sink: &mut W, block: &Block) -> Result<(), Broken>
+    requires { W.failed sink.old < 2 ^ 64 - 1 }
+    ensures { Writes W.taken W.failed sink.old sink.new (picture (shown block.now.ward.now) block.now.scale block.now.place block.now.stages.now) result }
 {
-    write_picture_head(sink, ward, place, stages)?;
-    let row = BarRow {
-        scale,
-        place,
-        stages,
-    };
-    write_each(sink, ward, &row)?;
-    write_picture_end(sink, ward)
+    write_picture_head(sink, block)?;
+    write_each(sink, block.ward, &BarRow { block })?;
+    write_picture_end(sink, block.ward)
 }
 
 /// The stages up to the eighth from a place on, or all where fewer are left.
@@ -195,8 +178,14 @@ fn write_block_at<W: Sink>(
         return Ok(());
     }
     let upto = up_to_eighth(stages, place);
-    write_table(sink, ward, place, upto)?;
-    write_picture(sink, ward, scale, place, upto)
+    let block = Block {
+        ward,
+        scale,
+        place,
+        stages: upto,
+    };
+    write_table(sink, &block)?;
+    write_picture(sink, &block)
 }
 
 /// Writes the blocks of all stages, eight in each.
