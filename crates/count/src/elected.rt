@@ -108,6 +108,19 @@ pub fn those<F: Fn(u8) -> bool>(set: &Columns, passes: F) -> Columns
     chosen
 }
 
+/// Whether one of a set passes a test.
+pub fn has_one<F: Fn(u8) -> bool>(set: &Columns, passes: F) -> bool
+    requires { (c : ℕ) → 1 ≤ c → c ≤ max_candidates → F.pre passes c }
+    ensures { (test : ℕ → Bool) → ((c : ℕ) (passed : Bool) → 1 ≤ c → c ≤ max_candidates → F.post passes c passed → passed ≡ test c) → result ≡ list_any test set.now }
+{
+    for c in set.as_slice() {
+        if passes(*c) {
+            return true;
+        }
+    }
+    false
+}
+
 /// The candidates who have reached the quota.
 fn with_quota(terms: &Terms, stages: &[Stage]) -> Columns
     ensures { result ≡ with_quota_of (contest_of terms.now []) (reverse stages.now) }
