@@ -40,7 +40,8 @@ columns-take n xs set = record {
 }
 
 -- one more that passes the test
-pub columns-more : (p : ℕ → Bool) (xs chosen : List ℕ) (i : ℕ) → IsColumnSet xs → chosen ≡ filter p (take i xs) → i < length xs → p (slice_index xs i) ≡ true → IsColumnSet (chosen ++ slice_index xs i ∷ [])
+pub columns-more : (p : ℕ → Bool) (xs chosen : List ℕ) (i : ℕ) → IsColumnSet xs → chosen ≡ filter p (take i xs) → i < length xs → p (slice_index xs i) ≡ true →
+    IsColumnSet (chosen ++ slice_index xs i ∷ [])
 columns-more p xs chosen i set is within passes =
     let more : filter p (take (i + 1) xs) ≡ filter p (take i xs) ++ slice_index xs i ∷ [] =
     filter_more p xs i 0 within ∙ ap (λ b. filter p (take i xs) ++ cond b (slice_index xs i ∷ []) []) passes in

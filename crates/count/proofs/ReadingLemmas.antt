@@ -1,5 +1,6 @@
 -- Stages read back from the figures that they show.
-use Rattle.std.proofs.Common.{◌≡◌, ℕ, suc, ◌+◌, ◌-◌, ◌<◌, ◌||◌, Bool, true, false, cond, nat_eq, List, [], ◌∷◌, ◌++◌, length, map, take, drop, set, get_or, inl, inr, Some, None, refl, sym, ap, ◌∙◌, arith, slice_index, get_or-set_same, get_or-set_other, length-set}
+use Rattle.std.proofs.Common.{◌≡◌, ℕ, suc, ◌+◌, ◌-◌, ◌<◌, ◌||◌, Bool, true, false, cond, nat_eq, List, [], ◌∷◌, ◌++◌, length, map, take, drop, set, get_or, inl, inr, Some, None, refl, sym}
+use Rattle.std.proofs.Common.{ap, ◌∙◌, arith, slice_index, get_or-set_same, get_or-set_other, length-set}
 use Rattle.std.specs.List.{filter, list_any}
 use Rattle.paper.specs.Columns.{IsColumnSet}
 use Rattle.std.proofs.Math.Seq.{drop-cons, take-append_seam, get_or-append_seam}
@@ -77,7 +78,8 @@ pub figure-at : (f : ℕ → Figure) (xs : List ℕ) (figures : List Figure) (i 
 figure-at f xs figures i d are within = ap (λ (l : List Figure). get_or l i d) are ∙ get_or-map f xs i 0 d within
 
 -- the figures of the candidates stand between the first and the last of a stage's
-pub between : (f : ℕ → Figure) (xs : List ℕ) (first last : Figure) (figures : List Figure) (n : ℕ) → figures ≡ first ∷ (map f xs ++ last ∷ []) → n ≡ length xs → take (n + 1 - 1) (drop 1 figures) ≡ map f xs
+pub between : (f : ℕ → Figure) (xs : List ℕ) (first last : Figure) (figures : List Figure) (n : ℕ) → figures ≡ first ∷ (map f xs ++ last ∷ []) → n ≡ length xs →
+    take (n + 1 - 1) (drop 1 figures) ≡ map f xs
 between f xs first last figures n are size =
     let e : n + 1 - 1 ≡ length (map f xs) = omega (arith, size, length-map xs f) in
     ap (λ (l : List Figure). take (n + 1 - 1) (drop 1 l)) are ∙ ap (λ k. take k (map f xs ++ last ∷ [])) e ∙ take-append_seam (map f xs) (last ∷ [])
@@ -101,7 +103,8 @@ stage-made s a v e n l of votes elected none lost =
     ∙ ap (λ (x : ℕ). let t : Stage = record { action = s.action; votes = s.votes; elected = s.elected; non_transferable = s.non_transferable; lost = x } in t) lost
 
 -- those who are marked as elected among the first candidates, and one more who is, or isn't
-pub elected-yes : (f : ℕ → Figure) (xs chosen more : List ℕ) (i mark : ℕ) → IsColumnSet xs → i < length xs → mark ≡ (f (slice_index xs i)).mark → is_elected_mark mark ≡ true → chosen ≡ elected_shown f (take i xs) →
+pub elected-yes : (f : ℕ → Figure) (xs chosen more : List ℕ) (i mark : ℕ) → IsColumnSet xs → i < length xs → mark ≡ (f (slice_index xs i)).mark → is_elected_mark mark ≡ true →
+    chosen ≡ elected_shown f (take i xs) →
     (IsColumnSet (chosen ++ slice_index xs i ∷ []) → more ≡ chosen ++ slice_index xs i ∷ []) → more ≡ elected_shown f (take (i + 1) xs)
 elected-yes f xs chosen more i mark set within is passes so_far last =
     chosen-yes (λ c. is_elected_mark (f c).mark) xs chosen more i set within (ap is_elected_mark (sym is) ∙ passes) so_far last

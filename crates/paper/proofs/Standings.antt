@@ -1,5 +1,6 @@
 -- Statuses that are given one after the other, and preferences that are passed over.
-use Rattle.std.proofs.Common.{◌⊎◌, ap, ◌≡◌, ℕ, suc, zero, ◌+◌, ◌<◌, nat_eq, Bool, true, false, not, cond, ◌||◌, List, [], ◌∷◌, length, take, drop, set, replicate, slice_index, inl, inr, refl, ◌∙◌, arith, get_or-set_other, get_or-set_same}
+use Rattle.std.proofs.Common.{◌⊎◌, ap, ◌≡◌, ℕ, suc, zero, ◌+◌, ◌<◌, nat_eq, Bool, true, false, not, cond, ◌||◌, List, [], ◌∷◌, length, take, drop, set, replicate, slice_index, inl, inr}
+use Rattle.std.proofs.Common.{refl, ◌∙◌, arith, get_or-set_other, get_or-set_same}
 use Rattle.std.specs.List.{list_any, find, prefix_len, slice_get}
 use Rattle.std.proofs.lemmas.Bool.{eq-eqb, ne_eqb, cases_eq, cases_lt, or_right}
 use Rattle.std.proofs.lemmas.List.Folds.{list_any_more}

@@ -69,7 +69,8 @@ ward_reads papers names remarks ward few first =
 
 -- ---- the rejected papers
 
-next_code : (n mark : ℕ) (rest : Text) → n ≤ 4294967295 → parts Mark mark ≡ false → pieces_of Mark [] (decimal n ++ (44 ∷ 32 ∷ mark ∷ 58 ∷ 32 ∷ rest)) ≡ decimal n ∷ (mark ∷ []) ∷ pieces_of Mark [] rest
+next_code : (n mark : ℕ) (rest : Text) → n ≤ 4294967295 → parts Mark mark ≡ false →
+    pieces_of Mark [] (decimal n ++ (44 ∷ 32 ∷ mark ∷ 58 ∷ 32 ∷ rest)) ≡ decimal n ∷ (mark ∷ []) ∷ pieces_of Mark [] rest
 next_code n mark rest few other = number_then n 44 (32 ∷ mark ∷ 58 ∷ 32 ∷ rest) (omega arith) refl ∙ ap (λ ps. decimal n ∷ ps) (rw other refl)
 
 abbrev rejected_text : ℕ → ℕ → ℕ → ℕ → ℕ → Text

@@ -58,7 +58,8 @@ papers_next b bs = length-append (replicate b.1 b.0) (papers_of bs) ∙ ap (λ n
 zero_figures : IsFigures (codes "0")
 zero_figures = record { all = refl; some = omega arith }
 
-end_reads : (first : Bool) (h s : ℕ) (w : List ℕ) (bs : List Bundle) (names : Named) (remarks : Remarks) → Reads (state (papers_at first) (told h s w bs) names remarks) end_line (state place.Names (told h s w bs) names remarks)
+end_reads : (first : Bool) (h s : ℕ) (w : List ℕ) (bs : List Bundle) (names : Named) (remarks : Remarks) →
+    Reads (state (papers_at first) (told h s w bs) names remarks) end_line (state place.Names (told h s w bs) names remarks)
 unfolding line
 end_reads first h s w bs names remarks =
     let here = state (papers_at first) (told h s w bs) names remarks in

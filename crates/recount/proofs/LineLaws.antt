@@ -29,7 +29,8 @@ or_both a b h k = rw (h, k) refl
 -- ---- pieces
 
 -- a piece ends at the first byte that parts
-pub cut_piece : (s : Separator) (begun body : Text) (b : ℕ) (rest : Text) → list_any (parts s) body ≡ false → parts s b ≡ true → pieces_of s begun (body ++ b ∷ rest) ≡ piece s (begun ++ body) ++ pieces_of s [] rest
+pub cut_piece : (s : Separator) (begun body : Text) (b : ℕ) (rest : Text) → list_any (parts s) body ≡ false → parts s b ≡ true →
+    pieces_of s begun (body ++ b ∷ rest) ≡ piece s (begun ++ body) ++ pieces_of s [] rest
 cut_piece s begun [] b rest none parted = rw (parted, append-nil begun) refl
 cut_piece s begun (x ∷ body) b rest none parted =
     let part = or_none (parts s x) (list_any (parts s) body) none in

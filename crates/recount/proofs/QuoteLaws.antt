@@ -1,5 +1,6 @@
 -- The names are read back.
-use Rattle.std.proofs.Common.{◌≡◌, ◌∙◌, ℕ, zero, suc, ◌+◌, ◌<◌, ◌≤◌, ◌||◌, List, [], ◌∷◌, ◌++◌, Bool, true, false, length, map, refl, sym, ap, subst, arith, append_assoc, append-nil, length-append, Ok, Some}
+use Rattle.std.proofs.Common.{◌≡◌, ◌∙◌, ℕ, zero, suc, ◌+◌, ◌<◌, ◌≤◌, ◌||◌, List, [], ◌∷◌, ◌++◌, Bool, true, false, length, map, refl, sym, ap, subst, arith, append_assoc, append-nil}
+use Rattle.std.proofs.Common.{length-append, Ok, Some}
 use Rattle.std.specs.Prelude.{◌==◌, codes, fold, if◌then◌else◌, Option, option_map}
 use Rattle.std.specs.List.{AllByRecursion, find, flat_map, list_any, range_with_len}
 use Rattle.std.proofs.lemmas.Bool.{le-ltb, lt-ltb}
@@ -83,7 +84,8 @@ pub is_name : (candidates : List (ℕ × Text)) (c : ℕ) → AllByRecursion (λ
 is_name [] c all = withdrawn_name
 is_name (x ∷ candidates) c all = found_name (x.0 == c) x (find (λ (candidate : ℕ × Text). candidate.0 == c) candidates) all.0 (is_name candidates c all.1)
 
-pub names_read : (candidates : List (ℕ × Text)) (papers : Told) (remarks : Remarks) (ward : Text) (before : List Text) (k n : ℕ) → AllByRecursion (λ (candidate : ℕ × Text). IsName candidate.1) candidates → length before + n ≤ papers.highest
+pub names_read : (candidates : List (ℕ × Text)) (papers : Told) (remarks : Remarks) (ward : Text) (before : List Text) (k n : ℕ) →
+    AllByRecursion (λ (candidate : ℕ × Text). IsName candidate.1) candidates → length before + n ≤ papers.highest
     → Reads (state place.Names papers (record { names = before; ward = ward }) remarks) (flat_map (name_line candidates) (range_with_len k n)) (state place.Names papers (record { names = before ++ map (name_of candidates) (range_with_len k n); ward = ward }) remarks)
 names_read candidates papers remarks ward before k zero all few =
     subst (λ l. Reads (state place.Names papers (record { names = before; ward = ward }) remarks) [] (state place.Names papers (record { names = l; ward = ward }) remarks)) (sym (append-nil before))

@@ -25,7 +25,8 @@ candidates_ascend withdrawn k (name ∷ names) few =
     one_more (list_any (nat_eq (k + 1)) withdrawn) k name (candidates_from withdrawn (k + 1 + 1) names) (omega arith) (candidates_ascend withdrawn (k + 1) names (omega arith))
 
 -- what is shown of candidates has their numbers
-pub shown_numbers : (candidates : List (ℕ × String Global)) → map (λ (candidate : ℕ × List ℕ). candidate.0) (map (λ candidate. (candidate.0, string_bytes candidate.1)) candidates) ≡ map (λ candidate. candidate.0) candidates
+pub shown_numbers : (candidates : List (ℕ × String Global)) →
+    map (λ (candidate : ℕ × List ℕ). candidate.0) (map (λ candidate. (candidate.0, string_bytes candidate.1)) candidates) ≡ map (λ candidate. candidate.0) candidates
 shown_numbers [] = refl
 shown_numbers (candidate ∷ candidates) = ap (λ numbers. candidate.0 ∷ numbers) (shown_numbers candidates)
 
@@ -42,12 +43,14 @@ abbrev numbers_in : List (ℕ × String Global) → List ℕ
 numbers_in candidates = map (λ candidate. candidate.0) candidates
 
 -- each is one that a candidate may have
-pub number_is : (candidates : List (ℕ × String Global)) (i : ℕ) (candidate : ℕ × String Global) → IsColumnSet (numbers_in candidates) → i < length candidates → candidate ≡ get_or candidates i candidate → IsColumn candidate.0
+pub number_is : (candidates : List (ℕ × String Global)) (i : ℕ) (candidate : ℕ × String Global) → IsColumnSet (numbers_in candidates) → i < length candidates →
+    candidate ≡ get_or candidates i candidate → IsColumn candidate.0
 number_is candidates i candidate set here is =
     subst IsColumn (sym (ap (λ (c : ℕ × String Global). c.0) is)) (IsColumn-candidate (λ (c : ℕ × String Global). c.0) candidates i candidate here set)
 
 -- one more of them
-pub number_more : (candidates : List (ℕ × String Global)) (i : ℕ) (candidate : ℕ × String Global) (columns more : List ℕ) → IsColumnSet (numbers_in candidates) → i < length candidates → candidate ≡ get_or candidates i candidate
+pub number_more : (candidates : List (ℕ × String Global)) (i : ℕ) (candidate : ℕ × String Global) (columns more : List ℕ) → IsColumnSet (numbers_in candidates) → i < length candidates →
+    candidate ≡ get_or candidates i candidate
     → columns ≡ take i (numbers_in candidates) → (IsColumnSet (columns ++ candidate.0 ∷ []) → more ≡ columns ++ candidate.0 ∷ []) → more ≡ take (i + 1) (numbers_in candidates)
 number_more candidates i candidate columns more set here is so last =
     let within : i < length (numbers_in candidates) = omega (arith, length-map candidates (λ (c : ℕ × String Global). c.0)) in

@@ -1,5 +1,6 @@
 -- What an action is on, and how many there can be.
-use Rattle.std.proofs.Common.{◌≡◌, ℕ, ◌+◌, ◌-◌, ◌*◌, ◌<◌, ◌≤◌, ◌||◌, ◌&&◌, ◌⊎◌, inl, inr, Bool, true, false, not, cond, eqb, nat_eq, nat_lt, List, [], ◌∷◌, length, map, Option, Some, None, refl, sym, ap, ◌∙◌, arith, slice_index}
+use Rattle.std.proofs.Common.{◌≡◌, ℕ, ◌+◌, ◌-◌, ◌*◌, ◌<◌, ◌≤◌, ◌||◌, ◌&&◌, ◌⊎◌, inl, inr, Bool, true, false, not, cond, eqb, nat_eq, nat_lt, List, [], ◌∷◌, length, map, Option, Some, None}
+use Rattle.std.proofs.Common.{refl, sym, ap, ◌∙◌, arith, slice_index}
 use Rattle.std.specs.List.{list_any, filter, sum_by}
 use Rattle.std.proofs.lemmas.Bool.{eq-eqb, eqb-true, ltb-true}
 use Rattle.std.proofs.lemmas.List.{get_or_default}
@@ -180,7 +181,8 @@ length-acted contest handed (s ∷ s' ∷ before) fair right =
     omega (arith, length-acted contest handed (s' ∷ before) fair right.0, acted-more contest s s' before (handed (s' ∷ before) s) fair right.0.1.tells right.1)
 
 -- a right history has at most two stages for each candidate, and one
-pub stages-bound : (contest : Contest) (handed : History → Stage → Option ℕ) (stages : History) → IsContest contest → IsRightBy contest handed stages → length stages ≤ 2 * length contest.candidates + 1
+pub stages-bound : (contest : Contest) (handed : History → Stage → Option ℕ) (stages : History) → IsContest contest → IsRightBy contest handed stages →
+    length stages ≤ 2 * length contest.candidates + 1
 unfolding acted
 stages-bound contest handed stages fair right =
     omega (arith, length-acted contest handed stages fair right, filter_length (is_transferred stages) contest.candidates, filter_length (is_excluded stages) contest.candidates)

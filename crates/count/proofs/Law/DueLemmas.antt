@@ -50,7 +50,8 @@ any_lot contest old new action lot lot' is_act h =
 pub ruleset due_lot = (stage-due, any_lot)
 
 -- what is done with a group, by its size
-pub among-one : (contest : Contest) (stages : History) (kind : TiedFor) (group : List ℕ) → length group ≡ 1 → Act (action_on contest stages kind (slice_index group 0)) ≡ among contest stages kind group
+pub among-one : (contest : Contest) (stages : History) (kind : TiedFor) (group : List ℕ) → length group ≡ 1 →
+    Act (action_on contest stages kind (slice_index group 0)) ≡ among contest stages kind group
 among-one contest stages kind [] h = absurd (omega (arith, h))
 among-one contest stages kind (c ∷ []) h = refl
 among-one contest stages kind (c ∷ d ∷ rest) h = absurd (omega (arith, h))
@@ -62,7 +63,8 @@ among-more contest stages kind (c ∷ d ∷ rest) k = refl
 
 pub ruleset among_sizes = (among-one, among-more)
 
-pub due-none : (contest : Contest) (stages : History) (group : List ℕ) → length group ≡ 0 → among contest stages of_exclusion (lowest stages (continuing_after contest stages)) ≡ due_for contest stages group
+pub due-none : (contest : Contest) (stages : History) (group : List ℕ) → length group ≡ 0 →
+    among contest stages of_exclusion (lowest stages (continuing_after contest stages)) ≡ due_for contest stages group
 due-none contest stages [] h = refl
 due-none contest stages (c ∷ rest) h = absurd (omega (arith, h))
 

@@ -19,7 +19,8 @@ own_action : (contest : Contest) (stages : History) (kind : TiedFor) (c : ℕ) �
 own_action contest stages of_surplus c = refl
 own_action contest stages of_exclusion c = own_exclusion _ c
 
-own_lot : (contest : Contest) (stages : History) (n : ℕ) (kind : TiedFor) (tied : List ℕ) (c : ℕ) (b : Bool) (action : Action) → list_any (nat_eq c) tied ≡ b → cond b (Some (action_on contest stages kind c)) None ≡ Some action →
+own_lot : (contest : Contest) (stages : History) (n : ℕ) (kind : TiedFor) (tied : List ℕ) (c : ℕ) (b : Bool) (action : Action) → list_any (nat_eq c) tied ≡ b →
+    cond b (Some (action_on contest stages kind c)) None ≡ Some action →
     drawn contest stages (candidate_of action) (Lot n kind tied) ≡ Some action
 own_lot contest stages n kind tied c true action e h =
     let is : action_on contest stages kind c ≡ action = cc in
@@ -29,7 +30,8 @@ own_lot contest stages n kind tied c true action e h =
 own_lot contest stages n kind tied c false action e h = cc
 
 -- an action that a lot draws is drawn by the lot that it names itself
-pub drawn-own : (contest : Contest) (stages : History) (lot : Option ℕ) (d : Due) (action : Action) → drawn contest stages lot d ≡ Some action → drawn contest stages (candidate_of action) d ≡ Some action
+pub drawn-own : (contest : Contest) (stages : History) (lot : Option ℕ) (d : Due) (action : Action) → drawn contest stages lot d ≡ Some action →
+    drawn contest stages (candidate_of action) d ≡ Some action
 drawn-own contest stages lot (Act a) action h = h
 drawn-own contest stages lot Finished action h = cc
 drawn-own contest stages None (Lot n kind tied) action h = cc
