@@ -10,7 +10,7 @@ ghost use Rattle.count.specs.Books.{contest_of};
 use crate::book::AdvanceError;
 use crate::elected::{continuing, elected, vacancies, with_surplus};
 use crate::run::lot_at;
-use crate::stages::{Action, Due, TiedFor, Stage};
+use crate::stages::{Action, Due, Stage, TiedFor};
 use crate::terms::Terms;
 use crate::ties::{highest, lowest};
 use paper::Columns;

@@ -43,9 +43,7 @@ fn has_reached(terms: &Terms, stages: &[Stage], c: u8) -> bool
     requires few { c ≤ max_candidates }
     ensures { result ≡ has_reached_of (contest_of terms.now []) (reverse stages.now) c }
 {
-    stages
-        .iter()
-        .any(|stage| terms.quota.units() <= votes_after(stage, c).units())
+    stages.iter().any(|stage| terms.quota.units() <= votes_after(stage, c).units())
 }
 
 impl Action {

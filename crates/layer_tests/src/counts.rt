@@ -9,8 +9,8 @@ ghost use Rattle.count.specs.Bundles.{papers_of};
 ghost use Rattle.count.specs.Law.Contest.{IsContest, contest_for};
 
 use count::{
-    Action, AdvanceError, BundleBook, Bundles, CountBook, CountEnd, Due, TiedFor, ParcelBook, Stage,
-    count_to, due_by, dues_to, is_bundled_contest, is_contest, run_count,
+    Action, AdvanceError, BundleBook, Bundles, CountBook, CountEnd, Due, ParcelBook, Stage,
+    TiedFor, count_to, due_by, dues_to, is_bundled_contest, is_contest, run_count,
 };
 use paper::{Columns, Prefs};
 use std::alloc::{AllocError, Global};

@@ -1,8 +1,8 @@
 //! Marks as they are read, and papers as they are judged.
 
 use paper::{
-    Columns, Keyed, MarkFault, Marked, Marks, Prefs, Standing, CandidateStatus, available_from, judge,
-    next_available,
+    CandidateStatus, Columns, Keyed, MarkFault, Marked, Marks, Prefs, Standing, available_from,
+    judge, next_available,
 };
 use std::process::Abort;
 use std::test::Fail;

@@ -12,7 +12,7 @@ use crate::passing::{behind_number_sign, pass_over};
 use crate::pieces::{LineKind, Separator, kind_of, lines_of, pieces_of};
 use crate::problem::{Flaw, Problem};
 use crate::ranks::is_zero;
-use crate::state::{Comments, Names, Papers, NextLine, Reader};
+use crate::state::{Comments, Names, NextLine, Papers, Reader};
 use count::Bundles;
 use paper::Columns;
 use std::alloc::{AllocError, Global};

@@ -117,7 +117,10 @@ fn third_objection(clerk: u32, part: &Part) -> Option<Reason>
     let differ = differ(&part.first, &part.second, &part.third);
     first_reason(&[
         objection(!is_in_phase(Phase::Keying, &part.ward), Reason::WrongPhase),
-        objection(is_its_clerk(clerk, batch, &part.third_clerk), Reason::SameClerk),
+        objection(
+            is_its_clerk(clerk, batch, &part.third_clerk),
+            Reason::SameClerk,
+        ),
         objection(!differ, Reason::NoDifference),
         objection(part.third_clerk.is_some(), Reason::ThirdSet),
     ])

@@ -68,7 +68,10 @@ pub(crate) fn objection_to(actor: u32, command: &CandidateCommand, part: &Part) 
 {
     let range = objection(!is_in_range(actor, command), Reason::NumberOutOfRange);
     let no_ward = objection(part.ward.is_none(), Reason::NoSuchWard);
-    let phase = objection(!is_in_phase(Phase::Nominations, &part.ward), Reason::WrongPhase);
+    let phase = objection(
+        !is_in_phase(Phase::Nominations, &part.ward),
+        Reason::WrongPhase,
+    );
     match command {
         CandidateCommand::Add { name, .. } => {
             let bad_name = objection(!is_name(name.as_str()), Reason::BadName);

@@ -107,7 +107,10 @@ pub(crate) fn objection_to(actor: u32, command: &WardCommand, part: &Part) -> Op
         WardCommand::Close { .. } => first_reason(&[
             range,
             objection(part.ward.is_none(), Reason::NoSuchWard),
-            objection(!is_in_phase(Phase::Nominations, &part.ward), Reason::WrongPhase),
+            objection(
+                !is_in_phase(Phase::Nominations, &part.ward),
+                Reason::WrongPhase,
+            ),
             objection(part.candidates.is_empty(), Reason::NoCandidates),
         ]),
     }

@@ -58,7 +58,14 @@ impl<'a> OfCandidate for CandidateRow<'a> {
             Piece::Text("</th>"),
         ];
         let (cell, end) = (Cell::Candidate(*c), "</tr>");
-        write_row(sink, &opening, cell, end, self.block.place, self.block.stages)
+        write_row(
+            sink,
+            &opening,
+            cell,
+            end,
+            self.block.place,
+            self.block.stages,
+        )
     }
 }
 
@@ -126,7 +133,14 @@ impl<'a> OfCandidate for BarRow<'a> {
             Piece::Text("</tspan></text>"),
         ];
         let cell = Cell::Bar(*c, self.block.scale);
-        write_row(sink, &opening, cell, "", self.block.place, self.block.stages)
+        write_row(
+            sink,
+            &opening,
+            cell,
+            "",
+            self.block.place,
+            self.block.stages,
+        )
     }
 }
 

@@ -19,7 +19,10 @@ ghost use Rattle.store.specs.Openings.{IsToldBy, TellsNoState, IsVersion, TellsR
 use crate::listing::all_rows;
 use crate::writing::VERSION;
 use register::Tabulation;
-use rowcheck::{Rows, all_in_range, all_nominated, all_given_out, all_keyed, all_judged, all_agreed, all_counted, is_tabulated};
+use rowcheck::{
+    Rows, all_agreed, all_counted, all_given_out, all_in_range, all_judged, all_keyed,
+    all_nominated, is_tabulated,
+};
 use sqlite::{Alter, Connection, Row};
 use std::alloc::Global;
 use tables::cells::integer_at;

@@ -47,7 +47,7 @@ kept_votes contest s s' before c false gone tells step reached told enough =
 
 kept_later : (contest : Contest) (handed : History → Stage → Option ℕ) (s : Stage) (before : History) → IsContest contest → IsRightBy contest handed (s ∷ before) →
     (c : ℕ) → In c contest.candidates → (has_reached contest before c ≡ true → contest.quota ≤ newest_votes before c) → has_reached contest before c ≡ true →
-        contest.quota ≤ newest_votes (s ∷ before) c
+    contest.quota ≤ newest_votes (s ∷ before) c
 kept_later contest handed s [] fair right c is_candidate enough reached = cc
 kept_later contest handed s (s' ∷ before) fair right c is_candidate enough reached =
     let column = column-in c contest.candidates fair.candidate_set is_candidate in
