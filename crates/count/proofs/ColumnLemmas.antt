@@ -1,15 +1,14 @@
 -- Sets of numbers, and lists that are walked from either end.
-use Rattle.std.proofs.Common.{◌≡◌, ℕ, ◌+◌, ◌<◌, ◌≤◌, ◌||◌, Bool, true, false, cond, nat_eq, List, [], ◌∷◌, ◌++◌, length, take, get_or, reverse, refl, sym, ap, ◌∙◌, arith, subst, slice_index}
+use Rattle.std.proofs.Common.{◌≡◌, ℕ, ◌+◌, ◌<◌, Bool, true, false, cond, nat_eq, List, [], ◌∷◌, ◌++◌, length, take, reverse, refl, sym, ap, ◌∙◌, arith, subst, slice_index}
 use Rattle.std.proofs.lemmas.List.{append-nil, reverse-append}
 use Rattle.std.specs.List.{list_any, filter}
 use Rattle.std.proofs.lemmas.Bool.{eq-eqb}
 use Rattle.std.proofs.lemmas.List.Sorted.{list_any-IsPermutation, IsPermutation-reverse}
 use Rattle.std.proofs.lemmas.List.Folds.{list_any_at}
 use Rattle.std.proofs.lemmas.List.Kept.{IsStrictlyIncreasing-filter}
-use Rattle.paper.specs.Columns.{max_candidates, IsColumnSet, IsColumn}
-use Rattle.std.proofs.lemmas.List.{get_or-take, length-take, take_all}
+use Rattle.paper.specs.Columns.{IsColumnSet, IsColumn}
+use Rattle.std.proofs.lemmas.List.{get_or-take, length-take}
 use Rattle.std.proofs.lemmas.List.Elements.{filter_more}
-use Rattle.count.specs.Law.Contest.{In}
 use Rattle.count.specs.Inside.Holdings.{OnlyColumns}
 use Rattle.count.proofs.Law.ActionLemmas.{in-filter, column-in}
 

@@ -1,6 +1,5 @@
 -- The numbers of the candidates of a ward.
 use Rattle.std.proofs.Common.{ℕ, ◌≤◌, List, [], ◌∷◌, map}
-use Rattle.paper.specs.Columns.{IsColumnSet}
 use Rattle.paper.proofs.ColumnSets.{Ascends, columns_from_ascends, ascends_from_columns}
 use Rattle.sheet.specs.Wards.{Ascend, HasFewPapers, CanBePrinted}
 use Rattle.votes.specs.Units.{max_seats}

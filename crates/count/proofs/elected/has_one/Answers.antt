@@ -1,5 +1,5 @@
 -- Of the proof of `has_one`: what is shown by hand.
-use Rattle.std.proofs.Common.{◌≡◌, ◌∙◌, ◌||◌, Bool, sym, ap, ap₂, subst, slice_index}
+use Rattle.std.proofs.Common.{◌∙◌, ◌||◌, Bool, sym, ap, ap₂, subst, slice_index}
 use Rattle.std.specs.List.{list_any}
 use Rattle.std.proofs.lemmas.List.{take_all}
 use Rattle.std.proofs.lemmas.List.Folds.{list_any_at, list_any_more}

@@ -1,5 +1,5 @@
 -- Of the proof of `those`: what is shown by hand.
-use Rattle.std.proofs.Common.{◌≡◌, ◌∙◌, sym, subst, slice_index}
+use Rattle.std.proofs.Common.{◌∙◌, sym, subst, slice_index}
 use Rattle.paper.specs.Columns.{IsColumnSet}
 use Rattle.count.proofs.ColumnLemmas.{chosen-yes, chosen-no}
 use Rattle.count.proofs.elected.those.Goals as goal

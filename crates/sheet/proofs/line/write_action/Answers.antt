@@ -1,5 +1,5 @@
 -- Why `write_action` keeps its promise.
-use Rattle.std.proofs.Common.{codes, decimal}
+use Rattle.std.proofs.Common.{codes}
 use Rattle.sheet.proofs.Writing.{Writes-then, Writes-failed, Writes-front}
 use Rattle.sheet.proofs.line.write_action.Goals as goal
 
