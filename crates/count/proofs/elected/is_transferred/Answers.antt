@@ -1,12 +1,13 @@
 -- Of the proof of `is_transferred`: what is shown by hand.
-use Rattle.std.proofs.Common.{◌≡◌, ◌∙◌, sym, rules}
-use Rattle.std.specs.List.{list_any}
+use Rattle.std.proofs.Common.{◌∙◌, sym, rules, tests}
 use Rattle.count.specs.Law.Elected.{transfers}
 use Rattle.count.specs.declared.stages.Stage.{Stage}
+use Rattle.std.proofs.lemmas.Iterator.{YieldsList-from_slice}
+use Rattle.std.proofs.lemmas.Iterator.Search.{any_from_yields_List}
 use Rattle.count.proofs.ColumnLemmas.{any-reverse}
 use Rattle.count.proofs.elected.is_transferred.Goals as goal
 
 pub returns : goal.returns
 returns c =
-    let found : c.any.result ≡ list_any (λ (s : Stage). transfers s.action c.args.c) c.args.stages.now = search rules in
-    found ∙ sym (any-reverse (λ (s : Stage). transfers s.action c.args.c) c.args.stages.now)
+    any_from_yields_List (λ (s : Stage). transfers s.action c.args.c) _ _ _ c.any.ensures.ran (YieldsList-from_slice c.args.stages.now cc) (λ x b q k. search (rules, tests))
+    ∙ sym (any-reverse (λ (s : Stage). transfers s.action c.args.c) c.args.stages.now)
