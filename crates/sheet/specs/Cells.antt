@@ -6,7 +6,7 @@ use Rattle.count.specs.Law.Contest.{votes_at}
 use Rattle.count.specs.declared.stages.Stage.{Stage}
 use Rattle.count.specs.declared.stages.Action.{Action}
 use Rattle.sheet.specs.Lines.{line}
-use Rattle.sheet.specs.Stages.{fate}
+use Rattle.sheet.specs.Stages.{fate_at}
 use Rattle.sheet.specs.Picture.{bar, stage_name}
 use Rattle.sheet.specs.declared.stage.Fate.{Fate}
 use Rattle.sheet.specs.declared.stage.Fate.TheVariants.{NewlyElected, Elected, NewlyExcluded, Excluded, Continuing}
@@ -55,7 +55,7 @@ sum_cell units = line (codes "<td>" ∷ votes_text units ∷ codes "</td>" ∷ [
 -- what a cell tells of a stage after earlier ones
 abbrev pub cell_text : Cell → List Stage → Stage → List ℕ
 cell_text Head earlier stage = column_head (length earlier + 1) stage.action
-cell_text (Candidate c) earlier stage = votes_cell (votes_before earlier stage c) (votes_at stage c) (standing (fate earlier stage c))
+cell_text (Candidate c) earlier stage = votes_cell (votes_before earlier stage c) (votes_at stage c) (standing (fate_at earlier stage c))
 cell_text NonTransferable earlier stage = sum_cell stage.non_transferable
 cell_text Lost earlier stage = sum_cell stage.lost
 cell_text Above earlier stage = stage_name (length earlier)

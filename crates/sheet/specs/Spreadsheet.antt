@@ -12,7 +12,7 @@ use Rattle.sheet.specs.declared.spreadsheet.Line.{Line}
 use Rattle.sheet.specs.declared.spreadsheet.Line.TheVariants.{Candidate, NonTransferable, Lost}
 use Rattle.sheet.specs.Cells.{each_after}
 use Rattle.sheet.specs.Entries.{SheetEntry}
-use Rattle.sheet.specs.Stages.{fate}
+use Rattle.sheet.specs.Stages.{fate_at}
 use Rattle.sheet.specs.declared.stage.Fate.{Fate}
 use Rattle.sheet.specs.declared.stage.Fate.TheVariants.{NewlyElected, Elected, NewlyExcluded, Excluded, Continuing}
 
@@ -65,7 +65,7 @@ standing_word Continuing = codes "continuing"
 
 -- the same of a line; a running sum has no such word
 abbrev pub standing : Line → List Stage → Stage → List ℕ
-standing (Candidate c) earlier stage = standing_word (fate earlier stage c)
+standing (Candidate c) earlier stage = standing_word (fate_at earlier stage c)
 standing NonTransferable earlier stage = []
 standing Lost earlier stage = []
 

@@ -23,8 +23,8 @@ abbrev pub is_excluded_at : List Stage → ℕ → Bool
 is_excluded_at stages c = list_any (λ s. excludes s.action c) stages
 
 -- how a candidate stands at a stage after earlier ones
-abbrev pub fate : List Stage → Stage → ℕ → Fate
-fate earlier stage c =
+abbrev pub fate_at : List Stage → Stage → ℕ → Fate
+fate_at earlier stage c =
     if is_elected_at (stage ∷ []) c then NewlyElected else (
     if is_elected_at earlier c then Elected else (
     if is_excluded_at (stage ∷ []) c then NewlyExcluded else (
@@ -41,7 +41,7 @@ letter Continuing = codes "-"
 -- ` 1       4.00000 e Ann`
 abbrev pub candidate_line : List Stage → Stage → ℕ → List ℕ → List ℕ
 candidate_line earlier stage c name =
-    line (number_column c ∷ codes " " ∷ value_column (votes_at stage c) ∷ codes " " ∷ letter (fate earlier stage c) ∷ codes " " ∷ name ∷ [])
+    line (number_column c ∷ codes " " ∷ value_column (votes_at stage c) ∷ codes " " ∷ letter (fate_at earlier stage c) ∷ codes " " ∷ name ∷ [])
 
 -- `         0.00002 lost by fractions`: a running sum and what it sums up
 abbrev pub sum_line : ℕ → List ℕ → List ℕ

@@ -7,7 +7,7 @@ ghost use Rattle.sheet.specs.Writing.{Writes};
 
 use crate::line::{Piece, write_line};
 use crate::picture::{Scale, write_bar, write_stage_name};
-use crate::stage::{Fate, fate, votes_of};
+use crate::stage::{Fate, fate_at, votes_of};
 use count::{Action, Stage};
 use votes::{Broken, Sink, Votes};
 
@@ -135,7 +135,7 @@ fn write_cell<W: Sink>(
         Cell::Head => write_column_head(sink, earlier.len() as u64 + 1, stage.action),
         Cell::Candidate(c) => {
             let before = votes_before(earlier, stage, c);
-            let stands = standing(fate(earlier, stage, c));
+            let stands = standing(fate_at(earlier, stage, c));
             write_votes_cell(sink, before, votes_of(stage, c), stands)
         }
         Cell::NonTransferable => write_sum_cell(sink, stage.non_transferable),

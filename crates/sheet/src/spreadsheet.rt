@@ -11,7 +11,7 @@ ghost use Rattle.sheet.specs.Spreadsheet.{stage_heads, standing as standing_of, 
 ghost use Rattle.sheet.specs.Spreadsheet.{value_in as value_in_of, writer};
 ghost use Rattle.sheet.specs.Wards.{CanBePrinted};
 
-use crate::stage::{Fate, fate, votes_of};
+use crate::stage::{Fate, fate_at, votes_of};
 use crate::ward::Ward;
 use count::Stage;
 use csv::{QuoteStyle, WriterBuilder};
@@ -67,7 +67,7 @@ impl Line {
         ensures { result.now ≡ standing_of self earlier.now stage.now }
     {
         match self {
-            Line::Candidate(c) => standing_word(fate(earlier, stage, c)),
+            Line::Candidate(c) => standing_word(fate_at(earlier, stage, c)),
             Line::NonTransferable | Line::Lost => "",
         }
     }

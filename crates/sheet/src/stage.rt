@@ -3,7 +3,7 @@
 ghost use Rattle.std.specs.Prelude.{◌≡◌, ◌-◌, ◌^◌, ◌<◌};
 ghost use Rattle.count.specs.Law.Contest.{votes_at};
 ghost use Rattle.sheet.specs.Entries.{shown};
-ghost use Rattle.sheet.specs.Stages.{is_elected_at as is_elected_of, is_excluded_at as is_excluded_of, fate as fate_of, letter as letter_of, heading, candidate_line, sum_line, sum_lines};
+ghost use Rattle.sheet.specs.Stages.{is_elected_at as is_elected_of, is_excluded_at as is_excluded_of, fate_at as fate_of, letter as letter_of, heading, candidate_line, sum_line, sum_lines};
 ghost use Rattle.sheet.specs.Sheet.{stage_text};
 ghost use Rattle.sheet.specs.Writing.{Writes};
 
@@ -57,7 +57,7 @@ pub fn is_excluded_at(stages: &[Stage], c: u8) -> bool
 }
 
 /// How a candidate stands at a stage after earlier ones.
-pub fn fate(earlier: &[Stage], stage: &Stage, c: u8) -> Fate
+pub fn fate_at(earlier: &[Stage], stage: &Stage, c: u8) -> Fate
     ensures { result ≡ fate_of earlier.now stage.now c }
 {
     if stage.elected.has(c) {
@@ -115,7 +115,7 @@ impl<'a> OfCandidate for CandidateLine<'a> {
             Piece::Text(" "),
             Piece::ValueColumn(votes_of(self.stage, *c)),
             Piece::Text(" "),
-            Piece::Text(letter(fate(self.earlier, self.stage, *c))),
+            Piece::Text(letter(fate_at(self.earlier, self.stage, *c))),
             Piece::Text(" "),
             Piece::Text(name.as_str()),
         ];
