@@ -14,7 +14,7 @@ use crate::phase::Phase;
 use crate::ranges::{
     LAST_ROUND, is_batch_number, is_clerk, is_office, is_paper_number, is_ward_number,
 };
-use crate::refusal::{Reason, first_reason, objection};
+use crate::refusal::Reason;
 use crate::view::Part;
 use crate::wards::is_in_phase;
 use std::alloc::{AllocError, Global};
@@ -114,16 +114,19 @@ fn third_objection(clerk: u32, part: &Part) -> Option<Reason>
     let Some(batch) = &part.batch else {
         return Some(Reason::NoSuchBatch);
     };
-    let differ = differ(&part.first, &part.second, &part.third);
-    first_reason(&[
-        objection(!is_in_phase(Phase::Keying, &part.ward), Reason::WrongPhase),
-        objection(
-            is_its_clerk(clerk, batch, &part.third_clerk),
-            Reason::SameClerk,
-        ),
-        objection(!differ, Reason::NoDifference),
-        objection(part.third_clerk.is_some(), Reason::ThirdSet),
-    ])
+    if !is_in_phase(Phase::Keying, &part.ward) {
+        return Some(Reason::WrongPhase);
+    }
+    if is_its_clerk(clerk, batch, &part.third_clerk) {
+        return Some(Reason::SameClerk);
+    }
+    if !differ(&part.first, &part.second, &part.third) {
+        return Some(Reason::NoDifference);
+    }
+    if part.third_clerk.is_some() {
+        return Some(Reason::ThirdSet);
+    }
+    None
 }
 
 /// What stands against a command: of several reasons the one with the lowest number.
@@ -138,19 +141,32 @@ pub(crate) fn objection_to(actor: u32, command: &BatchCommand, part: &Part) -> O
             first_clerk,
             second_clerk,
             ..
-        } => first_reason(&[
-            objection(part.ward.is_none(), Reason::NoSuchWard),
-            objection(part.batch.is_some(), Reason::BatchExists),
-            objection(!is_in_phase(Phase::Keying, &part.ward), Reason::WrongPhase),
-            objection(first_clerk == second_clerk, Reason::SameClerk),
-        ]),
+        } => {
+            if part.ward.is_none() {
+                return Some(Reason::NoSuchWard);
+            }
+            if part.batch.is_some() {
+                return Some(Reason::BatchExists);
+            }
+            if !is_in_phase(Phase::Keying, &part.ward) {
+                return Some(Reason::WrongPhase);
+            }
+            if first_clerk == second_clerk {
+                return Some(Reason::SameClerk);
+            }
+            None
+        }
         BatchCommand::Again { .. } => {
-            let differ = differ(&part.first, &part.second, &part.third);
-            first_reason(&[
-                objection(part.batch.is_none(), Reason::NoSuchBatch),
-                objection(!is_in_phase(Phase::Keying, &part.ward), Reason::WrongPhase),
-                objection(!differ, Reason::NoDifference),
-            ])
+            if part.batch.is_none() {
+                return Some(Reason::NoSuchBatch);
+            }
+            if !is_in_phase(Phase::Keying, &part.ward) {
+                return Some(Reason::WrongPhase);
+            }
+            if !differ(&part.first, &part.second, &part.third) {
+                return Some(Reason::NoDifference);
+            }
+            None
         }
         BatchCommand::Third { clerk, .. } => third_objection(*clerk, part),
     }

@@ -10,9 +10,9 @@ ghost use Rattle.register.specs.Candidates.{is_in_range, objections, subject_of,
 use crate::decision::Effect;
 use crate::phase::Phase;
 use crate::ranges::{is_candidate_number, is_name, is_office, is_ward_number};
-use crate::refusal::{Reason, first_reason, objection};
+use crate::refusal::Reason;
 use crate::view::Part;
-use crate::wards::is_in_phase;
+use crate::wards::phase_objection;
 use std::alloc::{AllocError, Global};
 
 /// A candidate: the ward (1 to 99), the number there (1 to 30) and the name.
@@ -66,21 +66,30 @@ fn is_in_range(actor: u32, command: &CandidateCommand) -> bool
 pub(crate) fn objection_to(actor: u32, command: &CandidateCommand, part: &Part) -> Option<Reason>
     ensures { result ≡ first_reason (objections actor command.now (part_entries part.now)) }
 {
-    let range = objection(!is_in_range(actor, command), Reason::NumberOutOfRange);
-    let no_ward = objection(part.ward.is_none(), Reason::NoSuchWard);
-    let phase = objection(
-        !is_in_phase(Phase::Nominations, &part.ward),
-        Reason::WrongPhase,
-    );
+    if !is_in_range(actor, command) {
+        return Some(Reason::NumberOutOfRange);
+    }
     match command {
         CandidateCommand::Add { name, .. } => {
-            let bad_name = objection(!is_name(name.as_str()), Reason::BadName);
-            let exists = objection(part.candidate.is_some(), Reason::CandidateExists);
-            first_reason(&[range, bad_name, no_ward, phase, exists])
+            if !is_name(name.as_str()) {
+                return Some(Reason::BadName);
+            }
+            if let Some(reason) = phase_objection(Phase::Nominations, &part.ward) {
+                return Some(reason);
+            }
+            if part.candidate.is_some() {
+                return Some(Reason::CandidateExists);
+            }
+            None
         }
         CandidateCommand::Withdraw { .. } => {
-            let none = objection(part.candidate.is_none(), Reason::NoSuchCandidate);
-            first_reason(&[range, no_ward, phase, none])
+            if let Some(reason) = phase_objection(Phase::Nominations, &part.ward) {
+                return Some(reason);
+            }
+            if part.candidate.is_none() {
+                return Some(Reason::NoSuchCandidate);
+            }
+            None
         }
     }
 }

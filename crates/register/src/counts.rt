@@ -16,7 +16,7 @@ use crate::decision::Effect;
 use crate::phase::Phase;
 use crate::polls::PollTally;
 use crate::ranges::{LAST_LOT_STAGE, is_candidate_number, is_lot_stage, is_office, is_ward_number};
-use crate::refusal::{Reason, first_reason, objection};
+use crate::refusal::Reason;
 use crate::tabulated::Addition;
 use crate::texts::listed;
 use crate::view::Part;
@@ -176,13 +176,16 @@ fn own_objection_to(command: &CountCommand, part: &Part) -> Option<Reason>
             candidate,
             ..
         } => {
-            let waits = waits_at(*stage, &part.due);
-            let among = is_among(*candidate, &part.due);
-            first_reason(&[
-                objection(part.candidate.is_none(), Reason::NoSuchCandidate),
-                objection(!waits, Reason::NoSuchLot),
-                objection(!among, Reason::NotAmong),
-            ])
+            if part.candidate.is_none() {
+                return Some(Reason::NoSuchCandidate);
+            }
+            if !waits_at(*stage, &part.due) {
+                return Some(Reason::NoSuchLot);
+            }
+            if !is_among(*candidate, &part.due) {
+                return Some(Reason::NotAmong);
+            }
+            None
         }
         CountCommand::Declare { .. } => {
             if has_finished(&part.due) {

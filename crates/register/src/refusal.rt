@@ -1,7 +1,7 @@
 //! Why a request is refused.
 
 ghost use Rattle.std.specs.Prelude.{◌≡◌, IfOk, string_bytes};
-ghost use Rattle.register.specs.Reasons.{reason_number, reason_words, reason_text, objection, first_reason};
+ghost use Rattle.register.specs.Reasons.{reason_number, reason_words, reason_text};
 
 use crate::texts::listed;
 use paper::Columns;
@@ -130,25 +130,6 @@ impl Reason {
             _ => String::from_str(alloc, words),
         }
     }
-}
-
-/// An objection: this reason, where a condition is met.
-pub(crate) fn objection(met: bool, why: Reason) -> Option<Reason>
-    ensures { result ≡ objection met why }
-{
-    if met { Some(why) } else { None }
-}
-
-/// Of several objections, in the order of the reasons' numbers, the first.
-pub(crate) fn first_reason(objections: &[Option<Reason>]) -> Option<Reason>
-    ensures { result ≡ first_reason objections.now }
-{
-    for objection in objections {
-        if objection.is_some() {
-            return *objection;
-        }
-    }
-    None
 }
 
 /// A refusal: its reason, and the reason in words. It changes nothing and leaves no receipt.

@@ -12,7 +12,7 @@ use crate::candidates::Candidate;
 use crate::decision::Effect;
 use crate::phase::Phase;
 use crate::ranges::{is_name, is_office, is_seat_number, is_ward_number};
-use crate::refusal::{Reason, first_reason, objection};
+use crate::refusal::Reason;
 use crate::view::Part;
 use std::alloc::{AllocError, Global};
 
@@ -97,22 +97,28 @@ fn is_to_be_polled(ward: &Option<Ward>, candidates: &[Candidate]) -> bool
 pub(crate) fn objection_to(actor: u32, command: &WardCommand, part: &Part) -> Option<Reason>
     ensures { result ≡ first_reason (objections actor command.now (part_entries part.now)) }
 {
-    let range = objection(!is_in_range(actor, command), Reason::NumberOutOfRange);
+    if !is_in_range(actor, command) {
+        return Some(Reason::NumberOutOfRange);
+    }
     match command {
-        WardCommand::Add { name, .. } => first_reason(&[
-            range,
-            objection(!is_name(name.as_str()), Reason::BadName),
-            objection(part.ward.is_some(), Reason::WardExists),
-        ]),
-        WardCommand::Close { .. } => first_reason(&[
-            range,
-            objection(part.ward.is_none(), Reason::NoSuchWard),
-            objection(
-                !is_in_phase(Phase::Nominations, &part.ward),
-                Reason::WrongPhase,
-            ),
-            objection(part.candidates.is_empty(), Reason::NoCandidates),
-        ]),
+        WardCommand::Add { name, .. } => {
+            if !is_name(name.as_str()) {
+                return Some(Reason::BadName);
+            }
+            if part.ward.is_some() {
+                return Some(Reason::WardExists);
+            }
+            None
+        }
+        WardCommand::Close { .. } => {
+            if let Some(reason) = phase_objection(Phase::Nominations, &part.ward) {
+                return Some(reason);
+            }
+            if part.candidates.is_empty() {
+                return Some(Reason::NoCandidates);
+            }
+            None
+        }
     }
 }
 
