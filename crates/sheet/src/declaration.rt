@@ -6,9 +6,9 @@ ghost use Rattle.sheet.specs.Sheet.{elected_line, declaration};
 ghost use Rattle.sheet.specs.Wards.{CanBePrinted};
 ghost use Rattle.sheet.specs.Writing.{Writes};
 
-use crate::candidates::{OfCandidate, write_each};
 use crate::line::{Piece, write_line};
 use crate::opening::write_ward_line;
+use crate::told::{OfCandidate, write_each};
 use crate::ward::Ward;
 use paper::Columns;
 use votes::{Broken, Sink};

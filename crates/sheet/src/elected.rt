@@ -6,8 +6,8 @@ ghost use Rattle.sheet.specs.Entries.{shown};
 ghost use Rattle.sheet.specs.Page.{elected_at, elected_end, elected_text, item_at, left_words as words_of, seats_left as left_of, unopposed_item, unopposed_text};
 ghost use Rattle.sheet.specs.Writing.{Writes};
 
-use crate::candidates::{OfCandidate, write_each};
 use crate::line::{Piece, write_line};
+use crate::told::{OfCandidate, write_each};
 use crate::ward::Ward;
 use count::Stage;
 use paper::Columns;

@@ -14,7 +14,6 @@
 #![tactic(auto)]
 
 mod ballots;
-mod candidates;
 mod cells;
 mod declaration;
 mod elected;
@@ -30,6 +29,7 @@ mod spreadsheet;
 mod stage;
 mod table;
 mod texts;
+mod told;
 mod ward;
 
 pub use ballots::write_ballots;

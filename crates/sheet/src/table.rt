@@ -5,11 +5,11 @@ ghost use Rattle.sheet.specs.Entries.{shown};
 ghost use Rattle.sheet.specs.Table.{bar_row, block_at, blocks, candidate_row, head_row, picture, picture_end, picture_head, sum_rows, table};
 ghost use Rattle.sheet.specs.Writing.{Writes};
 
-use crate::candidates::{OfCandidate, write_each};
 use crate::cells::{Cell, write_row};
 use crate::line::{Piece, write_text};
 use crate::look::legend;
 use crate::picture::Scale;
+use crate::told::{OfCandidate, write_each};
 use crate::ward::Ward;
 use count::Stage;
 use votes::{Broken, Sink};

@@ -3,7 +3,7 @@ use Rattle.std.proofs.Common.{take, Ok, string_bytes}
 use Rattle.std.specs.List.{flat_map}
 use Rattle.votes.specs.declared.streams.Broken.{Broken}
 use Rattle.sheet.specs.Writing.{Writes}
-use Rattle.sheet.proofs.candidates.write_each.Given as goal
+use Rattle.sheet.proofs.told.write_each.Given as goal
 
 abbrev pub invariant-loop-candidate : goal.invariant-loop-candidate
 invariant-loop-candidate g l =

@@ -3,7 +3,7 @@ use Rattle.std.proofs.Common.{string_bytes}
 use Rattle.std.proofs.lemmas.List.{take_all}
 use Rattle.std.proofs.lemmas.List.Folds.{flat_map-map}
 use Rattle.sheet.proofs.Writing.{Writes-none, Writes-item, Writes-item_cut}
-use Rattle.sheet.proofs.candidates.write_each.Goals as goal
+use Rattle.sheet.proofs.told.write_each.Goals as goal
 
 pub loop-candidate-init : goal.loop-candidate-init
 loop-candidate-init g c = Writes-none _ _
