@@ -1,5 +1,5 @@
 -- What the program is asked for by its words, and what comes of it.
-use Rattle.std.specs.Prelude.{◌≡◌, ◌⊎◌, if◌then◌else◌, nat_eq, Bool, List, [], ◌∷◌, Result, Ok, Err, codes, string_bytes}
+use Rattle.std.specs.Prelude.{◌≡◌, ◌⊎◌, ◌||◌, if◌then◌else◌, nat_eq, Bool, List, [], ◌∷◌, Result, Ok, Err, codes, string_bytes}
 use Rattle.std.specs.Cmp.Lexicographic.{pointwise}
 use Rattle.recount.specs.Checks.{IsChecked, IsProblem}
 use Rattle.recount.specs.Pages.{Page, hint_of, memory_page, page_of}
