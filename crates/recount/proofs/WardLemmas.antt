@@ -6,7 +6,6 @@ use Rattle.std.proofs.lemmas.List.{get_or-map, length-map, take_all, take_more}
 use Rattle.paper.specs.Columns.{IsColumn, IsColumnSet, max_candidates}
 use Rattle.paper.proofs.ColumnSets.{Ascends, columns_from_ascends}
 use Rattle.count.proofs.ColumnLemmas.{columns-take}
-use Rattle.sheet.proofs.Candidates.{IsColumn-candidate}
 use Rattle.recount.specs.Wards.{candidates_from, candidates_of}
 
 -- numbers that ascend from above a number on do so from above a lower one
@@ -42,7 +41,11 @@ candidates_set withdrawn names candidates few is =
 abbrev numbers_in : List (ℕ × String Global) → List ℕ
 numbers_in candidates = map (λ candidate. candidate.0) candidates
 
--- each is one that a candidate may have
+-- the number of each candidate is one that a candidate may have
+IsColumn-candidate : {X : Type 0} (number : X → ℕ) (xs : List X) (i : ℕ) (d : X) → i < length xs → IsColumnSet (map number xs) → IsColumn (number (get_or xs i d))
+IsColumn-candidate number xs i d within set =
+    subst IsColumn (get_or-map number xs i d 0 within) (set.within i (omega (arith, length-map xs number)))
+
 pub number_is : (candidates : List (ℕ × String Global)) (i : ℕ) (candidate : ℕ × String Global) → IsColumnSet (numbers_in candidates) → i < length candidates →
     candidate ≡ get_or candidates i candidate → IsColumn candidate.0
 number_is candidates i candidate set here is =
