@@ -22,8 +22,7 @@ use Rattle.wire.specs.declared.response.Response.{Response}
 use Rattle.wire.specs.declared.target.Reading.{Reading}
 
 -- a keying that the office answered
-pub Readies-answered : (s : OfficeState) (clerk batch : ℕ) (entry : KeyingEntry) (request : Request) (a : Answer) (response : Response) (closed : Bool) (st : State) →
-    IsHandedOn clerk batch entry request
+pub Readies-answered : (s : OfficeState) (clerk batch : ℕ) (entry : KeyingEntry) (request : Request) (a : Answer) (response : Response) (closed : Bool) (st : State) → IsHandedOn clerk batch entry request
     → Handled s (step_of s request) (Ok a) closed st → IsTold (told_response (told a)) response → Readies s (keying clerk batch entry) response closed st
 Readies-answered s clerk batch entry request a response closed st is handled tells =
     let outcome = step_of s request in (
@@ -33,8 +32,7 @@ Readies-answered s clerk batch entry request a response closed st is handled tel
     )
 
 -- a keying at which it met a fault
-pub Readies-faulted : (s : OfficeState) (clerk batch : ℕ) (entry : KeyingEntry) (request : Request) (f : Fault) (response : Response) (closed : Bool) (st : State) →
-    IsHandedOn clerk batch entry request
+pub Readies-faulted : (s : OfficeState) (clerk batch : ℕ) (entry : KeyingEntry) (request : Request) (f : Fault) (response : Response) (closed : Bool) (st : State) → IsHandedOn clerk batch entry request
     → Handled s (step_of s request) (Err f) closed st → IsTold (fault_response (fault_number f)) response → Readies s (keying clerk batch entry) response closed st
 Readies-faulted s clerk batch entry request f response closed st is handled tells =
     (fault_response (fault_number f), tells, inr (f, refl, (step_of s request, IsOutcome-handed s clerk batch entry request is, handled)))

@@ -1,6 +1,5 @@
 -- What the parameters of a route take of a path, and the path that a pattern fits.
-use Rattle.std.proofs.Common.{◌≡◌, ◌∙◌, ◌-◌, ◌+◌, ◌<◌, ◌≤◌, ◌==◌, ◌&&◌, suc, ℕ, Bool, true, false, List, [], ◌∷◌, ◌++◌, Some, None, append_assoc, drop, inl, inr, leb, length, ltb, not, refl}
-use Rattle.std.proofs.Common.{sym, ap, arith}
+use Rattle.std.proofs.Common.{◌≡◌, ◌∙◌, ◌-◌, ◌+◌, ◌<◌, ◌≤◌, ◌==◌, ◌&&◌, suc, ℕ, Bool, true, false, List, [], ◌∷◌, ◌++◌, Some, None, append_assoc, drop, inl, inr, leb, length, ltb, not, refl, sym, ap, arith}
 use Rattle.std.specs.Prelude.{if◌then◌else◌, nat_le}
 use Rattle.std.specs.Char.{is_ascii, is_ascii_digit}
 use Rattle.std.specs.List.{list_all}
@@ -13,8 +12,7 @@ use Rattle.matchit.specs.Params.{after_token, part_of, walk, wild_from, wild_sto
 use Rattle.matchit.specs.Rows.{param_token}
 use Rattle.matchit.specs.Seek.{segment}
 use Rattle.wire.proofs.RowLemmas.{BeginsByPart, Fits, HasNoSlash, segment-part}
-use Rattle.paper.specs.Digits.{is_plain, most_digits, plain_number_in}
-use Rattle.wire.specs.Targets.{Taken}
+use Rattle.wire.specs.Targets.{Taken, is_number, most_digits, number_in}
 
 -- ---- what a parameter takes
 
@@ -107,10 +105,10 @@ chosen-true : (b : Bool) (n m : ℕ) → (if b then Some n else None) ≡ Some m
 chosen-true true n m is = refl
 chosen-true false n m is = let no : ⊥ = cc in absurd no
 
-pub numeric : (part : List ℕ) (n : ℕ) → plain_number_in part ≡ Some n → IsNumeric part
+pub numeric : (part : List ℕ) (n : ℕ) → number_in part ≡ Some n → IsNumeric part
 numeric [] n is = let no : ⊥ = cc in absurd no
 numeric (b ∷ bs) n is =
-    let test = chosen-true (is_plain (b ∷ bs)) (digits_value 10 (b ∷ bs)) n is in
+    let test = chosen-true (is_number (b ∷ bs)) (digits_value 10 (b ∷ bs)) n is in
     let all = and_parts (not (b == 48)) (nat_le (length (b ∷ bs)) most_digits && list_all is_ascii_digit (b ∷ bs)) test in
     let digits = (and_parts (nat_le (length (b ∷ bs)) most_digits) (list_all is_ascii_digit (b ∷ bs)) all.1).1 in
     let parts = digit-part (b ∷ bs) digits in

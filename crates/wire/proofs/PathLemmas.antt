@@ -12,10 +12,9 @@ use Rattle.matchit.specs.Rows.{RowsOf, param_token}
 use Rattle.matchit.specs.Seek.{first, segment, step}
 use Rattle.matchit.specs.Route.{scan}
 use Rattle.wire.proofs.RowLemmas.{Fits, Gives, GoBySlash, HasNoSlash, seek-end, seek-gives, seek-part, seek-word, steps}
-use Rattle.paper.specs.Digits.{plain_number_in}
-use Rattle.wire.specs.Targets.{IsTargetOf, NamesItsOwn, named_at, named_by, office_routes}
-use Rattle.wire.specs.declared.target.Destination.{Destination}
-use Rattle.wire.specs.declared.target.Destination.TheVariants as destination
+use Rattle.wire.specs.Targets.{IsTargetOf, NamesItsOwn, named_at, named_by, number_in, office_routes}
+use Rattle.wire.specs.declared.target.Place.{Place}
+use Rattle.wire.specs.declared.target.Place.TheVariants as place
 use Rattle.wire.specs.declared.target.Reading.TheVariants.{Declaration, Sheet, Work}
 use Rattle.wire.specs.declared.target.Target.{Target}
 use Rattle.wire.specs.declared.target.Target.TheVariants.{Keying, Reading}
@@ -23,20 +22,20 @@ use Rattle.wire.proofs.PartLemmas.{IsNumeric, numeric, one-part, one-taken, two-
 
 -- ---- a target of one of the routes names something
 
--- a route with one parameter leads to a destination, and names this by the number that the parameter writes
+-- a route with one parameter leads to a place, and names this by the number that the parameter writes
 pub record OneRoute : Type 0 where
   pub word : List ℕ
   pub rest : List ℕ
   pub text : List ℕ
   pub name : ℕ × ℕ
-  pub to : Destination
+  pub to : Place
   pub kind : ℕ → Target
 
 -- its path for a part
 abbrev path_of : OneRoute → List ℕ → List ℕ
 path_of r part = r.word ++ (part ++ (47 ∷ r.rest))
 
-abbrev route_of_one : OneRoute → RouteOf Destination
+abbrev route_of_one : OneRoute → RouteOf Place
 route_of_one r = record { pattern = r.word ++ (param_token ∷ (47 ∷ r.rest)); text = r.text; names = r.name ∷ []; value = r.to }
 
 -- what is computed of such a route
@@ -46,18 +45,18 @@ pub record IsOneRoute (r : OneRoute) : Type 0 where
   pub word_low : list_all is_ascii r.word ≡ true
   pub rest_low : list_all is_ascii (47 ∷ r.rest) ≡ true
   pub stops : (path : List ℕ) (from : ℕ) → wild_stop (r.word ++ (param_token ∷ (47 ∷ r.rest))) (length r.word) path from ≡ from + length (segment (drop from path)) - 1
-  pub names : (part : List ℕ) → named_at r.to (with_taken (part_of r.text r.name.0 r.name.1) part []) ≡ option_map r.kind (plain_number_in part)
-  pub own : (target part : List ℕ) (n : ℕ) → target ≡ path_of r part → plain_number_in part ≡ Some n → IsTargetOf (r.kind n) target
+  pub names : (part : List ℕ) → named_at r.to (with_taken (part_of r.text r.name.0 r.name.1) part []) ≡ option_map r.kind (number_in part)
+  pub own : (target part : List ℕ) (n : ℕ) → target ≡ path_of r part → number_in part ≡ Some n → IsTargetOf (r.kind n) target
 
 -- what a route names of a target is something whose path the target is
-abbrev NamesOwn : List ℕ → RouteOf Destination → Type 0
+abbrev NamesOwn : List ℕ → RouteOf Place → Type 0
 NamesOwn target route = (there : Target) → named_at route.value (walk route.pattern route.text target route.names 0 0) ≡ Some there → IsTargetOf there target
 
-read-back : (target part : List ℕ) (kind : ℕ → Target) (there : Target) → ((n : ℕ) → plain_number_in part ≡ Some n → IsTargetOf (kind n) target) → option_map kind (plain_number_in part) ≡ Some there
+read-back : (target part : List ℕ) (kind : ℕ → Target) (there : Target) → ((n : ℕ) → number_in part ≡ Some n → IsTargetOf (kind n) target) → option_map kind (number_in part) ≡ Some there
     → IsTargetOf there target
-read-back target part kind there own named = by (plain_number_in part) refl named
+read-back target part kind there own named = by (number_in part) refl named
   where
-    by : (o : Option ℕ) → plain_number_in part ≡ o → option_map kind o ≡ Some there → IsTargetOf there target
+    by : (o : Option ℕ) → number_in part ≡ o → option_map kind o ≡ Some there → IsTargetOf there target
     by None is named = let no : ⊥ = cc in absurd no
     by (Some n) is named = let same : kind n ≡ there = cc in subst (λ t. IsTargetOf t target) same (own n is)
 
@@ -70,11 +69,11 @@ one-own r is target fits = λ there named.
 low-path : (word part end : List ℕ) → list_all is_ascii word ≡ true → list_all is_ascii part ≡ true → list_all is_ascii end ≡ true → list_all is_ascii (word ++ (part ++ end)) ≡ true
 low-path word part end one two three = list_all-append is_ascii word (part ++ end) ∙ rw (one, list_all-append is_ascii part end, two, three) refl
 
-named-found : (target : List ℕ) (route : RouteOf Destination) → list_all is_ascii target ≡ true → first office_routes target ≡ Some route
+named-found : (target : List ℕ) (route : RouteOf Place) → list_all is_ascii target ≡ true → first office_routes target ≡ Some route
     → named_by target ≡ named_at route.value (walk route.pattern route.text target route.names 0 0)
 named-found target route low found = rw (low, found) refl
 
-one-named : (r : OneRoute) → IsOneRoute r → (part : List ℕ) (n : ℕ) → plain_number_in part ≡ Some n → first office_routes (path_of r part) ≡ Some (route_of_one r)
+one-named : (r : OneRoute) → IsOneRoute r → (part : List ℕ) (n : ℕ) → number_in part ≡ Some n → first office_routes (path_of r part) ≡ Some (route_of_one r)
     → named_by (path_of r part) ≡ Some (r.kind n)
 one-named r is part n own found =
     let numbered = numeric part n own in
@@ -85,13 +84,13 @@ one-named r is part n own found =
 -- ---- our routes
 
 work : OneRoute
-work = record { word = codes "/clerks/"; rest = codes "work"; text = codes "/clerks/{c}/work"; name = (9, 10); to = destination.Work; kind = λ n. Reading (Work n) }
+work = record { word = codes "/clerks/"; rest = codes "work"; text = codes "/clerks/{c}/work"; name = (9, 10); to = place.Work; kind = λ n. Reading (Work n) }
 
 sheet : OneRoute
-sheet = record { word = codes "/wards/"; rest = codes "sheet"; text = codes "/wards/{w}/sheet"; name = (8, 9); to = destination.Sheet; kind = λ n. Reading (Sheet n) }
+sheet = record { word = codes "/wards/"; rest = codes "sheet"; text = codes "/wards/{w}/sheet"; name = (8, 9); to = place.Sheet; kind = λ n. Reading (Sheet n) }
 
 declaration : OneRoute
-declaration = record { word = codes "/wards/"; rest = codes "result"; text = codes "/wards/{w}/result"; name = (8, 9); to = destination.Declaration; kind = λ n. Reading (Declaration n) }
+declaration = record { word = codes "/wards/"; rest = codes "result"; text = codes "/wards/{w}/result"; name = (8, 9); to = place.Declaration; kind = λ n. Reading (Declaration n) }
 
 is-work : IsOneRoute work
 unfolding work
@@ -113,8 +112,8 @@ keying_pattern = codes "/clerks/" ++ (param_token ∷ (codes "/batches/" ++ (par
 abbrev keying_path : List ℕ → List ℕ → List ℕ
 keying_path c b = codes "/clerks/" ++ (c ++ (codes "/batches/" ++ (b ++ codes "/keying")))
 
-keying_route : RouteOf Destination
-keying_route = record { pattern = keying_pattern; text = codes "/clerks/{c}/batches/{b}/keying"; names = (9, 10) ∷ (21, 22) ∷ []; value = destination.Keying }
+keying_route : RouteOf Place
+keying_route = record { pattern = keying_pattern; text = codes "/clerks/{c}/batches/{b}/keying"; names = (9, 10) ∷ (21, 22) ∷ []; value = place.Keying }
 
 keying-taken : (target c b : List ℕ) → target ≡ keying_path c b → HasNoSlash c → HasNoSlash b
     → walk keying_route.pattern keying_route.text target keying_route.names 0 0 ≡ with_taken (codes "c") c (with_taken (codes "b") b [])
@@ -135,9 +134,9 @@ unfolding keying_route
 keying-own target fits = λ there named.
     let path = two-parts (codes "/clerks/") (codes "/batches/") (codes "/keying") target refl refl refl fits in
     let taken = keying-taken target path.one path.two path.is path.one_whole path.two_whole in
-    by there path.one path.two path.is (plain_number_in path.one) (plain_number_in path.two) refl refl (sym (ap (named_at destination.Keying) taken) ∙ named)
+    by there path.one path.two path.is (number_in path.one) (number_in path.two) refl refl (sym (ap (named_at place.Keying) taken) ∙ named)
   where
-    by : (there : Target) (c b : List ℕ) → target ≡ keying_path c b → (clerk batch : Option ℕ) → plain_number_in c ≡ clerk → plain_number_in b ≡ batch → keying_by clerk batch ≡ Some there
+    by : (there : Target) (c b : List ℕ) → target ≡ keying_path c b → (clerk batch : Option ℕ) → number_in c ≡ clerk → number_in b ≡ batch → keying_by clerk batch ≡ Some there
         → IsTargetOf there target
     by there c b is None batch own other named = let no : ⊥ = cc in absurd no
     by there c b is (Some clerk) None own other named = let no : ⊥ = cc in absurd no
@@ -145,13 +144,13 @@ keying-own target fits = λ there named.
 
 -- ---- what the routes find
 
-clerk_rows : RowsOf (RouteOf Destination)
+clerk_rows : RowsOf (RouteOf Place)
 clerk_rows = steps (codes "/clerks/") office_routes
 
-batch_rows : RowsOf (RouteOf Destination)
+batch_rows : RowsOf (RouteOf Place)
 batch_rows = steps (codes "/batches/") (step param_token clerk_rows)
 
-ward_rows : RowsOf (RouteOf Destination)
+ward_rows : RowsOf (RouteOf Place)
 ward_rows = steps (codes "/wards/") office_routes
 
 clerks-go : GoBySlash clerk_rows
@@ -205,8 +204,8 @@ routes-own target = (keying-own target, (one-own work is-work target, (one-own d
 named-own : (target : List ℕ) (there : Target) → named_by target ≡ Some there → IsTargetOf there target
 named-own target there named = by (list_all is_ascii target) (first office_routes target) (seek-gives (NamesOwn target) 0 office_routes target (routes-own target)) named
   where
-    by : (low : Bool) (found : Option (RouteOf Destination)) → IfSome found (NamesOwn target)
-        → option_and_then (λ (route : RouteOf Destination). named_at route.value (walk route.pattern route.text target route.names 0 0)) (if low then found else None) ≡ Some there → IsTargetOf there target
+    by : (low : Bool) (found : Option (RouteOf Place)) → IfSome found (NamesOwn target)
+        → option_and_then (λ (route : RouteOf Place). named_at route.value (walk route.pattern route.text target route.names 0 0)) (if low then found else None) ≡ Some there → IsTargetOf there target
     by false found own named = let no : ⊥ = cc in absurd no
     by true None own named = let no : ⊥ = cc in absurd no
     by true (Some route) own named = own there named
@@ -222,8 +221,8 @@ own-named target (Keying clerk batch) (c, b, is, own, other) =
     let low = low-path (codes "/clerks/") c (codes "/batches/" ++ (b ++ codes "/keying")) refl is_c.low (low-path (codes "/batches/") b (codes "/keying") refl is_b.low refl) in
     ap named_by is
     ∙ named-found (keying_path c b) keying_route low (keying-found c b is_c is_b)
-    ∙ ap (named_at destination.Keying) (keying-taken (keying_path c b) c b refl is_c.whole is_b.whole)
-    ∙ ap (λ n. keying_by n (plain_number_in b)) own ∙ ap (keying_by (Some clerk)) other
+    ∙ ap (named_at place.Keying) (keying-taken (keying_path c b) c b refl is_c.whole is_b.whole)
+    ∙ ap (λ n. keying_by n (number_in b)) own ∙ ap (keying_by (Some clerk)) other
 
 pub NamesItsOwn-all : (target : List ℕ) → NamesItsOwn target
 NamesItsOwn-all target there = (named-own target there, own-named target there)

@@ -1,6 +1,5 @@
 -- What a request asks, or why it is denied before the office is asked: by its head and the bytes behind it.
-use Rattle.std.specs.Prelude.{◌≡◌, ◌⊎◌, ◌+◌, ◌<◌, ◌++◌, ⊤, Bool, List, Option, Some, None, Result, Ok, Err, bytes_eq, codes, drop, false, if◌then◌else◌, length, map, option_and_then}
-use Rattle.std.specs.Prelude.{string_bytes, take, true, ℕ}
+use Rattle.std.specs.Prelude.{◌≡◌, ◌⊎◌, ◌+◌, ◌<◌, ◌++◌, ⊤, Bool, List, Option, Some, None, Result, Ok, Err, bytes_eq, codes, drop, false, if◌then◌else◌, length, map, option_and_then, string_bytes, take, true, ℕ}
 use Rattle.std.specs.Io.KnownBytes.{Consumes}
 use Rattle.httparse.specs.Grammar.{RequestHead}
 use Rattle.httparse.specs.Spans.{header_bytes, name_and_value, span_bytes}
@@ -131,11 +130,11 @@ LacksAt given got headers spans more =
 abbrev pub IsWanting : Option (List ℕ) → List ℕ → Type 0
 IsWanting given got = IsHeadWanting got ⊎ ((head : RequestHead) × (behind : List ℕ) × BeginsWith got head behind × LacksBehind given head behind)
 
--- some bytes were read of which P holds; where the source tells its bytes, they are its next ones
+-- something of which P holds was read, and of known bytes just that
 abbrev pub HasRead : Option (List ℕ) → Option (List ℕ) → (List ℕ → Type 0) → Type 0
 HasRead old new P = (got : List ℕ) × Consumes old new got × P got
 
--- where the source failed, P holds of the bytes that were read before
+-- where the source failed, P holds of what was read before
 abbrev pub FailsAfter : Option (List ℕ) → Option (List ℕ) → (List ℕ → Type 0) → Unread → Type 0
 FailsAfter old new P Broken = HasRead old new P
 FailsAfter old new P Memory = ⊤

@@ -189,19 +189,19 @@ Serves given bytes old new s served closed st = EndsWith (λ response. ReadiesFo
 abbrev pub ServesClosed : Option (List ℕ) → Option (List ℕ) → Option (List ℕ) → Option (List ℕ) → Served → Type 0
 ServesClosed given bytes old new served = EndsWith (ReadiesClosed given bytes) (new ≡ old) old new served
 
--- P holds where an answer was written whole
+-- P, where an answer was written whole
 abbrev pub OnAnswered : Served → Type 0 → Type 0
 OnAnswered (Answered status) P = P
 OnAnswered ReadFailed P = ⊤
 OnAnswered WriteFailed P = ⊤
 
--- P holds where the reader failed
+-- P, where the reader failed
 abbrev pub OnReadFailed : Served → Type 0 → Type 0
 OnReadFailed (Answered status) P = ⊤
 OnReadFailed ReadFailed P = P
 OnReadFailed WriteFailed P = ⊤
 
--- P holds where the writer failed
+-- P, where the writer failed
 abbrev pub OnWriteFailed : Served → Type 0 → Type 0
 OnWriteFailed (Answered status) P = ⊤
 OnWriteFailed ReadFailed P = ⊤

@@ -1,7 +1,8 @@
 -- What the targets of requests name: four routes, as `matchit` finds them for the whole target, with numbers in them.
-use Rattle.std.specs.Prelude.{◌≡◌, ◌↔◌, ◌++◌, List, [], Option, Some, None, Result, Ok, Err, codes, if◌then◌else◌, option_and_then, option_map, ℕ}
-use Rattle.std.specs.Char.{is_ascii}
+use Rattle.std.specs.Prelude.{◌≡◌, ◌↔◌, ◌++◌, ◌&&◌, ◌∷◌, ◌==◌, Bool, List, [], Option, Some, None, Result, Ok, Err, codes, false, if◌then◌else◌, length, nat_le, not, option_and_then, option_map, ℕ}
+use Rattle.std.specs.Char.{is_ascii, is_ascii_digit}
 use Rattle.std.specs.List.{list_all}
+use Rattle.std.specs.Str.Parse.{digits_value}
 use Rattle.matchit.specs.Order.{placed}
 use Rattle.matchit.specs.Params.{named, walk}
 use Rattle.matchit.specs.Route.{Scan, parse_route}
@@ -10,28 +11,40 @@ use Rattle.matchit.specs.Rows.{RowsOf}
 use Rattle.matchit.specs.Seek.{first}
 use Rattle.matchit.specs.declared.error.InsertError.{InsertError}
 use Rattle.matchit.specs.declared.params.Params.{Params}
-use Rattle.paper.specs.Digits.{plain_number_in}
-use Rattle.wire.specs.declared.target.Destination.{Destination}
-use Rattle.wire.specs.declared.target.Destination.TheVariants as destination
+use Rattle.wire.specs.declared.target.Place.{Place}
+use Rattle.wire.specs.declared.target.Place.TheVariants as place
 use Rattle.wire.specs.declared.target.Reading.TheVariants.{Declaration, Sheet, Work}
 use Rattle.wire.specs.declared.target.Target.{Target}
 use Rattle.wire.specs.declared.target.Target.TheVariants.{Keying, Reading}
 
+-- the most digits of a number
+abbrev pub most_digits : ℕ
+most_digits = 5
+
+-- 1 to 5 digits, the first not 0
+abbrev pub is_number : List ℕ → Bool
+is_number [] = false
+is_number (b ∷ bs) = not (b == 48) && (nat_le (length (b ∷ bs)) most_digits && list_all is_ascii_digit (b ∷ bs))
+
+-- the number that a parameter writes
+abbrev pub number_in : List ℕ → Option ℕ
+number_in text = if is_number text then Some (digits_value 10 text) else None
+
 -- the routes with one more
-abbrev pub with_scanned : Result Scan InsertError → Destination → RowsOf (RouteOf Destination) → RowsOf (RouteOf Destination)
+abbrev pub with_scanned : Result Scan InsertError → Place → RowsOf (RouteOf Place) → RowsOf (RouteOf Place)
 with_scanned (Ok scan) value routes = placed (scan.pattern, route_from scan value) routes
 with_scanned (Err e) value routes = routes
 
-abbrev pub with_route : List ℕ → Destination → RowsOf (RouteOf Destination) → RowsOf (RouteOf Destination)
+abbrev pub with_route : List ℕ → Place → RowsOf (RouteOf Place) → RowsOf (RouteOf Place)
 with_route text value routes = with_scanned (parse_route text) value routes
 
 -- the four routes
-abbrev pub office_routes : RowsOf (RouteOf Destination)
+abbrev pub office_routes : RowsOf (RouteOf Place)
 office_routes =
-    with_route (codes "/wards/{w}/result") destination.Declaration
-    (with_route (codes "/wards/{w}/sheet") destination.Sheet
-    (with_route (codes "/clerks/{c}/work") destination.Work
-    (with_route (codes "/clerks/{c}/batches/{b}/keying") destination.Keying [])))
+    with_route (codes "/wards/{w}/result") place.Declaration
+    (with_route (codes "/wards/{w}/sheet") place.Sheet
+    (with_route (codes "/clerks/{c}/work") place.Work
+    (with_route (codes "/clerks/{c}/batches/{b}/keying") place.Keying [])))
 
 -- what the parameters of a route took of a target, each with its name
 abbrev pub Taken : Type 0
@@ -42,33 +55,33 @@ taken_by params = walk params.pattern.now params.text.now params.path.now params
 
 -- the number that the parameter of a name writes
 abbrev pub parameter : List ℕ → Taken → Option ℕ
-parameter name taken = option_and_then plain_number_in (named name taken)
+parameter name taken = option_and_then number_in (named name taken)
 
 -- what a target names, by where its route leads and by what the parameters took
-abbrev pub named_at : Destination → Taken → Option Target
-named_at destination.Keying taken =
+abbrev pub named_at : Place → Taken → Option Target
+named_at place.Keying taken =
     option_and_then (λ clerk. option_map (λ batch. Keying clerk batch) (parameter (codes "b") taken)) (parameter (codes "c") taken)
-named_at destination.Work taken = option_map (λ clerk. Reading (Work clerk)) (parameter (codes "c") taken)
-named_at destination.Sheet taken = option_map (λ ward. Reading (Sheet ward)) (parameter (codes "w") taken)
-named_at destination.Declaration taken = option_map (λ ward. Reading (Declaration ward)) (parameter (codes "w") taken)
+named_at place.Work taken = option_map (λ clerk. Reading (Work clerk)) (parameter (codes "c") taken)
+named_at place.Sheet taken = option_map (λ ward. Reading (Sheet ward)) (parameter (codes "w") taken)
+named_at place.Declaration taken = option_map (λ ward. Reading (Declaration ward)) (parameter (codes "w") taken)
 
 -- the route of a target; the routes are ASCII, and so is every target of theirs
-abbrev pub route_of : List ℕ → Option (RouteOf Destination)
+abbrev pub route_of : List ℕ → Option (RouteOf Place)
 route_of target = if list_all is_ascii target then first office_routes target else None
 
 -- what a target names
 abbrev pub named_by : List ℕ → Option Target
-named_by target = option_and_then (λ (route : RouteOf Destination). named_at route.value (walk route.pattern route.text target route.names 0 0)) (route_of target)
+named_by target = option_and_then (λ (route : RouteOf Place). named_at route.value (walk route.pattern route.text target route.names 0 0)) (route_of target)
 
 -- ---- the same in plain words
 
 -- the target of something that is served: its path, in which each number is written in 1 to 5 digits, the first not 0
 abbrev pub IsTargetOf : Target → List ℕ → Type 0
 IsTargetOf (Keying clerk batch) target =
-    (c b : List ℕ) × (target ≡ codes "/clerks/" ++ (c ++ (codes "/batches/" ++ (b ++ codes "/keying")))) × (plain_number_in c ≡ Some clerk) × (plain_number_in b ≡ Some batch)
-IsTargetOf (Reading (Work clerk)) target = (c : List ℕ) × (target ≡ codes "/clerks/" ++ (c ++ codes "/work")) × (plain_number_in c ≡ Some clerk)
-IsTargetOf (Reading (Sheet ward)) target = (w : List ℕ) × (target ≡ codes "/wards/" ++ (w ++ codes "/sheet")) × (plain_number_in w ≡ Some ward)
-IsTargetOf (Reading (Declaration ward)) target = (w : List ℕ) × (target ≡ codes "/wards/" ++ (w ++ codes "/result")) × (plain_number_in w ≡ Some ward)
+    (c b : List ℕ) × (target ≡ codes "/clerks/" ++ (c ++ (codes "/batches/" ++ (b ++ codes "/keying")))) × (number_in c ≡ Some clerk) × (number_in b ≡ Some batch)
+IsTargetOf (Reading (Work clerk)) target = (c : List ℕ) × (target ≡ codes "/clerks/" ++ (c ++ codes "/work")) × (number_in c ≡ Some clerk)
+IsTargetOf (Reading (Sheet ward)) target = (w : List ℕ) × (target ≡ codes "/wards/" ++ (w ++ codes "/sheet")) × (number_in w ≡ Some ward)
+IsTargetOf (Reading (Declaration ward)) target = (w : List ℕ) × (target ≡ codes "/wards/" ++ (w ++ codes "/result")) × (number_in w ≡ Some ward)
 
 -- a target names just what it is the path of, and so none names anything else
 abbrev pub NamesItsOwn : List ℕ → Type 0

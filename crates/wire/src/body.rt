@@ -1,7 +1,6 @@
 //! The body of a request.
 
-ghost use Rattle.std.specs.Prelude.{◌≡◌, ◌+◌, ◌-◌, ◌^◌, ◌<◌, ◌≤◌, ◌++◌, ◌⊎◌, ◌&&◌, true, false, Some, None, IfErr, IfNone, IfOk, IfSome, OnErr, OnOk, List, ℕ, length, map, take, option_map};
-ghost use Rattle.std.specs.Prelude.{string_bytes, vec_len};
+ghost use Rattle.std.specs.Prelude.{◌≡◌, ◌+◌, ◌-◌, ◌^◌, ◌<◌, ◌≤◌, ◌++◌, ◌⊎◌, ◌&&◌, true, false, Some, None, IfErr, IfNone, IfOk, IfSome, OnErr, OnOk, List, ℕ, length, map, take, option_map, string_bytes, vec_len};
 ghost use Rattle.std.specs.Io.KnownBytes.{Consumes};
 ghost use Rattle.serde_json.specs.View.{view, items_view, members_view};
 ghost use Rattle.serde_json.specs.Find.{as_object, as_str};
@@ -158,7 +157,7 @@ fn said_by(
     Ok(Some(KeyingBody { id, round, papers }))
 }
 
-/// The JSON of a text, if the text is JSON. The only error is want of memory.
+/// The JSON of a text, if it is some. The only error is want of memory.
 fn json_in(alloc: Global, text: &[u8]) -> Result<Option<Value>, AllocError>
     ensures { IfOk result (λ found. option_map view found ≡ json_in text.now) }
 {

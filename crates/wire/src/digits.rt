@@ -1,9 +1,32 @@
-//! Numbers that are written in digits, up to a greatest one.
+//! Numbers that are written in digits.
 
 ghost use Rattle.std.specs.Prelude.{◌≡◌, ◌+◌, ◌<◌, true, length, min};
 ghost use Rattle.std.specs.Char.{is_ascii_digit};
 ghost use Rattle.std.specs.List.{list_all};
 ghost use Rattle.std.specs.Str.Parse.{digits_value};
+ghost use Rattle.wire.specs.Targets.{number_in};
+
+/// The most digits of a number in a target.
+const MOST_DIGITS: usize = 5;
+
+/// Whether bytes are digits alone.
+pub(crate) fn all_digits(text: &[u8]) -> bool
+    ensures { result ≡ list_all is_ascii_digit text.now }
+{
+    text.iter().all(|b| b.is_ascii_digit())
+}
+
+/// The number that a text writes in 1 to 5 digits, the first not 0.
+pub(crate) fn number_in(text: &str) -> Option<u32>
+    ensures { result ≡ number_in text.now }
+{
+    let digits = text.as_bytes();
+    let first = digits.first().copied().unwrap_or(b'0');
+    if first == b'0' || digits.len() > MOST_DIGITS || !all_digits(digits) {
+        return None;
+    }
+    text.parse().ok()
+}
 
 /// The number that some digits write, or `most` where it is greater.
 pub(crate) fn capped_value(digits: &[u8], most: u32) -> u64

@@ -7,9 +7,8 @@ ghost use Rattle.httparse.specs.Spans.{IsHeaderWithin, header_bytes};
 ghost use Rattle.wire.specs.Lengths.{body_length, length_in, value_listed, values_of};
 
 use crate::denial::Denial;
-use crate::digits::capped_value;
+use crate::digits::{all_digits, capped_value};
 use httparse::spans::HeaderSpan;
-use paper::are_digits;
 
 /// The most bytes that a body may have.
 pub const MAX_BODY_BYTES: u32 = 1_048_576;
@@ -18,7 +17,7 @@ pub const MAX_BODY_BYTES: u32 = 1_048_576;
 fn length_in(text: &[u8]) -> Result<usize, Denial>
     ensures { result ≡ length_in text.now }
 {
-    if text.is_empty() || !are_digits(text) {
+    if text.is_empty() || !all_digits(text) {
         return Err(Denial::BadRequest);
     }
     let length = capped_value(text, MAX_BODY_BYTES + 1);
@@ -28,7 +27,7 @@ fn length_in(text: &[u8]) -> Result<usize, Denial>
     Ok(length as usize)
 }
 
-/// Whether a header's name is this one, in whatever case of its letters.
+/// Whether a header's name is another in any case of its letters.
 pub(crate) fn is_named(name: &[u8], other: &[u8]) -> bool
     ensures { result ≡ str_eq_ignore_ascii_case name.now other.now }
 {

@@ -9,8 +9,9 @@
 //! denied. [`Origin`] is that of pages which may come through a proxy in front.
 //!
 //! `specs/Asking.antt` says what the bytes of a client ask, `specs/Origins.antt` what shows that a page from elsewhere
-//! sent them, `specs/Targets.antt` which targets name what, `specs/Responses.antt` which bytes an answer has, and
-//! `specs/Serving.antt` what is answered at a state of the office, and what each end of a connection leaves.
+//! sent them, `specs/Targets.antt` which targets name what,
+//! `specs/Responses.antt` which bytes an answer has, and `specs/Serving.antt` what is answered at a state of
+//! the office, and what each end of a connection leaves.
 //!
 //! ```text
 //! match serve_one(alloc, origin, &mut reader, &mut writer, &mut office) {

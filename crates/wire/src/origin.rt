@@ -3,12 +3,11 @@
 ghost use Rattle.std.specs.Prelude.{◌≡◌, ◌≤◌, false, length, map, option_map};
 ghost use Rattle.std.specs.List.{All, prefix_len};
 ghost use Rattle.httparse.specs.Spans.{IsHeaderWithin, header_bytes};
-ghost use Rattle.wire.specs.Origins.{authority_of, given_by, is_authority, is_foreign, is_foreign_header, is_given, is_given_host, is_host_byte, is_origin, is_own_host, is_own_origin};
-ghost use Rattle.wire.specs.Origins.{is_own_site, is_port_or_none, is_with_port, origin_in, origin_text};
+ghost use Rattle.wire.specs.Origins.{authority_of, given_by, is_authority, is_foreign, is_foreign_header, is_given, is_given_host, is_host_byte, is_origin, is_own_host, is_own_origin, is_own_site, is_port_or_none, is_with_port, origin_in, origin_text};
 
+use crate::digits::all_digits;
 use crate::length::is_named;
 use httparse::spans::HeaderSpan;
-use paper::are_digits;
 
 /// The most digits of a port.
 const MOST_DIGITS: usize = 5;
@@ -28,7 +27,7 @@ fn is_port_or_none(text: &[u8]) -> bool
             *first == b':'
                 && digits.len() <= MOST_DIGITS
                 && !digits.is_empty()
-                && are_digits(digits)
+                && all_digits(digits)
         }
         None => true,
     }

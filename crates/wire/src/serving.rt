@@ -30,7 +30,7 @@ pub enum Served {
     WriteFailed,
 }
 
-/// The answer to what a client asks: the office is asked it.
+/// The answer to what a client asks, which the office is asked.
 fn response_to<R: Source, S: Alter>(
     alloc: Global,
     origin: Option<Origin<'_>>,

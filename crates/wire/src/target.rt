@@ -4,8 +4,8 @@ ghost use Rattle.std.specs.Prelude.{◌≡◌, IfOk};
 ghost use Rattle.matchit.specs.Params.{AllText};
 ghost use Rattle.wire.specs.Targets.{named_at, named_by, office_routes, parameter, taken_by};
 
+use crate::digits::number_in;
 use matchit::{InsertError, Params, Router};
-use paper::plain_number_in;
 use std::alloc::{AllocError, Global};
 use std::str;
 
@@ -31,7 +31,7 @@ pub(crate) enum Target {
 
 /// Where a route leads.
 #[derive(Clone, Copy)]
-enum Destination {
+enum Place {
     Keying,
     Work,
     Sheet,
@@ -39,14 +39,14 @@ enum Destination {
 }
 
 /// The four routes.
-fn office_router(alloc: Global) -> Result<Router<Destination>, InsertError>
+fn office_router(alloc: Global) -> Result<Router<Place>, InsertError>
     ensures { IfOk result (λ router. router ≡ office_routes) }
 {
     let mut router = Router::new(alloc);
-    router.insert("/clerks/{c}/batches/{b}/keying", Destination::Keying)?;
-    router.insert("/clerks/{c}/work", Destination::Work)?;
-    router.insert("/wards/{w}/sheet", Destination::Sheet)?;
-    router.insert("/wards/{w}/result", Destination::Declaration)?;
+    router.insert("/clerks/{c}/batches/{b}/keying", Place::Keying)?;
+    router.insert("/clerks/{c}/work", Place::Work)?;
+    router.insert("/wards/{w}/sheet", Place::Sheet)?;
+    router.insert("/wards/{w}/result", Place::Declaration)?;
     Ok(router)
 }
 
@@ -55,29 +55,29 @@ fn parameter(params: &Params<'_, '_>, name: &str) -> Option<u32>
     requires { AllText (taken_by params.now) }
     ensures { result ≡ parameter name.now (taken_by params.now) }
 {
-    plain_number_in(params.get(name)?)
+    number_in(params.get(name)?)
 }
 
 /// What a target names, by where its route leads and by what the parameters took.
-fn named_at(destination: Destination, params: &Params<'_, '_>) -> Option<Target>
+fn named_at(place: Place, params: &Params<'_, '_>) -> Option<Target>
     requires { AllText (taken_by params.now) }
-    ensures { result ≡ named_at destination (taken_by params.now) }
+    ensures { result ≡ named_at place (taken_by params.now) }
 {
-    match destination {
-        Destination::Keying => {
+    match place {
+        Place::Keying => {
             let clerk = parameter(params, "c")?;
             let batch = parameter(params, "b")?;
             Some(Target::Keying { clerk, batch })
         }
-        Destination::Work => {
+        Place::Work => {
             let clerk = parameter(params, "c")?;
             Some(Target::Reading(Reading::Work { clerk }))
         }
-        Destination::Sheet => {
+        Place::Sheet => {
             let ward = parameter(params, "w")?;
             Some(Target::Reading(Reading::Sheet { ward }))
         }
-        Destination::Declaration => {
+        Place::Declaration => {
             let ward = parameter(params, "w")?;
             Some(Target::Reading(Reading::Declaration { ward }))
         }
