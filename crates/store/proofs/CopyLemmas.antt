@@ -7,7 +7,7 @@ use Rattle.sqlite.specs.Tree.{Trees}
 use Rattle.sqlite.specs.Effect.{Database}
 use Rattle.sqlite.specs.State.{State, HasCleanDisk, Survives}
 use Rattle.register.specs.Offices.{OfficeState, empty_office, ward_entry, candidate_entry, batch_entry, third_entry, keyed_entry, judged_entry, lot_entry, receipt_entry}
-use Rattle.register.specs.Tabulated.{TabulationEntries, tabulation_of, item8, placed_entry, figure_entry}
+use Rattle.register.specs.Tabulated.{TabulationEntries, tabulation_of, IsTabulationOf, placed_entry, figure_entry}
 use Rattle.rowcheck.specs.declared.rows.Rows.{Rows}
 use Rattle.rowcheck.specs.States.{state_of, tabulated}
 use Rattle.tables.specs.declared.table.Table.TheVariants.{Office, Ward, Candidate, Batch, Keying, Verdict, Lot, Receipt, Bundle, Vote, Third}
@@ -68,7 +68,7 @@ whole_put rows Third = rows_alone third_entry row_of_third rows.thirds.items
 -- ---- the state of a copy
 
 -- the tables of a state, where what is tabulated beside it is that of its counts
-pub are_tables : (s : OfficeState) (t : TabulationEntries) → item8 t s → tables_with s t ≡ tables_of s
+pub are_tables : (s : OfficeState) (t : TabulationEntries) → IsTabulationOf t s → tables_with s t ≡ tables_of s
 unfolding tables_of
 are_tables s t is = ap (tables_with s) is
 
@@ -78,7 +78,7 @@ pub copy_is_at : (s : OfficeState) (t : TabulationEntries) (st : State) → IsTa
 copy_is_at s t st is settled rests = rests_is_at s st settled is.0 (subst (λ (c : Contents). Rests c st) (are_tables s t is.1) rests)
 
 -- and a stop leaves none of it or all
-pub copy_stops : (s : OfficeState) (t : TabulationEntries) (old new : State) → item8 t s → HasCleanDisk new → Survives old new (Stores (tables_with s t)) → LeavesNoneOrAll s old new
+pub copy_stops : (s : OfficeState) (t : TabulationEntries) (old new : State) → IsTabulationOf t s → HasCleanDisk new → Survives old new (Stores (tables_with s t)) → LeavesNoneOrAll s old new
 copy_stops s t old new is clean survives trees may = elim (survives.crash clean trees may) [
   | inl was ↦ inl was
   | inr made ↦ inr (subst (λ (c : Contents). Stores c trees) (are_tables s t is) made)
