@@ -2,7 +2,7 @@
 
 ghost use Rattle.std.specs.Prelude.{◌≡◌, ◌∷◌, [], ◌&&◌, map, filter, option_map, IfOk, IfErr};
 ghost use Rattle.register.specs.Offices.{batch_entry, keyed_entry};
-ghost use Rattle.register.specs.Papers.{is_keyed, of_three, differ};
+ghost use Rattle.register.specs.Papers.{is_keyed, differ};
 ghost use Rattle.tables.specs.declared.fault.Fault.{Fault};
 ghost use Rattle.store.specs.Keyings.{keyings_by};
 ghost use Rattle.store.specs.Overviews.{has_alike, is_apart, apart_among, papers_apart, differences_view, differences_by, differences_of, differences_at};
@@ -63,16 +63,17 @@ fn apart_among(
 }
 
 #[tactic(auto, using(crate::proofs::OverviewLemmas::apart_three))]
-/// The numbers of the papers on which keyings of a round differ: those of the first one that is there which
+/// The numbers of the papers on which these keyings differ: those of the first one that is there which
 /// another one has with other marks.
-fn papers_apart(
-    alloc: Global,
-    first: &[KeyedPaper],
-    second: &[KeyedPaper],
-    third: &[KeyedPaper],
-) -> Result<Vec<u32>, AllocError>
-    ensures { IfOk result (λ papers. papers.items ≡ papers_apart (of_three (map keyed_entry first.now) (map keyed_entry second.now) (map keyed_entry third.now))) }
+fn papers_apart(alloc: Global, keyings: &Keyings) -> Result<Vec<u32>, AllocError>
+    ensures { IfOk result (λ papers. papers.items ≡ papers_apart (keyings_by keyings.now)) }
 {
+    let Keyings {
+        first,
+        second,
+        third,
+        ..
+    } = keyings;
     if is_keyed(first) {
         apart_among(alloc, first, second, third)
     } else {
@@ -85,13 +86,7 @@ fn differences_by(alloc: Global, batch: Batch, keyings: &Keyings) -> Result<Diff
     ensures is { IfOk result (λ found. differences_view found ≡ differences_by (batch_entry batch) (keyings_by keyings.now)) }
     ensures cause { IfErr result (λ f. f ≡ Fault.Memory) }
 {
-    let Keyings {
-        first,
-        second,
-        third,
-        ..
-    } = keyings;
-    let Ok(papers) = papers_apart(alloc, first, second, third) else {
+    let Ok(papers) = papers_apart(alloc, keyings) else {
         return Err(Fault::Memory);
     };
     Ok(Differences {
