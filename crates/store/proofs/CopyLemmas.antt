@@ -28,30 +28,22 @@ rows_alone : {V X : Type 0} (entry : V → X) (row : X → Row) (items : List V)
 rows_alone entry row items =
     subst (IsPermutation (map (λ v. row (entry v)) items ++ [])) (append-nil (map (λ v. row (entry v)) items) ∙ sym (mapped_twice entry row items)) (IsPermutation-refl _)
 
--- the wards, the candidates and the batches,
-abbrev pub contests_added : Rows → Contents → Contents
-contests_added rows c =
-    added_all Batch (map (λ b. row_of_batch (batch_entry b)) rows.batches.items)
-    (added_all Candidate (map (λ x. row_of_candidate (candidate_entry x)) rows.candidates.items)
-    (added_all Ward (map (λ w. row_of_ward (ward_entry w)) rows.wards.items) c))
-
--- the third clerks, the papers and the verdicts,
-abbrev pub papers_added : Rows → Contents → Contents
-papers_added rows c =
-    added_all Verdict (map (λ v. row_of_judged (judged_entry v)) rows.verdicts.items)
-    (added_all Keying (map (λ k. row_of_keyed (keyed_entry k)) rows.keyings.items)
-    (added_all Third (map (λ t. row_of_third (third_entry t)) rows.thirds.items) c))
-
--- the lots, the receipts, and what is tabulated,
-abbrev pub records_added : Rows → Contents → Contents
-records_added rows c =
+-- the rows of all entries, added table by table,
+abbrev pub all_added : Rows → Contents → Contents
+all_added rows c =
     added_all Vote (map (λ f. row_of_figure (figure_entry f)) rows.figures.items)
     (added_all Bundle (map (λ b. row_of_placed (placed_entry b)) rows.bundles.items)
     (added_all Receipt (map (λ r. row_of_receipt (receipt_entry r)) rows.receipts.items)
-    (added_all Lot (map (λ l. row_of_lot (lot_entry l)) rows.lots.items) c)))
+    (added_all Lot (map (λ l. row_of_lot (lot_entry l)) rows.lots.items)
+    (added_all Verdict (map (λ v. row_of_judged (judged_entry v)) rows.verdicts.items)
+    (added_all Keying (map (λ k. row_of_keyed (keyed_entry k)) rows.keyings.items)
+    (added_all Third (map (λ t. row_of_third (third_entry t)) rows.thirds.items)
+    (added_all Batch (map (λ b. row_of_batch (batch_entry b)) rows.batches.items)
+    (added_all Candidate (map (λ x. row_of_candidate (candidate_entry x)) rows.candidates.items)
+    (added_all Ward (map (λ w. row_of_ward (ward_entry w)) rows.wards.items) c)))))))))
 
 -- make of an empty office the one of these rows
-pub whole_put : (rows : Rows) → SameContents (records_added rows (papers_added rows (contests_added rows (tables_of empty_office)))) (tables_with (state_of rows) (tabulated rows))
+pub whole_put : (rows : Rows) → SameContents (all_added rows (tables_of empty_office)) (tables_with (state_of rows) (tabulated rows))
 unfolding added_all tables_of tables_with tabulation_of
 whole_put rows Office = IsPermutation-refl _
 whole_put rows Ward = rows_alone ward_entry row_of_ward rows.wards.items
