@@ -2,6 +2,7 @@
 use Rattle.std.specs.Prelude.{◌≡◌, ℕ, suc, List, [], ◌∷◌, ◌++◌, codes, map, string_bytes, Option, Some, None, Result, Ok, Err}
 use Rattle.std.specs.Fmt.{decimal}
 use Rattle.clap.specs.Words.{Text}
+use Rattle.register.specs.Offices.{OfficeState}
 use Rattle.register.specs.declared.command.Command.{Command}
 use Rattle.register.specs.declared.command.Command.TheVariants as command
 use Rattle.register.specs.declared.command.Request.{Request}
@@ -12,7 +13,8 @@ use Rattle.register.specs.declared.counts.CountCommand.TheVariants as count_comm
 use Rattle.register.specs.declared.verdicts.Verdict.{Verdict}
 use Rattle.register.specs.declared.verdicts.Verdict.TheVariants as verdict
 use Rattle.register.specs.declared.refusal.Reason.{Reason}
-use Rattle.keyfile.specs.Candidates.{CandidateEntry}
+use Rattle.office.specs.Reads.{columns_told}
+use Rattle.keyfile.specs.Candidates.{CandidateEntry, candidates}
 use Rattle.keyfile.specs.Files.{Format, file_rows}
 use Rattle.keyfile.specs.Keying.{keying}
 use Rattle.keyfile.specs.Records.{file_records}
@@ -125,3 +127,10 @@ HoldsRequests format sent file requests = HoldsText file (λ bytes. sent (file_r
 abbrev pub HoldsKeying : Result (List ℕ) Reason → (Result (List (List ℕ)) FileFault → Result (List Sent) FileFault) → File → List Request → Type 0
 HoldsKeying (Ok columns) sent file requests = HoldsRequests (keying columns) sent file requests
 HoldsKeying (Err why) sent file requests = ⊥
+
+-- the requests that an errand sends at a state: its own one, or those that its file holds; an errand that asks something sends none
+abbrev pub Sends : OfficeState → Errand → File → List Request → Type 0
+Sends s (errand.Send request) file requests = map sent_as requests ≡ sent_as request ∷ []
+Sends s (errand.ImportCandidates path id) file requests = HoldsRequests candidates (requests_for id.now) file requests
+Sends s (errand.ImportKeying keying) file requests = HoldsKeying (columns_told s keying.batch) (keyings_for keying) file requests
+Sends s other file requests = ⊥
