@@ -1,6 +1,6 @@
--- Why `batch_line` keeps its promise.
+-- Why the line of a batch keeps its promise.
 use Rattle.desk.specs.Overviews.{batch_line}
-use Rattle.desk.proofs.overviews.batch_line.Goals as goal
+use Rattle.desk.proofs.overviews.BatchOverviewLined.line.Goals as goal
 
 pub returns : goal.returns
 unfolding batch_line
