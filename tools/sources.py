@@ -9,8 +9,8 @@ from pathlib import Path
 ROOT = Path(__file__).resolve().parent.parent
 NOISE = re.compile(r'//[^\n]*|b?"(?:\\.|[^"\\])*"|b?\'(?:\\.[^\'\n]*|[^\'\\\n])\'', re.S)
 TOKEN = re.compile(r"\b(?:impl|trait)\b[^{};]*\{|\bfn\s+\w+|[{}]")
-# words of specs/ that are a function's whole contract, each with its record, whose fields are the clauses
-WORDS = {"Migrates": "Migrates", "CopiesTo": "CopiesTo", "Loads": "LoadsAt"}
+# words of specs/ that say what several clauses say, each with its record, whose fields those are
+WORDS = {"Migrates": "Migrates", "CopiesTo": "CopiesTo", "Loads": "LoadsAt", "Alters": "Alters"}
 CONTRACT = re.compile(r"\b(ensures|requires)\b\*?\s*(\w*)\*?\s*$")
 
 
@@ -26,7 +26,7 @@ class Function:
     comment: str                # the comment above it, without its slashes
     ensures: list = field(default_factory=list)
     requires: list = field(default_factory=list)
-    word: str = ""              # the first word of a clause of its own without a name
+    words: dict = field(default_factory=dict)   # the first word of each of its clauses, by the clause's name
     head: str = ""              # from `fn` to its contract, without comments and literals
     body: str = ""              # the body, without comments and literals
     start: int = 0              # where it begins and ends in its file
@@ -97,8 +97,8 @@ def read_contract(function, text, at):
                 function.head, function.body, function.end = text[function.start:place], text[place:at], at
                 break
             (function.ensures if clause.group(1) == "ensures" else function.requires).append(clause.group(2))
-            if clause.group() and clause.group(1) == "ensures" and not clause.group(2):
-                function.word = re.match(r"\W*(\w*)", text[place:at]).group(1)
+            if clause.group(1) == "ensures":
+                function.words[clause.group(2)] = re.match(r"\W*(\w*)", text[place:at]).group(1)
             heads.append(place)
     if heads:
         function.head = re.split(r"\b(?:ensures|requires)\b", function.head)[0]
@@ -162,11 +162,9 @@ class Crate:
 
 
 def spread(functions, records):
-    """Puts the fields of a record in the place of a lone clause that says no more than that record."""
+    """Puts the fields of a record in the place of a clause that says no more than that record."""
     for function in functions:
-        record = WORDS.get(function.word)
-        if function.ensures == [""] and record in records:
-            function.ensures = list(records[record])
+        function.ensures = [part for name in function.ensures for part in records.get(WORDS.get(function.words.get(name)), [name])]
 
 
 def crates():

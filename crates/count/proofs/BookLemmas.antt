@@ -52,15 +52,18 @@ unfolding by_itself
 book-filled contest history holdings book h = finished-elected contest by_itself history book.fair book.right h
 
 -- a stage of the action that a lot drew comes next, for that lot and for the one that it names itself
-adds-next : (contest : Contest) (before : History) (lot : Option ℕ) (action : Action) (after : History) → drawn contest before lot (due_after contest before) ≡ Some action → (adds : Adds contest before action after) → IsNext contest before lot adds.stage
+adds-next : (contest : Contest) (before : History) (lot : Option ℕ) (action : Action) (after : History) → drawn contest before lot (due_after contest before) ≡ Some action →
+    (adds : Adds contest before action after) → IsNext contest before lot adds.stage
 adds-next contest before lot action after was adds =
     record { was_due = subst (λ (a : Action). drawn contest before lot (due_after contest before) ≡ Some a) (sym adds.of_action) was; tells = adds.tells }
 
-pub adds-advances : (contest : Contest) (before : History) (lot : Option ℕ) (action : Action) (after : History) → drawn contest before lot (due_after contest before) ≡ Some action → Adds contest before action after → Advances contest before lot after
+pub adds-advances : (contest : Contest) (before : History) (lot : Option ℕ) (action : Action) (after : History) → drawn contest before lot (due_after contest before) ≡ Some action →
+    Adds contest before action after → Advances contest before lot after
 adds-advances contest before lot action after was adds = record { stage = adds.stage; one_more = adds.one_more; next = adds-next contest before lot action after was adds }
 
 -- and the history stays right for the lots that its own actions name
-pub adds-right : (contest : Contest) (before : History) (lot : Option ℕ) (action : Action) (after : History) → IsRightByItself contest before → drawn contest before lot (due_after contest before) ≡ Some action →
+pub adds-right : (contest : Contest) (before : History) (lot : Option ℕ) (action : Action) (after : History) → IsRightByItself contest before →
+    drawn contest before lot (due_after contest before) ≡ Some action →
     Adds contest before action after → IsRightByItself contest after
 adds-right contest before lot action after right was adds =
     let s : Stage = adds.stage in
@@ -68,7 +71,8 @@ adds-right contest before lot action after right was adds =
     subst (λ (h : History). IsRightByItself contest h) (sym adds.one_more)
     (right, record { was_due = drawn-own contest before lot (due_after contest before) s.action here; tells = adds.tells })
 
-pub adds-book : (contest : Contest) (before : History) (lot : Option ℕ) (action : Action) (after : History) (old new : List Holding) → IsBook contest before old → drawn contest before lot (due_after contest before) ≡ Some action →
+pub adds-book : (contest : Contest) (before : History) (lot : Option ℕ) (action : Action) (after : History) (old new : List Holding) → IsBook contest before old →
+    drawn contest before lot (due_after contest before) ≡ Some action →
     Adds contest before action after → AreHeld contest after new → IsBook contest after new
 adds-book contest before lot action after old new book was adds held =
     record { fair = book.fair; right = adds-right contest before lot action after book.right was adds; held = held }

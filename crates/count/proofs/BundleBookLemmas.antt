@@ -74,12 +74,14 @@ pub bundled-several : (contest : Contest) (history : History) (bundles : List Bu
 unfolding by_itself
 bundled-several contest history bundles places book = lots-several contest by_itself history book.fair book.right
 
-pub bundled-filled : (contest : Contest) (history : History) (bundles : List Bundle) (places : List Placed) → IsBundled contest history bundles places → due_after contest history ≡ Finished → FillsSeats contest history
+pub bundled-filled : (contest : Contest) (history : History) (bundles : List Bundle) (places : List Placed) → IsBundled contest history bundles places → due_after contest history ≡ Finished →
+    FillsSeats contest history
 unfolding by_itself
 bundled-filled contest history bundles places book h = finished-elected contest by_itself history book.fair book.right h
 
 -- a stage with its figures, to which the newly elected are added, is what the law tells of its action
-pub figured-adds : (terms : Terms) (bundles : List Bundle) (old new : History) (action : Action) (bare : Stage) → IsFigured (contest_on terms bundles) old action bare → IsAdded terms old bare new → Adds (contest_on terms bundles) old action new
+pub figured-adds : (terms : Terms) (bundles : List Bundle) (old new : History) (action : Action) (bare : Stage) → IsFigured (contest_on terms bundles) old action bare → IsAdded terms old bare new →
+    Adds (contest_on terms bundles) old action new
 figured-adds terms bundles old new action bare figured is_added =
     let contest : Contest = contest_on terms bundles in
     record {
@@ -95,13 +97,15 @@ figured-adds terms bundles old new action bare figured is_added =
     }
 
 -- the places that the action gives are those after its stage
-pub places-adds : (contest : Contest) (old new : History) (action : Action) (bundles : List Bundle) → Adds contest old action new → places_after contest (begun action [] ∷ old) bundles ≡ places_after contest new bundles
+pub places-adds : (contest : Contest) (old new : History) (action : Action) (bundles : List Bundle) → Adds contest old action new →
+    places_after contest (begun action [] ∷ old) bundles ≡ places_after contest new bundles
 places-adds contest old new action bundles adds =
     ap (λ (a : Action). places_after contest (begun a [] ∷ old) bundles) (sym adds.of_action)
     ∙ ap (λ (h : History). places_after contest h bundles) (sym adds.one_more)
 
 -- a book that advances stays one
-pub adds-bundled : (contest : Contest) (before : History) (lot : Option ℕ) (action : Action) (after : History) (bundles : List Bundle) (old new : List Placed) → IsBundled contest before bundles old → drawn contest before lot (due_after contest before) ≡ Some action →
+pub adds-bundled : (contest : Contest) (before : History) (lot : Option ℕ) (action : Action) (after : History) (bundles : List Bundle) (old new : List Placed) →
+    IsBundled contest before bundles old → drawn contest before lot (due_after contest before) ≡ Some action →
     Adds contest before action after → new ≡ places_after contest after bundles → IsBundled contest after bundles new
 adds-bundled contest before lot action after bundles old new book was adds are =
     record { fair = book.fair; right = adds-right contest before lot action after book.right was adds; bundles_are = book.bundles_are; papers_are = book.papers_are; places_are = are }
@@ -123,7 +127,8 @@ pub some-own : (contest : Contest) (stages : History) → IsRightForSome contest
 some-own contest stages right = own_lots contest (λ before s. lot_for right.lots (length before + 1)) stages right.right
 
 -- the bundles of a book are those of its papers
-pub own-bundles : (contest : Contest) (history : History) (own bundles : List Bundle) (places : List Placed) → IsBundled contest history own places → AreBundles bundles → IsPermutation (papers_of bundles) contest.papers → bundles ≡ own
+pub own-bundles : (contest : Contest) (history : History) (own bundles : List Bundle) (places : List Placed) → IsBundled contest history own places → AreBundles bundles →
+    IsPermutation (papers_of bundles) contest.papers → bundles ≡ own
 own-bundles contest history own bundles places is are order = same-bundles bundles own are is.bundles_are (subst (IsPermutation (papers_of bundles)) is.papers_are order)
 
 pub ruleset book_laws = (bundled-conserved, bundled-others, bundled-short)
@@ -131,6 +136,7 @@ pub ruleset book_laws = (bundled-conserved, bundled-others, bundled-short)
 pub ruleset book_facts = (bundled-filled, adds-advances)
 
 -- a lot that is due is among several, over stages that are lent
-pub due-several : (contest : Contest) (lent stages : List Stage) (bundles : List Bundle) (places : List Placed) (due : Due) → lent ≡ stages → due ≡ due_after contest (reverse lent) → IsBundled contest (reverse stages) bundles places → IsAmongSeveral due
+pub due-several : (contest : Contest) (lent stages : List Stage) (bundles : List Bundle) (places : List Placed) (due : Due) → lent ≡ stages → due ≡ due_after contest (reverse lent) →
+    IsBundled contest (reverse stages) bundles places → IsAmongSeveral due
 due-several contest lent stages bundles places due same is book =
     subst IsAmongSeveral (sym (is ∙ ap (λ (l : List Stage). due_after contest (reverse l)) same)) (bundled-several contest (reverse stages) bundles places book)

@@ -70,7 +70,8 @@ above_at x list n b bs Less new all behind = (new, all)
 above_at x list n b bs Equal new all behind = all
 above_at x list n b bs Greater new all behind = (all.0, behind)
 
-above-with_papers : (x list : List ℕ) (n : ℕ) (bs : List Bundle) → list_cmp x list ≡ Less → AllByRecursion (λ y. list_cmp x y ≡ Less) (keys_of bs) → AllByRecursion (λ y. list_cmp x y ≡ Less) (keys_of (with_papers bs list n))
+above-with_papers : (x list : List ℕ) (n : ℕ) (bs : List Bundle) → list_cmp x list ≡ Less → AllByRecursion (λ y. list_cmp x y ≡ Less) (keys_of bs) →
+    AllByRecursion (λ y. list_cmp x y ≡ Less) (keys_of (with_papers bs list n))
 above-with_papers x list n [] new all = (new, tt)
 above-with_papers x list n (b ∷ bs) new all = above_at x list n b bs (list_cmp list b.0) new all (above-with_papers x list n bs new all.1)
 

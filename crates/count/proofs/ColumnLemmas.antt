@@ -1,15 +1,14 @@
 -- Sets of numbers, and lists that are walked from either end.
-use Rattle.std.proofs.Common.{◌≡◌, ℕ, ◌+◌, ◌<◌, ◌≤◌, ◌||◌, Bool, true, false, cond, nat_eq, List, [], ◌∷◌, ◌++◌, length, take, get_or, reverse, refl, sym, ap, ◌∙◌, arith, subst, slice_index}
-use Rattle.std.proofs.lemmas.List.{reverse-append}
+use Rattle.std.proofs.Common.{◌≡◌, ℕ, ◌+◌, ◌<◌, Bool, true, false, cond, nat_eq, List, [], ◌∷◌, ◌++◌, length, take, reverse, refl, sym, ap, ◌∙◌, arith, subst, slice_index}
+use Rattle.std.proofs.lemmas.List.{append-nil, reverse-append}
 use Rattle.std.specs.List.{list_any, filter}
 use Rattle.std.proofs.lemmas.Bool.{eq-eqb}
 use Rattle.std.proofs.lemmas.List.Sorted.{list_any-IsPermutation, IsPermutation-reverse}
 use Rattle.std.proofs.lemmas.List.Folds.{list_any_at}
 use Rattle.std.proofs.lemmas.List.Kept.{IsStrictlyIncreasing-filter}
-use Rattle.paper.specs.Columns.{max_candidates, IsColumnSet, IsColumn}
-use Rattle.std.proofs.lemmas.List.{get_or-take, length-take, take_all}
+use Rattle.paper.specs.Columns.{IsColumnSet, IsColumn}
+use Rattle.std.proofs.lemmas.List.{get_or-take, length-take}
 use Rattle.std.proofs.lemmas.List.Elements.{filter_more}
-use Rattle.count.specs.Law.Contest.{In}
 use Rattle.count.specs.Inside.Holdings.{OnlyColumns}
 use Rattle.count.proofs.Law.ActionLemmas.{in-filter, column-in}
 
@@ -40,39 +39,27 @@ columns-take n xs set = record {
 }
 
 -- one more that passes the test
-pub columns-more : (p : ℕ → Bool) (xs chosen : List ℕ) (i : ℕ) → IsColumnSet xs → chosen ≡ filter p (take i xs) → i < length xs → p (slice_index xs i) ≡ true → IsColumnSet (chosen ++ slice_index xs i ∷ [])
+pub columns-more : (p : ℕ → Bool) (xs chosen : List ℕ) (i : ℕ) → IsColumnSet xs → chosen ≡ filter p (take i xs) → i < length xs → p (slice_index xs i) ≡ true →
+    IsColumnSet (chosen ++ slice_index xs i ∷ [])
 columns-more p xs chosen i set is within passes =
     let more : filter p (take (i + 1) xs) ≡ filter p (take i xs) ++ slice_index xs i ∷ [] =
     filter_more p xs i 0 within ∙ ap (λ b. filter p (take i xs) ++ cond b (slice_index xs i ∷ []) []) passes in
     subst IsColumnSet (more ∙ ap (λ l. l ++ slice_index xs i ∷ []) (sym is)) (columns-filter p (take (i + 1) xs) (columns-take (i + 1) xs set))
 
--- a test that one passes, and one that none does, in the other direction
-pub found-reverse : {X : Type 0} (p : X → Bool) (xs : List X) (i : ℕ) (d : X) → i < length xs → p (get_or xs i d) ≡ true → true ≡ list_any p (reverse xs)
-found-reverse p xs i d within passes = sym (any-reverse p xs ∙ list_any_at p xs i d within passes)
+-- those of the first of a set who pass a test, and one more who does, or doesn't
+pub chosen-yes : (p : ℕ → Bool) (xs chosen more : List ℕ) (i : ℕ) → IsColumnSet xs → i < length xs → p (slice_index xs i) ≡ true → chosen ≡ filter p (take i xs) →
+    (IsColumnSet (chosen ++ slice_index xs i ∷ []) → more ≡ chosen ++ slice_index xs i ∷ []) → more ≡ filter p (take (i + 1) xs)
+chosen-yes p xs chosen more i set within passes so_far last =
+    last (columns-more p xs chosen i set so_far within passes) ∙ ap (λ (l : List ℕ). l ++ slice_index xs i ∷ []) so_far
+    ∙ sym (filter_more p xs i 0 within ∙ ap (λ b. filter p (take i xs) ++ cond b (slice_index xs i ∷ []) []) passes)
 
-pub none-reverse : {X : Type 0} (p : X → Bool) (xs : List X) (i : ℕ) → list_any p (take i xs) ≡ false → length xs ≤ i → false ≡ list_any p (reverse xs)
-none-reverse p xs i none all = sym (any-reverse p xs ∙ (ap (list_any p) (sym (take_all i xs all)) ∙ none))
+pub chosen-no : (p : ℕ → Bool) (xs chosen : List ℕ) (i : ℕ) → i < length xs → p (slice_index xs i) ≡ false → chosen ≡ filter p (take i xs) → chosen ≡ filter p (take (i + 1) xs)
+chosen-no p xs chosen i within fails so_far =
+    so_far ∙ sym (filter_more p xs i 0 within ∙ ap (λ b. filter p (take i xs) ++ cond b (slice_index xs i ∷ []) []) fails ∙ append-nil (filter p (take i xs)))
 
 -- a list with one more at the end, the last first
 pub reverse-newest : {X : Type 0} (xs before : List X) (newest : X) → xs ≡ before ++ newest ∷ [] → reverse xs ≡ newest ∷ reverse before
 reverse-newest xs before newest is = ap reverse is ∙ reverse-append before (newest ∷ [])
-
-last_in : (chosen : List ℕ) (c : ℕ) → In c (chosen ++ c ∷ [])
-last_in [] c = ap (λ b. b || false) (eq-eqb c c refl)
-last_in (x ∷ xs) c = or_later (nat_eq c x) (list_any (nat_eq c) (xs ++ c ∷ [])) (last_in xs c)
-  where
-    or_later : (a b : Bool) → b ≡ true → (a || b) ≡ true
-    or_later true b h = refl
-    or_later false b h = h
-
--- the last of a set of columns is one
-pub last-some : (chosen : List ℕ) (c : ℕ) → IsColumnSet (chosen ++ c ∷ []) → 1 ≤ c
-last-some chosen c set = (column-in c (chosen ++ c ∷ []) set (last_in chosen c)).0
-
-pub last-few : (chosen : List ℕ) (c : ℕ) → IsColumnSet (chosen ++ c ∷ []) → c ≤ max_candidates
-last-few chosen c set = (column-in c (chosen ++ c ∷ []) set (last_in chosen c)).1
-
-pub ruleset last_column = (last-some, last-few)
 
 -- who is in a set of columns is one
 pub only-columns : (columns : List ℕ) (continues : ℕ → Bool) → IsColumnSet columns → ((c : ℕ) → continues c ≡ list_any (nat_eq c) columns) → OnlyColumns continues

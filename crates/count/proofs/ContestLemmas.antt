@@ -19,7 +19,8 @@ all-at P [] i x within is all = absurd (omega arith)
 all-at P (y ∷ ys) zero x within is all = all.0
 all-at P (y ∷ ys) (suc i) x within is all = all-at P ys i x (omega arith) is all.1
 
-pub contest-is : (candidates : List ℕ) (seats : ℕ) (papers : List (List ℕ)) → IsColumnSet candidates → 1 ≤ seats → seats ≤ max_seats → seats < length candidates → length papers ≤ max_papers → AreForCandidates candidates papers →
+pub contest-is : (candidates : List ℕ) (seats : ℕ) (papers : List (List ℕ)) → IsColumnSet candidates → 1 ≤ seats → seats ≤ max_seats → seats < length candidates → length papers ≤ max_papers →
+    AreForCandidates candidates papers →
     IsContest (contest_for candidates seats papers)
 contest-is candidates seats papers set some few contested few_papers of =
     record { candidate_set = set; some_seats = some; few_seats = few; contested = contested; few_papers = few_papers; for_candidates = of; quota_is = refl }

@@ -46,7 +46,8 @@ fair-on contest bundles fair are =
       quota_is = fair.quota_is ∙ ap (λ n. quota_of n contest.seats) (sym (bundled-length contest.papers));
     })
 
-for-on : (contest : Contest) (candidates : List ℕ) (seats : ℕ) (bundles : List Bundle) → IsContest contest → candidates ≡ contest.candidates → seats ≡ contest.seats → bundles ≡ bundled contest.papers →
+for-on : (contest : Contest) (candidates : List ℕ) (seats : ℕ) (bundles : List Bundle) → IsContest contest → candidates ≡ contest.candidates → seats ≡ contest.seats →
+    bundles ≡ bundled contest.papers →
     contest_for candidates seats (papers_of bundles) ≡ reordered contest (papers_of bundles)
 for-on contest candidates seats bundles fair candidates_are seats_are are =
     let quota_same : quota_of (length (papers_of bundles)) contest.seats ≡ contest.quota =
@@ -60,7 +61,8 @@ abbrev pub kept_of : Terms → List Bundle → List Placed → List Stage → Co
 kept_of terms bundles places stages = record { candidates = terms.candidates; seats = terms.seats; bundles = bundles; places = places; stages = stages }
 
 -- the terms are those of the contest
-pub kept-terms : (contest : Contest) (history : History) (terms : Terms) (bundles : List Bundle) (places : List Placed) (stages : List Stage) → IsInRange terms bundles places stages → IsKeptOf contest history (kept_of terms bundles places stages) →
+pub kept-terms : (contest : Contest) (history : History) (terms : Terms) (bundles : List Bundle) (places : List Placed) (stages : List Stage) → IsInRange terms bundles places stages →
+    IsKeptOf contest history (kept_of terms bundles places stages) →
     contest_on terms bundles ≡ reordered contest (papers_of bundles)
 kept-terms contest history terms bundles places stages range kept =
     let same = for-on contest terms.candidates terms.seats bundles kept.fair kept.candidates_are kept.seats_are kept.bundles_are in
@@ -82,14 +84,16 @@ places-same contest papers history (b ∷ bs) =
     ap (λ at. placed at ∷ places_after (reordered contest papers) history bs) (same_place contest papers history b.0)
     ∙ ap (λ l. placed (place contest history b.0) ∷ l) (places-same contest papers history bs)
 
-right-on : (contest : Contest) (history : History) (bundles : List Bundle) → bundles ≡ bundled contest.papers → IsRightForSome contest history → IsRightForSome (reordered contest (papers_of bundles)) history
+right-on : (contest : Contest) (history : History) (bundles : List Bundle) → bundles ≡ bundled contest.papers → IsRightForSome contest history →
+    IsRightForSome (reordered contest (papers_of bundles)) history
 right-on contest history bundles are right =
     let order : IsPermutation (papers_of bundles) contest.papers =
     subst (λ (bs : List Bundle). IsPermutation (papers_of bs) contest.papers) (sym are) (IsPermutation-sym contest.papers (papers_of (bundled contest.papers)) (bundled-permutation contest.papers)) in
     record { lots = right.lots; right = right_reordered (reordered contest (papers_of bundles)) right.lots contest.papers history order right.right }
 
 -- a count that was kept is a book on the papers of its bundles
-pub kept-bundled : (contest : Contest) (history : History) (kept : CountKept) → AreBundles kept.bundles → IsKeptOf contest history kept → IsBundled (reordered contest (papers_of kept.bundles)) history kept.bundles kept.places
+pub kept-bundled : (contest : Contest) (history : History) (kept : CountKept) → AreBundles kept.bundles → IsKeptOf contest history kept →
+    IsBundled (reordered contest (papers_of kept.bundles)) history kept.bundles kept.places
 kept-bundled contest history kept bundles is =
     let on : Contest = reordered contest (papers_of kept.bundles) in
     record {
@@ -114,7 +118,8 @@ lost-within : (contest : Contest) (history : History) → IsConserved contest hi
 lost-within contest [] conserved = omega arith
 lost-within contest (s ∷ before) conserved = omega (arith, conserved.0)
 
-pub kept-lost : (contest : Contest) (history : History) (kept : CountKept) → AreBundles kept.bundles → IsKeptOf contest history kept → newest_lost (reverse kept.stages) ≤ one_vote * length (papers_of kept.bundles)
+pub kept-lost : (contest : Contest) (history : History) (kept : CountKept) → AreBundles kept.bundles → IsKeptOf contest history kept →
+    newest_lost (reverse kept.stages) ≤ one_vote * length (papers_of kept.bundles)
 kept-lost contest history kept bundles is =
     let on : Contest = reordered contest (papers_of kept.bundles) in
     let within = lost-within on history (bundled-conserved on history kept.bundles kept.places (kept-bundled contest history kept bundles is)) in

@@ -35,7 +35,8 @@ number (Exclude d) = d
 number (ExcludeLast d) = d
 
 -- an action is at most one thing
-surplus_of_one : (contest : Contest) (stages : History) (c : ℕ) → IsSurplus contest stages (Surplus c) ⊎ IsExclusion contest stages (Surplus c) → (In c contest.candidates) × (contest.quota < newest_votes stages c)
+surplus_of_one : (contest : Contest) (stages : History) (c : ℕ) → IsSurplus contest stages (Surplus c) ⊎ IsExclusion contest stages (Surplus c) →
+    (In c contest.candidates) × (contest.quota < newest_votes stages c)
 unfolding number
 surplus_of_one contest stages c (inl on) =
     let same : on.c ≡ c = sym (ap number on.is) in
@@ -60,7 +61,8 @@ surplus-lawful contest (s ∷ before) c fair right due =
     record { column = column; above = on.1; some = quota_some contest fair; few = omega (arith, own, within, all, fair.few_papers) }
 
 -- only the first stage comes after none
-pub under-way : (contest : Contest) (stages : History) (holdings : List Holding) (action : Action) → IsBook contest stages holdings → IsDue contest stages action → (action ≡ First → ⊥) → IsUnderWay contest stages holdings
+pub under-way : (contest : Contest) (stages : History) (holdings : List Holding) (action : Action) → IsBook contest stages holdings → IsDue contest stages action → (action ≡ First → ⊥) →
+    IsUnderWay contest stages holdings
 under-way contest [] holdings action book due other = absurd (other (step-first contest due.lot action due.is))
 under-way contest (s ∷ before) holdings action book due other = record { hold = book.held.0; rankings = book.held.1 }
 

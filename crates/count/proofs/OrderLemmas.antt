@@ -39,7 +39,8 @@ lists_at P list n b bs Less one all behind = (one, all)
 lists_at P list n b bs Equal one all behind = all
 lists_at P list n b bs Greater one all behind = (all.0, behind)
 
-lists-with_papers : (P : List ℕ → Type 0) (list : List ℕ) (n : ℕ) (bs : List Bundle) → P list → AllByRecursion (λ (c : Bundle). P c.0) bs → AllByRecursion (λ (c : Bundle). P c.0) (with_papers bs list n)
+lists-with_papers : (P : List ℕ → Type 0) (list : List ℕ) (n : ℕ) (bs : List Bundle) → P list → AllByRecursion (λ (c : Bundle). P c.0) bs →
+    AllByRecursion (λ (c : Bundle). P c.0) (with_papers bs list n)
 lists-with_papers P list n [] one all = (one, tt)
 lists-with_papers P list n (b ∷ bs) one all = lists_at P list n b bs (list_cmp list b.0) one all (lists-with_papers P list n bs one all.1)
 
@@ -49,7 +50,8 @@ lists-from P bs [] all some = all
 lists-from P bs (p ∷ ps) all some = lists-from P (with_papers bs p 1) ps (lists-with_papers P p 1 bs some.0 all) some.1
 
 -- a contest on papers is one on their bundles' papers
-pub contest-bundled : (candidates : List ℕ) (seats : ℕ) (papers : List (List ℕ)) → IsContest (contest_for candidates seats papers) → IsContest (contest_for candidates seats (papers_of (bundled papers)))
+pub contest-bundled : (candidates : List ℕ) (seats : ℕ) (papers : List (List ℕ)) → IsContest (contest_for candidates seats papers) →
+    IsContest (contest_for candidates seats (papers_of (bundled papers)))
 contest-bundled candidates seats papers fair = record {
   candidate_set = fair.candidate_set;
   some_seats = fair.some_seats;
@@ -61,7 +63,8 @@ contest-bundled candidates seats papers fair = record {
 }
 
 -- the contest on papers is that on their bundles' papers, in another order
-pub contest-reordered : (candidates : List ℕ) (seats : ℕ) (papers : List (List ℕ)) → reordered (contest_for candidates seats papers) (papers_of (bundled papers)) ≡ contest_for candidates seats (papers_of (bundled papers))
+pub contest-reordered : (candidates : List ℕ) (seats : ℕ) (papers : List (List ℕ)) →
+    reordered (contest_for candidates seats papers) (papers_of (bundled papers)) ≡ contest_for candidates seats (papers_of (bundled papers))
 contest-reordered candidates seats papers =
     ap (λ n. let it : Contest = record { candidates = candidates; seats = seats; quota = quota_of n seats; papers = papers_of (bundled papers) } in it) (sym (bundled-length papers))
 

@@ -116,12 +116,14 @@ from_first-same p q [] h = refl
 from_first-same p q (x ∷ xs) h = from_choice (p x) (q x) x _ _ xs (h x) (from_first-same p q xs h)
 
 -- who continues may be told by either of two tests that agree
-pub total_passed-same : (f : ℕ → List ℕ → ℕ → ℕ) (c : ℕ) (p q : ℕ → Bool) (rule : TransferRule) (holdings : List Holding) → ((d : ℕ) → p d ≡ q d) → total_passed f c p rule holdings ≡ total_passed f c q rule holdings
+pub total_passed-same : (f : ℕ → List ℕ → ℕ → ℕ) (c : ℕ) (p q : ℕ → Bool) (rule : TransferRule) (holdings : List Holding) → ((d : ℕ) → p d ≡ q d) →
+    total_passed f c p rule holdings ≡ total_passed f c q rule holdings
 total_passed-same f c p q rule holdings h =
     sum_by-same _ _ holdings (λ (s : Holding). total_of-same _ _ s.parcels.items (λ rest v.
     ap (λ (left : List ℕ). cond (eqb s.holder c) (f (first_of left) left (new_value rule v)) 0) (from_first-same p q (drop 1 rest) h)))
 
-first_choice : (continues : ℕ → Bool) (x : ℕ) (xs : List ℕ) (b : Bool) → continues x ≡ b → OnlyColumns continues → first_of (from_first continues xs) ≤ max_candidates → first_of (cond b (x ∷ xs) (from_first continues xs)) ≤ max_candidates
+first_choice : (continues : ℕ → Bool) (x : ℕ) (xs : List ℕ) (b : Bool) → continues x ≡ b → OnlyColumns continues → first_of (from_first continues xs) ≤ max_candidates →
+    first_of (cond b (x ∷ xs) (from_first continues xs)) ≤ max_candidates
 first_choice continues x xs true e only h = (only x e).1
 first_choice continues x xs false e only h = h
 

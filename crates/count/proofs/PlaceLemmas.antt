@@ -59,7 +59,8 @@ passed_few : (b : Bool) (h w : ℕ) (at : Place) → h ≤ max_candidates → at
 passed_few true h w at new old = new
 passed_few false h w at new old = old
 
-moved_few : (contest : Contest) (before : History) (action : Action) (p : List ℕ) (at : Place) → IsContest contest → IsRanking p → at.holder ≤ max_candidates → (moved contest before action p at).holder ≤ max_candidates
+moved_few : (contest : Contest) (before : History) (action : Action) (p : List ℕ) (at : Place) → IsContest contest → IsRanking p → at.holder ≤ max_candidates →
+    (moved contest before action p at).holder ≤ max_candidates
 moved_few contest before First p at fair r few = first_few p r
 moved_few contest before (Surplus c) p at fair r few = passed_few (eqb at.holder c) (next_available contest before c p) _ at (next_few contest before c p fair) few
 moved_few contest before (Exclude c) p at fair r few = passed_few (eqb at.holder c) (next_available contest before c p) _ at (next_few contest before c p fair) few
@@ -75,7 +76,8 @@ pub sound-places : (contest : Contest) (stages : History) (bundles : List Bundle
 sound-places contest stages [] fair each = tt
 sound-places contest stages (b ∷ bs) fair each = ((holder-few contest stages b.0 fair each.0.2, value-small contest stages b.0), sound-places contest stages bs fair each.1)
 
-passed_choice : (b : Bool) (h w : ℕ) (at : Place) → (let m : Placed = record { holder = h; value = w } in cond b m (placed at)) ≡ placed (let m : Place = record { holder = h; value = w } in cond b m at)
+passed_choice : (b : Bool) (h w : ℕ) (at : Place) →
+    (let m : Placed = record { holder = h; value = w } in cond b m (placed at)) ≡ placed (let m : Place = record { holder = h; value = w } in cond b m at)
 passed_choice true h w at = refl
 passed_choice false h w at = refl
 
@@ -95,7 +97,8 @@ passed-all contest before c rule action (b ∷ bs) by =
     ∙ ap (λ (l : List Placed). placed (moved contest before action b.0 at) ∷ l) (passed-all contest before c rule action bs by)
 
 -- who continues may be told by another test that says the same
-passed-same : (p q : ℕ → Bool) (rule : TransferRule) (c : ℕ) (places : List Placed) (bundles : List Bundle) → ((d : ℕ) → p d ≡ q d) → passed_places p rule c places bundles ≡ passed_places q rule c places bundles
+passed-same : (p q : ℕ → Bool) (rule : TransferRule) (c : ℕ) (places : List Placed) (bundles : List Bundle) → ((d : ℕ) → p d ≡ q d) →
+    passed_places p rule c places bundles ≡ passed_places q rule c places bundles
 passed-same p q rule c [] bundles same = refl
 passed-same p q rule c (at ∷ places) [] same = refl
 passed-same p q rule c (at ∷ places) (b ∷ bs) same =
@@ -104,7 +107,8 @@ passed-same p q rule c (at ∷ places) (b ∷ bs) same =
     ∙ ap (λ (l : List Placed). passed_at q rule c b.0 at ∷ l) (passed-same p q rule c places bs same)
 
 -- what a surplus passes on, and what an exclusion does
-pub surplus-places : (contest : Contest) (before : History) (c : ℕ) (continues : ℕ → Bool) (places : List Placed) (bundles : List Bundle) → ((d : ℕ) → continues d ≡ is_continuing contest before d) → places ≡ places_after contest before bundles →
+pub surplus-places : (contest : Contest) (before : History) (c : ℕ) (continues : ℕ → Bool) (places : List Placed) (bundles : List Bundle) → ((d : ℕ) → continues d ≡ is_continuing contest before d) →
+    places ≡ places_after contest before bundles →
     passed_places continues (Share (surplus_of contest before c) (newest_votes before c)) c places bundles ≡ places_after contest (begun (Surplus c) [] ∷ before) bundles
 surplus-places contest before c continues places bundles same are =
     let rule : TransferRule = Share (surplus_of contest before c) (newest_votes before c) in
@@ -112,7 +116,8 @@ surplus-places contest before c continues places bundles same are =
     ∙ ap (λ (l : List Placed). passed_places (is_continuing contest before) rule c l bundles) are
     ∙ passed-all contest before c rule (Surplus c) bundles (λ p at. refl)
 
-pub exclude-places : (contest : Contest) (before : History) (c : ℕ) (continues : ℕ → Bool) (places : List Placed) (bundles : List Bundle) → ((d : ℕ) → continues d ≡ is_continuing contest before d) → places ≡ places_after contest before bundles →
+pub exclude-places : (contest : Contest) (before : History) (c : ℕ) (continues : ℕ → Bool) (places : List Placed) (bundles : List Bundle) → ((d : ℕ) → continues d ≡ is_continuing contest before d) →
+    places ≡ places_after contest before bundles →
     passed_places continues AsReceived c places bundles ≡ places_after contest (begun (Exclude c) [] ∷ before) bundles
 exclude-places contest before c continues places bundles same are =
     passed-same continues (is_continuing contest before) AsReceived c places bundles same

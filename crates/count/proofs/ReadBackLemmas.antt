@@ -1,5 +1,6 @@
 -- The figures of a right stage tell the stage back.
-use Rattle.std.proofs.Common.{◌≡◌, ℕ, ◌+◌, ◌<◌, ◌≤◌, ◌||◌, ◌⊎◌, inl, inr, Bool, true, false, not, cond, eqb, nat_eq, List, [], ◌∷◌, ◌++◌, length, map, take, drop, reverse, Option, Some, None, refl, sym, ap, ◌∙◌, arith, subst, append-nil, append_assoc, length-append}
+use Rattle.std.proofs.Common.{◌≡◌, ℕ, ◌+◌, ◌<◌, ◌≤◌, ◌||◌, ◌⊎◌, inl, inr, Bool, true, false, not, cond, eqb, nat_eq, List, [], ◌∷◌, ◌++◌, length, map, take, drop, reverse, Option, Some}
+use Rattle.std.proofs.Common.{None, refl, sym, ap, ◌∙◌, arith, subst, append-nil, append_assoc, length-append}
 use Rattle.std.proofs.Math.Seq.{take-append_seam, drop-append_seam}
 use Rattle.std.proofs.lemmas.List.{reverse-append, reverse-reverse, length-map}
 use Rattle.std.specs.List.{list_any, filter}
@@ -31,7 +32,8 @@ standing_elected false true = refl
 standing_elected false false = refl
 
 -- a mark tells who is elected, whatever the action
-elected_by : (a : Action) (c : ℕ) (named gone : Bool) → (transfers a c ≡ true → named ≡ true) → (excludes a c ≡ true → named ≡ false) → is_elected_mark (mark_by a c (cond named 1 (cond gone 2 0))) ≡ named
+elected_by : (a : Action) (c : ℕ) (named gone : Bool) → (transfers a c ≡ true → named ≡ true) → (excludes a c ≡ true → named ≡ false) →
+    is_elected_mark (mark_by a c (cond named 1 (cond gone 2 0))) ≡ named
 elected_by First c named gone on out = standing_elected named gone
 elected_by (Surplus d) c named gone on out = by_test (eqb d c) on
   where
@@ -115,24 +117,28 @@ known_action contest s s' before (inr on) = ap (λ a. cond (list_any (acts_on a)
     by_test true = ap (λ b. cond b (ExcludeLast on.c) First) on.is_candidate
     by_test false = ap (λ b. cond b (Exclude on.c) First) on.is_candidate
 
-is_known : (contest : Contest) (handed : History → Stage → Option ℕ) (s : Stage) (before : History) → IsRightBy contest handed (s ∷ before) → cond (list_any (acts_on s.action) contest.candidates) s.action First ≡ s.action
+is_known : (contest : Contest) (handed : History → Stage → Option ℕ) (s : Stage) (before : History) → IsRightBy contest handed (s ∷ before) →
+    cond (list_any (acts_on s.action) contest.candidates) s.action First ≡ s.action
 is_known contest handed s [] right =
     let is = step-first contest (handed [] s) s.action right.1.was_due in
     ap (λ a. cond (list_any (acts_on s.action) contest.candidates) a First) is ∙ either_first (list_any (acts_on s.action) contest.candidates) ∙ sym is
 is_known contest handed s (s' ∷ before) right = known_action contest s s' before (step-is contest s' before (handed (s' ∷ before) s) s.action right.1.was_due)
 
-action-back : (contest : Contest) (handed : History → Stage → Option ℕ) (s : Stage) (before : History) → IsRightBy contest handed (s ∷ before) → action_shown (figure_of s (s ∷ before)) contest.candidates ≡ s.action
+action-back : (contest : Contest) (handed : History → Stage → Option ℕ) (s : Stage) (before : History) → IsRightBy contest handed (s ∷ before) →
+    action_shown (figure_of s (s ∷ before)) contest.candidates ≡ s.action
 action-back contest handed s before right =
     action_told (figure_of s (s ∷ before)) s.action contest.candidates (λ c. action_at s.action c (is_named (s ∷ before) c) (is_excluded (s ∷ before) c)) ∙ is_known contest handed s before right
 
 -- ---- the votes
 
-units_at : (contest : Contest) (s : Stage) (before : History) (c : ℕ) (b : Bool) → list_any (nat_eq c) contest.candidates ≡ b → (list_any (nat_eq c) contest.candidates ≡ false → votes_at s c ≡ 0) → votes_at s c ≡ votes_after contest (s ∷ before) c →
+units_at : (contest : Contest) (s : Stage) (before : History) (c : ℕ) (b : Bool) → list_any (nat_eq c) contest.candidates ≡ b → (list_any (nat_eq c) contest.candidates ≡ false → votes_at s c ≡ 0) →
+    votes_at s c ≡ votes_after contest (s ∷ before) c →
     cond b (votes_at s c) 0 ≡ votes_after contest (s ∷ before) c
 units_at contest s before c true e none told = told
 units_at contest s before c false e none told = sym (none e) ∙ told
 
-votes-back : (contest : Contest) (handed : History → Stage → Option ℕ) (s : Stage) (before : History) → IsContest contest → IsRightBy contest handed (s ∷ before) → votes_shown (figure_of s (s ∷ before)) contest.candidates ≡ s.votes
+votes-back : (contest : Contest) (handed : History → Stage → Option ℕ) (s : Stage) (before : History) → IsContest contest → IsRightBy contest handed (s ∷ before) →
+    votes_shown (figure_of s (s ∷ before)) contest.candidates ≡ s.votes
 votes-back contest handed s before fair right =
     map-numbers (units_shown (figure_of s (s ∷ before)) contest.candidates) (votes_after contest (s ∷ before)) (λ c column.
     units_at contest s before c _ refl ((others-voteless contest handed (s ∷ before) fair right).0 c column) (told-votes contest s before c right.1.tells column))
@@ -149,7 +155,8 @@ pub record IsReadOf (candidates elected : List ℕ) (s : Stage) (before : Histor
   pub none_is : made.non_transferable ≡ s.non_transferable
   pub lost_is : made.lost ≡ s.lost
 
-pub stage-read : (contest : Contest) (handed : History → Stage → Option ℕ) (s : Stage) (before : History) (elected now : List ℕ) (made : Stage) → IsContest contest → IsRightBy contest handed (s ∷ before) →
+pub stage-read : (contest : Contest) (handed : History → Stage → Option ℕ) (s : Stage) (before : History) (elected now : List ℕ) (made : Stage) → IsContest contest →
+    IsRightBy contest handed (s ∷ before) →
     elected ≡ elected_after contest before → IsReadOf contest.candidates elected s before now made → made ≡ s
 stage-read contest handed s before elected now made fair right known read =
     let newly : made.elected ≡ s.elected =
@@ -200,7 +207,8 @@ none-first : (contest : Contest) (xs : List ℕ) → IsContest contest → filte
 none-first contest [] fair = refl
 none-first contest (x ∷ xs) fair = ap (λ b. cond b (x ∷ filter (is_elected contest []) xs) (filter (is_elected contest []) xs)) (none-elected contest x fair) ∙ none-first contest xs fair
 
-pub none-read : (contest : Contest) (history : History) (figures : List Figure) (stages : List Stage) (elected : List ℕ) → IsContest contest → figures ≡ all_figures contest.candidates history → stages ≡ [] → elected ≡ [] →
+pub none-read : (contest : Contest) (history : History) (figures : List Figure) (stages : List Stage) (elected : List ℕ) → IsContest contest → figures ≡ all_figures contest.candidates history →
+    stages ≡ [] → elected ≡ [] →
     AreRead contest history stages elected figures
 none-read contest history figures stages elected fair are none nobody = record {
   later = reverse history;
@@ -214,7 +222,8 @@ right-first : (contest : Contest) (handed : History → Stage → Option ℕ) (n
 right-first contest handed [] before right = right
 right-first contest handed (s ∷ newer) before right = right-first contest handed newer before right.0
 
-right-to : (contest : Contest) (handed : History → Stage → Option ℕ) (history : History) (stages : List Stage) (s : Stage) (later : List Stage) → IsRightBy contest handed history → stages ++ s ∷ later ≡ reverse history →
+right-to : (contest : Contest) (handed : History → Stage → Option ℕ) (history : History) (stages : List Stage) (s : Stage) (later : List Stage) → IsRightBy contest handed history →
+    stages ++ s ∷ later ≡ reverse history →
     IsRightBy contest handed (s ∷ reverse stages)
 right-to contest handed history stages s later right whole =
     let parts : reverse later ++ (s ∷ reverse stages) ≡ history =
@@ -226,7 +235,8 @@ length-stage candidates s before =
     omega (arith, length-append (map (figure_of s (s ∷ before)) candidates) (record { candidate = fractions; units = s.lost; mark = 0 } ∷ []), length-map candidates (figure_of s (s ∷ before)))
 
 -- a stage more
-read_stage : (contest : Contest) (handed : History → Stage → Option ℕ) (history : History) (stages later : List Stage) (rest : List Figure) (more : List ℕ) (grown : List Stage) (n : ℕ) → IsRightBy contest handed history → n ≡ length contest.candidates + 2 → n ≤ length rest →
+read_stage : (contest : Contest) (handed : History → Stage → Option ℕ) (history : History) (stages later : List Stage) (rest : List Figure) (more : List ℕ) (grown : List Stage) (n : ℕ) →
+    IsRightBy contest handed history → n ≡ length contest.candidates + 2 → n ≤ length rest →
     stages ++ later ≡ reverse history → rest ≡ figures_from contest.candidates (reverse stages) later →
     ((s : Stage) → IsRightBy contest handed (s ∷ reverse stages) → take n rest ≡ figures_at contest.candidates (s ∷ reverse stages) → (grown ≡ stages ++ s ∷ []) × (more ≡ elected_after contest (s ∷ reverse stages))) →
     AreRead contest history grown more (drop n rest)
@@ -246,7 +256,8 @@ read_stage contest handed history stages (s ∷ later) rest more grown n right s
       elected_is = is.1 ∙ ap (elected_after contest) (sym turned);
     }
 
-pub read-more : (contest : Contest) (handed : History → Stage → Option ℕ) (history : History) (stages : List Stage) (rest : List Figure) (elected more : List ℕ) (grown : List Stage) (n : ℕ) → IsRightBy contest handed history → n ≡ length contest.candidates + 2 → n ≤ length rest →
+pub read-more : (contest : Contest) (handed : History → Stage → Option ℕ) (history : History) (stages : List Stage) (rest : List Figure) (elected more : List ℕ) (grown : List Stage) (n : ℕ) →
+    IsRightBy contest handed history → n ≡ length contest.candidates + 2 → n ≤ length rest →
     AreRead contest history stages elected rest →
     ((s : Stage) → IsRightBy contest handed (s ∷ reverse stages) → take n rest ≡ figures_at contest.candidates (s ∷ reverse stages) → (grown ≡ stages ++ s ∷ []) × (more ≡ elected_after contest (s ∷ reverse stages))) →
     AreRead contest history grown more (drop n rest)
@@ -260,14 +271,17 @@ few_left candidates before [] few = refl
 few_left candidates before (s ∷ later) few =
     absurd (omega (arith, few, length-stage candidates s before, length-append (figures_at candidates (s ∷ before)) (figures_from candidates (s ∷ before) later)))
 
-none-later : (contest : Contest) (history : History) (stages : List Stage) (elected : List ℕ) (rest : List Figure) → (read : AreRead contest history stages elected rest) → length rest < length contest.candidates + 2 → read.later ≡ []
+none-later : (contest : Contest) (history : History) (stages : List Stage) (elected : List ℕ) (rest : List Figure) → (read : AreRead contest history stages elected rest) →
+    length rest < length contest.candidates + 2 → read.later ≡ []
 none-later contest history stages elected rest read few = few_left contest.candidates (reverse stages) read.later (omega (arith, few, ap length read.rest_is))
 
-pub all-read : (contest : Contest) (history : History) (stages : List Stage) (elected : List ℕ) (rest : List Figure) → AreRead contest history stages elected rest → length rest < length contest.candidates + 2 → stages ≡ reverse history
+pub all-read : (contest : Contest) (history : History) (stages : List Stage) (elected : List ℕ) (rest : List Figure) → AreRead contest history stages elected rest →
+    length rest < length contest.candidates + 2 → stages ≡ reverse history
 all-read contest history stages elected rest read few =
     sym (append-nil stages) ∙ ap (λ (l : List Stage). stages ++ l) (sym (none-later contest history stages elected rest read few)) ∙ read.whole
 
-pub none-left : (contest : Contest) (history : History) (stages : List Stage) (elected : List ℕ) (rest : List Figure) → AreRead contest history stages elected rest → length rest < length contest.candidates + 2 → rest ≡ []
+pub none-left : (contest : Contest) (history : History) (stages : List Stage) (elected : List ℕ) (rest : List Figure) → AreRead contest history stages elected rest →
+    length rest < length contest.candidates + 2 → rest ≡ []
 unfolding figures_from
 none-left contest history stages elected rest read few =
     read.rest_is ∙ ap (figures_from contest.candidates (reverse stages)) (none-later contest history stages elected rest read few)

@@ -1,19 +1,19 @@
 -- Stages read back from the figures that they show.
-use Rattle.std.proofs.Common.{◌≡◌, ℕ, suc, ◌+◌, ◌-◌, ◌<◌, ◌||◌, Bool, true, false, cond, nat_eq, List, [], ◌∷◌, ◌++◌, length, map, take, drop, set, get_or, inl, inr, Some, None, refl, sym, ap, ◌∙◌, arith, slice_index, get_or-set_same, get_or-set_other, length-set, append-nil}
-use Rattle.std.specs.List.{filter, list_any}
+use Rattle.std.proofs.Common.{◌≡◌, ℕ, suc, ◌+◌, ◌-◌, ◌<◌, ◌||◌, Bool, true, false, cond, nat_eq, List, [], ◌∷◌, ◌++◌, length, map, take, drop, set, get_or, inl, inr, Some, None, refl, sym}
+use Rattle.std.proofs.Common.{ap, ◌∙◌, arith, slice_index, get_or-set_same, get_or-set_other, length-set}
+use Rattle.std.specs.List.{list_any}
 use Rattle.paper.specs.Columns.{IsColumnSet}
 use Rattle.std.proofs.Math.Seq.{drop-cons, take-append_seam, get_or-append_seam}
 use Rattle.std.proofs.lemmas.Bool.{eq-eqb, ne_eqb, cases_eq}
 use Rattle.std.proofs.lemmas.Grind.{same_number_lists}
 use Rattle.std.proofs.lemmas.List.{get_or-map, length-map}
-use Rattle.std.proofs.lemmas.List.Elements.{filter_more}
 use Rattle.std.proofs.lemmas.List.Folds.{list_any_more}
 use Rattle.std.proofs.lemmas.List.FromFn.{get_or-map-range_with_len}
 use Rattle.count.specs.Inside.Reading.{is_elected_mark, elected_shown, votes_shown, units_shown, action_by, action_or, action_shown}
 use Rattle.count.specs.declared.figures.Figure.{Figure}
 use Rattle.count.specs.declared.stages.Action.{Action}
 use Rattle.count.specs.declared.stages.Stage.{Stage}
-use Rattle.count.proofs.ColumnLemmas.{columns-more}
+use Rattle.count.proofs.ColumnLemmas.{chosen-yes, chosen-no}
 
 or_none : (b : Bool) → (b || false) ≡ b
 or_none true = refl
@@ -78,7 +78,8 @@ pub figure-at : (f : ℕ → Figure) (xs : List ℕ) (figures : List Figure) (i 
 figure-at f xs figures i d are within = ap (λ (l : List Figure). get_or l i d) are ∙ get_or-map f xs i 0 d within
 
 -- the figures of the candidates stand between the first and the last of a stage's
-pub between : (f : ℕ → Figure) (xs : List ℕ) (first last : Figure) (figures : List Figure) (n : ℕ) → figures ≡ first ∷ (map f xs ++ last ∷ []) → n ≡ length xs → take (n + 1 - 1) (drop 1 figures) ≡ map f xs
+pub between : (f : ℕ → Figure) (xs : List ℕ) (first last : Figure) (figures : List Figure) (n : ℕ) → figures ≡ first ∷ (map f xs ++ last ∷ []) → n ≡ length xs →
+    take (n + 1 - 1) (drop 1 figures) ≡ map f xs
 between f xs first last figures n are size =
     let e : n + 1 - 1 ≡ length (map f xs) = omega (arith, size, length-map xs f) in
     ap (λ (l : List Figure). take (n + 1 - 1) (drop 1 l)) are ∙ ap (λ k. take k (map f xs ++ last ∷ [])) e ∙ take-append_seam (map f xs) (last ∷ [])
@@ -102,16 +103,12 @@ stage-made s a v e n l of votes elected none lost =
     ∙ ap (λ (x : ℕ). let t : Stage = record { action = s.action; votes = s.votes; elected = s.elected; non_transferable = s.non_transferable; lost = x } in t) lost
 
 -- those who are marked as elected among the first candidates, and one more who is, or isn't
-pub elected-yes : (f : ℕ → Figure) (xs chosen more : List ℕ) (i mark : ℕ) → IsColumnSet xs → i < length xs → mark ≡ (f (slice_index xs i)).mark → is_elected_mark mark ≡ true → chosen ≡ elected_shown f (take i xs) →
+pub elected-yes : (f : ℕ → Figure) (xs chosen more : List ℕ) (i mark : ℕ) → IsColumnSet xs → i < length xs → mark ≡ (f (slice_index xs i)).mark → is_elected_mark mark ≡ true →
+    chosen ≡ elected_shown f (take i xs) →
     (IsColumnSet (chosen ++ slice_index xs i ∷ []) → more ≡ chosen ++ slice_index xs i ∷ []) → more ≡ elected_shown f (take (i + 1) xs)
 elected-yes f xs chosen more i mark set within is passes so_far last =
-    let p : ℕ → Bool = λ c. is_elected_mark (f c).mark in
-    let here : p (slice_index xs i) ≡ true = ap is_elected_mark (sym is) ∙ passes in
-    last (columns-more p xs chosen i set so_far within here) ∙ ap (λ (l : List ℕ). l ++ slice_index xs i ∷ []) so_far
-    ∙ sym (filter_more p xs i 0 within ∙ ap (λ b. filter p (take i xs) ++ cond b (slice_index xs i ∷ []) []) here)
+    chosen-yes (λ c. is_elected_mark (f c).mark) xs chosen more i set within (ap is_elected_mark (sym is) ∙ passes) so_far last
 
 pub elected-no : (f : ℕ → Figure) (xs chosen : List ℕ) (i mark : ℕ) → i < length xs → mark ≡ (f (slice_index xs i)).mark → is_elected_mark mark ≡ false → chosen ≡ elected_shown f (take i xs) →
     chosen ≡ elected_shown f (take (i + 1) xs)
-elected-no f xs chosen i mark within is fails so_far =
-    let p : ℕ → Bool = λ c. is_elected_mark (f c).mark in
-    so_far ∙ sym (filter_more p xs i 0 within ∙ ap (λ b. filter p (take i xs) ++ cond b (slice_index xs i ∷ []) []) (ap is_elected_mark (sym is) ∙ fails) ∙ append-nil (filter p (take i xs)))
+elected-no f xs chosen i mark within is fails so_far = chosen-no (λ c. is_elected_mark (f c).mark) xs chosen i within (ap is_elected_mark (sym is) ∙ fails) so_far

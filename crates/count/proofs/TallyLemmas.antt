@@ -72,11 +72,13 @@ held-after : (contest : Contest) (before : History) (s : Stage) (h : ℕ) (holdi
 held-after contest before s h holdings new under is_moved =
     is_moved (λ k rest v. cond (eqb k h) v 0) s refl ∙ ap (λ n. worth_to h new + n) (kept-worth contest before s.action h holdings under)
 
-newest_held : (contest : Contest) (handed : History → Stage → Option ℕ) (before : History) (c : ℕ) → IsRightBy contest handed before → IsColumn c → is_transferred before c ≡ false → newest_votes before c ≡ held contest before c
+newest_held : (contest : Contest) (handed : History → Stage → Option ℕ) (before : History) (c : ℕ) → IsRightBy contest handed before → IsColumn c → is_transferred before c ≡ false →
+    newest_votes before c ≡ held contest before c
 newest_held contest handed [] c right column fresh = sym (held-none contest c)
 newest_held contest handed (s ∷ before) c right column fresh = told-votes contest s before c right.1.tells column ∙ votes-held contest (s ∷ before) c fresh
 
-votes_choice : (contest : Contest) (handed : History → Stage → Option ℕ) (before : History) (s : Stage) (c : ℕ) (new : List Holding) (b : Bool) → (transfers s.action c || is_transferred before c) ≡ b →
+votes_choice : (contest : Contest) (handed : History → Stage → Option ℕ) (before : History) (s : Stage) (c : ℕ) (new : List Holding) (b : Bool) →
+    (transfers s.action c || is_transferred before c) ≡ b →
     IsRightBy contest handed before → IsColumn c → held contest (s ∷ before) c ≡ worth_to c new + cond (passes_on s.action c) 0 (held contest before c) →
     cond b contest.quota (worth_to c new + cond (passes_on s.action c) 0 (newest_votes before c)) ≡ cond b contest.quota (held contest (s ∷ before) c)
 votes_choice contest handed before s c new true e right column is = refl
@@ -112,7 +114,8 @@ newest_none contest handed [] right = sym (held-none contest 0)
 newest_none contest handed (s ∷ before) right = right.1.tells.non_transferable_told
 
 -- the non-transferable after an action
-non_transferable-are : (contest : Contest) (handed : History → Stage → Option ℕ) (before : History) (s : Stage) (holdings new : List Holding) → IsContest contest → IsRightBy contest handed before → IsDue contest before s.action →
+non_transferable-are : (contest : Contest) (handed : History → Stage → Option ℕ) (before : History) (s : Stage) (holdings new : List Holding) → IsContest contest → IsRightBy contest handed before →
+    IsDue contest before s.action →
     AreHeld contest before holdings → IsMovedBy contest before s.action holdings new → newest_non_transferable before + worth_to 0 new ≡ non_transferable_after contest (s ∷ before)
 non_transferable-are contest handed before s holdings new fair right due under is_moved =
     let kept : cond (passes_on s.action 0) 0 (held contest before 0) ≡ held contest before 0 = ap (λ b. cond b 0 (held contest before 0)) (passes_no_one contest before s.action fair due) in
@@ -128,7 +131,8 @@ value_choice true h w at = omega arith
 value_choice false h w at = omega arith
 
 -- what a surplus gives is worth what it moved
-surplus-gives : (contest : Contest) (before : History) (s : Stage) (c : ℕ) (holdings new : List Holding) → s.action ≡ Surplus c → HoldPapers contest before holdings → IsMovedBy contest before s.action holdings new →
+surplus-gives : (contest : Contest) (before : History) (s : Stage) (c : ℕ) (holdings new : List Holding) → s.action ≡ Surplus c → HoldPapers contest before holdings →
+    IsMovedBy contest before s.action holdings new →
     worth new ≡ value_passed_on contest s before c
 surplus-gives contest before s c holdings new is hold is_moved =
     let kept : total (kept_by (λ k rest v. v) s.action) holdings ≡ sum_by (λ p. cond (eqb (place contest before p).holder c) 0 (place contest before p).value) contest.papers =
@@ -144,7 +148,8 @@ surplus-gives contest before s c holdings new is hold is_moved =
     omega (arith, kept, parts, all)
 
 -- what is lost after an action
-lost_at_action : (contest : Contest) (handed : History → Stage → Option ℕ) (before : History) (s : Stage) (holdings new : List Holding) (action : Action) → s.action ≡ action → IsRightBy contest handed before → IsDue contest before action →
+lost_at_action : (contest : Contest) (handed : History → Stage → Option ℕ) (before : History) (s : Stage) (holdings new : List Holding) (action : Action) → s.action ≡ action →
+    IsRightBy contest handed before → IsDue contest before action →
     AreHeld contest before holdings → IsMovedBy contest before s.action holdings new → lost_with contest.quota before action new ≡ lost_after contest before + lost_by contest s before action
 lost_at_action contest handed before s holdings new First is right due under is_moved = omega (arith, newest_lost-is contest handed before right)
 lost_at_action contest handed [] s holdings new (Surplus c) is right due under is_moved = let e = step-first contest due.lot (Surplus c) due.is in cc
@@ -203,7 +208,8 @@ votes_small_choice true q v n h k = h
 votes_small_choice false q v n h k = k
 
 -- no figure of a right history is above what all papers give
-pub newest_small : (contest : Contest) (handed : History → Stage → Option ℕ) (before : History) (new : List Holding) → IsContest contest → IsRightBy contest handed before → worth new ≤ max_units → AreSmall before new
+pub newest_small : (contest : Contest) (handed : History → Stage → Option ℕ) (before : History) (new : List Holding) → IsContest contest → IsRightBy contest handed before → worth new ≤ max_units →
+    AreSmall before new
 newest_small contest handed [] new fair right small = record { votes_small = λ c some few. omega arith; non_transferable_small = omega arith; lost_small = omega arith; moved_small = small }
 newest_small contest handed (s ∷ before) new fair right small =
     let stages : History = s ∷ before in
@@ -221,7 +227,8 @@ newest_small contest handed (s ∷ before) new fair right small =
     }
 
 -- nor is what an action moved
-pub moved-small : (contest : Contest) (before : History) (action : Action) (holdings new : List Holding) → IsBook contest before holdings → IsDue contest before action → IsMovedBy contest before action holdings new → AreSmall before new
+pub moved-small : (contest : Contest) (before : History) (action : Action) (holdings new : List Holding) → IsBook contest before holdings → IsDue contest before action →
+    IsMovedBy contest before action holdings new → AreSmall before new
 moved-small contest before action holdings new book due is_moved =
     let handed : History → Stage → Option ℕ = λ h t. candidate_of t.action in
     let bare : Stage = record { action = action; votes = []; elected = []; non_transferable = 0; lost = 0 } in
@@ -230,7 +237,8 @@ moved-small contest before action holdings new book due is_moved =
     newest_small contest handed before new book.fair book.right (omega (arith, all, parts, book.fair.few_papers))
 
 -- a surplus is of a candidate
-pub surplus-column : (contest : Contest) (stages : History) (holdings : List Holding) (action : Action) → IsBook contest stages holdings → IsDue contest stages action → (c : ℕ) → action ≡ Surplus c → IsColumn c
+pub surplus-column : (contest : Contest) (stages : History) (holdings : List Holding) (action : Action) → IsBook contest stages holdings → IsDue contest stages action → (c : ℕ) →
+    action ≡ Surplus c → IsColumn c
 surplus-column contest stages holdings action book due c is = (surplus-lawful contest stages c book.fair book.right (subst (IsDue contest stages) is due)).column
 
 -- after the action the papers lie in what it moved and what it left

@@ -73,7 +73,8 @@ moved-exclude contest before c holdings new rankings hold passed f s is =
     ∙ ap (λ n. n + total (kept_by f (Exclude c)) holdings) (sym (passed f))
 
 pub moved-surplus : (contest : Contest) (before : History) (c : ℕ) (holdings new : List Holding) → AreRankings contest.papers → HoldPapers contest before holdings →
-    ((f : ℕ → List ℕ → ℕ → ℕ) → total f new ≡ total_passed f c (is_continuing contest before) (Share (surplus_of contest before c) (newest_votes before c)) holdings) → IsMovedBy contest before (Surplus c) holdings new
+    ((f : ℕ → List ℕ → ℕ → ℕ) → total f new ≡ total_passed f c (is_continuing contest before) (Share (surplus_of contest before c) (newest_votes before c)) holdings) →
+    IsMovedBy contest before (Surplus c) holdings new
 moved-surplus contest before c holdings new rankings hold passed f s is =
     let rule : TransferRule = Share (surplus_of contest before c) (newest_votes before c) in
     sum-rankings contest.papers rankings _ _ (λ p r.

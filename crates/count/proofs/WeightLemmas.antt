@@ -1,5 +1,6 @@
 -- What the papers of bundles are worth is what the law adds up over all papers.
-use Rattle.std.proofs.Common.{◌≡◌, ℕ, suc, zero, ◌+◌, ◌*◌, ◌≤◌, ◌||◌, Bool, true, false, cond, eqb, List, [], ◌∷◌, length, map, replicate, slice_index, Option, refl, sym, ap, ◌∙◌, arith, length-append}
+use Rattle.std.proofs.Common.{◌≡◌, ℕ, suc, zero, ◌+◌, ◌*◌, ◌≤◌, ◌||◌, Bool, true, false, cond, eqb, List, [], ◌∷◌, length, map, replicate, slice_index, Option, refl, sym, ap, ◌∙◌, arith}
+use Rattle.std.proofs.Common.{length-append}
 use Rattle.std.specs.List.{AllByRecursion, sum_by}
 use Rattle.std.proofs.Math.Nat.{mul-le-mul_left}
 use Rattle.std.proofs.lemmas.List.{length-replicate}
@@ -40,7 +41,8 @@ worth-papers f at [] = refl
 worth-papers f at (b ∷ bs) = ap (λ n. b.1 * f (at b.0) + n) (worth-papers f at bs) ∙ sym (sum-papers (λ p. f (at p)) b bs)
 
 -- the same at the places of a contest's papers
-worth-places : (f : Placed → ℕ) (contest : Contest) (stages : History) (bundles : List Bundle) (places : List Placed) → contest.papers ≡ papers_of bundles → places ≡ places_after contest stages bundles →
+worth-places : (f : Placed → ℕ) (contest : Contest) (stages : History) (bundles : List Bundle) (places : List Placed) → contest.papers ≡ papers_of bundles →
+    places ≡ places_after contest stages bundles →
     worth_placed f places bundles ≡ sum_by (λ p. f (placed (place contest stages p))) contest.papers
 worth-places f contest stages bundles places papers are =
     ap (λ (l : List Placed). worth_placed f l bundles) are
@@ -56,7 +58,8 @@ pub worth-held : (h : ℕ) (contest : Contest) (stages : History) (bundles : Lis
 worth-held h contest stages bundles places papers are = worth-places (value_to h) contest stages bundles places papers are
 
 -- where all places are sound, papers are worth no more than a vote each, together and to each holder
-worth-sound : (f : Placed → ℕ) (places : List Placed) (bundles : List Bundle) → ((at : Placed) → IsSound at → f at ≤ one_vote) → AllByRecursion IsSound places → worth_placed f places bundles ≤ one_vote * length (papers_of bundles)
+worth-sound : (f : Placed → ℕ) (places : List Placed) (bundles : List Bundle) → ((at : Placed) → IsSound at → f at ≤ one_vote) → AllByRecursion IsSound places →
+    worth_placed f places bundles ≤ one_vote * length (papers_of bundles)
 worth-sound f [] bundles small sound = omega arith
 worth-sound f (at ∷ places) [] small sound = omega arith
 worth-sound f (at ∷ places) (b ∷ bs) small sound =
@@ -75,14 +78,16 @@ value_within h at sound = within (eqb at.holder h) at.value sound.1
     within true v small = small
     within false v small = omega arith
 
-pub holder-few : (places : List Placed) (bundles : List Bundle) → AllByRecursion IsSound places → length (papers_of bundles) ≤ max_papers → (h : ℕ) → worth_placed (value_to h) places bundles ≤ max_units
+pub holder-few : (places : List Placed) (bundles : List Bundle) → AllByRecursion IsSound places → length (papers_of bundles) ≤ max_papers → (h : ℕ) →
+    worth_placed (value_to h) places bundles ≤ max_units
 holder-few places bundles sound few h = omega (arith, worth-sound (value_to h) places bundles (value_within h) sound, few)
 
 pub lost-few : (contest : Contest) (stages : History) → IsContest contest → IsRightByItself contest stages → newest_lost stages ≤ max_units
 lost-few contest stages fair right = (newest_small contest (λ h t. candidate_of t.action) stages [] fair right (omega arith)).lost_small
 
 -- the sums of the holders give the votes of all numbers,
-pub votes-figured : (contest : Contest) (before : History) (action : Action) (bundles : List Bundle) (moved : List Placed) (sums : List ℕ) → contest.papers ≡ papers_of bundles → moved ≡ places_after contest (begun action [] ∷ before) bundles →
+pub votes-figured : (contest : Contest) (before : History) (action : Action) (bundles : List Bundle) (moved : List Placed) (sums : List ℕ) → contest.papers ≡ papers_of bundles →
+    moved ≡ places_after contest (begun action [] ∷ before) bundles →
     ((h : ℕ) → h ≤ max_candidates → slice_index sums h ≡ worth_placed (value_to h) moved bundles) →
     map (votes_from contest.quota before action sums) numbers ≡ map (votes_after contest (begun action [] ∷ before)) numbers
 votes-figured contest before action bundles moved sums papers are each =
@@ -90,7 +95,8 @@ votes-figured contest before action bundles moved sums papers are each =
     ap (λ n. cond (transfers action c || is_transferred before c) contest.quota n) (each c column.1 ∙ worth-held c contest (begun action [] ∷ before) bundles moved papers are))
 
 -- and the non-transferable;
-pub none-figured : (contest : Contest) (before : History) (action : Action) (bundles : List Bundle) (moved : List Placed) (sums : List ℕ) → contest.papers ≡ papers_of bundles → moved ≡ places_after contest (begun action [] ∷ before) bundles →
+pub none-figured : (contest : Contest) (before : History) (action : Action) (bundles : List Bundle) (moved : List Placed) (sums : List ℕ) → contest.papers ≡ papers_of bundles →
+    moved ≡ places_after contest (begun action [] ∷ before) bundles →
     ((h : ℕ) → h ≤ max_candidates → slice_index sums h ≡ worth_placed (value_to h) moved bundles) →
     slice_index sums 0 ≡ non_transferable_after contest (begun action [] ∷ before)
 none-figured contest before action bundles moved sums papers are each = each 0 (omega arith) ∙ worth-held 0 contest (begun action [] ∷ before) bundles moved papers are
@@ -111,7 +117,8 @@ lost_at contest (s ∷ before) (Surplus c) fair right due =
 lost_at contest before (Exclude c) fair right due = omega (arith, newest_lost-is contest (λ h t. candidate_of t.action) before right)
 lost_at contest before (ExcludeLast c) fair right due = omega (arith, newest_lost-is contest (λ h t. candidate_of t.action) before right)
 
-pub lost-figured : (contest : Contest) (before : History) (action : Action) (bundles : List Bundle) (places moved : List Placed) → IsDueInBook contest before bundles places action → moved ≡ places_after contest (begun action [] ∷ before) bundles →
+pub lost-figured : (contest : Contest) (before : History) (action : Action) (bundles : List Bundle) (places moved : List Placed) → IsDueInBook contest before bundles places action →
+    moved ≡ places_after contest (begun action [] ∷ before) bundles →
     lost_from contest.quota before action (worth_placed value_of places bundles) (worth_placed value_of moved bundles) ≡ lost_after contest (begun action [] ∷ before)
 lost-figured contest before action bundles places moved due are =
     ap (λ n. lost_from contest.quota before action n (worth_placed value_of moved bundles)) (worth-all contest before bundles places due.book.papers_are due.book.places_are)

@@ -19,17 +19,42 @@ fractions = 99
 abbrev pub is_named : History → ℕ → Bool
 is_named stages c = list_any (λ (s : Stage). list_any (nat_eq c) s.elected) stages
 
--- how c stands at a stage that doesn't act on him: 1 elected, 2 excluded earlier, 0 continuing
-abbrev pub standing_mark : History → ℕ → ℕ
-standing_mark stages c = if is_named stages c then 1 else if is_excluded stages c then 2 else 0
+-- ---- marks
 
--- how c stands at a stage of an action: 3 his surplus is transferred, 4 he is excluded and his papers are transferred, 5 he is
--- excluded and nothing is; else the other mark
+-- he continues; this is also the mark of what is no candidate's
+abbrev pub continuing : ℕ
+continuing = 0
+
+-- he is elected
+abbrev pub elected : ℕ
+elected = 1
+
+-- he was excluded at an earlier stage
+abbrev pub excluded : ℕ
+excluded = 2
+
+-- he is elected, and his surplus is transferred at this stage
+abbrev pub surplus_now : ℕ
+surplus_now = 3
+
+-- he is excluded at this stage, and his papers are transferred
+abbrev pub excluded_now : ℕ
+excluded_now = 4
+
+-- he is excluded at this stage, so that the last vacancies are filled, and nothing is transferred
+abbrev pub excluded_last : ℕ
+excluded_last = 5
+
+-- the mark of c at a stage that doesn't act on him
+abbrev pub standing_mark : History → ℕ → ℕ
+standing_mark stages c = if is_named stages c then elected else if is_excluded stages c then excluded else continuing
+
+-- the mark of c at a stage of an action: that of the action, where it is on him; else the other mark
 abbrev pub mark_by : Action → ℕ → ℕ → ℕ
 mark_by First c other = other
-mark_by (Surplus d) c other = if d == c then 3 else other
-mark_by (Exclude d) c other = if d == c then 4 else other
-mark_by (ExcludeLast d) c other = if d == c then 5 else other
+mark_by (Surplus d) c other = if d == c then surplus_now else other
+mark_by (Exclude d) c other = if d == c then excluded_now else other
+mark_by (ExcludeLast d) c other = if d == c then excluded_last else other
 
 -- the figure of c at a stage that is the newest of some
 abbrev pub figure_of : Stage → History → ℕ → Figure
@@ -39,8 +64,8 @@ figure_of newest stages c = record { candidate = c; units = votes_at newest c; m
 abbrev pub figures_at : List ℕ → History → List Figure
 figures_at candidates [] = []
 figures_at candidates (s ∷ before) =
-    record { candidate = no_candidate; units = s.non_transferable; mark = 0 }
-    ∷ map (figure_of s (s ∷ before)) candidates ++ record { candidate = fractions; units = s.lost; mark = 0 } ∷ []
+    record { candidate = no_candidate; units = s.non_transferable; mark = continuing }
+    ∷ map (figure_of s (s ∷ before)) candidates ++ record { candidate = fractions; units = s.lost; mark = continuing } ∷ []
 
 -- the figures of all stages, from the first on
 abbrev pub all_figures : List ℕ → History → List Figure

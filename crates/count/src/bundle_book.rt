@@ -51,7 +51,8 @@ impl<'a> Model for BundleBook<'a> {
 #[tactic(auto, using(crate::proofs::OrderLemmas::bundled_alike))]
 pub fn bundles_count_alike()
     ensures papers { (papers : List (List ℕ)) → IsPermutation papers (papers_of (bundled papers)) }
-    ensures contest { (candidates : List ℕ) (seats : ℕ) (papers : List (List ℕ)) → IsContest (contest_for candidates seats papers) → IsContest (contest_for candidates seats (papers_of (bundled papers))) }
+    ensures contest { (candidates : List ℕ) (seats : ℕ) (papers : List (List ℕ)) → IsContest (contest_for candidates seats papers)
+        → IsContest (contest_for candidates seats (papers_of (bundled papers))) }
     ensures stages { (candidates : List ℕ) (seats : ℕ) (papers : List (List ℕ)) (lots : List (ℕ × ℕ)) (k : ℕ)
         → stages_to (contest_for candidates seats (papers_of (bundled papers))) lots k ≡ stages_to (contest_for candidates seats papers) lots k }
 {}

@@ -10,7 +10,7 @@ ghost use Rattle.count.specs.Books.{contest_of};
 use crate::book::AdvanceError;
 use crate::elected::{continuing, elected, vacancies, with_surplus};
 use crate::run::lot_at;
-use crate::stages::{Action, Due, Kind, Stage};
+use crate::stages::{Action, Due, Stage, TiedFor};
 use crate::terms::Terms;
 use crate::ties::{highest, lowest};
 use paper::Columns;
@@ -26,18 +26,18 @@ fn exclusion(terms: &Terms, stages: &[Stage], c: u8) -> Action
 }
 
 /// The action of a kind on a candidate.
-fn action_on(terms: &Terms, stages: &[Stage], kind: Kind, c: u8) -> Action
+fn action_on(terms: &Terms, stages: &[Stage], kind: TiedFor, c: u8) -> Action
     ensures { result ≡ action_on_of (contest_of terms.now []) (reverse stages.now) kind c }
 {
     match kind {
-        Kind::Surplus => Action::Surplus(c),
-        Kind::Exclusion => exclusion(terms, stages, c),
+        TiedFor::Surplus => Action::Surplus(c),
+        TiedFor::Exclusion => exclusion(terms, stages, c),
     }
 }
 
 /// The action on the one candidate of a group, else a lot among those in it.
 #[tactic(auto, using(crate::proofs::Law::DueLemmas::among_sizes))]
-fn among(terms: &Terms, stages: &[Stage], kind: Kind, group: &Columns) -> Due
+fn among(terms: &Terms, stages: &[Stage], kind: TiedFor, group: &Columns) -> Due
     requires few { length stages.now < 255 }
     ensures { result ≡ among_of (contest_of terms.now []) (reverse stages.now) kind group.now }
 {
@@ -59,9 +59,9 @@ fn due_for(terms: &Terms, stages: &[Stage], group: &Columns) -> Due
 {
     if group.len() == 0 {
         let others = continuing(terms, stages);
-        return among(terms, stages, Kind::Exclusion, &lowest(stages, &others));
+        return among(terms, stages, TiedFor::Exclusion, &lowest(stages, &others));
     }
-    among(terms, stages, Kind::Surplus, &highest(stages, group))
+    among(terms, stages, TiedFor::Surplus, &highest(stages, group))
 }
 
 /// What is due after some stages, whatever the papers: they aren't read.

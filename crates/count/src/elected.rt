@@ -1,7 +1,7 @@
 //! Who has reached the quota, is elected, continues or has a surplus after some stages.
 
-ghost use Rattle.std.specs.Prelude.{◌≡◌, ℕ, ◌≤◌, ◌&&◌, ◌||◌, not, [], ◌∷◌, ◌++◌, reverse, nat_lt, nat_eq, true};
-ghost use Rattle.paper.specs.Columns.{max_candidates, IsColumnSet};
+ghost use Rattle.std.specs.Prelude.{◌≡◌, ℕ, ◌≤◌, Bool, ◌&&◌, ◌||◌, not, [], reverse, nat_lt, nat_eq};
+ghost use Rattle.paper.specs.Columns.{max_candidates};
 ghost use Rattle.paper.specs.Standing.{is_continuing as continues_of};
 ghost use Rattle.std.specs.List.{list_any, filter};
 ghost use Rattle.count.specs.Law.Contest.{Contest, votes_at, newest_votes as newest_votes_of};
@@ -43,23 +43,28 @@ fn has_reached(terms: &Terms, stages: &[Stage], c: u8) -> bool
     requires few { c ≤ max_candidates }
     ensures { result ≡ has_reached_of (contest_of terms.now []) (reverse stages.now) c }
 {
-    for stage in stages {
-        if terms.quota.units() <= votes_after(stage, c).units() {
-            return true;
-        }
-    }
-    false
+    stages.iter().any(|stage| terms.quota.units() <= votes_after(stage, c).units())
 }
 
-/// Whether an action excludes a candidate.
-fn excludes(action: &Action, c: u8) -> bool
-    ensures { result ≡ excludes_of action.now c }
-{
-    match action {
-        Action::First => false,
-        Action::Surplus(_) => false,
-        Action::Exclude(d) => *d == c,
-        Action::ExcludeLast(d) => *d == c,
+impl Action {
+    /// Whether it excludes a candidate.
+    pub fn excludes(&self, c: u8) -> bool
+        ensures { result ≡ excludes_of self.now c }
+    {
+        match self {
+            Action::First | Action::Surplus(_) => false,
+            Action::Exclude(d) | Action::ExcludeLast(d) => *d == c,
+        }
+    }
+
+    /// Whether it transfers the surplus of a candidate.
+    fn transfers(&self, c: u8) -> bool
+        ensures { result ≡ transfers_of self.now c }
+    {
+        match self {
+            Action::Surplus(d) => *d == c,
+            Action::First | Action::Exclude(_) | Action::ExcludeLast(_) => false,
+        }
     }
 }
 
@@ -67,68 +72,58 @@ fn excludes(action: &Action, c: u8) -> bool
 pub fn is_excluded(stages: &[Stage], c: u8) -> bool
     ensures { result ≡ is_excluded_of (reverse stages.now) c }
 {
-    for stage in stages {
-        if excludes(&stage.action, c) {
-            return true;
-        }
-    }
-    false
-}
-
-/// Whether an action transfers the surplus of a candidate.
-fn transfers(action: &Action, c: u8) -> bool
-    ensures { result ≡ transfers_of action.now c }
-{
-    match action {
-        Action::First => false,
-        Action::Surplus(d) => *d == c,
-        Action::Exclude(_) => false,
-        Action::ExcludeLast(_) => false,
-    }
+    stages.iter().any(|stage| stage.action.excludes(c))
 }
 
 /// Whether the surplus of a candidate has been transferred.
 fn is_transferred(stages: &[Stage], c: u8) -> bool
     ensures { result ≡ is_transferred_of (reverse stages.now) c }
 {
-    for stage in stages {
-        if transfers(&stage.action, c) {
-            return true;
-        }
-    }
-    false
+    stages.iter().any(|stage| stage.action.transfers(c))
 }
 
 /// Whether the surplus of a candidate has been transferred after one action more.
 pub fn is_transferred_with(stages: &[Stage], action: &Action, c: u8) -> bool
     ensures { result ≡ (transfers_of action.now c || is_transferred_of (reverse stages.now) c) }
 {
-    if transfers(action, c) {
+    if action.transfers(c) {
         return true;
     }
     is_transferred(stages, c)
 }
 
-/// Appends a number to a set of smaller ones.
-#[tactic(auto, using(crate::proofs::ColumnLemmas::last_column))]
-pub fn append(chosen: &mut Columns, c: u8)
-    requires { IsColumnSet (chosen.old ++ c ∷ []) }
-    ensures { chosen.new ≡ chosen.old ++ c ∷ [] }
+/// Those of a set who pass a test.
+pub fn those<F: Fn(u8) -> bool>(set: &Columns, passes: F) -> Columns
+    requires { (c : ℕ) → 1 ≤ c → c ≤ max_candidates → F.pre passes c }
+    ensures { (test : ℕ → Bool) → ((c : ℕ) (passed : Bool) → 1 ≤ c → c ≤ max_candidates → F.post passes c passed → passed ≡ test c) → result ≡ filter test set.now }
 {
-    *chosen = chosen.with(c);
+    let mut chosen = Columns::empty();
+    for c in set.as_slice() {
+        if passes(*c) {
+            chosen = chosen.with(*c);
+        }
+    }
+    chosen
+}
+
+/// Whether one of a set passes a test.
+pub fn has_one<F: Fn(u8) -> bool>(set: &Columns, passes: F) -> bool
+    requires { (c : ℕ) → 1 ≤ c → c ≤ max_candidates → F.pre passes c }
+    ensures { (test : ℕ → Bool) → ((c : ℕ) (passed : Bool) → 1 ≤ c → c ≤ max_candidates → F.post passes c passed → passed ≡ test c) → result ≡ list_any test set.now }
+{
+    for c in set.as_slice() {
+        if passes(*c) {
+            return true;
+        }
+    }
+    false
 }
 
 /// The candidates who have reached the quota.
 fn with_quota(terms: &Terms, stages: &[Stage]) -> Columns
     ensures { result ≡ with_quota_of (contest_of terms.now []) (reverse stages.now) }
 {
-    let mut chosen = Columns::empty();
-    for c in terms.candidates.as_slice() {
-        if has_reached(terms, stages, *c) {
-            append(&mut chosen, *c);
-        }
-    }
-    chosen
+    those(&terms.candidates, |c| has_reached(terms, stages, c))
 }
 
 /// Whether a candidate has neither reached the quota nor been excluded.
@@ -147,13 +142,7 @@ fn is_undecided(terms: &Terms, stages: &[Stage], c: u8) -> bool
 fn undecided(terms: &Terms, stages: &[Stage]) -> Columns
     ensures { result ≡ undecided_of (contest_of terms.now []) (reverse stages.now) }
 {
-    let mut chosen = Columns::empty();
-    for c in terms.candidates.as_slice() {
-        if is_undecided(terms, stages, *c) {
-            append(&mut chosen, *c);
-        }
-    }
-    chosen
+    those(&terms.candidates, |c| is_undecided(terms, stages, c))
 }
 
 /// Whether the undecided are as many as the seats that are left.
@@ -183,13 +172,7 @@ pub fn elected(terms: &Terms, stages: &[Stage]) -> Columns
     ensures { result ≡ elected_after (contest_of terms.now []) (reverse stages.now) }
 {
     let fill = undecided_fill(terms, stages);
-    let mut chosen = Columns::empty();
-    for c in terms.candidates.as_slice() {
-        if is_elected(terms, stages, fill, *c) {
-            append(&mut chosen, *c);
-        }
-    }
-    chosen
+    those(&terms.candidates, |c| is_elected(terms, stages, fill, c))
 }
 
 /// Whether a candidate continues, where it is known whether the undecided fill the seats.
@@ -209,13 +192,7 @@ pub fn continuing(terms: &Terms, stages: &[Stage]) -> Columns
     ensures { result ≡ continuing_after (contest_of terms.now []) (reverse stages.now) }
 {
     let fill = undecided_fill(terms, stages);
-    let mut chosen = Columns::empty();
-    for c in terms.candidates.as_slice() {
-        if is_continuing(terms, stages, fill, *c) {
-            append(&mut chosen, *c);
-        }
-    }
-    chosen
+    those(&terms.candidates, |c| is_continuing(terms, stages, fill, c))
 }
 
 /// How the candidates stand, as far as the next available preference asks: who continues.
@@ -242,24 +219,12 @@ pub fn vacancies(terms: &Terms, stages: &[Stage]) -> usize
 pub fn with_surplus(elected: &Columns, quota: Votes, newest: &Stage) -> Columns
     ensures { result ≡ filter (λ c. nat_lt quota (votes_at newest.now c)) elected.now }
 {
-    let mut chosen = Columns::empty();
-    for c in elected.as_slice() {
-        if quota.units() < votes_after(newest, *c).units() {
-            append(&mut chosen, *c);
-        }
-    }
-    chosen
+    those(elected, |c| quota.units() < votes_after(newest, c).units())
 }
 
 /// Those of a set who are not in another.
 pub fn without(set: &Columns, others: &Columns) -> Columns
     ensures { result ≡ filter (λ c. not (list_any (nat_eq c) others.now)) set.now }
 {
-    let mut chosen = Columns::empty();
-    for c in set.as_slice() {
-        if !others.has(*c) {
-            append(&mut chosen, *c);
-        }
-    }
-    chosen
+    those(set, |c| !others.has(c))
 }

@@ -20,6 +20,24 @@ pub const NO_CANDIDATE: u32 = 0;
 /// The number under which stands what is lost by fractions.
 pub const FRACTIONS: u32 = 99;
 
+/// The mark of a candidate who continues, and of what is no candidate's.
+const CONTINUING: u32 = 0;
+
+/// The mark of one who is elected.
+const ELECTED: u32 = 1;
+
+/// The mark of one who was excluded at an earlier stage.
+const EXCLUDED: u32 = 2;
+
+/// The mark of one who is elected, and whose surplus is transferred at this stage.
+const SURPLUS_NOW: u32 = 3;
+
+/// The mark of one who is excluded at this stage, and whose papers are transferred.
+const EXCLUDED_NOW: u32 = 4;
+
+/// The mark of one who is excluded at this stage, so that the last vacancies are filled.
+const EXCLUDED_LAST: u32 = 5;
+
 /// A figure of a stage: of a candidate his votes, in units, and his mark. Marks are 0 continuing, 1 elected,
 /// 2 excluded earlier, 3 elected and his surplus is transferred at this stage, 4 excluded at this stage with
 /// transfer, 5 excluded at this stage without. Under `NO_CANDIDATE` stands the non-transferable, and under
@@ -35,12 +53,7 @@ pub struct Figure {
 fn is_named(stages: &[Stage], c: u8) -> bool
     ensures { result ≡ is_named_of (reverse stages.now) c }
 {
-    for stage in stages {
-        if stage.elected.has(c) {
-            return true;
-        }
-    }
-    false
+    stages.iter().any(|stage| stage.elected.has(c))
 }
 
 /// The mark of a candidate at a stage that doesn't act on him.
@@ -48,12 +61,12 @@ fn standing_mark(stages: &[Stage], c: u8) -> u32
     ensures { result ≡ standing_mark_of (reverse stages.now) c }
 {
     if is_named(stages, c) {
-        return 1;
+        return ELECTED;
     }
     if is_excluded(stages, c) {
-        return 2;
+        return EXCLUDED;
     }
-    0
+    CONTINUING
 }
 
 /// The mark of a candidate at a stage of an action, where he would have another if it weren't on him.
@@ -61,9 +74,9 @@ fn mark_by(action: &Action, c: u8, other: u32) -> u32
     ensures { result ≡ mark_by_of action.now c other }
 {
     match action {
-        Action::Surplus(d) if *d == c => 3,
-        Action::Exclude(d) if *d == c => 4,
-        Action::ExcludeLast(d) if *d == c => 5,
+        Action::Surplus(d) if *d == c => SURPLUS_NOW,
+        Action::Exclude(d) if *d == c => EXCLUDED_NOW,
+        Action::ExcludeLast(d) if *d == c => EXCLUDED_LAST,
         _ => other,
     }
 }
@@ -97,7 +110,7 @@ pub fn figures_of(
     figures.push(Figure {
         candidate: NO_CANDIDATE,
         units: newest.non_transferable.units(),
-        mark: 0,
+        mark: CONTINUING,
     })?;
     for c in candidates.as_slice() {
         figures.push(figure_of(newest, stages, *c))?;
@@ -105,7 +118,7 @@ pub fn figures_of(
     figures.push(Figure {
         candidate: FRACTIONS,
         units: newest.lost.units(),
-        mark: 0,
+        mark: CONTINUING,
     })?;
     Ok(figures)
 }
@@ -114,7 +127,7 @@ pub fn figures_of(
 fn is_elected_mark(mark: u32) -> bool
     ensures { result ≡ is_elected_mark_of mark }
 {
-    mark == 1 || mark == 3
+    mark == ELECTED || mark == SURPLUS_NOW
 }
 
 /// The candidates who are marked as elected.
@@ -148,9 +161,9 @@ fn action_by(mark: u32, c: u8) -> Option<Action>
     ensures { result ≡ action_by_mark mark c }
 {
     match mark {
-        3 => Some(Action::Surplus(c)),
-        4 => Some(Action::Exclude(c)),
-        5 => Some(Action::ExcludeLast(c)),
+        SURPLUS_NOW => Some(Action::Surplus(c)),
+        EXCLUDED_NOW => Some(Action::Exclude(c)),
+        EXCLUDED_LAST => Some(Action::ExcludeLast(c)),
         _ => None,
     }
 }

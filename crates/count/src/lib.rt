@@ -61,4 +61,4 @@ pub use parcel_book::ParcelBook;
 pub use placed::Placed;
 pub use run::{CountEnd, run_count};
 pub use so_far::{count_to, due_by, dues_to};
-pub use stages::{Action, Due, Kind, Stage};
+pub use stages::{Action, Due, Stage, TiedFor};

@@ -72,10 +72,8 @@ pub fn passes_on(action: &Action, holder: u8) -> bool
     ensures { result ≡ passes_on_of action.now holder }
 {
     match action {
-        Action::First => false,
-        Action::Surplus(c) => *c == holder,
-        Action::Exclude(c) => *c == holder,
-        Action::ExcludeLast(_) => false,
+        Action::Surplus(c) | Action::Exclude(c) => *c == holder,
+        Action::First | Action::ExcludeLast(_) => false,
     }
 }
 

@@ -43,7 +43,8 @@ pub fn count_to<B: CountBook>(
     ensures err_few { OnErr result (length (B.history book.new) ≤ stages) }
     ensures right { (k : ℕ) → IsRight (B.contest book.old) lots.now (stages_to (B.contest book.old) lots.now k) }
     ensures only { (h : History) → IsRight (B.contest book.old) lots.now h → h ≡ stages_to (B.contest book.old) lots.now (length h) }
-    ensures ordered { (papers : List (List ℕ)) (k : ℕ) → IsPermutation (B.contest book.old).papers papers → stages_to (reordered (B.contest book.old) papers) lots.now k ≡ stages_to (B.contest book.old) lots.now k }
+    ensures ordered { (papers : List (List ℕ)) (k : ℕ) → IsPermutation (B.contest book.old).papers papers
+        → stages_to (reordered (B.contest book.old) papers) lots.now k ≡ stages_to (B.contest book.old) lots.now k }
 {
     for _ in 0..stages {
         advance_by(book, lots)?;

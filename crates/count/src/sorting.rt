@@ -117,7 +117,8 @@ fn pass_papers<'a>(
     requires small { value ≤ one_vote }
     ensures len { OnOk result (vec_len holdings.new ≡ holder_count) }
     ensures numbered { OnOk result (AreNumbered 0 holdings.new.items) }
-    ensures passed { OnOk result ((f : ℕ → List ℕ → ℕ → ℕ) → total f holdings.new.items ≡ total f holdings.old.items + total_at (at_passed f (is_continuing standing.now) AsReceived) value papers.now) }
+    ensures passed { OnOk result ((f : ℕ → List ℕ → ℕ → ℕ)
+        → total f holdings.new.items ≡ total f holdings.old.items + total_at (at_passed f (is_continuing standing.now) AsReceived) value papers.now) }
 {
     for paper in papers {
         give(alloc, holdings, value, available_from(paper, 1, standing))?;

@@ -1,6 +1,7 @@
 //! The stages of a count, and what comes next in it.
 
 use paper::{Columns, MAX_CANDIDATES};
+use std::fmt;
 use votes::Votes;
 
 /// What is done at a stage; candidates go by their numbers, 1 to `MAX_CANDIDATES`.
@@ -15,6 +16,22 @@ pub enum Action {
     /// A candidate is excluded so that the last vacancies are filled; nothing is transferred
     /// ("Filling of last vacancies").
     ExcludeLast(u8),
+}
+
+impl fmt::Display for Action {
+    ghost use Rattle.std.specs.Prelude.{Some};
+    ghost use Rattle.count.specs.Actions.{action_text};
+
+    ghost output = { λ action. Some (action_text action) };
+
+    fn fmt<W: fmt::Write>(&self, f: &mut fmt::Formatter<W>) -> fmt::Result {
+        match self {
+            Action::First => f.write_str("first preferences"),
+            Action::Surplus(c) => write!(f, "surplus of {c}"),
+            Action::Exclude(c) => write!(f, "exclusion of {c}"),
+            Action::ExcludeLast(c) => write!(f, "exclusion of {c}, last vacancies"),
+        }
+    }
 }
 
 /// A stage that is done: its action, and where it leaves the candidates.
@@ -36,7 +53,7 @@ pub struct Stage {
 
 /// What candidates are tied for.
 #[derive(Clone, Copy, PartialEq, Eq)]
-pub enum Kind {
+pub enum TiedFor {
     /// Equal highest surpluses ("Transfer of ballot papers").
     Surplus,
     /// Equal fewest votes ("Exclusion of candidates").
@@ -52,7 +69,7 @@ pub enum Due {
     /// votes were equal at all stages ("Transfer of ballot papers"; "Exclusion of candidates").
     Lot {
         stage: u8,
-        kind: Kind,
+        kind: TiedFor,
         among: Columns,
     },
     /// No vacancy is left ("Filling of last vacancies").

@@ -122,15 +122,13 @@ fn lost_with(quota: Votes, stages: &[Stage], action: &Action, moved: &[Holding])
 {
     let before = newest_lost(stages);
     match action {
-        Action::First => Votes::from_units(before),
+        Action::First | Action::Exclude(_) | Action::ExcludeLast(_) => Votes::from_units(before),
         Action::Surplus(c) => {
             let surplus = newest_votes(stages, *c)
                 .units()
                 .saturating_sub(quota.units());
             Votes::from_units(before + surplus.saturating_sub(worth(moved)))
         }
-        Action::Exclude(_) => Votes::from_units(before),
-        Action::ExcludeLast(_) => Votes::from_units(before),
     }
 }
 

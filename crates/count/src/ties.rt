@@ -5,7 +5,7 @@ ghost use Rattle.std.specs.List.{list_any};
 ghost use Rattle.paper.specs.Columns.{max_candidates};
 ghost use Rattle.count.specs.Law.Due.{is_above as is_above_of, highest as highest_of, lowest as lowest_of};
 
-use crate::elected::{append, votes_after};
+use crate::elected::{has_one, those, votes_after};
 use crate::stages::Stage;
 use paper::Columns;
 
@@ -35,12 +35,7 @@ fn has_above(stages: &[Stage], group: &Columns, c: u8) -> bool
     requires few { c ≤ max_candidates }
     ensures { result ≡ list_any (λ d. is_above_of (reverse stages.now) d c) group.now }
 {
-    for d in group.as_slice() {
-        if is_above(stages, *d, c) {
-            return true;
-        }
-    }
-    false
+    has_one(group, |d| is_above(stages, d, c))
 }
 
 /// Whether a candidate is above one of a group.
@@ -49,36 +44,19 @@ fn has_below(stages: &[Stage], group: &Columns, c: u8) -> bool
     requires few { c ≤ max_candidates }
     ensures { result ≡ list_any (λ d. is_above_of (reverse stages.now) c d) group.now }
 {
-    for d in group.as_slice() {
-        if is_above(stages, c, *d) {
-            return true;
-        }
-    }
-    false
+    has_one(group, |d| is_above(stages, c, d))
 }
 
-/// Those of a group whom none of it is above.
+/// Those of a group whom nobody in it is above.
 pub fn highest(stages: &[Stage], group: &Columns) -> Columns
     ensures { result ≡ highest_of (reverse stages.now) group.now }
 {
-    let mut chosen = Columns::empty();
-    for c in group.as_slice() {
-        if !has_above(stages, group, *c) {
-            append(&mut chosen, *c);
-        }
-    }
-    chosen
+    those(group, |c| !has_above(stages, group, c))
 }
 
-/// Those of a group who are above none of it.
+/// Those of a group who are above nobody in it.
 pub fn lowest(stages: &[Stage], group: &Columns) -> Columns
     ensures { result ≡ lowest_of (reverse stages.now) group.now }
 {
-    let mut chosen = Columns::empty();
-    for c in group.as_slice() {
-        if !has_below(stages, group, *c) {
-            append(&mut chosen, *c);
-        }
-    }
-    chosen
+    those(group, |c| !has_below(stages, group, c))
 }

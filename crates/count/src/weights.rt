@@ -113,13 +113,11 @@ fn lost_from(
 {
     let before = newest_lost(stages);
     match action {
-        Action::First => Votes::from_units(before),
+        Action::First | Action::Exclude(_) | Action::ExcludeLast(_) => Votes::from_units(before),
         Action::Surplus(_) => {
             let given = worth(bundles, places).saturating_sub(worth(bundles, moved));
             Votes::from_units(before + given.saturating_sub(quota.units()))
         }
-        Action::Exclude(_) => Votes::from_units(before),
-        Action::ExcludeLast(_) => Votes::from_units(before),
     }
 }
 

@@ -358,7 +358,7 @@ fn follow<O: Sink, E: Sink>(rt: &HostRuntime, words: &[&str], out: &mut O, err: 
     }
 }
 
-/// Tells the help of an order, or the help of all where the word names none, and so is DB.
+/// Tells the help of an order. A word that names no order is DB, and the help of all orders is told.
 fn tell_help_of<O: Sink, E: Sink>(rt: &HostRuntime, name: &str, out: &mut O, err: &mut E) -> u8
     requires out { O.failed out.old < 2 ^ 64 - 1 }
     requires err { E.failed err.old < 2 ^ 64 - 1 }

@@ -36,7 +36,8 @@ none_copied db (Copy f) old new none told = absurd (none told.1.0 told.1.1)
 
 -- what the other database holds is what is said of it
 pub holds_behind : (why : CopyFault) (copy_old copy_new : State) → (IsUnbegun why → OnlyReads copy_old copy_new)
-    → (HasCleanDisk copy_new → IsBlank copy_old → (trees : Trees) → copy_new.may_leave trees → copy_old.may_leave trees ⊎ ((s : OfficeState) × StoresState s trees)) → HoldsCopy (state_behind why) (failed (failure_of why)) copy_old copy_new
+    → (HasCleanDisk copy_new → IsBlank copy_old → (trees : Trees) → copy_new.may_leave trees → copy_old.may_leave trees ⊎ ((s : OfficeState) × StoresState s trees))
+    → HoldsCopy (state_behind why) (failed (failure_of why)) copy_old copy_new
 holds_behind (Office f) copy_old copy_new untouched whole = (failure_of (Office f), refl, untouched tt)
 holds_behind Taken copy_old copy_new untouched whole = (failure_of Taken, refl, untouched tt)
 holds_behind (Copy f) copy_old copy_new untouched whole = (failure_of (Copy f), refl, whole)

@@ -1,5 +1,6 @@
 -- Requests and turns that are taken one after the other, and what came of them so far.
-use Rattle.std.proofs.Common.{◌≡◌, ◌≢◌, ◌+◌, ◌≤◌, ◌<◌, ◌∙◌, inl, inr, ℕ, Bool, true, List, [], ◌∷◌, ◌++◌, Option, Some, None, Result, Ok, Err, length, drop, take, get_or, refl, sym, ap, subst, arith, add-one, suc}
+use Rattle.std.proofs.Common.{◌≡◌, ◌≢◌, ◌+◌, ◌≤◌, ◌<◌, ◌∙◌, inl, inr, ℕ, Bool, true, List, [], ◌∷◌, ◌++◌, Option, Some, None}
+use Rattle.std.proofs.Common.{Result, Ok, Err, length, drop, take, get_or, refl, sym, ap, subst, arith, add-one, suc}
 use Rattle.std.proofs.Math.Seq.{drop-cons}
 use Rattle.std.proofs.lemmas.List.{append-nil, append_assoc, drop_all, length-append, take-append-drop, take_more}
 use Rattle.sqlite.specs.State.{State}
@@ -15,10 +16,10 @@ use Rattle.office.specs.Answers.{IsOpenAt}
 use Rattle.office.specs.Reads.{columns_told}
 use Rattle.clap.specs.Words.{Text}
 use Rattle.desk.specs.Folders.{File, Folder, IsFileAt}
-use Rattle.desk.specs.Headline.{Course, IsAnswered, IsDone, IsPlayed, IsSent, IsStopped, IsUnsent, Sends, answer, ended, replied_above}
+use Rattle.desk.specs.Headline.{Course, IsAnswered, IsDone, IsPlayed, IsSent, IsStopped, IsUnsent, answer, ended, replied_above}
 use Rattle.desk.specs.Pages.{Cut, uncut, Page, below, cut_below, empty_page, fronted}
 use Rattle.desk.specs.Parts.{IsOver}
-use Rattle.desk.specs.Requests.{file_of}
+use Rattle.desk.specs.Requests.{Sends, file_of}
 use Rattle.desk.specs.Scripts.{sends_requests}
 use Rattle.desk.specs.Told.{IsRefusedFile, IsRefusedKeying, IsTold}
 use Rattle.desk.specs.declared.orders.Errand.{Errand}
@@ -57,7 +58,8 @@ Replied s [] said end = (said ≡ []) × (end ≡ s)
 Replied s (r ∷ rs) said end = (rest : Text) × ((answer s r).status ≡ 0) × (said ≡ (answer s r).out ++ rest) × Replied (after_one s r) rs rest end
 
 -- one request more
-replied_more : (s : OfficeState) (rs : List Request) (said : Text) (end : OfficeState) (r : Request) → Replied s rs said end → (answer end r).status ≡ 0 → Replied s (rs ++ r ∷ []) (said ++ (answer end r).out) (after_one end r)
+replied_more : (s : OfficeState) (rs : List Request) (said : Text) (end : OfficeState) (r : Request) → Replied s rs said end → (answer end r).status ≡ 0
+    → Replied s (rs ++ r ∷ []) (said ++ (answer end r).out) (after_one end r)
 replied_more s [] said end r (none, same) zero = (
   [],
   ap (λ (x : OfficeState). (answer x r).status) (sym same) ∙ zero,
@@ -113,7 +115,8 @@ module _ (old : State) (line : Option ℕ) (s : OfficeState) (rs : List Request)
   AllSent closed st c = IsSent old closed st line (IsOver closed st) s rs c
 
   -- the next request got a reply
-  pub sent_more : (mid : State) (i : ℕ) (r : Request) (said : Text) (was : Bool) (before : State) (page : Page) (answered : ℕ) (closed : Bool) (st : State) → i < length rs → r ≡ get_or rs i r → (so : SentSo s rs i said was before)
+  pub sent_more : (mid : State) (i : ℕ) (r : Request) (said : Text) (was : Bool) (before : State) (page : Page) (answered : ℕ) (closed : Bool) (st : State) → i < length rs
+      → r ≡ get_or rs i r → (so : SentSo s rs i said was before)
       → IsAnswered mid closed st so.end r answered page → (fronted line page).status ≡ 0 → SentSo s rs (i + 1) (said ++ (fronted line page).out) closed st
   sent_more mid i r said was before page answered closed st within is so (inl told) zero =
       let same : (answer so.end r).out ≡ (fronted line page).out = sym (fronted_out line page ∙ ap (λ (p : Page). p.out) told.1) in
@@ -130,15 +133,18 @@ module _ (old : State) (line : Option ℕ) (s : OfficeState) (rs : List Request)
       absurd (omega arith)
 
   -- or it ended the sending
-  pub sent_last : (i : ℕ) (r : Request) (said : Text) (was : Bool) (before : State) (page : Page) (cut : Cut) (answered : ℕ) (closed : Bool) (st : State) → i < length rs → r ≡ get_or rs i r → (so : SentSo s rs i said was before)
-      → IsAnswered old closed st so.end r answered page → ((fronted line page).status ≡ 0 → cut ≢ uncut) → AllSent closed st (above (take i rs) said (ended line (r ∷ drop (i + 1) rs) answered page cut))
+  pub sent_last : (i : ℕ) (r : Request) (said : Text) (was : Bool) (before : State) (page : Page) (cut : Cut) (answered : ℕ) (closed : Bool) (st : State) → i < length rs → r ≡ get_or rs i r
+      → (so : SentSo s rs i said was before)
+      → IsAnswered old closed st so.end r answered page → ((fronted line page).status ≡ 0 → cut ≢ uncut)
+      → AllSent closed st (above (take i rs) said (ended line (r ∷ drop (i + 1) rs) answered page cut))
   sent_last i r said was before page cut answered closed st within is so it ends =
       subst (λ xs. IsSent old closed st line (IsOver closed st) s xs (above (take i rs) said (ended line (r ∷ drop (i + 1) rs) answered page cut))) (rejoined rs i r within is)
       (replied_then (IsOver closed st) old closed st line s (take i rs) said so.end (r ∷ drop (i + 1) rs) (ended line (r ∷ drop (i + 1) rs) answered page cut) so.replied
       (inr (answered, page, cut, refl, (λ zero. ends (fronted_status line page ∙ zero)), it)))
 
   -- all got replies
-  pub sent_all : (i : ℕ) (said : Text) (closed : Bool) (st : State) → length rs ≤ i → (so : SentSo s rs i said closed st) → AllSent closed st (above (take i rs) said (ended None [] 0 empty_page uncut))
+  pub sent_all : (i : ℕ) (said : Text) (closed : Bool) (st : State) → length rs ≤ i → (so : SentSo s rs i said closed st)
+      → AllSent closed st (above (take i rs) said (ended None [] 0 empty_page uncut))
   sent_all i said closed st all so =
       subst (λ xs. IsSent old closed st line (IsOver closed st) s xs (above (take i rs) said (ended None [] 0 empty_page uncut))) (all_taken rs i all)
       (replied_then (IsOver closed st) old closed st line s (take i rs) said so.end [] (ended None [] 0 empty_page uncut) so.replied (refl, so.open_at))
@@ -149,13 +155,15 @@ module _ (old : State) (line : Option ℕ) (s : OfficeState) (rs : List Request)
 abbrev pub IsGood : Course → Type 0
 IsGood c = (c.page.status ≡ 0) × (c.cut ≡ uncut)
 
-pub answered_since : (a b : State) (closed : Bool) (st : State) (s : OfficeState) (r : Request) (answered : ℕ) (page : Page) → TellsSince a b st → IsAnswered b closed st s r answered page → IsAnswered a closed st s r answered page
+pub answered_since : (a b : State) (closed : Bool) (st : State) (s : OfficeState) (r : Request) (answered : ℕ) (page : Page) → TellsSince a b st → IsAnswered b closed st s r answered page
+    → IsAnswered a closed st s r answered page
 answered_since a b closed st s r answered page tells (inl told) = inl told
 answered_since a b closed st s r answered page tells (inr (none, (fault, is, (inl fails, leaves)))) = inr (none, (fault, is, (inl (tells fault fails), leaves)))
 answered_since a b closed st s r answered page tells (inr (none, (fault, is, (inr accepted, leaves)))) = inr (none, (fault, is, (inr accepted, leaves)))
 
 -- the same of requests in turn, where what comes then is turned too
-pub sent_turned : {Then Else : OfficeState → Course → Type 0} {Q : Type 0} (a b : State) (closed : Bool) (st : State) (line : Option ℕ) → TellsSince a b st → ((x : OfficeState) (e : Course) → Then x e → (IsGood e → Q) → Else x e)
+pub sent_turned : {Then Else : OfficeState → Course → Type 0} {Q : Type 0} (a b : State) (closed : Bool) (st : State) (line : Option ℕ) → TellsSince a b st
+    → ((x : OfficeState) (e : Course) → Then x e → (IsGood e → Q) → Else x e)
     → (s : OfficeState) (rs : List Request) (c : Course) → (IsGood c → Q) → IsSent b closed st line Then s rs c → IsSent a closed st line Else s rs c
 sent_turned a b closed st line tells turn s [] c good sent = turn s c sent good
 sent_turned a b closed st line tells turn s (r ∷ rs) c good (inl (rest, zero, is, more)) =
@@ -164,7 +172,8 @@ sent_turned a b closed st line tells turn s (r ∷ rs) c good (inl (rest, zero, 
 sent_turned a b closed st line tells turn s (r ∷ rs) c good (inr (answered, page, cut, is, ends, it)) = inr (answered, page, cut, is, ends, answered_since a b closed st s r answered page tells it)
 
 -- an end whose status is another, or whose output failed, is no good one
-not_good : (line : Option ℕ) (requests : List Request) (answered : ℕ) (page : Page) (cut : Cut) (c : Course) → c ≡ ended line requests answered page cut → (page.status ≡ 0 → cut ≢ uncut) → IsGood c → ⊥
+not_good : (line : Option ℕ) (requests : List Request) (answered : ℕ) (page : Page) (cut : Cut) (c : Course) → c ≡ ended line requests answered page cut → (page.status ≡ 0 → cut ≢ uncut)
+    → IsGood c → ⊥
 not_good line requests answered page cut c is ends fine =
     ends (sym (fronted_status line page) ∙ sym (ap (λ (e : Course). e.page.status) is) ∙ fine.0) (sym (ap (λ (e : Course). e.cut) is) ∙ fine.1)
 
@@ -181,17 +190,20 @@ replied_all old closed st line s (r ∷ rs) c fine (inr (answered, page, cut, is
 stopped_since : (a b : State) (closed : Bool) (st : State) (s : OfficeState) (page : Page) → TellsSince a b st → IsStopped b closed st s page → IsStopped a closed st s page
 stopped_since a b closed st s page tells (fault, is, (cause, leaves)) = (fault, is, (tells fault cause, leaves))
 
-unsent_since : (a b : State) (closed : Bool) (st : State) (line : Option ℕ) (Tells : Page → Type 0) (s : OfficeState) (c : Course) → TellsSince a b st → IsUnsent b closed st line Tells s c → IsUnsent a closed st line Tells s c
+unsent_since : (a b : State) (closed : Bool) (st : State) (line : Option ℕ) (Tells : Page → Type 0) (s : OfficeState) (c : Course) → TellsSince a b st → IsUnsent b closed st line Tells s c
+    → IsUnsent a closed st line Tells s c
 unsent_since a b closed st line Tells s c tells (page, cut, is, inl told) = (page, cut, is, inl told)
 unsent_since a b closed st line Tells s c tells (page, cut, is, inr stopped) = (page, cut, is, inr (stopped_since a b closed st s page tells stopped))
 
-pub played_since : (a b : State) (closed : Bool) (st : State) (folder : Folder) → TellsSince a b st → (s : OfficeState) (turns : List Turn) (c : Course) → IsPlayed b closed st folder s turns c → IsPlayed a closed st folder s turns c
+pub played_since : (a b : State) (closed : Bool) (st : State) (folder : Folder) → TellsSince a b st → (s : OfficeState) (turns : List Turn) (c : Course)
+    → IsPlayed b closed st folder s turns c → IsPlayed a closed st folder s turns c
 played_since a b closed st folder tells s [] c played = played
 played_since a b closed st folder tells s (turn ∷ turns) c (file, found, inl (own, sends, sent)) =
     (file, found, inl (own, sends, sent_turned {Q = Unit {0}} a b closed st turn.line tells (λ x e more good. played_since a b closed st folder tells x turns e more) s own c (λ fine. tt) sent))
 played_since a b closed st folder tells s (turn ∷ turns) c (file, found, inr unsent) = (file, found, inr (unsent_since a b closed st turn.line (IsTold s turn.errand file) s c tells unsent))
 
-pub done_since : (a b : State) (closed : Bool) (st : State) (folder : Folder) → TellsSince a b st → (s : OfficeState) (job : Job) (c : Course) → IsDone b closed st folder s job c → IsDone a closed st folder s job c
+pub done_since : (a b : State) (closed : Bool) (st : State) (folder : Folder) → TellsSince a b st → (s : OfficeState) (job : Job) (c : Course) → IsDone b closed st folder s job c
+    → IsDone a closed st folder s job c
 done_since a b closed st folder tells s job c (inl (turns, are, played)) = inl (turns, are, played_since a b closed st folder tells s turns c played)
 done_since a b closed st folder tells s job c (inr unsent) = inr (unsent_since a b closed st None _ s c tells unsent)
 
@@ -214,7 +226,8 @@ told_ends s (errand.TellStatus ward) file page sends told zero = absurd (cc send
 told_ends s (errand.Print ward text) file page sends told zero = absurd (cc sends)
 told_ends s (errand.Ask question) file page sends told zero = absurd (cc sends)
 
-unsent_ends : (old : State) (closed : Bool) (st : State) (line : Option ℕ) (s : OfficeState) (e : Errand) (file : File) (c : Course) → sends_requests e ≡ true → IsUnsent old closed st line (IsTold s e file) s c → IsGood c → ⊥
+unsent_ends : (old : State) (closed : Bool) (st : State) (line : Option ℕ) (s : OfficeState) (e : Errand) (file : File) (c : Course) → sends_requests e ≡ true
+    → IsUnsent old closed st line (IsTold s e file) s c → IsGood c → ⊥
 unsent_ends old closed st line s e file c sends (page, cut, is, inl told) fine = not_good line [] 0 page cut c is (λ zero whole. told_ends s e file page sends told.0 zero) fine
 unsent_ends old closed st line s e file c sends (page, cut, is, inr stopped) fine =
     let three : page.status ≡ 3 = ap (λ (p : Page). p.status) stopped.1 in
@@ -229,7 +242,8 @@ Taken folder s (turn ∷ turns) own said end =
 
 -- one turn more
 taken_more : (folder : Folder) (s : OfficeState) (turns : List Turn) (own : List Request) (said : Text) (end : OfficeState) (turn : Turn) (file : File) (requests : List Request) (text : Text) (next : OfficeState)
-    → Taken folder s turns own said end → IsFileAt folder (file_of turn.errand) file → Sends end turn.errand file requests → Replied end requests text next → Taken folder s (turns ++ turn ∷ []) (own ++ requests) (said ++ text) next
+    → Taken folder s turns own said end → IsFileAt folder (file_of turn.errand) file → Sends end turn.errand file requests → Replied end requests text next
+    → Taken folder s (turns ++ turn ∷ []) (own ++ requests) (said ++ text) next
 taken_more folder s [] own said end turn file requests text next (no_own, no_said, same) found sends replied = (
   file,
   requests,
@@ -290,7 +304,8 @@ module _ (old : State) (folder : Folder) (s : OfficeState) (turns : List Turn) w
   AllPlayed closed st c = IsPlayed old closed st folder s turns c
 
   -- all requests of the next turn got replies
-  pub turn_more : (mid : State) (i : ℕ) (turn : Turn) (said : Text) (was : Bool) (before : State) (c : Course) (closed : Bool) (st : State) → i < length turns → turn ≡ get_or turns i turn → sends_requests turn.errand ≡ true
+  pub turn_more : (mid : State) (i : ℕ) (turn : Turn) (said : Text) (was : Bool) (before : State) (c : Course) (closed : Bool) (st : State) → i < length turns → turn ≡ get_or turns i turn
+      → sends_requests turn.errand ≡ true
       → (so : TakenSo folder s turns i said was before) → IsPlayed mid closed st folder so.end (turn ∷ []) c → IsGood c → TakenSo folder s turns (i + 1) (said ++ c.page.out) closed st
   turn_more mid i turn said was before c closed st within is sends so (file, found, inl (own, sent_are, sent)) fine =
       let it = replied_all mid closed st turn.line so.end own c fine sent in
@@ -304,7 +319,8 @@ module _ (old : State) (folder : Folder) (s : OfficeState) (turns : List Turn) w
   turn_more mid i turn said was before c closed st within is sends so (file, found, inr unsent) fine = absurd (unsent_ends mid closed st turn.line so.end turn.errand file c sends unsent fine)
 
   -- a turn that ended all, with those behind it
-  turn_then : (mid : State) (closed : Bool) (st : State) (x : OfficeState) (turn : Turn) (others : List Turn) (c : Course) → TellsSince old mid st → (IsGood c → ⊥) → IsPlayed mid closed st folder x (turn ∷ []) c
+  turn_then : (mid : State) (closed : Bool) (st : State) (x : OfficeState) (turn : Turn) (others : List Turn) (c : Course) → TellsSince old mid st → (IsGood c → ⊥)
+      → IsPlayed mid closed st folder x (turn ∷ []) c
       → IsPlayed old closed st folder x (turn ∷ others) c
   turn_then mid closed st x turn others c tells bad (file, found, inl (own, sends, sent)) = (
     file,
@@ -318,14 +334,16 @@ module _ (old : State) (folder : Folder) (s : OfficeState) (turns : List Turn) w
   )
   turn_then mid closed st x turn others c tells bad (file, found, inr unsent) = (file, found, inr (unsent_since old mid closed st turn.line (IsTold x turn.errand file) x c tells unsent))
 
-  pub turn_last : (mid : State) (i : ℕ) (turn : Turn) (said : Text) (was : Bool) (before : State) (c : Course) (closed : Bool) (st : State) → i < length turns → turn ≡ get_or turns i turn → TellsSince old mid st
+  pub turn_last : (mid : State) (i : ℕ) (turn : Turn) (said : Text) (was : Bool) (before : State) (c : Course) (closed : Bool) (st : State) → i < length turns → turn ≡ get_or turns i turn
+      → TellsSince old mid st
       → (so : TakenSo folder s turns i said was before) → IsPlayed mid closed st folder so.end (turn ∷ []) c → (IsGood c → ⊥) → AllPlayed closed st (above so.own said c)
   turn_last mid i turn said was before c closed st within is tells so played bad =
       subst (λ ts. IsPlayed old closed st folder s ts (above so.own said c)) (rejoined turns i turn within is)
       (taken_then old closed st folder s (take i turns) so.own said so.end (turn ∷ drop (i + 1) turns) c so.taken (turn_then mid closed st so.end turn (drop (i + 1) turns) c tells bad played))
 
   -- all requests of all turns got replies
-  pub turns_all : (i : ℕ) (said : Text) (closed : Bool) (st : State) → length turns ≤ i → (so : TakenSo folder s turns i said closed st) → AllPlayed closed st (above so.own said (ended None [] 0 empty_page uncut))
+  pub turns_all : (i : ℕ) (said : Text) (closed : Bool) (st : State) → length turns ≤ i → (so : TakenSo folder s turns i said closed st)
+      → AllPlayed closed st (above so.own said (ended None [] 0 empty_page uncut))
   turns_all i said closed st all so =
       subst (λ ts. IsPlayed old closed st folder s ts (above so.own said (ended None [] 0 empty_page uncut))) (all_taken turns i all)
       (taken_then old closed st folder s (take i turns) so.own said so.end [] (ended None [] 0 empty_page uncut) so.taken (refl, so.open_at))

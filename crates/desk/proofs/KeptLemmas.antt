@@ -20,9 +20,10 @@ use Rattle.store.specs.Offices.{LeavesState, tables_of}
 use Rattle.store.specs.Openings.{IsBlank, IsLeftAt}
 use Rattle.store.specs.Migrations.{IsToldInMigration}
 use Rattle.store.proofs.ReopenLemmas.{left_holds, left_told}
+use Rattle.office.specs.Answers.{IsMemoryOrStore}
 use Rattle.office.proofs.RunLemmas.{beginning}
 use Rattle.desk.specs.Folders.{Folder}
-use Rattle.desk.specs.Headline.{Course, IsAnswered, IsPerformed, IsPlain, IsPlayed, IsSent, IsStopped, IsUnsent, IsUntouched, Performs, answer, ended, replied_above}
+use Rattle.desk.specs.Headline.{Course, IsAnswered, IsPerformed, IsPlayed, IsSent, IsStopped, IsUnsent, IsUntouched, Performs, answer, ended, replied_above}
 use Rattle.desk.specs.Pages.{Cut, uncut, IsShown, Outputs, Page, cut_below, empty_page}
 use Rattle.desk.specs.Parts.{ComesTo}
 use Rattle.desk.specs.Told.{IsTold}
@@ -36,13 +37,15 @@ use Rattle.desk.proofs.TellingLemmas.{shown_zero, whole_below}
 -- ---- a connection at rest
 
 -- a connection that rests at a database leaves that alone
-pub rests_leaves : (s : OfficeState) (db : Database) (st : State) → ((trees : Trees) → IsTrue st.is_open → st.may_leave trees → trees ≡ st.committed.trees) → RestsAt db st → IsLeftAt s db → LeavesState st (λ x. x ≡ s)
+pub rests_leaves : (s : OfficeState) (db : Database) (st : State) → ((trees : Trees) → IsTrue st.is_open → st.may_leave trees → trees ≡ st.committed.trees) → RestsAt db st → IsLeftAt s db
+    → LeavesState st (λ x. x ≡ s)
 rests_leaves s db st settled rests left trees may =
     let same : db.trees ≡ trees = sym (settled trees rests.is_open may ∙ ap (λ (d : Database). d.trees) rests.committed) in
     (s, refl, record { is = left.is; stores = subst (Stores (tables_of s)) same left.stores })
 
 -- and so it does after reads
-pub read_leaves : (s : OfficeState) (db : Database) (old new : State) → ((trees : Trees) → IsTrue old.is_open → old.may_leave trees → trees ≡ old.committed.trees) → OnlyReads old new → HasCleanDisk new → RestsAt db old
+pub read_leaves : (s : OfficeState) (db : Database) (old new : State) → ((trees : Trees) → IsTrue old.is_open → old.may_leave trees → trees ≡ old.committed.trees) → OnlyReads old new
+    → HasCleanDisk new → RestsAt db old
     → IsLeftAt s db → LeavesState new (λ x. x ≡ s)
 read_leaves s db old new settled reads clean rests left trees may = rests_leaves s db old settled rests left trees (reads.leaves clean trees may)
 
@@ -73,7 +76,7 @@ left_older s db left =
     whole_only db.schema (whole_form db.schema (all_there db.schema (office_begins (tables_of s) db (left_holds s db left).office)))
 
 -- the faults of a migration there are want of memory and a failing store
-pub migration_told : (s : OfficeState) (db : Database) (fault : Fault) → IsLeftAt s db → IsToldInMigration db fault → IsPlain fault
+pub migration_told : (s : OfficeState) (db : Database) (fault : Fault) → IsLeftAt s db → IsToldInMigration db fault → IsMemoryOrStore fault
 migration_told s db Memory left told = inl refl
 migration_told s db Store left told = inr refl
 migration_told s db Damaged left told = absurd (told.no_state s (left_holds s db left))
@@ -92,7 +95,8 @@ has_tables s db st rests left =
     table_rests db st rests (some_there db.schema (office_begins (tables_of s) db (left_holds s db left).office))
 
 -- no table of an office is in a database with nothing in it, so the faults of making one there are want of memory and a failing store
-pub blank_told : {P : Type 0} (st : State) (fault : Fault) → IsBlank st → (fault ≡ Memory) ⊎ ((fault ≡ Store) ⊎ ((fault ≡ WrongDatabase) × (has_some_table st.now.schema ≡ true) × P)) → IsPlain fault
+pub blank_told : {P : Type 0} (st : State) (fault : Fault) → IsBlank st → (fault ≡ Memory) ⊎ ((fault ≡ Store) ⊎ ((fault ≡ WrongDatabase) × (has_some_table st.now.schema ≡ true) × P))
+    → IsMemoryOrStore fault
 blank_told st fault blank (inl memory) = inl memory
 blank_told st fault blank (inr (inl failing)) = inr failing
 blank_told st fault blank (inr (inr there)) =
@@ -137,7 +141,8 @@ kept_more s r text rest st kept =
     }
 
 -- the last that was sent
-kept_last : (old : State) (closed : Bool) (st : State) (line : Option ℕ) (s : OfficeState) (r : Request) (rs : List Request) (answered : ℕ) (page : Page) (cut : Cut) → (page.status ≡ 0 → cut ≢ uncut) → IsAnswered old closed st s r answered page
+kept_last : (old : State) (closed : Bool) (st : State) (line : Option ℕ) (s : OfficeState) (r : Request) (rs : List Request) (answered : ℕ) (page : Page) (cut : Cut)
+    → (page.status ≡ 0 → cut ≢ uncut) → IsAnswered old closed st s r answered page
     → Kept s (ended line (r ∷ rs) answered page cut) st
 kept_last old closed st line s r rs answered page cut ends it = record {
   within = by it;
@@ -157,7 +162,8 @@ kept_last old closed st line s r rs answered page cut ends it = record {
       | inr next ↦ (x.0, (1, omega (arith, none), omega (arith, none), omega arith, next), x.2)
     ]
 
-kept_sent : {Then : OfficeState → Course → Type 0} (old : State) (closed : Bool) (st : State) (line : Option ℕ) → ((x : OfficeState) (e : Course) → Then x e → Kept x e st) → (s : OfficeState) (rs : List Request) (c : Course)
+kept_sent : {Then : OfficeState → Course → Type 0} (old : State) (closed : Bool) (st : State) (line : Option ℕ) → ((x : OfficeState) (e : Course) → Then x e → Kept x e st)
+    → (s : OfficeState) (rs : List Request) (c : Course)
     → IsSent old closed st line Then s rs c → Kept s c st
 kept_sent old closed st line so s [] c sent = so s c sent
 kept_sent old closed st line so s (r ∷ rs) c (inl (rest, zero, is, more)) =

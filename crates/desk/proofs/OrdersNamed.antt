@@ -71,11 +71,13 @@ matches_name_an_order c m words app local has parsed =
     let there = rows_are_there m (subcommand_required c m parsed local needs) in
     ap names_order same ∙ entered_is_order (stop_after (built office_words).top.rules (names_of (built office_words)) (argument_words office_words words)) (ap is_some (sym same) ∙ there)
 
-both_given : {B : Type 0} (f : B → Text) (h : B → List Row) (o : Option B) (name : Text) (rows : List Row) → Some name ≡ option_map f o → Some rows ≡ option_map (λ (p : Text × List Row). p.1) (option_map {U = Text × List Row} (λ b. (f b, h b)) o)
+both_given : {B : Type 0} (f : B → Text) (h : B → List Row) (o : Option B) (name : Text) (rows : List Row) → Some name ≡ option_map f o
+    → Some rows ≡ option_map (λ (p : Text × List Row). p.1) (option_map {U = Text × List Row} (λ b. (f b, h b)) o)
     → option_map {U = Text × List Row} (λ b. (f b, h b)) o ≡ Some (name, rows)
 both_given f h None name rows a b = absurd (cc a)
 both_given f h (Some x) name rows a b = cc
 
 -- the name and the rows of the matches' subcommand
-pub rows_given : (name : Text) (rows : List Row) (m : ArgMatches) → Some name ≡ subcommand_name_of m → Some rows ≡ option_map (λ (p : Text × List Row). p.1) (subcommand_rows_of m) → subcommand_rows_of m ≡ Some (name, rows)
+pub rows_given : (name : Text) (rows : List Row) (m : ArgMatches) → Some name ≡ subcommand_name_of m → Some rows ≡ option_map (λ (p : Text × List Row). p.1) (subcommand_rows_of m)
+    → subcommand_rows_of m ≡ Some (name, rows)
 rows_given name rows m a b = both_given (λ x. (out-SubCommand (box_value x)).name.now) (λ x. rows_of (found_of (out-SubCommand (box_value x)).matches)) (out-ArgMatches m).subcommand name rows a b

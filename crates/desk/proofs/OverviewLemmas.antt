@@ -33,7 +33,8 @@ lines_found items text view s told (Err (Refused why)) page closed old st read l
 lines_found items text view s told (Err (Fault fault)) page closed old st read lines is cause = inr (fault, is, (cause, read))
 
 -- why nothing was found is told
-pub stop_found : {X Y : Type 0} (view : Y → X) (shown : X → Page) (s : OfficeState) (told : Result X Reason) (stop : Stop) (page : Page) (closed : Bool) (old st : State) → Read view s told (Err stop) closed st → StopsBy old st stop
+pub stop_found : {X Y : Type 0} (view : Y → X) (shown : X → Page) (s : OfficeState) (told : Result X Reason) (stop : Stop) (page : Page) (closed : Bool) (old st : State)
+    → Read view s told (Err stop) closed st → StopsBy old st stop
     → page ≡ page_stopped stop → IsFound s shown told page closed old st
 stop_found view shown s told (Refused why) page closed old st read cause is = inl (is ∙ sym (ap (page_found shown) read.0), read.1)
 stop_found view shown s told (Fault fault) page closed old st read cause is = inr (fault, is, (cause, read))

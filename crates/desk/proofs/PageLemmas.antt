@@ -8,7 +8,8 @@ use Rattle.std.proofs.lemmas.List.{append-nil, append_assoc, take_more, take-app
 use Rattle.clap.specs.Words.{Text}
 use Rattle.votes.proofs.Beginnings.{AppendsBeginning-front, AppendsBeginning-behind}
 use Rattle.desk.specs.declared.lines.Failure.TheVariants.{Output}
-use Rattle.desk.specs.Pages.{Cut, uncut, cut_behind, cut_error, IsErrorTold, IsOutputBroken, IsPut, IsShown, IsWhole, Outputs, Page, Shows, behind_front, below, cut_below, failed, fronted, line_front, outputs_of, printed}
+use Rattle.desk.specs.Pages.{Cut, uncut, cut_behind, cut_error, IsErrorTold, IsOutputBroken, IsPut, IsShown, IsWhole, Outputs}
+use Rattle.desk.specs.Pages.{Page, Shows, behind_front, below, cut_below, failed, fronted, line_front, outputs_of, printed}
 
 -- the pieces of one more
 pieces_more : {X : Type 0} (f : X → Text) (xs : List X) (i : ℕ) (d : X) → i < length xs → flat_map f (take (i + 1) xs) ≡ flat_map f (take i xs) ++ f (get_or xs i d)
@@ -129,7 +130,8 @@ below_fronted : (line : Option ℕ) (text : Text) (page : Page) → below text (
 below_fronted None text page = refl
 below_fronted (Some number) text page = refl
 
-pub shown_below_front : (line : Option ℕ) (cut : Cut) (old mid new : Outputs) (text : Text) (page : Page) (status : ℕ) → IsWhole old mid (printed text) 0 → IsShown cut mid new (fronted line page) status
+pub shown_below_front : (line : Option ℕ) (cut : Cut) (old mid new : Outputs) (text : Text) (page : Page) (status : ℕ) → IsWhole old mid (printed text) 0
+    → IsShown cut mid new (fronted line page) status
     → IsShown (cut_below text cut) old new (fronted line (below text page)) status
 shown_below_front line cut old mid new text page status first next =
     subst (λ p. IsShown (cut_below text cut) old new p status) (below_fronted line text page) (shown_below cut old mid new text (fronted line page) status first next)

@@ -26,12 +26,14 @@ holds_also P Q (Some None) also holds = tt
 holds_also P Q (Some (Some text)) also holds = also text holds
 
 -- the lines of a file are those of its script
-pub holds_lines : (file : File) (read : List Numbered) (lines : List Typed) → lines ≡ map typed_line read → HoldsText file (λ text. read ≡ numbered_from 1 (lines_of text)) → HoldsText file (λ text. lines ≡ script_lines text)
+pub holds_lines : (file : File) (read : List Numbered) (lines : List Typed) → lines ≡ map typed_line read → HoldsText file (λ text. read ≡ numbered_from 1 (lines_of text))
+    → HoldsText file (λ text. lines ≡ script_lines text)
 holds_lines file read lines are holds =
     holds_also (λ text. read ≡ numbered_from 1 (lines_of text)) (λ text. lines ≡ script_lines text) file (λ text is. are ∙ ap (map typed_line) is) holds
 
 -- and so are their turns
-holds_turns : (file : File) (lines : List Typed) (turns : List Turn) → AreTurns lines turns → HoldsText file (λ text. lines ≡ script_lines text) → HoldsText file (λ text. AreTurns (script_lines text) turns)
+holds_turns : (file : File) (lines : List Typed) (turns : List Turn) → AreTurns lines turns → HoldsText file (λ text. lines ≡ script_lines text)
+    → HoldsText file (λ text. AreTurns (script_lines text) turns)
 holds_turns file lines turns are holds =
     holds_also (λ text. lines ≡ script_lines text) (λ text. AreTurns (script_lines text) turns) file (λ text is. subst (λ ls. AreTurns ls turns) is are) holds
 
@@ -40,7 +42,8 @@ refused_script None page (inl unread) = inl unread
 refused_script (Some told) page (inl unread) = inl (inl unread)
 refused_script file page (inr memory) = inr memory
 
-first_flaw : (file : File) (lines : List Typed) (number : ℕ) (flaw : LineFlaw) → IsFirstFlaw lines number flaw → HoldsText file (λ text. lines ≡ script_lines text) → IsRefusedScript file (script_page (script.Line number flaw))
+first_flaw : (file : File) (lines : List Typed) (number : ℕ) (flaw : LineFlaw) → IsFirstFlaw lines number flaw → HoldsText file (λ text. lines ≡ script_lines text)
+    → IsRefusedScript file (script_page (script.Line number flaw))
 first_flaw None lines number flaw is holds = absurd holds
 first_flaw (Some None) lines number flaw is holds = inr (number, flaw, refl, tt)
 first_flaw (Some (Some text)) lines number flaw is holds = inr (number, flaw, refl, subst (λ ls. IsFirstFlaw ls number flaw) holds is)

@@ -48,7 +48,8 @@ at_some p xs i x within is all = by (p x) refl
     by false e = absurd (false≢true (sym (list_all_at p xs i x within (ap p (sym is) ∙ e)) ∙ all))
 
 -- and so does the one of some number
-pub sends_at : (turns : List Turn) (i : ℕ) (turn : Turn) → i < length turns → turn ≡ get_or turns i turn → list_all (λ turn. sends_requests turn.errand) turns ≡ true → sends_requests turn.errand ≡ true
+pub sends_at : (turns : List Turn) (i : ℕ) (turn : Turn) → i < length turns → turn ≡ get_or turns i turn → list_all (λ turn. sends_requests turn.errand) turns ≡ true
+    → sends_requests turn.errand ≡ true
 sends_at turns i turn within is all = at_some (λ t. sends_requests t.errand) turns i turn within is all
 
 -- ---- words that are text
@@ -82,13 +83,15 @@ module _ {X : Type 0} (f : X → Typed) where
   line_more xs i x within is = ap (map f) (take_more xs i x within) ∙ (map-append f (take i xs) (get_or xs i x ∷ []) ∙ ap (λ y. map f (take i xs) ++ f y ∷ []) (sym is))
 
   -- one more of them is a turn
-  pub turns_so : (xs : List X) (i : ℕ) (x : X) (turns new : List Turn) (turn : Turn) → i < length xs → x ≡ get_or xs i x → AreTurns (map f (take i xs)) turns → IsTurn (f x) turn → new ≡ turns ++ turn ∷ []
+  pub turns_so : (xs : List X) (i : ℕ) (x : X) (turns new : List Turn) (turn : Turn) → i < length xs → x ≡ get_or xs i x → AreTurns (map f (take i xs)) turns → IsTurn (f x) turn
+      → new ≡ turns ++ turn ∷ []
       → AreTurns (map f (take (i + 1) xs)) new
   turns_so xs i x turns new turn within is so one more =
       rw more (subst (λ ls. AreTurns ls (turns ++ turn ∷ [])) (sym (line_more xs i x within is)) (turns_more (map f (take i xs)) turns (f x) turn so one))
 
   -- what is wrong with one behind them
-  pub fault_behind : (xs : List X) (i : ℕ) (x : X) (turns : List Turn) (fault : ScriptFault) → i < length xs → x ≡ get_or xs i x → AreTurns (map f (take i xs)) turns → IsFaultOfLine (f x) fault → IsFaultOfLines (map f xs) fault
+  pub fault_behind : (xs : List X) (i : ℕ) (x : X) (turns : List Turn) (fault : ScriptFault) → i < length xs → x ≡ get_or xs i x → AreTurns (map f (take i xs)) turns
+      → IsFaultOfLine (f x) fault → IsFaultOfLines (map f xs) fault
   fault_behind xs i x turns script.Memory within is so wrong = tt
   fault_behind xs i x turns (script.Line number flaw) within is so wrong =
       let left : map f xs ≡ map f (take i xs) ++ f x ∷ map f (drop (i + 1) xs) =

@@ -1,5 +1,6 @@
 -- What clients who are served one after the other leave of an office.
-use Rattle.std.proofs.Common.{◌≡◌, ◌≤◌, ◌+◌, ◌∙◌, ◌⊎◌, ◌∷◌, ◌++◌, append_assoc, false, true, ℕ, Bool, List, [], Option, Result, Err, Ok, Some, arith, inl, inr, length, length-append, map, refl, sym, subst, suc, ap}
+use Rattle.std.proofs.Common.{◌≡◌, ◌≤◌, ◌+◌, ◌∙◌, ◌⊎◌, ◌∷◌, ◌++◌, append_assoc, false, true, ℕ, Bool, List, [], Option, Result}
+use Rattle.std.proofs.Common.{Err, Ok, Some, arith, inl, inr, length, length-append, map, refl, sym, subst, suc, ap}
 use Rattle.std.specs.Prelude.{◌<◌, IfSome, ⊤}
 use Rattle.std.specs.Result.{IsErr}
 use Rattle.std.specs.Iterator.{Yields}
@@ -36,7 +37,8 @@ pub record SoFar {R W E I O : Type 0} (next : I → Option (Result (R × W) E) �
   pub each : FoldsTo Step old clients new
   pub count : length clients ≡ turn
 
-Yields-push : {I A : Type 0} (next : I → Option A → I → Type 0) (from : I) (xs : List A) (here : I) (x : A) (to : I) → Yields next from xs here → next here (Some x) to → Yields next from (xs ++ x ∷ []) to
+Yields-push : {I A : Type 0} (next : I → Option A → I → Type 0) (from : I) (xs : List A) (here : I) (x : A) (to : I) → Yields next from xs here → next here (Some x) to
+    → Yields next from (xs ++ x ∷ []) to
 Yields-push next from [] here x to came it = (to, subst (λ s. next s (Some x) to) (sym came) it, refl)
 Yields-push next from (y ∷ ys) here x to came it = (came.0, came.1, Yields-push next came.0 ys here x to came.2 it)
 
@@ -99,7 +101,8 @@ ReadyLeaves given bytes s Tells Fails closed st =
 before_last : (s : OfficeState) (last : List Request) (x : OfficeState) → x ≡ s → IsAfterSome s last 0 x
 before_last s last x is = (0, omega arith, omega arith, omega arith, is)
 
-ready_answered : (given : Option (List ℕ)) (bytes : Option (List ℕ)) (s : OfficeState) (asked : AskedEntry) (answer : ResponseEntry) (response : _) (closed : Bool) (st : State) → IfSome bytes (λ xs. Asks given xs asked)
+ready_answered : (given : Option (List ℕ)) (bytes : Option (List ℕ)) (s : OfficeState) (asked : AskedEntry) (answer : ResponseEntry) (response : _) (closed : Bool) (st : State)
+    → IfSome bytes (λ xs. Asks given xs asked)
     → IsTold answer response → IsAnswered s asked answer closed st → ReadyLeaves given bytes s (λ sent. TellsFor given bytes s sent response) (TellsFault response) closed st
 ready_answered given bytes s (denied why) answer response closed st asks tells it =
     inl ([], inl (denied why, asks, (subst (λ a. IsTold a response) it.is.1 tells, refl)), subst (λ x. IsOpenAt x closed st) it.is.0 it.open_at)
@@ -114,7 +117,8 @@ ready_answered given bytes s (keying clerk batch entry) answer response closed s
       subst (λ x. IsOpenAt x closed st) (next ∙ ap (state_after s) same) it.open_at,
     )
 
-ready_failed : (given : Option (List ℕ)) (bytes : Option (List ℕ)) (s : OfficeState) (asked : AskedEntry) (fault : Fault) (response : _) (closed : Bool) (st : State) → IfSome bytes (λ xs. Asks given xs asked)
+ready_failed : (given : Option (List ℕ)) (bytes : Option (List ℕ)) (s : OfficeState) (asked : AskedEntry) (fault : Fault) (response : _) (closed : Bool) (st : State)
+    → IfSome bytes (λ xs. Asks given xs asked)
     → TellsFault response → FaultLeaves s asked fault closed st → ReadyLeaves given bytes s (λ sent. TellsFor given bytes s sent response) (TellsFault response) closed st
 ready_failed given bytes s (denied why) fault response closed st asks tells leaves = absurd leaves
 ready_failed given bytes s (reading what) fault response closed st asks tells (inl kept) = inl ([], inr (tells, refl), kept.open_at)
@@ -136,7 +140,8 @@ ready_failed given bytes s (keying clerk batch entry) fault response closed st a
       ),
     )
 
-ready_leaves : (given : Option (List ℕ)) (bytes : Option (List ℕ)) (s : OfficeState) (response : _) (closed : Bool) (st : State) → ReadiesFor given bytes s response closed st → ReadyLeaves given bytes s (λ sent. TellsFor given bytes s sent response) (TellsFault response) closed st
+ready_leaves : (given : Option (List ℕ)) (bytes : Option (List ℕ)) (s : OfficeState) (response : _) (closed : Bool) (st : State) → ReadiesFor given bytes s response closed st
+    → ReadyLeaves given bytes s (λ sent. TellsFor given bytes s sent response) (TellsFault response) closed st
 ready_leaves given bytes s response closed st (inr wanting) = inl ([], inr ((Memory, inl wanting.0), refl), wanting.1)
 ready_leaves given bytes s response closed st (inl ready) =
     let (answer, tells, leaves) = ready.readies in
@@ -162,7 +167,8 @@ client_put given streams s client ends served closed st Tells Fails counts tell 
 client_put given streams s client ends served closed st Tells Fails counts tell fail (inr (last, fails, is_last, closes)) =
     inr (last, record { served = served; ends = ends; counts = counts; told = fail fails }, is_last, closes)
 
-client_leaves : {R W : Type 0} (given : Option (List ℕ)) (streams : Streams R W) (s : OfficeState) (client ends : R × W) (served : Served) (closed : Bool) (st : State) → CountsAt streams client ends served
+client_leaves : {R W : Type 0} (given : Option (List ℕ)) (streams : Streams R W) (s : OfficeState) (client ends : R × W) (served : Served) (closed : Bool) (st : State)
+    → CountsAt streams client ends served
     → Serves given (streams.held client.0) (streams.taken client.1) (streams.taken ends.1) s served closed st → ClientLeaves given streams s client closed st
 client_leaves given streams s client ends (Answered status) closed st counts it =
     client_put given streams s client ends (Answered status) closed st _ _ counts
@@ -188,7 +194,8 @@ module _ {R W S : Type 0} (given : Option (List ℕ)) (streams : Streams R W) (s
   cleans [] old new same clean = subst (λ (o : OfficeValue S). HasCleanDisk (state_of o.held)) (sym same) clean
   cleans (client ∷ clients) old new (mid, step, rest) clean = step.clean (cleans clients mid new rest clean)
 
-  turned_away : (clients : List (R × W)) (old new : OfficeValue S) → FoldsTo (ServesClient given streams state_of) old clients new → old.closed ≡ true → AreTurnedAway given streams clients × (new ≡ old)
+  turned_away : (clients : List (R × W)) (old new : OfficeValue S) → FoldsTo (ServesClient given streams state_of) old clients new → old.closed ≡ true
+      → AreTurnedAway given streams clients × (new ≡ old)
   turned_away [] old new same closed = (tt, sym same)
   turned_away (client ∷ clients) old new (mid, step, rest) closed =
       let (away, stays) = step.turned_away closed in
@@ -247,7 +254,8 @@ module _ {R W S : Type 0} (given : Option (List ℕ)) (streams : Streams R W) (s
       ]
 
   -- the same after earlier requests
-  pub kept_of : (earlier : List Request) (clients : List (R × W)) (old new : OfficeValue S) → FoldsTo (ServesClient given streams state_of) old clients new → HasCleanDisk (state_of new.held) → old.closed ≡ false
+  pub kept_of : (earlier : List Request) (clients : List (R × W)) (old new : OfficeValue S) → FoldsTo (ServesClient given streams state_of) old clients new
+      → HasCleanDisk (state_of new.held) → old.closed ≡ false
       → IsAt (after empty_office earlier) (state_of old.held) → IsKeptOf given streams earlier clients new.closed (state_of new.held)
   kept_of earlier clients old new each clean is_open at =
       let it = keeps (after empty_office earlier) clients old new each clean is_open at in

@@ -50,7 +50,8 @@ shown_else cut_error old new page status shown ends zero is = absurd (cc is)
 shown_else uncut old new page status all ends zero is = ends (all.ends ∙ zero)
 
 -- one reply more
-pub told_more : (cut : Cut) (old mid new : Outputs) (said : Text) (page : Page) (status : ℕ) → IsQuiet page → status ≡ 0 → IsWhole old mid (printed said) 0 → IsShown cut mid new page status → IsWhole old new (printed (said ++ page.out)) 0
+pub told_more : (cut : Cut) (old mid new : Outputs) (said : Text) (page : Page) (status : ℕ) → IsQuiet page → status ≡ 0 → IsWhole old mid (printed said) 0 → IsShown cut mid new page status
+    → IsWhole old new (printed (said ++ page.out)) 0
 told_more (cut_behind took) old mid new said page status quiet zero first next = let three : status ≡ 3 = broken_ends next in absurd (omega arith)
 told_more cut_error old mid new said page status quiet zero first next = let three : status ≡ 3 = next.ends in absurd (omega arith)
 told_more uncut old mid new said page status quiet zero first next =

@@ -26,7 +26,9 @@ use Rattle.desk.specs.declared.lines.Failure.TheVariants.{Office, CopyTaken, Cop
 
 -- the line that tells how much a copy has
 unfoldable pub copied_text : Holdings → Text
-copied_text h = codes "copied " ++ (decimal h.wards ++ (codes " wards, " ++ (decimal h.batches ++ (codes " batches, " ++ (decimal h.keyings ++ (codes " keyings, " ++ (decimal h.receipts ++ codes " receipts")))))))
+copied_text h =
+    codes "copied " ++ (decimal h.wards ++ (codes " wards, " ++ (decimal h.batches ++ (codes " batches, "
+    ++ (decimal h.keyings ++ (codes " keyings, " ++ (decimal h.receipts ++ codes " receipts")))))))
 
 -- the failures that may end the copying of an office that is there: memory was wanting, the office's store failed while it was read, or the
 -- copy couldn't be written
@@ -49,7 +51,8 @@ HoldsCopy Whole page copy_old copy_new =
     (h : Holdings) × (page ≡ replied (copied_text h)) × (HasCleanDisk copy_new → IsBlank copy_old → (s : OfficeState) × (h ≡ holdings_of s) × IsAt s copy_new)
 HoldsCopy Untouched page copy_old copy_new = (failure : Failure) × (page ≡ failed failure) × OnlyReads copy_old copy_new
 HoldsCopy Unknown page copy_old copy_new =
-    (failure : Failure) × (page ≡ failed failure) × (HasCleanDisk copy_new → IsBlank copy_old → (trees : Trees) → copy_new.may_leave trees → copy_old.may_leave trees ⊎ ((s : OfficeState) × StoresState s trees))
+    (failure : Failure) × (page ≡ failed failure)
+    × (HasCleanDisk copy_new → IsBlank copy_old → (trees : Trees) → copy_new.may_leave trees → copy_old.may_leave trees ⊎ ((s : OfficeState) × StoresState s trees))
 
 -- An office at a state is copied into a database with nothing in it, and it is told how much the copy has, which keeps that very state; or
 -- a failure is told, and a stop leaves of the copy what it could leave before, or the whole of it. Where the copy's disk isn't as `sqlite`
@@ -59,8 +62,8 @@ IsCopiedAt s page left old new copy_old copy_new =
     ((page ≡ replied (copied_text (holdings_of s))) × (left ≡ Whole) × (HasCleanDisk copy_new → IsAt s copy_new))
     ⊎ ((failure : Failure) × (page ≡ failed failure) × EndsCopying old new failure × (HasCleanDisk copy_new → LeavesNoneOrAll s copy_old copy_new))
 
--- At a database that holds the tables of no state the fault is told that an opening gives there, and as a failing store only what was one, or
--- where rowids aren't the rows' own. Nothing is copied.
+-- At a database that holds the tables of no state the fault is told that an opening gives there. A failing store is told only where the store
+-- failed, or where rowids aren't the rows' own. Nothing is copied.
 pub record IsNoneCopied (db : Database) (page : Page) (left : CopyState) (old new : State) : Type 0 where
   pub fault : Fault
   pub told : page ≡ failed (Office fault)

@@ -1,51 +1,19 @@
 -- The headline: what an order tells, byte for byte, and what is kept of it, whatever stops it. It is read from here to its last line.
-use Rattle.std.specs.Prelude.{◌≡◌, ◌≢◌, ◌⊎◌, ◌+◌, ℕ, Bool, true, List, [], ◌∷◌, codes, length, map, Option, Some, None}
+-- Which requests an errand sends stands in Requests.antt, which turns a job has in Scripts.antt, and what pages say in Pages.antt and Told.antt.
+use Rattle.std.specs.Prelude.{◌≡◌, ◌≢◌, ◌⊎◌, ◌+◌, ℕ, Bool, true, List, [], ◌∷◌, codes, length, Option, None}
 use Rattle.clap.specs.Words.{Text}
-use Rattle.sqlite.specs.Tree.{Trees}
-use Rattle.sqlite.specs.Effect.{Database}
-use Rattle.sqlite.specs.State.{State}
-use Rattle.register.specs.Machine.{after, after_one, is_accepted, step_of}
-use Rattle.register.specs.Offices.{OfficeState, empty_office}
-use Rattle.register.specs.declared.command.Request.{Request}
-use Rattle.tables.specs.declared.fault.Fault.{Fault}
-use Rattle.tables.specs.declared.fault.Fault.TheVariants.{Memory, Store, WrongDatabase}
-use Rattle.tables.specs.Contents.{RestsAt, Stores}
-use Rattle.tables.specs.Presence.{IsOurs, IsOlderSchema, has_some_table}
-use Rattle.tables.specs.Reading.{FailsBy, FailsToList, OnlyReads}
-use Rattle.store.specs.Openings.{HoldsNoState, IsBlank, IsLeftAt, IsToldBy}
-use Rattle.store.specs.declared.older.OlderForm.{OlderForm}
-use Rattle.store.specs.declared.migration.Migrated.TheVariants.{Done, Already}
-use Rattle.store.specs.Migrations.{HoldsNoOlder, RestsOlder, IsToldInMigration, LeavesOldOrNew}
-use Rattle.store.specs.Offices.{IsAt, LeavesState, tables_of}
-use Rattle.office.specs.Answers.{IsClosedIn, IsKeptOpen, IsOpenAt, told_of}
-use Rattle.office.specs.Reads.{IsClosedReading, columns_told}
-use Rattle.office.specs.Runs.{Keeps}
-use Rattle.keyfile.specs.Candidates.{candidates}
-use Rattle.desk.specs.Folders.{File, Folder, HoldsText, IsFileAt}
-use Rattle.desk.specs.Pages.{Cut, Page, uncut, below, cut_below, empty_page, failed, fronted, migrated_text, page_told, replied}
-use Rattle.desk.specs.Requests.{HoldsKeying, HoldsRequests, file_of, keyings_for, requests_for, sent_as}
-use Rattle.desk.specs.Scripts.{AreTurns, script_lines}
-use Rattle.desk.specs.Told.{IsNoScript, IsTold}
-use Rattle.desk.specs.declared.orders.Errand.{Errand}
-use Rattle.desk.specs.declared.orders.Errand.TheVariants as errand
-use Rattle.desk.specs.declared.orders.Job.{Job}
-use Rattle.desk.specs.declared.orders.Job.TheVariants as job
-use Rattle.desk.specs.declared.orders.Task.{Task}
+use Rattle.sqlite.specs.{Effect.Database, State.State, Tree.Trees}
+use Rattle.register.specs.{Machine.after, Machine.after_one, Machine.is_accepted, Machine.step_of, Offices.OfficeState, Offices.empty_office, declared.command.Request.Request}
+use Rattle.tables.specs.{Contents.RestsAt, Contents.Stores, Presence.IsOurs, Presence.IsOlderSchema, Presence.has_some_table, Reading.FailsBy, Reading.FailsToList, Reading.OnlyReads}
+use Rattle.tables.specs.declared.fault.Fault.{Fault, TheVariants.WrongDatabase}
+use Rattle.store.specs.{Offices.IsAt, Offices.LeavesState, Offices.tables_of, Openings.HoldsNoState, Openings.IsBlank, Openings.IsLeftAt, Openings.IsToldBy, declared.older.OlderForm.OlderForm}
+use Rattle.store.specs.Migrations.{HoldsNoOlder, IsToldInMigration, LeavesOldOrNew, RestsOlder}
+use Rattle.store.specs.declared.migration.Migrated.TheVariants.{Already, Done}
+use Rattle.office.specs.{Answers.IsClosedIn, Answers.IsKeptOpen, Answers.IsMemoryOrStore, Answers.IsOpenAt, Answers.told_of, Reads.IsClosedReading, Runs.Keeps}
+use Rattle.desk.specs.{Folders.File, Folders.Folder, Folders.IsFileAt, Requests.Sends, Requests.file_of, Scripts.HasTurns, Told.IsNoScript, Told.IsTold}
+use Rattle.desk.specs.Pages.{Cut, Page, below, cut_below, empty_page, failed, fronted, migrated_text, page_told, replied, uncut}
+use Rattle.desk.specs.declared.{lines.Failure.TheVariants.Office, orders.Job.Job, orders.Task.Task, scripts.Turn.Turn}
 use Rattle.desk.specs.declared.orders.Task.TheVariants as task
-use Rattle.desk.specs.declared.scripts.Turn.{Turn}
-use Rattle.desk.specs.declared.lines.Failure.TheVariants.{Office}
-
--- The requests that an errand sends at a state: its own one, or those that its file holds. An errand that asks something sends none.
-abbrev pub Sends : OfficeState → Errand → File → List Request → Type 0
-Sends s (errand.Send request) file requests = map sent_as requests ≡ sent_as request ∷ []
-Sends s (errand.ImportCandidates path id) file requests = HoldsRequests candidates (requests_for id.now) file requests
-Sends s (errand.ImportKeying keying) file requests = HoldsKeying (columns_told s keying.batch) (keyings_for keying) file requests
-Sends s other file requests = ⊥
-
--- The turns of a job. An errand alone is one turn, of no line; the turns of a script are the errands that its lines mean.
-abbrev pub HasTurns : Folder → Job → List Turn → Type 0
-HasTurns folder (job.Run errand) turns = turns ≡ record { line = None; errand = errand } ∷ []
-HasTurns folder (job.Replay path) turns = (file : File) × IsFileAt folder (Some path.now) file × HoldsText file (λ text. AreTurns (script_lines text) turns)
 
 -- What came of requests: which they are, how many of them were answered, the page that tells it, and how much was told of that page.
 pub record Course : Type 0 where
@@ -79,8 +47,7 @@ module _ (old : State) (closed : Bool) (st : State) where
       ((answered ≡ 1) × (page ≡ answer s r) × IsOpenAt (after_one s r) closed st)
       ⊎ ((answered ≡ 0) × IsFailed (λ fault. (FailsBy old st fault ⊎ (is_accepted (step_of s r) ≡ true)) × (IsKeptOpen s fault closed st ⊎ IsClosedIn s (step_of s r) fault closed st)) page)
 
-  -- Requests are sent in turn: after a reply that was told whole the next one, and after the last one what comes then. A refusal, a fault or an
-  -- output that fails ends it.
+  -- Requests are sent in turn, each after a reply that was told whole, and behind the last one comes what comes then. A refusal, a fault or an output that fails ends it.
   abbrev pub IsSent : Option ℕ → (OfficeState → Course → Type 0) → OfficeState → List Request → Course → Type 0
   IsSent line Then s [] course = Then s course
   IsSent line Then s (r ∷ rs) course =
@@ -95,8 +62,7 @@ module _ (old : State) (closed : Bool) (st : State) where
   abbrev pub IsUnsent : Option ℕ → (Page → Type 0) → OfficeState → Course → Type 0
   IsUnsent line Tells s course = (page : Page) × (cut : Cut) × (course ≡ ended line [] 0 page cut) × ((Tells page × IsOpenAt s closed st) ⊎ IsStopped s page)
 
-  -- Turns are taken in turn, each with the file that lies at its path when it comes. All its requests are sent, and then comes the next turn; or none
-  -- is: what it asks is told, or why its file isn't taken.
+  -- Turns are taken in turn, each with the file that lies at its path when it comes: all its requests are sent; or none is, and what it asks is told, or why its file isn't taken.
   abbrev pub IsPlayed : Folder → OfficeState → List Turn → Course → Type 0
   IsPlayed folder s [] course = (course ≡ ended None [] 0 empty_page uncut) × IsOpenAt s closed st
   IsPlayed folder s (turn ∷ turns) course =
@@ -112,15 +78,10 @@ module _ (old : State) (closed : Bool) (st : State) where
 abbrev pub IsUntouched : (Page → Type 0) → OfficeState → Course → State → Type 0
 IsUntouched Tells s course new = (page : Page) × (cut : Cut) × (course ≡ ended None [] 0 page cut) × Tells page × LeavesState new (λ x. x ≡ s)
 
--- Memory was wanting, or the store failed.
-abbrev pub IsPlain : Fault → Type 0
-IsPlain fault = (fault ≡ Memory) ⊎ (fault ≡ Store)
-
--- What comes of a task over the office of a state: no other is made; it is of this version already; or a job is done in it, once it was opened, or
--- it isn't opened, and a fault is told, with its cause.
+-- What comes of a task over the office of a state: no other is made; it is of this version already; or a job is done in it, or it isn't opened, and a fault is told, with its cause.
 abbrev pub Performs : Folder → OfficeState → Task → Course → State → State → Type 0
 Performs folder s task.Init course old new = IsUntouched (λ page. page ≡ failed (Office WrongDatabase)) s course new
-Performs folder s task.Migrate course old new = IsUntouched (λ page. (page ≡ replied (migrated_text Already)) ⊎ IsFailed IsPlain page) s course new
+Performs folder s task.Migrate course old new = IsUntouched (λ page. (page ≡ replied (migrated_text Already)) ⊎ IsFailed IsMemoryOrStore page) s course new
 Performs folder s (task.InOffice job) course old new = ((closed : Bool) × IsDone old closed new folder s job course) ⊎ IsUntouched (IsFailed (FailsBy old new)) s course new
 
 -- The promise. So many of the task's requests were answered, as its page tells. If earlier requests led to the office's state, a stop leaves the state
@@ -135,21 +96,22 @@ pub record IsPerformed (folder : Folder) (s : OfficeState) (task : Task) (cut : 
 -- In an empty database an office is made, or a fault is told and a stop leaves nothing or the empty office. Where a table has one of our names none is.
 pub record Makes (page : Page) (old new : State) : Type 0 where
   pub made : IsBlank old → ((page ≡ replied (codes "office ready")) × IsAt empty_office new)
-      ⊎ IsFailed (λ fault. IsPlain fault × ((trees : Trees) → new.may_leave trees → old.may_leave trees ⊎ Stores (tables_of empty_office) trees)) page
+      ⊎ IsFailed (λ fault. IsMemoryOrStore fault × ((trees : Trees) → new.may_leave trees → old.may_leave trees ⊎ Stores (tables_of empty_office) trees)) page
   pub taken : (db : Database) → RestsAt db old → has_some_table db.schema ≡ true → (page ≡ failed (Office WrongDatabase)) × OnlyReads old new
 
 -- An earlier program's office is brought over at the very state that it had, or a fault is told; a stop leaves the older tables of that state or the
 -- tables of this version. Where there is none of either version, the fault that the database gives is told, and a stop leaves what it could before.
 pub record BringsOver (page : Page) (old new : State) : Type 0 where
-  pub older : (form : OlderForm) (s : OfficeState) → RestsOlder form s old → LeavesOldOrNew form s old new × (((page ≡ replied (migrated_text Done)) × IsAt s new) ⊎ IsFailed IsPlain page)
+  pub older : (form : OlderForm) (s : OfficeState) → RestsOlder form s old → LeavesOldOrNew form s old new × (((page ≡ replied (migrated_text Done)) × IsAt s new) ⊎ IsFailed IsMemoryOrStore page)
   pub beyond : (db : Database) → IsOurs db.schema → IsOlderSchema db.schema → RestsAt db old → HoldsNoState db → HoldsNoOlder db
-      → IsFailed (λ fault. IsToldInMigration db fault × FailsToList db old new fault × (IsPlain fault ⊎ OnlyReads old new)) page × ((trees : Trees) → new.may_leave trees → old.may_leave trees)
+      → IsFailed (λ fault. IsToldInMigration db fault × FailsToList db old new fault × (IsMemoryOrStore fault ⊎ OnlyReads old new)) page × ((trees : Trees) → new.may_leave trees → old.may_leave trees)
 
 -- What comes of a task where no office of this version is. Any other than these two tells the fault that the database gives, and changes nothing.
 abbrev pub Elsewhere : Task → Page → State → State → Type 0
 Elsewhere task.Init page old new = Makes page old new
 Elsewhere task.Migrate page old new = BringsOver page old new
-Elsewhere (task.InOffice job) page old new = (db : Database) → IsOurs db.schema → RestsAt db old → HoldsNoState db → IsFailed (λ fault. IsToldBy db fault × FailsToList db old new fault) page × OnlyReads old new
+Elsewhere (task.InOffice job) page old new = (db : Database) → IsOurs db.schema → RestsAt db old → HoldsNoState db
+    → IsFailed (λ fault. IsToldBy db fault × FailsToList db old new fault) page × OnlyReads old new
 
 -- Of a page, so much of which was told, and the status that the program ends with: this is what a task does, wherever its connection rests.
 pub record Headline (folder : Folder) (task : Task) (cut : Cut) (page : Page) (ends : ℕ) (old new : State) : Type 0 where

@@ -1,12 +1,17 @@
 -- The orders of the program: the name and the words of each, and what it means by their values.
-use Rattle.std.specs.Prelude.{ℕ, Bool, true, false, List, [], ◌∷◌, ◌++◌, Option, codes, map, option_map}
+use Rattle.std.specs.Prelude.{ℕ, Bool, true, false, List, [], ◌∷◌, ◌++◌, Option, codes, map, option_map, string_bytes}
 use Rattle.clap.specs.Words.{Text}
+use Rattle.register.specs.declared.command.Command.{Command}
+use Rattle.register.specs.declared.command.Command.TheVariants as command
+use Rattle.register.specs.declared.command.Request.{Request}
+use Rattle.register.specs.declared.wards.WardCommand.TheVariants as ward_command
+use Rattle.register.specs.declared.candidates.CandidateCommand.TheVariants as candidate_command
+use Rattle.register.specs.declared.batches.BatchCommand.TheVariants as batch_command
+use Rattle.register.specs.declared.counts.CountCommand.TheVariants as count_command
 use Rattle.office.specs.declared.sheets.Text.{Text as WardText}
 use Rattle.office.specs.declared.sheets.Text.TheVariants as ward_text
 use Rattle.wire.specs.Origins.{origin_text}
-use Rattle.desk.specs.Verdicts.{Judgement}
-use Rattle.desk.specs.Requests as asks
-use Rattle.desk.specs.Requests.{Asked, Sent, by_office, sent_as}
+use Rattle.desk.specs.Verdicts.{Judgement, judgement_given}
 use Rattle.desk.specs.declared.table.Kind.{Kind}
 use Rattle.desk.specs.declared.table.Kind.TheVariants as kind
 use Rattle.desk.specs.declared.table.Word.{Word}
@@ -71,6 +76,54 @@ id = record { name = codes "id"; kind = kind.Id }
 abbrev pub origin : WordEntry
 origin = record { name = codes "origin"; kind = kind.Origin }
 
+-- ---- what a command asks
+
+-- what a command asks, its names as text
+pub data Asked : Type 0 where
+  ward_to_add : ℕ → ℕ → Text → Asked
+  ward_to_close : ℕ → Asked
+  candidate_to_add : ℕ → ℕ → Text → Asked
+  candidate_to_withdraw : ℕ → ℕ → Asked
+  batch_to_add : ℕ → ℕ → ℕ → ℕ → ℕ → Asked
+  batch_to_key_again : ℕ → Asked
+  batch_for_third_clerk : ℕ → ℕ → Asked
+  keying_to_keep : ℕ → ℕ → List Text → Asked
+  paper_to_judge : ℕ → ℕ → Judgement → Asked
+  ward_to_seal : ℕ → Asked
+  stage_to_count : ℕ → Asked
+  lot_to_record : ℕ → ℕ → ℕ → Asked
+  ward_to_declare : ℕ → Asked
+
+-- what a command of the register asks
+abbrev pub asked_by : Command → Asked
+asked_by (command.Ward (ward_command.Add ward seats name)) = ward_to_add ward seats (string_bytes name)
+asked_by (command.Ward (ward_command.Close ward)) = ward_to_close ward
+asked_by (command.Candidate (candidate_command.Add ward candidate name)) = candidate_to_add ward candidate (string_bytes name)
+asked_by (command.Candidate (candidate_command.Withdraw ward candidate)) = candidate_to_withdraw ward candidate
+asked_by (command.Batch (batch_command.Add batch ward size first_clerk second_clerk)) = batch_to_add batch ward size first_clerk second_clerk
+asked_by (command.Batch (batch_command.Again batch)) = batch_to_key_again batch
+asked_by (command.Batch (batch_command.Third batch clerk)) = batch_for_third_clerk batch clerk
+asked_by (command.Keying k) = keying_to_keep k.batch k.round (map string_bytes k.papers.items)
+asked_by (command.Verdict v) = paper_to_judge v.batch v.paper (judgement_given v.verdict)
+asked_by (command.Count (count_command.Seal ward)) = ward_to_seal ward
+asked_by (command.Count (count_command.Advance ward)) = stage_to_count ward
+asked_by (command.Count (count_command.Lot ward stage candidate)) = lot_to_record ward stage candidate
+asked_by (command.Count (count_command.Declare ward)) = ward_to_declare ward
+
+-- a request: who sends it, under which id, and what it asks
+pub record Sent : Type 0 where
+  pub actor : ℕ
+  pub id : Text
+  pub asked : Asked
+
+-- a request of the register
+abbrev pub sent_as : Request → Sent
+sent_as r = record { actor = r.actor; id = string_bytes r.id; asked = asked_by r.command }
+
+-- a request of the office itself
+abbrev pub by_office : Text → Asked → Sent
+by_office id asked = record { actor = 0; id = id; asked = asked }
+
 -- ---- what an order means
 
 -- what is to be done; or nothing, since the word of a verdict says none, or the one of an origin is none
@@ -110,58 +163,58 @@ told (order.Serve port connections origin) = serve port connections (option_map 
 -- ---- the orders
 
 -- what the value of a word is
-abbrev pub ValueOf : Kind → Type 0
-ValueOf kind.Number = ℕ
-ValueOf kind.NumberOrNone = Option ℕ
-ValueOf kind.Port = ℕ
-ValueOf kind.Connections = ℕ
-ValueOf kind.Text = Text
-ValueOf kind.Verdict = Judgement
-ValueOf kind.Id = Text
-ValueOf kind.Origin = Option Text
+abbrev pub WordValue : Kind → Type 0
+WordValue kind.Number = ℕ
+WordValue kind.NumberOrNone = Option ℕ
+WordValue kind.Port = ℕ
+WordValue kind.Connections = ℕ
+WordValue kind.Text = Text
+WordValue kind.Verdict = Judgement
+WordValue kind.Id = Text
+WordValue kind.Origin = Option Text
 
 -- what comes of the values of some words, in their sequence
-abbrev pub Of : List WordEntry → Type 0 → Type 0
-Of [] T = T
-Of (w ∷ ws) T = ValueOf w.kind → Of ws T
+abbrev pub OfWords : List WordEntry → Type 0 → Type 0
+OfWords [] T = T
+OfWords (w ∷ ws) T = WordValue w.kind → OfWords ws T
 
 -- an order's name and words, what it means, by the values of its words, and whether that is a command of the office
 pub record OrderEntry : Type 0 where
   pub typed : OrderWords
-  pub means : Of typed.words Meant
+  pub means : OfWords typed.words Meant
   pub is_command : Bool
 
 -- an order of this name takes these words, in their sequence, and means this of their values
-abbrev pub takes : Text → (words : List WordEntry) → Of words Meant → OrderEntry
+abbrev pub takes : Text → (words : List WordEntry) → OfWords words Meant → OrderEntry
 takes name words means = record { typed = record { name = name; words = words }; means = means; is_command = false }
 
 -- the office sends a command, of the values of some words, under the id that stands behind them
-abbrev pub under_id : (words : List WordEntry) → Of words Asked → Of (words ++ id ∷ []) Meant
+abbrev pub under_id : (words : List WordEntry) → OfWords words Asked → OfWords (words ++ id ∷ []) Meant
 under_id [] asked = λ id. send (by_office id asked)
 under_id (w ∷ ws) asked = λ value. under_id ws (asked value)
 
 -- an order of this name takes these words and an id, and sends a command of the office
-abbrev pub sends : Text → (words : List WordEntry) → Of words Asked → OrderEntry
+abbrev pub sends : Text → (words : List WordEntry) → OfWords words Asked → OrderEntry
 sends name words asked = record { typed = record { name = name; words = words ++ id ∷ [] }; means = under_id words asked; is_command = true }
 
 -- the table of orders, in the sequence of an election
 unfoldable pub orders : List OrderEntry
 orders =
     takes (codes "init") [] make
-    ∷ sends (codes "ward") (number (codes "WARD") ∷ number (codes "SEATS") ∷ text (codes "NAME") ∷ []) asks.ward_to_add
-    ∷ sends (codes "candidate") (number (codes "WARD") ∷ number (codes "CANDIDATE") ∷ text (codes "NAME") ∷ []) asks.candidate_to_add
+    ∷ sends (codes "ward") (number (codes "WARD") ∷ number (codes "SEATS") ∷ text (codes "NAME") ∷ []) ward_to_add
+    ∷ sends (codes "candidate") (number (codes "WARD") ∷ number (codes "CANDIDATE") ∷ text (codes "NAME") ∷ []) candidate_to_add
     ∷ takes (codes "import-candidates") (text (codes "FILE") ∷ id ∷ []) import_candidates
-    ∷ sends (codes "withdraw") (number (codes "WARD") ∷ number (codes "CANDIDATE") ∷ []) asks.candidate_to_withdraw
-    ∷ sends (codes "close") (number (codes "WARD") ∷ []) asks.ward_to_close
-    ∷ sends (codes "batch") (number (codes "BATCH") ∷ number (codes "WARD") ∷ number (codes "SIZE") ∷ number (codes "FIRST_CLERK") ∷ number (codes "SECOND_CLERK") ∷ []) asks.batch_to_add
+    ∷ sends (codes "withdraw") (number (codes "WARD") ∷ number (codes "CANDIDATE") ∷ []) candidate_to_withdraw
+    ∷ sends (codes "close") (number (codes "WARD") ∷ []) ward_to_close
+    ∷ sends (codes "batch") (number (codes "BATCH") ∷ number (codes "WARD") ∷ number (codes "SIZE") ∷ number (codes "FIRST_CLERK") ∷ number (codes "SECOND_CLERK") ∷ []) batch_to_add
     ∷ takes (codes "import-keying") (number (codes "CLERK") ∷ number (codes "BATCH") ∷ number (codes "ROUND") ∷ text (codes "FILE") ∷ id ∷ []) import_keying
-    ∷ sends (codes "again") (number (codes "BATCH") ∷ []) asks.batch_to_key_again
-    ∷ sends (codes "third") (number (codes "BATCH") ∷ number (codes "CLERK") ∷ []) asks.batch_for_third_clerk
-    ∷ sends (codes "judge") (number (codes "BATCH") ∷ number (codes "PAPER") ∷ verdict (codes "VERDICT") ∷ []) asks.paper_to_judge
-    ∷ sends (codes "seal") (number (codes "WARD") ∷ []) asks.ward_to_seal
-    ∷ sends (codes "advance") (number (codes "WARD") ∷ []) asks.stage_to_count
-    ∷ sends (codes "lot") (number (codes "WARD") ∷ number (codes "STAGE") ∷ number (codes "CANDIDATE") ∷ []) asks.lot_to_record
-    ∷ sends (codes "declare") (number (codes "WARD") ∷ []) asks.ward_to_declare
+    ∷ sends (codes "again") (number (codes "BATCH") ∷ []) batch_to_key_again
+    ∷ sends (codes "third") (number (codes "BATCH") ∷ number (codes "CLERK") ∷ []) batch_for_third_clerk
+    ∷ sends (codes "judge") (number (codes "BATCH") ∷ number (codes "PAPER") ∷ verdict (codes "VERDICT") ∷ []) paper_to_judge
+    ∷ sends (codes "seal") (number (codes "WARD") ∷ []) ward_to_seal
+    ∷ sends (codes "advance") (number (codes "WARD") ∷ []) stage_to_count
+    ∷ sends (codes "lot") (number (codes "WARD") ∷ number (codes "STAGE") ∷ number (codes "CANDIDATE") ∷ []) lot_to_record
+    ∷ sends (codes "declare") (number (codes "WARD") ∷ []) ward_to_declare
     ∷ takes (codes "status") (number (codes "WARD") ∷ []) tell_status
     ∷ takes (codes "sheet") (number (codes "WARD") ∷ []) (λ ward. print ward ward_text.Sheet)
     ∷ takes (codes "result") (number (codes "WARD") ∷ []) (λ ward. print ward ward_text.Declaration)

@@ -65,7 +65,8 @@ twin_words (Some batch) = codes ", same papers as batch " ++ decimal batch
 
 -- the line that tells how a batch stands
 unfoldable pub batch_line : BatchView → Text
-batch_line v = size_words v ++ (flat_map clerk_words v.clerks ++ (codes ", " ++ (standing_word v.standing ++ (codes ", " ++ (decimal v.doubtful_open ++ (codes " doubtful open" ++ twin_words v.twin))))))
+batch_line v =
+    size_words v ++ (flat_map clerk_words v.clerks ++ (codes ", " ++ (standing_word v.standing ++ (codes ", " ++ (decimal v.doubtful_open ++ (codes " doubtful open" ++ twin_words v.twin))))))
 
 -- ---- a doubtful paper
 

@@ -205,7 +205,7 @@ pub record IsWhole (old new : Outputs) (page : Page) (status : ℕ) : Type 0 whe
   pub err_failed : new.err_failed ≡ old.err_failed
   pub ends : status ≡ page.status
 
--- how much was told of a page: all; or what the output took, which failed; or all of that, and the error output failed
+-- how much was told of a page: all; or a beginning, where the output failed; or all that goes to the output, where the error output failed
 pub data Cut : Type 0 where
   uncut : Cut
   cut_behind : Text → Cut
@@ -226,13 +226,13 @@ pub record IsErrorOutputBroken (old new : Outputs) (page : Page) (status : ℕ) 
   pub err_failed : new.err_failed ≡ old.err_failed + 1
   pub ends : status ≡ 3
 
--- a page was told, so far
+-- a page was told as far as this
 abbrev pub IsShown : Cut → Outputs → Outputs → Page → ℕ → Type 0
 IsShown uncut old new page status = IsWhole old new page status
 IsShown (cut_behind took) old new page status = IsOutputBroken took old new page status
 IsShown cut_error old new page status = IsErrorOutputBroken old new page status
 
--- the same, however far
+-- a page was told, however far
 abbrev pub Shows : Outputs → Outputs → Page → ℕ → Type 0
 Shows old new page status = (cut : Cut) × IsShown cut old new page status
 

@@ -18,7 +18,7 @@ use Rattle.desk.specs.declared.lines.Failure.TheVariants.{Office}
 use Rattle.desk.specs.declared.orders.KeyingFile.{KeyingFile}
 use Rattle.desk.specs.declared.orders.Question.{Question}
 
--- of some requests, so many of which were answered, this page came, of which so much was told
+-- there are requests of which this page came, of which so much was told, and so many of them were answered
 abbrev pub ComesTo : Cut → Page → (Course → Type 0) → Type 0
 ComesTo cut page P = (requests : List Request) × (answered : ℕ) × P (record { requests = requests; answered = answered; page = page; cut = cut })
 
@@ -38,7 +38,7 @@ IsAskedOf s question page closed old st = ((page ≡ page_asked s question) × I
 abbrev pub IsUnread : {Row : Type 0} → Format Row → File → Page → Type 0
 IsUnread format file page = IsRefusedFile format file page ⊎ (page ≡ failed (Office Memory))
 
--- why the text of a script isn't had
+-- why no text is read of a script's file
 abbrev pub IsUnreadScript : Page → Type 0
 IsUnreadScript page = (page ≡ unopened) ⊎ (page ≡ failed (Office Memory))
 

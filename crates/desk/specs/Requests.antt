@@ -1,81 +1,24 @@
 -- The requests that orders send to the office.
-use Rattle.std.specs.Prelude.{◌≡◌, ℕ, suc, List, [], ◌∷◌, ◌++◌, codes, map, string_bytes, Option, Some, None, Result, Ok, Err}
+use Rattle.std.specs.Prelude.{◌≡◌, ℕ, suc, List, [], ◌∷◌, ◌++◌, codes, map, Option, Some, None, Result, Ok, Err}
 use Rattle.std.specs.Fmt.{decimal}
 use Rattle.clap.specs.Words.{Text}
-use Rattle.register.specs.declared.command.Command.{Command}
-use Rattle.register.specs.declared.command.Command.TheVariants as command
+use Rattle.register.specs.Offices.{OfficeState}
 use Rattle.register.specs.declared.command.Request.{Request}
-use Rattle.register.specs.declared.wards.WardCommand.TheVariants as ward_command
-use Rattle.register.specs.declared.candidates.CandidateCommand.TheVariants as candidate_command
-use Rattle.register.specs.declared.batches.BatchCommand.TheVariants as batch_command
-use Rattle.register.specs.declared.counts.CountCommand.TheVariants as count_command
-use Rattle.register.specs.declared.verdicts.Verdict.{Verdict}
-use Rattle.register.specs.declared.verdicts.Verdict.TheVariants as verdict
 use Rattle.register.specs.declared.refusal.Reason.{Reason}
-use Rattle.keyfile.specs.Candidates.{CandidateEntry}
+use Rattle.office.specs.Reads.{columns_told}
+use Rattle.keyfile.specs.Candidates.{CandidateEntry, candidates}
 use Rattle.keyfile.specs.Files.{Format, file_rows}
 use Rattle.keyfile.specs.Keying.{keying}
 use Rattle.keyfile.specs.Records.{file_records}
 use Rattle.keyfile.specs.declared.fault.FileFault.{FileFault}
 use Rattle.desk.specs.Folders.{File, HoldsText}
-use Rattle.desk.specs.Verdicts.{Judgement, accepted, rejected}
+use Rattle.desk.specs.Orders.{Sent, by_office, candidate_to_add, keying_to_keep, sent_as}
 use Rattle.desk.specs.declared.orders.KeyingFile.{KeyingFile}
 use Rattle.desk.specs.declared.orders.Errand.{Errand}
 use Rattle.desk.specs.declared.orders.Errand.TheVariants as errand
 use Rattle.desk.specs.declared.orders.Job.TheVariants as job
 use Rattle.desk.specs.declared.orders.Task.{Task}
 use Rattle.desk.specs.declared.orders.Task.TheVariants as task
-
--- what a command asks, its names as text
-pub data Asked : Type 0 where
-  ward_to_add : ℕ → ℕ → Text → Asked
-  ward_to_close : ℕ → Asked
-  candidate_to_add : ℕ → ℕ → Text → Asked
-  candidate_to_withdraw : ℕ → ℕ → Asked
-  batch_to_add : ℕ → ℕ → ℕ → ℕ → ℕ → Asked
-  batch_to_key_again : ℕ → Asked
-  batch_for_third_clerk : ℕ → ℕ → Asked
-  keying_to_keep : ℕ → ℕ → List Text → Asked
-  paper_to_judge : ℕ → ℕ → Judgement → Asked
-  ward_to_seal : ℕ → Asked
-  stage_to_count : ℕ → Asked
-  lot_to_record : ℕ → ℕ → ℕ → Asked
-  ward_to_declare : ℕ → Asked
-
--- the verdict of a command
-abbrev pub judgement_given : Verdict → Judgement
-judgement_given (verdict.Accept marks) = accepted (string_bytes marks)
-judgement_given (verdict.Reject code) = rejected code
-
--- what a command of the register asks
-abbrev pub asked_by : Command → Asked
-asked_by (command.Ward (ward_command.Add ward seats name)) = ward_to_add ward seats (string_bytes name)
-asked_by (command.Ward (ward_command.Close ward)) = ward_to_close ward
-asked_by (command.Candidate (candidate_command.Add ward candidate name)) = candidate_to_add ward candidate (string_bytes name)
-asked_by (command.Candidate (candidate_command.Withdraw ward candidate)) = candidate_to_withdraw ward candidate
-asked_by (command.Batch (batch_command.Add batch ward size first_clerk second_clerk)) = batch_to_add batch ward size first_clerk second_clerk
-asked_by (command.Batch (batch_command.Again batch)) = batch_to_key_again batch
-asked_by (command.Batch (batch_command.Third batch clerk)) = batch_for_third_clerk batch clerk
-asked_by (command.Keying k) = keying_to_keep k.batch k.round (map string_bytes k.papers.items)
-asked_by (command.Verdict v) = paper_to_judge v.batch v.paper (judgement_given v.verdict)
-asked_by (command.Count (count_command.Seal ward)) = ward_to_seal ward
-asked_by (command.Count (count_command.Advance ward)) = stage_to_count ward
-asked_by (command.Count (count_command.Lot ward stage candidate)) = lot_to_record ward stage candidate
-asked_by (command.Count (count_command.Declare ward)) = ward_to_declare ward
-
--- a request: who sends it, under which id, and what it asks
-pub record Sent : Type 0 where
-  pub actor : ℕ
-  pub id : Text
-  pub asked : Asked
-
--- a request of the register
-abbrev pub sent_as : Request → Sent
-sent_as r = record { actor = r.actor; id = string_bytes r.id; asked = asked_by r.command }
-
--- a request of the office itself
-abbrev pub by_office : Text → Asked → Sent
-by_office id asked = record { actor = 0; id = id; asked = asked }
 
 -- the file that an errand names
 abbrev pub file_of : Errand → Option Text
@@ -125,3 +68,10 @@ HoldsRequests format sent file requests = HoldsText file (λ bytes. sent (file_r
 abbrev pub HoldsKeying : Result (List ℕ) Reason → (Result (List (List ℕ)) FileFault → Result (List Sent) FileFault) → File → List Request → Type 0
 HoldsKeying (Ok columns) sent file requests = HoldsRequests (keying columns) sent file requests
 HoldsKeying (Err why) sent file requests = ⊥
+
+-- the requests that an errand sends at a state: its own one, or those that its file holds; an errand that asks something sends none
+abbrev pub Sends : OfficeState → Errand → File → List Request → Type 0
+Sends s (errand.Send request) file requests = map sent_as requests ≡ sent_as request ∷ []
+Sends s (errand.ImportCandidates path id) file requests = HoldsRequests candidates (requests_for id.now) file requests
+Sends s (errand.ImportKeying keying) file requests = HoldsKeying (columns_told s keying.batch) (keyings_for keying) file requests
+Sends s other file requests = ⊥

@@ -1,14 +1,17 @@
 -- The orders of a script: the lines of its text, the words of a line, and the order that these are.
-use Rattle.std.specs.Prelude.{◌≡◌, ◌≢◌, ◌⊎◌, ◌==◌, ◌&&◌, ◌||◌, ◌++◌, ℕ, suc, Bool, true, false, List, [], ◌∷◌, Option, Some, None, Result, Ok, Err, codes, if◌then◌else◌, map, fold, string_bytes, IsOkAnd}
+use Rattle.std.specs.Prelude.{◌≡◌, ◌≢◌, ◌⊎◌, ◌==◌, ◌&&◌, ◌||◌, ◌++◌, ℕ, suc, Bool, true, false, List, [], ◌∷◌, Option, Some, None, Result, Ok, Err}
+use Rattle.std.specs.Prelude.{codes, if◌then◌else◌, map, fold, string_bytes, IsOkAnd}
 use Rattle.std.specs.List.{list_all, list_any}
 use Rattle.std.specs.Str.{is_utf8}
 use Rattle.clap.specs.Words.{Text, subcommand_of}
+use Rattle.desk.specs.Folders.{File, Folder, HoldsText, IsFileAt}
 use Rattle.desk.specs.Orders.{told}
 use Rattle.desk.specs.Words.{IsToldOf, bad_origin, meaning, office_words, status_of_kind, wrong_with}
 use Rattle.desk.specs.declared.orders.Errand.{Errand}
 use Rattle.desk.specs.declared.orders.Errand.TheVariants as errand
 use Rattle.desk.specs.declared.orders.Order.{Order}
 use Rattle.desk.specs.declared.orders.Order.TheVariants as order
+use Rattle.desk.specs.declared.orders.Job.{Job}
 use Rattle.desk.specs.declared.orders.Job.TheVariants as job
 use Rattle.desk.specs.declared.orders.Task.TheVariants as task
 use Rattle.desk.specs.declared.words.WordsFault.TheVariants as words_fault
@@ -126,14 +129,14 @@ script_lines text = map typed_line (numbered_from 1 (lines_of text))
 
 -- ---- the order of a line
 
--- an errand sends requests: no other stands in a script
+-- an errand sends requests; one that sends none stands in no script
 abbrev pub sends_requests : Errand → Bool
 sends_requests (errand.Send request) = true
 sends_requests (errand.ImportCandidates file id) = true
 sends_requests (errand.ImportKeying keying) = true
 sends_requests other = false
 
--- and so does an order
+-- an order stands in a script where its errand sends requests
 abbrev pub stands_in_script : Order → Bool
 stands_in_script (order.Perform (task.InOffice (job.Run errand))) = sends_requests errand
 stands_in_script other = false
@@ -154,9 +157,14 @@ abbrev pub AreTurns : List Typed → List Turn → Type 0
 AreTurns [] turns = turns ≡ []
 AreTurns (line ∷ lines) turns = (turn : Turn) × (others : List Turn) × (turns ≡ turn ∷ others) × IsTurn line turn × AreTurns lines others
 
+-- the turns of a job: an errand alone is one turn, of no line; the turns of a script are the errands that its lines mean
+abbrev pub HasTurns : Folder → Job → List Turn → Type 0
+HasTurns folder (job.Run errand) turns = turns ≡ record { line = None; errand = errand } ∷ []
+HasTurns folder (job.Replay path) turns = (file : File) × IsFileAt folder (Some path.now) file × HoldsText file (λ text. AreTurns (script_lines text) turns)
+
 -- ---- what is wrong with a line
 
--- in words
+-- what is wrong with a line, in words
 abbrev pub line_flaw_text : LineFlaw → Text
 line_flaw_text (flaw.NoWords garbled.Quote) = codes "error: a quote is not closed\n"
 line_flaw_text (flaw.NoWords garbled.NotUtf8) = codes "error: a word is not UTF-8\n"

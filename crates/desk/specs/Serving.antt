@@ -81,7 +81,8 @@ pub record ServesClient {R W S : Type 0} (given : Option (List ℕ)) (streams : 
 -- the last request is a clerk's keying, which these bytes ask; or there is none
 abbrev pub IsLastFor : Option (List ℕ) → Option (List ℕ) → List Request → Type 0
 IsLastFor given bytes last =
-    (last ≡ []) ⊎ ((clerk batch : ℕ) × (entry : KeyingEntry) × (request : Request) × IfSome bytes (λ xs. Asks given xs (keying clerk batch entry)) × IsHandedOn clerk batch entry request × (last ≡ request ∷ []))
+    (last ≡ [])
+    ⊎ ((clerk batch : ℕ) × (entry : KeyingEntry) × (request : Request) × IfSome bytes (λ xs. Asks given xs (keying clerk batch entry)) × IsHandedOn clerk batch entry request × (last ≡ request ∷ []))
 
 -- a client's connection ended so
 pub record EndsFor {R W : Type 0} (streams : Streams R W) (client : R × W) (IsEnd : Option (List ℕ) → Option (List ℕ) → Served → Type 0) : Type 0 where
@@ -117,8 +118,8 @@ pub record IsKeptOf {R W : Type 0} (given : Option (List ℕ)) (streams : Stream
 
 -- Clients came in, as many as were wanted, or none further came. Each was served by the office that those before him left, and this is kept
 -- of them.
-pub record ServesClients {R W S E I F : Type 0} (given : Option (List ℕ)) (next : I → Option (Result (R × W) E) → I → Type 0) (streams : Streams R W) (state_of : Held S → State) (from to : I) (wanted : ℕ)
-    (old new : OfficeValue S) (result : Result (Unit {0}) F) : Type 0 where
+pub record ServesClients {R W S E I F : Type 0} (given : Option (List ℕ)) (next : I → Option (Result (R × W) E) → I → Type 0) (streams : Streams R W)
+    (state_of : Held S → State) (from to : I) (wanted : ℕ) (old new : OfficeValue S) (result : Result (Unit {0}) F) : Type 0 where
   pub clients : List (R × W)
   pub admits : AdmitsAll next from to clients wanted result
   pub each : FoldsTo (ServesClient given streams state_of) old clients new

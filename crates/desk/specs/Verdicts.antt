@@ -1,13 +1,20 @@
--- What the word of a verdict says.
-use Rattle.std.specs.Prelude.{ℕ, nat_eq, drop, length, Option, Some, None, codes, if◌then◌else◌, option_map}
+-- What the word of a verdict says, and what a verdict is.
+use Rattle.std.specs.Prelude.{ℕ, nat_eq, drop, length, Option, Some, None, codes, if◌then◌else◌, option_map, string_bytes}
 use Rattle.std.specs.List.{starts_with}
 use Rattle.clap.specs.Words.{Text}
+use Rattle.register.specs.declared.verdicts.Verdict.{Verdict}
+use Rattle.register.specs.declared.verdicts.Verdict.TheVariants as verdict
 use Rattle.desk.specs.Numbers.{number_in}
 
 -- a verdict on a doubtful paper: it counts with these marks, or it is rejected for the reason of this code
 pub data Judgement : Type 0 where
   accepted : Text → Judgement
   rejected : ℕ → Judgement
+
+-- the verdict of a command
+abbrev pub judgement_given : Verdict → Judgement
+judgement_given (verdict.Accept marks) = accepted (string_bytes marks)
+judgement_given (verdict.Reject code) = rejected code
 
 -- what stands behind a front in a text, where the text begins with it
 abbrev pub behind : Text → Text → Option Text

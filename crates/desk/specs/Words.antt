@@ -14,8 +14,7 @@ use Rattle.desk.specs.declared.words.WordsFault.TheVariants as words_fault
 use Rattle.desk.specs.declared.table.Kind.{Kind}
 use Rattle.desk.specs.declared.table.Kind.TheVariants as kind
 use Rattle.desk.specs.Numbers.{number_in}
-use Rattle.desk.specs.Orders.{Meant, Of, OrderWords, ValueOf, WordEntry, no_origin, no_verdict, orders, send}
-use Rattle.desk.specs.Requests.{asked_by, by_office}
+use Rattle.desk.specs.Orders.{Meant, OfWords, OrderWords, WordValue, WordEntry, asked_by, by_office, no_origin, no_verdict, orders, send}
 use Rattle.desk.specs.Verdicts.{Judgement, judgement_in}
 use Rattle.register.specs.declared.command.Command.{Command}
 use Rattle.wire.specs.Origins.{origin_in}
@@ -114,7 +113,7 @@ served_to (Some None) means = no_origin
 served_to (Some (Some origin)) means = means (Some origin)
 
 -- what comes of the value that the matches give a word
-abbrev pub with_value : (k : Kind) → List Row → Text → (ValueOf k → Meant) → Meant
+abbrev pub with_value : (k : Kind) → List Row → Text → (WordValue k → Meant) → Meant
 with_value kind.Number rows name means = means (number_at name rows)
 with_value kind.NumberOrNone rows name means = means (number_found name rows)
 with_value kind.Port rows name means = means (number_at name rows)
@@ -125,7 +124,7 @@ with_value kind.Id rows name means = means (text_at name rows)
 with_value kind.Origin rows name means = served_to (origin_at name rows) means
 
 -- what comes of the values that the matches give some words
-abbrev pub with_values : List Row → (words : List WordEntry) → Of words Meant → Meant
+abbrev pub with_values : List Row → (words : List WordEntry) → OfWords words Meant → Meant
 with_values rows [] means = means
 with_values rows (w ∷ ws) means = with_value w.kind rows w.name (λ value. with_values rows ws (means value))
 
@@ -167,7 +166,8 @@ status_of_kind DisplayHelp = 0
 status_of_kind DisplayVersion = 0
 status_of_kind _ = 2
 
--- what is told of words, by what is wrong with them: a text with that status, and not an empty one; or, where nothing is, that a verdict says none, or an origin is none
+-- what is told of words, by what is wrong with them: a text that isn't empty, with the status of that; or, where nothing is wrong, that the word of a verdict
+-- says no verdict, or that the word of an origin is none; or want of memory
 abbrev pub IsToldOf : Kinds → WordsFault → Type 0
 IsToldOf kinds words_fault.Memory = ⊤
 IsToldOf kinds words_fault.Verdict = kinds ≡ []

@@ -73,8 +73,8 @@ fn copied<S: Alter, T: Alter>(
     }
 }
 
-/// Makes a copy of the office that an opened connection has, over another, to a database with nothing in it, tells how
-/// much the copy has, and gives the status, and what the other database holds. Neither connection is closed.
+/// Copies the office that an opened connection has into the database of another one, which has nothing in it. Tells how
+/// much the copy has, and gives the status and what the other database holds. Neither connection is closed.
 ///
 /// The copy is made whole in one transaction: after its reply it keeps the very state of the office, with every
 /// receipt, and whatever a stop leaves of it before is nothing or the whole of it. The office is only read,

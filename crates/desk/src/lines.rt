@@ -2,7 +2,8 @@
 
 ghost use Rattle.std.specs.Prelude.{◌≡◌, ◌⊎◌, ◌-◌, ◌^◌, ◌<◌, ◌++◌};
 ghost use Rattle.std.specs.List.{flat_map};
-ghost use Rattle.desk.specs.Pages.{IsErrorTold, IsPut, Shows, failed, failure_number, failure_of, failure_text, fronted, line_front, migrated_text, outputs_of, page_of, printed, refused, script_page, status_of_file, unread, words_page};
+ghost use Rattle.desk.specs.Pages.{IsErrorTold, IsPut, Shows, fronted, line_front, migrated_text, numbered_line, outputs_of, printed, status_of_file};
+ghost use Rattle.desk.specs.Pages.{failed, failure_number, failure_of, failure_text, page_of, refused, script_page, unread, words_page};
 
 use crate::scripts::ScriptFault;
 use crate::words::{BAD_ORIGIN, WordsFault};
@@ -125,20 +126,30 @@ fn tell_error<E: Sink>(line: Option<usize>, pieces: &[&str], status: u8, err: &m
     }
 }
 
+/// Tells a kind, a number and a text in a line on the error output, and gives the status: this one, or 3 where the
+/// error output fails.
+fn tell_numbered<E: Sink>(
+    line: Option<usize>,
+    kind: &str,
+    number: u32,
+    text: &str,
+    status: u8,
+    err: &mut E,
+) -> u8
+    requires { E.failed err.old < 2 ^ 64 - 1 }
+    ensures { IsErrorTold E.taken E.failed err.old err.new (line_front line ++ numbered_line kind.now number text.now) status result }
+{
+    let mut digits = Buffer::new();
+    let pieces = [kind, digits.format(number), ": ", text, "\n"];
+    tell_error(line, &pieces, status, err)
+}
+
 /// Tells a refusal, and gives the status: 1, or 3 where the error output fails.
 fn tell_refusal<E: Sink>(line: Option<usize>, refusal: &Refusal, err: &mut E) -> u8
     requires { E.failed err.old < 2 ^ 64 - 1 }
     ensures { IsErrorTold E.taken E.failed err.old err.new (line_front line ++ (refused refusal.now).err) 1 result }
 {
-    let mut number = Buffer::new();
-    let pieces = [
-        "refused ",
-        number.format(refusal.number()),
-        ": ",
-        refusal.text(),
-        "\n",
-    ];
-    tell_error(line, &pieces, 1, err)
+    tell_numbered(line, "refused ", refusal.number(), refusal.text(), 1, err)
 }
 
 /// The status of a file that isn't taken: 3 where its reading was stopped.
@@ -175,15 +186,7 @@ fn tell_failure_at<E: Sink>(line: Option<usize>, failure: Failure, err: &mut E) 
     requires { E.failed err.old < 2 ^ 64 - 1 }
     ensures { IsErrorTold E.taken E.failed err.old err.new (line_front line ++ (failed failure).err) 3 result }
 {
-    let mut number = Buffer::new();
-    let pieces = [
-        "fault ",
-        number.format(failure.number()),
-        ": ",
-        failure.text(),
-        "\n",
-    ];
-    tell_error(line, &pieces, 3, err)
+    tell_numbered(line, "fault ", failure.number(), failure.text(), 3, err)
 }
 
 /// Tells a failure on the error output, and gives its status, 3.

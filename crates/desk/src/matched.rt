@@ -1,19 +1,21 @@
-//! The order that matched words mean.
+//! The table of orders, and the order that matched words mean.
 //!
-//! An order that sends a command has its line in [`command_named`], any other in [`order_named`].
+//! One order more is an entry of [`ORDERS`], and an arm that makes of its words what it means: in [`command_named`] where
+//! it sends a command, and in [`order_named`] where it doesn't, which may want a variant of
+//! [`Errand`](crate::orders::Errand) too. A line of `orders` in specs/Orders.antt says what that is.
 #![tactic(auto, unfolding(crate::specs::Orders::orders))]
 
-ghost use Rattle.std.specs.Prelude.{◌≡◌, ◌⊎◌, false, Err, None, Some, codes, IfErr, IfOk, option_map, string_bytes};
+ghost use Rattle.std.specs.Prelude.{◌≡◌, ◌⊎◌, false, Err, None, Some, codes, map, IfErr, IfOk, option_map, string_bytes};
 ghost use Rattle.clap.specs.Words.{first_of, found_of, rows_of, subcommand_rows_of};
-ghost use Rattle.desk.specs.Orders.{ask, no_origin, no_verdict, print, told, told_errand};
+ghost use Rattle.desk.specs.Orders.{ask, no_origin, no_verdict, orders, print, told, told_errand, words_of};
 ghost use Rattle.wire.specs.Origins.{origin_text};
 ghost use Rattle.desk.specs.Words.{is_command_name, is_order_name, meaning, meaning_of, names_order, number_at, number_found, origin_at, sent, text_at};
 
 use crate::orders::{Errand, Job, KeyingFile, Order, Question, Task};
 use crate::requests::by_office;
 use crate::table::{
-    ACTOR, BATCH, CANDIDATE, CLERK, CONNECTIONS, FILE, FIRST_CLERK, ID, NAME, NEW, ORIGIN, PAPER,
-    PORT, ROUND, SCRIPT, SEATS, SECOND_CLERK, SIZE, STAGE, VERDICT, WARD, Word,
+    ACTOR, BATCH, CANDIDATE, CLERK, CONNECTIONS, Entry, FILE, FIRST_CLERK, Heading, ID, NAME, NEW,
+    ORIGIN, PAPER, PORT, ROUND, SCRIPT, SEATS, SECOND_CLERK, SIZE, STAGE, VERDICT, WARD, Word,
 };
 use crate::verdicts::verdict_in;
 use clap::ArgMatches;
@@ -23,6 +25,65 @@ use register::{
 };
 use std::alloc::{AllocError, Global};
 use wire::Origin;
+
+// ---- the table
+
+/// An order: where help shows it, its name, its words in their sequence, and its help.
+macro_rules! order {
+    ($heading:ident $name:literal [$($word:ident),*], $help:literal) => {
+        Entry {
+            name: $name,
+            words: &[$($word),*],
+            help: $help,
+            heading: Heading::$heading,
+        }
+    };
+}
+
+/// All orders, in the sequence of an election; then the one that brings an older office over, those for the office
+/// alone, and those for everyone.
+#[rattlefmt::skip]
+const ORDERS: [Entry; 30] = [
+    order!(Election "init" [], "Makes an office in DB, a new file or an empty one:\ncount-office town.db init"),
+    order!(Election "ward" [WARD, SEATS, NAME, ID], "Adds a ward, its nominations open:\ncount-office town.db ward 7 2 Harbour --id w1"),
+    order!(Election "candidate" [WARD, CANDIDATE, NAME, ID], "Adds a candidate to a ward:\ncount-office town.db candidate 7 1 Ann --id c1"),
+    order!(Election "import-candidates" [FILE, ID], "Adds the candidates of a file, the first under ID-1:\ncount-office town.db import-candidates names.csv --id c"),
+    order!(Election "withdraw" [WARD, CANDIDATE, ID], "Takes a candidate off a ward, while nominations are open:\ncount-office town.db withdraw 7 5 --id x1"),
+    order!(Election "close" [WARD, ID], "Closes the nominations of a ward:\ncount-office town.db close 7 --id n1"),
+    order!(Election "batch" [BATCH, WARD, SIZE, FIRST_CLERK, SECOND_CLERK, ID], "Gives out a batch of papers of a ward to two clerks, who key it:\ncount-office town.db batch 12 7 8 4 9 --id b1"),
+    order!(Election "import-keying" [CLERK, BATCH, ROUND, FILE, ID], "Keeps a clerk's keying of a batch, in a round, from a file:\ncount-office town.db import-keying 4 12 1 k4-12.csv --id k1"),
+    order!(Election "again" [BATCH, ID], "Opens the next round of a batch whose keyings differ:\ncount-office town.db again 13 --id r1"),
+    order!(Election "third" [BATCH, CLERK, ID], "Gives a batch whose keyings differ to a third clerk too:\ncount-office town.db third 13 5 --id t1"),
+    order!(Election "judge" [BATCH, PAPER, VERDICT, ID], "Keeps the verdict on a doubtful paper of a batch that is taken:\ncount-office town.db judge 12 6 accept:1,,, --id v1"),
+    order!(Election "seal" [WARD, ID], "Seals a ward whose papers are all agreed and judged:\ncount-office town.db seal 7 --id s1"),
+    order!(Election "advance" [WARD, ID], "Counts the one stage that is due in a sealed ward:\ncount-office town.db advance 7 --id a1"),
+    order!(Election "lot" [WARD, STAGE, CANDIDATE, ID], "Records the candidate whom the lot for a stage named:\ncount-office town.db lot 7 3 4 --id l1"),
+    order!(Election "declare" [WARD, ID], "Declares the result of a ward whose count is finished:\ncount-office town.db declare 7 --id d1"),
+    order!(Election "status" [WARD], "Tells how a ward stands, at any moment:\ncount-office town.db status 7"),
+    order!(Election "sheet" [WARD], "Prints the stage sheet of a sealed ward:\ncount-office town.db sheet 7"),
+    order!(Election "result" [WARD], "Prints the declaration of a declared ward:\ncount-office town.db result 7"),
+    order!(Election "serve" [PORT, CONNECTIONS, ORIGIN], "Answers clerks over HTTP on this machine, so many connections:\ncount-office town.db serve 8080 1000"),
+    order!(Election "migrate" [], "Brings an office of an earlier program over to this one:\ncount-office town.db migrate"),
+    order!(Office "wards" [], "Tells how each ward stands, and what is left to do:\ncount-office town.db wards"),
+    order!(Office "batches" [WARD], "Tells of each batch of a ward who has keyed it, and how it stands:\ncount-office town.db batches 7"),
+    order!(Office "doubtful" [WARD], "Tells the doubtful papers of a ward, each open or with its verdict:\ncount-office town.db doubtful 7"),
+    order!(Office "differences" [BATCH], "Tells on which papers a batch differs, which no clerk is to see:\ncount-office town.db differences 13"),
+    order!(Office "receipts" [ACTOR], "Tells what was kept, under which id, of an actor or of all:\ncount-office town.db receipts 0"),
+    order!(Office "replay" [SCRIPT], "Sends the orders of a text file, a line each, up to a refusal:\ncount-office town.db replay evening.txt"),
+    order!(Office "copy" [NEW], "Makes a copy of the office, in a file that isn't there yet:\ncount-office town.db copy evening.db"),
+    order!(Everyone "ballots" [WARD], "Prints the ballots of a sealed ward, in a form that counting programs read:\ncount-office town.db ballots 7"),
+    order!(Everyone "page" [WARD], "Prints the result of a sealed ward as a page for a browser, to print and sign:\ncount-office town.db page 7"),
+    order!(Everyone "table" [WARD], "Prints the stages of a sealed ward as a table for a spreadsheet:\ncount-office town.db table 7"),
+];
+
+/// The table of orders.
+pub(crate) fn entries() -> &'static [Entry]
+    ensures { map words_of result.now ≡ map (λ e. e.typed) orders }
+{
+    &ORDERS
+}
+
+// ---- what matched words mean
 
 /// Why matched words mean no order.
 #[derive(Clone, Copy)]

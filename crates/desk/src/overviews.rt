@@ -10,7 +10,8 @@ ghost use Rattle.store.specs.Overviews.{batch_view, clerk_view, differences_view
 ghost use Rattle.tables.specs.Reading.{OnlyReads};
 ghost use Rattle.office.specs.Answers.{WhenOpenAt};
 ghost use Rattle.desk.specs.Parts.{IsAskedOf};
-ghost use Rattle.desk.specs.Overviews.{batch_line, clerk_words, differences_line, doubtful_line, elected_words, keyed_word, open_words, receipt_line, seats_words, size_words, standing_word, twin_words, untaken_words, verdict_words, ward_line};
+ghost use Rattle.desk.specs.Overviews.{batch_line, differences_line, doubtful_line, receipt_line, ward_line};
+ghost use Rattle.desk.specs.Overviews.{clerk_words, elected_words, keyed_word, open_words, seats_words, size_words, standing_word, twin_words, untaken_words, verdict_words};
 ghost use Rattle.desk.specs.Pages.{failed, line, page_of, page_stopped, printed};
 
 use crate::lines::{Failure, Outcome};
@@ -118,24 +119,18 @@ fn elected_words(alloc: Global, seats: u32, elected: &Option<Columns>) -> Result
     format!(in alloc; ", elected {told}, {empty} seats empty")
 }
 
-#[tactic(auto, unfolding(crate::specs::Overviews::ward_line))]
-/// The line that tells how a ward stands, its name last.
-fn ward_line(alloc: Global, overview: &WardOverview) -> Result<String, AllocError>
-    ensures { IfOk result (λ text. string_bytes text ≡ ward_line (ward_view overview.now)) }
-{
-    let seats = seats_words(alloc, overview)?;
-    let untaken = untaken_words(alloc, overview)?;
-    let open = open_words(alloc, overview)?;
-    let elected = elected_words(alloc, overview.ward.seats, &overview.elected)?;
-    let name = overview.ward.name.as_str();
-    format!(in alloc; "{seats}, {untaken}, {open}{elected}: {name}")
-}
-
 impl Lined for WardOverview {
     ghost text = { λ o. ward_line (ward_view o) };
 
+    #[tactic(auto, unfolding(crate::specs::Overviews::ward_line))]
+    /// How the ward stands, its name last.
     fn line(&self, alloc: Global) -> Result<String, AllocError> {
-        ward_line(alloc, self)
+        let seats = seats_words(alloc, self)?;
+        let untaken = untaken_words(alloc, self)?;
+        let open = open_words(alloc, self)?;
+        let elected = elected_words(alloc, self.ward.seats, &self.elected)?;
+        let name = self.ward.name.as_str();
+        format!(in alloc; "{seats}, {untaken}, {open}{elected}: {name}")
     }
 }
 
@@ -201,23 +196,17 @@ fn twin_words(alloc: Global, twin: Option<u32>) -> Result<String, AllocError>
     }
 }
 
-#[tactic(auto, unfolding(crate::specs::Overviews::batch_line))]
-/// The line that tells how a batch stands.
-fn batch_line(alloc: Global, overview: &BatchOverview) -> Result<String, AllocError>
-    ensures { IfOk result (λ text. string_bytes text ≡ batch_line (batch_view overview.now)) }
-{
-    let size = size_words(alloc, overview)?;
-    let clerks = clerks_words(alloc, &overview.clerks)?;
-    let (standing, open) = (standing_word(overview.standing), overview.doubtful_open);
-    let twin = twin_words(alloc, overview.twin)?;
-    format!(in alloc; "{size}{clerks}, {standing}, {open} doubtful open{twin}")
-}
-
 impl Lined for BatchOverview {
     ghost text = { λ o. batch_line (batch_view o) };
 
+    #[tactic(auto, unfolding(crate::specs::Overviews::batch_line))]
+    /// How the batch stands.
     fn line(&self, alloc: Global) -> Result<String, AllocError> {
-        batch_line(alloc, self)
+        let size = size_words(alloc, self)?;
+        let clerks = clerks_words(alloc, &self.clerks)?;
+        let (standing, open) = (standing_word(self.standing), self.doubtful_open);
+        let twin = twin_words(alloc, self.twin)?;
+        format!(in alloc; "{size}{clerks}, {standing}, {open} doubtful open{twin}")
     }
 }
 
@@ -239,21 +228,15 @@ fn verdict_words(alloc: Global, verdict: &Option<JudgedPaper>) -> Result<String,
     format!(in alloc; "rejected {code}")
 }
 
-#[tactic(auto, unfolding(crate::specs::Overviews::doubtful_line))]
-/// The line that tells of a doubtful paper.
-fn doubtful_line(alloc: Global, doubtful: &DoubtfulPaper) -> Result<String, AllocError>
-    ensures { IfOk result (λ text. string_bytes text ≡ doubtful_line (doubtful_view doubtful.now)) }
-{
-    let (batch, paper) = (doubtful.batch, doubtful.paper);
-    let verdict = verdict_words(alloc, &doubtful.verdict)?;
-    format!(in alloc; "batch {batch} paper {paper} {verdict}")
-}
-
 impl Lined for DoubtfulPaper {
     ghost text = { λ d. doubtful_line (doubtful_view d) };
 
+    #[tactic(auto, unfolding(crate::specs::Overviews::doubtful_line))]
+    /// Which paper it is, and the verdict on it.
     fn line(&self, alloc: Global) -> Result<String, AllocError> {
-        doubtful_line(alloc, self)
+        let (batch, paper) = (self.batch, self.paper);
+        let verdict = verdict_words(alloc, &self.verdict)?;
+        format!(in alloc; "batch {batch} paper {paper} {verdict}")
     }
 }
 
@@ -269,21 +252,15 @@ fn differences_line(alloc: Global, found: &Differences) -> Result<String, AllocE
     format!(in alloc; "batch {batch} round {round} differs on papers {papers}")
 }
 
-#[tactic(auto, unfolding(crate::specs::Overviews::receipt_line))]
-/// The line that tells a receipt.
-fn receipt_line(alloc: Global, receipt: &Receipt) -> Result<String, AllocError>
-    ensures { IfOk result (λ text. string_bytes text ≡ receipt_line (receipt_entry receipt.now)) }
-{
-    let (actor, id) = (receipt.actor, receipt.id.as_str());
-    let (subject, reply) = (receipt.subject.as_str(), receipt.reply.as_str());
-    format!(in alloc; "actor {actor} id {id}, {subject}: {reply}")
-}
-
 impl Lined for Receipt {
     ghost text = { λ r. receipt_line (receipt_entry r) };
 
+    #[tactic(auto, unfolding(crate::specs::Overviews::receipt_line))]
+    /// Who sent the request, under which id, what it was about, and its reply.
     fn line(&self, alloc: Global) -> Result<String, AllocError> {
-        receipt_line(alloc, self)
+        let (actor, id) = (self.actor, self.id.as_str());
+        let (subject, reply) = (self.subject.as_str(), self.reply.as_str());
+        format!(in alloc; "actor {actor} id {id}, {subject}: {reply}")
     }
 }
 

@@ -2,7 +2,8 @@
 
 ghost use Rattle.std.specs.Prelude.{◌≡◌, map, IfOk, string_bytes};
 ghost use Rattle.keyfile.specs.Candidates.{candidate_entry};
-ghost use Rattle.desk.specs.Requests.{asked_by, by_office, id_at, keying_by, request_at, requests_from, sent_as};
+ghost use Rattle.desk.specs.Orders.{asked_by, by_office, sent_as};
+ghost use Rattle.desk.specs.Requests.{id_at, keying_by, request_at, requests_from};
 
 use crate::orders::KeyingFile;
 use keyfile::CandidateRow;

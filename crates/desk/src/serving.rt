@@ -110,10 +110,9 @@ where
 /// Serves so many clients of a listener, as `serve_all` does.
 ///
 /// `Ok` where as many as were wanted came in; where fewer did, `Output`. A client has 30 seconds for his request, and
-/// as long to take his answer; then he is let go, as one whose line broke. What a real socket gives and takes no clause
-/// can tell. Of an open office, whatever a stop leaves is the state
-/// after the accepted requests of a beginning of all that were ever sent, of which those here are clerks'
-/// keyings, at most one a client.
+/// as long to take his answer; then he is let go, as one whose line broke. No clause can tell what a real socket gives
+/// and takes. Of an open office, whatever a stop leaves is the state after the accepted requests of a beginning of all
+/// that were ever sent, of which those here are clerks' keyings, at most one a client.
 pub fn serve_on<'a, C: Clock, S: Alter>(
     alloc: Global,
     clock: &'a C,
@@ -124,7 +123,8 @@ pub fn serve_on<'a, C: Clock, S: Alter>(
 ) -> Result<(), Failure>
     ensures told { IfErr result (λ failure. failure ≡ Failure.Output) }
     ensures served { (from to : _) × ServesClients (given_by origin.entry) ⟦<Clients<'a, C> as Iterator>⟧.next_gives
-        (streams_of ⟦<Counted<Patient<'a, TcpStream, C>> as Source>⟧.held ⟦<Counted<Patient<'a, TcpStream, C>> as Source>⟧.failed ⟦<Counted<Patient<'a, TcpStream, C>> as Sink>⟧.taken ⟦<Counted<Patient<'a, TcpStream, C>> as Sink>⟧.failed)
+        (streams_of ⟦<Counted<Patient<'a, TcpStream, C>> as Source>⟧.held ⟦<Counted<Patient<'a, TcpStream, C>> as Source>⟧.failed
+        ⟦<Counted<Patient<'a, TcpStream, C>> as Sink>⟧.taken ⟦<Counted<Patient<'a, TcpStream, C>> as Sink>⟧.failed)
         (state S.Store) from to connections office.old office.new result }
     ensures closed { office.old.closed ≡ true → office.new ≡ office.old }
     ensures clean { HasCleanDisk (state S.Store office.new.held) → HasCleanDisk (state S.Store office.old.held) }

@@ -1,8 +1,7 @@
 //! The words of verdicts.
 
 ghost use Rattle.std.specs.Prelude.{◌≡◌, option_map, IfOk, Some};
-ghost use Rattle.desk.specs.Requests.{judgement_given};
-ghost use Rattle.desk.specs.Verdicts.{behind, judgement_in, rejection_in};
+ghost use Rattle.desk.specs.Verdicts.{behind, judgement_given, judgement_in, rejection_in};
 
 use register::Verdict;
 use std::alloc::{AllocError, Global};

@@ -1,17 +1,17 @@
 //! The words of the command line, read to one order.
 
 ghost use Rattle.std.specs.Prelude.{◌≡◌, ◌≢◌, ◌⊎◌, ◌∷◌, true, false, [], Some, map, string_bytes, IfOk, IfErr};
-ghost use Rattle.clap.specs.Words.{app_of, subcommand_of, takes, with_rule, with_subcommand};
+ghost use Rattle.clap.specs.Words.{app_of, rule_of, subcommand_of, takes, with_rule, with_subcommand};
 ghost use Rattle.clap.specs.declared.builder.command.Command.TheViews.{out-Command as fields_of};
 ghost use Rattle.desk.specs.Orders.{no_origin, no_verdict, told, words_of};
 ghost use Rattle.desk.specs.Versions.{version_text};
-ghost use Rattle.desk.specs.Words.{IsOwnText, IsToldOf, TellsOwnText, TellsRefusal, free_number_rule, id_rule, meaning, number_rule, office_words, option_rule, order_words, rule_of_kind, start_words, status_of_kind, text_rule, with_orders, wrong_with};
+ghost use Rattle.desk.specs.Words.{IsOwnText, IsToldOf, TellsOwnText, TellsRefusal, meaning, status_of_kind, wrong_with};
+ghost use Rattle.desk.specs.Words.{office_words, order_words, rule_of_kind, start_words, with_orders};
 
-use crate::matched::{NoOrder, order_in};
+use crate::matched::{NoOrder, entries, order_in};
 use crate::orders::Order;
-use crate::table::{Entry, Heading, Kind, MAX_CONNECTIONS, MAX_PORT, Word, entries};
+use crate::table::{Entry, Heading, Kind, MAX_CONNECTIONS, MAX_PORT, Word};
 use crate::version::{VERSION, version_text};
-use clap::builder::ValueParser;
 use clap::error::ErrorKind;
 use clap::{Arg, Command, Error, value_parser};
 use std::alloc::{AllocError, Global};
@@ -73,109 +73,35 @@ pub enum WordsFault {
     Words { text: String, status: u8 },
 }
 
-/// Adds a word that is a number, as a parser takes it.
-fn with_number<'a>(
-    alloc: Global,
-    command: Command<'a>,
-    name: &'a str,
-    help: &'a str,
-    parser: ValueParser<'a>,
-) -> Result<Command<'a>, AllocError>
-    ensures app { IfOk result (λ c. app_of c ≡ with_rule (app_of command.entry) (number_rule parser.entry name.entry.now)) }
-    ensures local { (fields_of command.entry).has_globals ≡ false → IfOk result (λ c. (fields_of c).has_globals ≡ false) }
+/// What `clap` is told of a word.
+fn arg_of<'a>(alloc: Global, word: Word) -> Arg<'a>
+    ensures rule { rule_of result ≡ rule_of_kind word.kind word.name.now }
+    ensures local { result.global ≡ false }
 {
-    let arg = Arg::new(alloc, name)
-        .help(help)
-        .value_parser(parser)
-        .required(true);
-    Ok(command.arg(arg)?)
+    let arg = Arg::new(alloc, word.name).help(word.help);
+    match word.kind {
+        Kind::Number => arg.value_parser(value_parser!(u32)).required(true),
+        Kind::NumberOrNone => arg.value_parser(value_parser!(u32)),
+        Kind::Port => {
+            let port = value_parser!(u32).range(1..=MAX_PORT);
+            arg.value_parser(port).required(true)
+        }
+        Kind::Connections => {
+            let connections = value_parser!(u32).range(1..=MAX_CONNECTIONS);
+            arg.value_parser(connections).required(true)
+        }
+        Kind::Text | Kind::Verdict => arg.required(true),
+        Kind::Id => arg.long(word.name).value_name("ID").required(true),
+        Kind::Origin => arg.long(word.name).value_name("ORIGIN"),
+    }
 }
 
-/// Adds a word that is a number, or may be left out.
-fn with_free_number<'a>(
-    alloc: Global,
-    command: Command<'a>,
-    name: &'a str,
-    help: &'a str,
-    parser: ValueParser<'a>,
-) -> Result<Command<'a>, AllocError>
-    ensures app { IfOk result (λ c. app_of c ≡ with_rule (app_of command.entry) (free_number_rule parser.entry name.entry.now)) }
-    ensures local { (fields_of command.entry).has_globals ≡ false → IfOk result (λ c. (fields_of c).has_globals ≡ false) }
-{
-    let arg = Arg::new(alloc, name).help(help).value_parser(parser);
-    Ok(command.arg(arg)?)
-}
-
-/// Adds a word that is any text.
-fn with_text<'a>(
-    alloc: Global,
-    command: Command<'a>,
-    name: &'a str,
-    help: &'a str,
-) -> Result<Command<'a>, AllocError>
-    ensures app { IfOk result (λ c. app_of c ≡ with_rule (app_of command.entry) (text_rule name.entry.now)) }
-    ensures local { (fields_of command.entry).has_globals ≡ false → IfOk result (λ c. (fields_of c).has_globals ≡ false) }
-{
-    let arg = Arg::new(alloc, name).help(help).required(true);
-    Ok(command.arg(arg)?)
-}
-
-/// Adds the id under which a request is sent.
-fn with_id<'a>(
-    alloc: Global,
-    command: Command<'a>,
-    name: &'a str,
-    help: &'a str,
-) -> Result<Command<'a>, AllocError>
-    ensures app { IfOk result (λ c. app_of c ≡ with_rule (app_of command.entry) (id_rule name.entry.now)) }
-    ensures local { (fields_of command.entry).has_globals ≡ false → IfOk result (λ c. (fields_of c).has_globals ≡ false) }
-{
-    let arg = Arg::new(alloc, name)
-        .long(name)
-        .value_name("ID")
-        .help(help)
-        .required(true);
-    Ok(command.arg(arg)?)
-}
-
-/// Adds an option with a value, which may be left out.
-fn with_option<'a>(
-    alloc: Global,
-    command: Command<'a>,
-    name: &'a str,
-    help: &'a str,
-) -> Result<Command<'a>, AllocError>
-    ensures app { IfOk result (λ c. app_of c ≡ with_rule (app_of command.entry) (option_rule name.entry.now)) }
-    ensures local { (fields_of command.entry).has_globals ≡ false → IfOk result (λ c. (fields_of c).has_globals ≡ false) }
-{
-    let arg = Arg::new(alloc, name)
-        .long(name)
-        .value_name("ORIGIN")
-        .help(help);
-    Ok(command.arg(arg)?)
-}
-
+/// Adds a word to those of a command.
 fn with_word<'a>(alloc: Global, command: Command<'a>, word: Word) -> Result<Command<'a>, AllocError>
     ensures app { IfOk result (λ c. app_of c ≡ with_rule (app_of command.entry) (rule_of_kind word.kind word.name.now)) }
     ensures local { (fields_of command.entry).has_globals ≡ false → IfOk result (λ c. (fields_of c).has_globals ≡ false) }
 {
-    match word.kind {
-        Kind::Number => with_number(alloc, command, word.name, word.help, value_parser!(u32)),
-        Kind::NumberOrNone => {
-            with_free_number(alloc, command, word.name, word.help, value_parser!(u32))
-        }
-        Kind::Port => {
-            let parser = value_parser!(u32).range(1..=MAX_PORT);
-            with_number(alloc, command, word.name, word.help, parser)
-        }
-        Kind::Connections => {
-            let parser = value_parser!(u32).range(1..=MAX_CONNECTIONS);
-            with_number(alloc, command, word.name, word.help, parser)
-        }
-        Kind::Text | Kind::Verdict => with_text(alloc, command, word.name, word.help),
-        Kind::Id => with_id(alloc, command, word.name, word.help),
-        Kind::Origin => with_option(alloc, command, word.name, word.help),
-    }
+    command.arg(arg_of(alloc, word))
 }
 
 /// The command that reads the words of one order.
@@ -248,7 +174,7 @@ fn office_command<'a>(alloc: Global) -> Result<Command<'a>, AllocError>
     with_orders(alloc, named(start_command(alloc))?, entries())
 }
 
-/// The status that words end with which ask for help or the version, or are not understood.
+/// The status that the program ends with where words ask for help or the version, or are not understood.
 fn status_of(kind: ErrorKind) -> u8
     ensures { result ≡ status_of_kind kind }
 {
@@ -318,10 +244,10 @@ fn denied(alloc: Global, kind: ErrorKind, error: &Error) -> WordsFault
 /// Reads the words, of which the first is DB, to one order.
 ///
 /// The order and its values are those that `clap` matches in the words, read by the table of orders.
-/// Words that `clap` takes are refused for want of memory, for a verdict whose word says none, and for an origin whose
-/// word is none, alone.
-/// Words that it doesn't take are no order: they are told, in a text that isn't empty, with status 0 where what
-/// is wrong with them first is that they ask for help or the version, and else with 2, or want of memory is told.
+/// Words that `clap` takes are refused for want of memory, where the word of a verdict says none, and where the word of
+/// an origin is none, and for nothing else.
+/// Words that it doesn't take are no order. A text that isn't empty is told of them, with status 0 where what is first
+/// wrong with them is that they ask for help or the version, and else with 2; or want of memory is told.
 pub fn order<'a>(alloc: Global, words: &'a [&'a str]) -> Result<Order<'a>, WordsFault>
     ensures accepts { IfOk result (λ _. wrong_with (map (λ s. s.now) words.entry.now) ≡ []) }
     ensures denies { IfErr result (IsToldOf (wrong_with (map (λ s. s.now) words.entry.now))) }

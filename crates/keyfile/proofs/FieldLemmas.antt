@@ -1,35 +1,14 @@
--- The texts and the numbers in fields.
-use Rattle.std.proofs.Common.{◌≡◌, ◌∙◌, ◌<◌, ◌≤◌, ◌+◌, ◌∷◌, ◌++◌, ◌&&◌, ℕ, Bool, true, false, List, [], length, get_or, map, take, Option, Some, None, Result, refl, sym, ap, arith, Bor}
-use Rattle.std.specs.Prelude.{option_map, unwrap_or, slice_get, IsUtf8}
-use Rattle.std.specs.Char.{is_ascii_digit}
+-- The texts in fields.
+use Rattle.std.proofs.Common.{◌≡◌, ◌∙◌, ◌<◌, ◌+◌, ◌∷◌, ◌++◌, ℕ, Bool, true, false, List, [], length, get_or, map, take, Option, Some, None, refl, sym, ap, Bor}
+use Rattle.std.specs.Prelude.{option_map, unwrap_or, IsUtf8}
 use Rattle.std.specs.List.{list_all}
-use Rattle.std.specs.Result.{result_ok}
-use Rattle.std.specs.Str.{all_ascii_digits, is_utf8}
-use Rattle.std.specs.Str.Parse.{ParsesUnsigned}
-use Rattle.std.proofs.lemmas.Bool.{ne_eqb, le-leb}
+use Rattle.std.specs.Str.{is_utf8}
 use Rattle.std.proofs.lemmas.List.{map-append, take_more}
 use Rattle.std.proofs.lemmas.List.Folds.{list_all_at, list_all_more}
 use Rattle.std.proofs.lemmas.Str.{IsUtf8-from_is_utf8, is_utf8-from_IsUtf8}
-use Rattle.std.proofs.lemmas.Str.Parse.{digits_value_short, numerals_by_value, parse_gives, tells_all_ascii_digits}
 use Rattle.csv.specs.Records.{field_at}
 use Rattle.csv.proofs.RecordFacts.{field-get, field-there}
-use Rattle.keyfile.specs.Numbers.{number_in}
 use Rattle.keyfile.specs.Records.{Record}
-
-all_digits : (ds : List ℕ) → list_all is_ascii_digit ds ≡ all_ascii_digits ds
-all_digits [] = refl
-all_digits (d ∷ ds) = ap (λ b. is_ascii_digit d && b) (all_digits ds)
-
--- up to five digits are read as the number that they write
-pub number_read : {E : Type 0} (text : List ℕ) (r : Result ℕ E) → (unwrap_or (slice_get text 0) 48 ≡ 48 → ⊥) → length text ≤ 5 → list_all is_ascii_digit text ≡ true
-    → ParsesUnsigned 32 10 text r → result_ok r ≡ number_in text
-number_read [] r first few digits parses = absurd (first refl)
-number_read (b ∷ bs) r first few digits parses =
-    let own = numerals_by_value (λ ds. all_ascii_digits ds ≡ true) tells_all_ascii_digits in
-    let all : all_ascii_digits (b ∷ bs) ≡ true = sym (all_digits (b ∷ bs)) ∙ digits in
-    let short = digits_value_short own (b ∷ bs) 5 all few in
-    let is = parse_gives own 32 (b ∷ bs) r parses all (omega arith) (omega (arith, short)) in
-    rw (is, ne_eqb b 48 first, le-leb (length (b ∷ bs)) 5 few, digits) refl
 
 -- the field of a place that there is
 pub field_got : (fields : Record) (i : ℕ) (found : Option (Bor (List ℕ))) (other field : Bor (List ℕ)) → option_map (λ s. s.now) found ≡ field_at fields i → i < length fields

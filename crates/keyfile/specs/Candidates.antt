@@ -1,7 +1,7 @@
 -- The file of candidates.
 use Rattle.std.specs.Prelude.{ℕ, Bool, false, ◌&&◌, List, [], ◌∷◌, Option, Some, None, Result, Ok, Err, codes, bytes_eq, string_bytes}
 use Rattle.keyfile.specs.Records.{Record}
-use Rattle.keyfile.specs.Numbers.{number_in}
+use Rattle.paper.specs.Digits.{plain_number_in}
 use Rattle.keyfile.specs.Files.{Format}
 use Rattle.keyfile.specs.declared.candidates.CandidateRow.{CandidateRow}
 use Rattle.keyfile.specs.declared.candidates.TheConstants.{MOST_CANDIDATE_ROWS}
@@ -29,7 +29,7 @@ numbered None candidate name = Err Number
 
 -- a record is a candidate where ward and candidate are numbers
 abbrev pub candidate_in : Record → Result CandidateEntry Flaw
-candidate_in (ward ∷ candidate ∷ name ∷ []) = numbered (number_in ward) (number_in candidate) name
+candidate_in (ward ∷ candidate ∷ name ∷ []) = numbered (plain_number_in ward) (plain_number_in candidate) name
 candidate_in other = Err RecordLength
 
 -- the file of candidates: 30 of each of 99 wards at most

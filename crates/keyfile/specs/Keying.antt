@@ -4,7 +4,7 @@ use Rattle.std.specs.List.{list_all, list_any, join_with_byte}
 use Rattle.paper.specs.MarksText.{beside, marks_in, reading}
 use Rattle.paper.specs.declared.marked.Keyed.TheVariants.{Doubtful}
 use Rattle.keyfile.specs.Records.{Record}
-use Rattle.keyfile.specs.Numbers.{number_in}
+use Rattle.paper.specs.Digits.{plain_number_in}
 use Rattle.keyfile.specs.Files.{Format}
 use Rattle.keyfile.specs.declared.fault.Flaw.{Flaw}
 use Rattle.keyfile.specs.declared.keying.TheConstants.{MOST_PAPERS}
@@ -18,7 +18,7 @@ is_told None k = false
 -- fields that write some numbers, one each
 abbrev pub are_columns : Record → List ℕ → Bool
 are_columns [] [] = true
-are_columns (field ∷ fields) (column ∷ columns) = is_told (number_in field) column && are_columns fields columns
+are_columns (field ∷ fields) (column ∷ columns) = is_told (plain_number_in field) column && are_columns fields columns
 are_columns fields columns = false
 
 -- `paper` and the columns in ascending order
@@ -56,7 +56,7 @@ of_number k (Some told) marks =
 -- a record is the paper of its own number
 abbrev pub paper_in : ℕ → Record → Result (List ℕ) Flaw
 paper_in k [] = Err RecordLength
-paper_in k (paper ∷ marks) = of_number k (number_in paper) marks
+paper_in k (paper ∷ marks) = of_number k (plain_number_in paper) marks
 
 -- the file of a keying of papers with some columns: the papers of one batch at most
 abbrev pub keying : List ℕ → Format (List ℕ)

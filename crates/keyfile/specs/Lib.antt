@@ -1,7 +1,6 @@
 -- What import files hold, and how they are read.
 pub mod Faults
 pub mod Records
-pub mod Numbers
 pub mod Files
 pub mod Candidates
 pub mod Keying

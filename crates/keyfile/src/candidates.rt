@@ -3,13 +3,13 @@
 ghost use Rattle.std.specs.Prelude.{◌≡◌, ◌⊎◌, map, IfOk, IfErr, Ok, Err};
 ghost use Rattle.keyfile.specs.Candidates.{CandidateEntry, candidate_entry, candidates, numbered};
 ghost use Rattle.keyfile.specs.Files.{IsFaultOf, file_rows};
-ghost use Rattle.keyfile.specs.Numbers.{number_in};
+ghost use Rattle.paper.specs.Digits.{plain_number_in};
 ghost use Rattle.keyfile.specs.Reading.{Known};
 ghost use Rattle.keyfile.specs.Records.{file_records};
 
 use crate::fault::{FileFault, Flaw};
-use crate::fields::number_in;
 use crate::format::{FileFormat, read_file};
+use paper::plain_number_in;
 use std::alloc::Global;
 use std::io::Read;
 
@@ -34,14 +34,14 @@ pub fn read_candidates<R: Read + Drop>(alloc: Global, r: R) -> Result<Vec<Candid
     ensures rows { Known (R.remaining r) (λ bytes. IfOk result (λ rows. file_rows candidates (file_records bytes) ≡ Ok (map candidate_entry rows.items))) }
     ensures fault { Known (R.remaining r) (λ bytes. IfErr result (IsFaultOf candidates (file_records bytes))) }
 {
-    read_file(alloc, r, &CandidateFile)
+    read_file(alloc, r, &CandidateFormat)
 }
 
 /// The format of the file of candidates.
 #[derive(Drop)]
-struct CandidateFile;
+struct CandidateFormat;
 
-impl FileFormat for CandidateFile {
+impl FileFormat for CandidateFormat {
     type Row = CandidateRow;
 
     ghost Entry = { CandidateEntry };
@@ -78,10 +78,10 @@ fn candidate_row(
     candidate: &str,
     name: &str,
 ) -> Result<CandidateRow, Flaw>
-    ensures ok { IfOk result (λ row. numbered (number_in ward.now) (number_in candidate.now) name.now ≡ Ok (candidate_entry row)) }
-    ensures err { IfErr result (λ flaw. (flaw ≡ Flaw.Memory) ⊎ (numbered (number_in ward.now) (number_in candidate.now) name.now ≡ Err flaw)) }
+    ensures ok { IfOk result (λ row. numbered (plain_number_in ward.now) (plain_number_in candidate.now) name.now ≡ Ok (candidate_entry row)) }
+    ensures err { IfErr result (λ flaw. (flaw ≡ Flaw.Memory) ⊎ (numbered (plain_number_in ward.now) (plain_number_in candidate.now) name.now ≡ Err flaw)) }
 {
-    let (Some(ward), Some(candidate)) = (number_in(ward), number_in(candidate)) else {
+    let (Some(ward), Some(candidate)) = (plain_number_in(ward), plain_number_in(candidate)) else {
         return Err(Flaw::Number);
     };
     let name = String::from_str(alloc, name)?;

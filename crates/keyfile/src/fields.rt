@@ -2,18 +2,13 @@
 
 ghost use Rattle.std.specs.Prelude.{◌≡◌, ◌≤◌, ◌⊎◌, true, false, length, map, take, IfOk, IfErr};
 ghost use Rattle.std.specs.List.{list_all};
-ghost use Rattle.std.specs.Char.{is_ascii_digit};
 ghost use Rattle.std.specs.Str.{is_utf8};
 ghost use Rattle.csv.specs.Records.{fields_of};
-ghost use Rattle.keyfile.specs.Numbers.{number_in};
 
 use crate::fault::Flaw;
 use csv::ByteRecord;
 use std::alloc::Global;
 use std::str;
-
-/// The most digits of a number.
-const MOST_DIGITS: usize = 5;
 
 /// The fields of a record as texts. `NotUtf8` is told where one of them isn't, `Memory` where it is
 /// wanting.
@@ -33,23 +28,4 @@ pub(crate) fn texts(alloc: Global, raw: &ByteRecord) -> Result<Vec<&str>, Flaw>
         }
     }
     Ok(texts)
-}
-
-/// The number that a text writes in 1 to 5 digits, the first not 0.
-pub(crate) fn number_in(text: &str) -> Option<u32>
-    ensures { result ≡ number_in text.now }
-{
-    let digits = text.as_bytes();
-    let first = digits.first().copied().unwrap_or(b'0');
-    if first == b'0' || digits.len() > MOST_DIGITS || !all_digits(digits) {
-        return None;
-    }
-    text.parse().ok()
-}
-
-/// Whether bytes are digits alone.
-fn all_digits(digits: &[u8]) -> bool
-    ensures { result ≡ list_all is_ascii_digit digits.now }
-{
-    digits.iter().all(|b| b.is_ascii_digit())
 }

@@ -4,14 +4,13 @@ ghost use Rattle.std.specs.Prelude.{◌≡◌, ◌++◌, ◌==◌, List, ℕ, le
 ghost use Rattle.std.specs.List.{join_with_byte, list_all, list_any};
 ghost use Rattle.keyfile.specs.Files.{IsFaultOf, file_rows};
 ghost use Rattle.keyfile.specs.Keying.{AreReadAsKeyed, are_columns, breaks_marks, field_text, is_doubtful, keying, marks_text, of_number};
-ghost use Rattle.keyfile.specs.Numbers.{number_in};
+ghost use Rattle.paper.specs.Digits.{plain_number_in};
 ghost use Rattle.keyfile.specs.Reading.{Known};
 ghost use Rattle.keyfile.specs.Records.{file_records};
 
 use crate::fault::{FileFault, Flaw};
-use crate::fields::number_in;
 use crate::format::{FileFormat, read_file};
-use paper::Columns;
+use paper::{Columns, plain_number_in};
 use std::alloc::{AllocError, Global};
 use std::io::Read;
 
@@ -35,16 +34,16 @@ pub fn read_keying<R: Read + Drop>(
     // a marks text says what the fields say
     ensures spelled { AreReadAsKeyed columns }
 {
-    read_file(alloc, r, &KeyingFile { columns })
+    read_file(alloc, r, &KeyingFormat { columns })
 }
 
 /// The format of the file of a keying.
 #[derive(Drop)]
-struct KeyingFile {
+struct KeyingFormat {
     columns: Columns,
 }
 
-impl FileFormat for KeyingFile {
+impl FileFormat for KeyingFormat {
     type Row = String;
 
     ghost Entry = { List ℕ };
@@ -86,7 +85,7 @@ fn are_columns(texts: &[&str], columns: &[u8]) -> bool
         let [text, others @ ..] = rest else {
             return false;
         };
-        if number_in(text) != Some(u32::from(*column)) {
+        if plain_number_in(text) != Some(u32::from(*column)) {
             return false;
         }
         rest = others;
@@ -97,10 +96,10 @@ fn are_columns(texts: &[&str], columns: &[u8]) -> bool
 /// Makes sure that a paper's number is the record's and that its mark fields can be joined.
 #[tactic(auto, using(crate::proofs::MapLemmas::list_any_map))]
 fn check_paper(number: u32, paper: &str, marks: &[&str]) -> Result<(), Flaw>
-    ensures ok { OnOk result (of_number number (number_in paper.now) (map (λ t. t.now) marks.now) ≡ Ok (marks_text (map (λ t. t.now) marks.now))) }
-    ensures err { IfErr result (λ flaw. of_number number (number_in paper.now) (map (λ t. t.now) marks.now) ≡ Err flaw) }
+    ensures ok { OnOk result (of_number number (plain_number_in paper.now) (map (λ t. t.now) marks.now) ≡ Ok (marks_text (map (λ t. t.now) marks.now))) }
+    ensures err { IfErr result (λ flaw. of_number number (plain_number_in paper.now) (map (λ t. t.now) marks.now) ≡ Err flaw) }
 {
-    match number_in(paper) {
+    match plain_number_in(paper) {
         None => Err(Flaw::Number),
         Some(told) if told != number => Err(Flaw::PaperOrder),
         Some(_) if any_breaks(marks) => Err(Flaw::Marks),

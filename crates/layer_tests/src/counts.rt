@@ -9,8 +9,8 @@ ghost use Rattle.count.specs.Bundles.{papers_of};
 ghost use Rattle.count.specs.Law.Contest.{IsContest, contest_for};
 
 use count::{
-    Action, AdvanceError, BundleBook, Bundles, CountBook, CountEnd, Due, Kind, ParcelBook, Stage,
-    count_to, due_by, dues_to, is_bundled_contest, is_contest, run_count,
+    Action, AdvanceError, BundleBook, Bundles, CountBook, CountEnd, Due, ParcelBook, Stage,
+    TiedFor, count_to, due_by, dues_to, is_bundled_contest, is_contest, run_count,
 };
 use paper::{Columns, Prefs};
 use std::alloc::{AllocError, Global};
@@ -96,7 +96,7 @@ fn tied_papers(alloc: Global) -> Result<Vec<Prefs>, Fail> {
 fn tied_lot() -> Due {
     Due::Lot {
         stage: 2,
-        kind: Kind::Exclusion,
+        kind: TiedFor::Exclusion,
         among: Columns::empty().with(2).with(3),
     }
 }

@@ -1,8 +1,8 @@
 //! Marks as they are read, and papers as they are judged.
 
 use paper::{
-    Columns, Keyed, MarkFault, Marked, Marks, Prefs, Standing, Status, available_from, judge,
-    next_available,
+    CandidateStatus, Columns, Keyed, MarkFault, Marked, Marks, Prefs, Standing, available_from,
+    judge, next_available,
 };
 use std::process::Abort;
 use std::test::Fail;
@@ -92,12 +92,12 @@ fn standing() -> Standing {
 const NEXT: [(usize, u8); 5] = [(0, 4), (2, 4), (3, 2), (5, 0), (9, 0)];
 
 /// How some candidates stand.
-const STANDING: [(u8, Status); 5] = [
-    (1, Status::Elected),
-    (2, Status::Continuing),
-    (3, Status::Excluded),
-    (5, Status::Absent),
-    (200, Status::Absent),
+const STANDING: [(u8, CandidateStatus); 5] = [
+    (1, CandidateStatus::Elected),
+    (2, CandidateStatus::Continuing),
+    (3, CandidateStatus::Excluded),
+    (5, CandidateStatus::Absent),
+    (200, CandidateStatus::Absent),
 ];
 
 #[test]
@@ -113,7 +113,7 @@ fn next_available_preferences(rt: HostRuntime) {
         assert!(&rt; standing.status(c) == status, "at {c}");
         assert_eq!(&rt;
             standing.continues(c),
-            status == Status::Continuing,
+            status == CandidateStatus::Continuing,
             "at {c}"
         );
     }

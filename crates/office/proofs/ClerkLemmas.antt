@@ -32,7 +32,8 @@ told_seen s actor id command clerk =
     told_alike s (seen_by actor s) (ruling_at s actor id command) ∙ ap (λ (r : Ruling). told_of (outcome_at (seen_by actor s) r)) (sym (ruling_on_seen s actor id command clerk))
 
 -- whatever a stop leaves of a clerk's request, another clerk sees what he saw
-pub leaves_unseen : (s : OfficeState) (actor : ℕ) (id : List ℕ) (command : Command) (other : ℕ) → is_office actor ≡ false → (actor == other) ≡ false → (r : Result Answer Fault) (closed : Bool) (st : State)
+pub leaves_unseen : (s : OfficeState) (actor : ℕ) (id : List ℕ) (command : Command) (other : ℕ) → is_office actor ≡ false → (actor == other) ≡ false
+    → (r : Result Answer Fault) (closed : Bool) (st : State)
     → Handled s (step s actor id command) r closed st → LeavesState st (λ x. seen_by other x ≡ seen_by other s)
 leaves_unseen s actor id command other clerk apart (Ok answer) closed st handled = λ trees may.
     let it = handled.1.at.leaves trees may in

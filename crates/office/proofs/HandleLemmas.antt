@@ -31,14 +31,17 @@ handled_err s o x f closed st same is_closed cause inside leaves = inr (record {
 })
 
 -- what was accepted is kept at the state that it led to
-kept_there : (s : OfficeState) (actor : ℕ) (id : List ℕ) (command : Command) (o : Outcome) → is_accepted o ≡ true → IsKeptAgain actor id command o → step (state_after s o) actor id command ≡ kept (reply_of o)
+kept_there : (s : OfficeState) (actor : ℕ) (id : List ℕ) (command : Command) (o : Outcome) → is_accepted o ≡ true → IsKeptAgain actor id command o
+    → step (state_after s o) actor id command ≡ kept (reply_of o)
 kept_there s actor id command (accepted next reply) h again = again []
 kept_there s actor id command (kept reply) h again = absurd (true≢false (sym h))
 kept_there s actor id command (refused why) h again = absurd (true≢false (sym h))
 
 -- so the answer at that state tells the reply again, and the state stays
-pub handled_again : (s : OfficeState) (actor : ℕ) (id : List ℕ) (command : Command) (o : Outcome) → step s actor id command ≡ o → is_accepted o ≡ true → (r : Result Answer Fault) (closed : Bool) (st : State)
-    → OnOk r ((x : OfficeState) → IsKeptAgain actor id command (step x actor id command)) → Handled (state_after s o) (step (state_after s o) actor id command) r closed st → HandledAgain s o r closed st
+pub handled_again : (s : OfficeState) (actor : ℕ) (id : List ℕ) (command : Command) (o : Outcome) → step s actor id command ≡ o → is_accepted o ≡ true
+    → (r : Result Answer Fault) (closed : Bool) (st : State)
+    → OnOk r ((x : OfficeState) → IsKeptAgain actor id command (step x actor id command)) → Handled (state_after s o) (step (state_after s o) actor id command) r closed st
+    → HandledAgain s o r closed st
 handled_again s actor id command o is accepted_o (Ok answer) closed st again handled =
     let kept_o = kept_there s actor id command o accepted_o (subst (IsKeptAgain actor id command) is (again s)) in
     let there = subst (λ (x : Outcome). (told answer ≡ told_of x) × IsOpenAt (state_after (state_after s o) x) closed st) kept_o handled in

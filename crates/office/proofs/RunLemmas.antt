@@ -26,7 +26,8 @@ answers_more s rs i d given a within so_far last =
     ∙ sym (ap (map told_of) (ap (outcomes s) (take_more rs i d within) ∙ outcomes_push s (take i rs) (get_or rs i d)))
 
 -- the state after some requests is that after the accepted ones of the whole list so far
-pub beginning : (earlier rs : List Request) (answered count : ℕ) → answered ≤ count → count ≤ answered + 1 → count ≤ length rs → (s : OfficeState) → s ≡ after (after empty_office earlier) (take count rs) → IsAfterBeginning earlier rs answered s
+pub beginning : (earlier rs : List Request) (answered count : ℕ) → answered ≤ count → count ≤ answered + 1 → count ≤ length rs → (s : OfficeState)
+    → s ≡ after (after empty_office earlier) (take count rs) → IsAfterBeginning earlier rs answered s
 beginning earlier rs answered count low high within s is = record {
   count = count;
   all_answered = low;

@@ -20,7 +20,8 @@ use Rattle.office.specs.Sheets.{candidate_shown, poll_shown, shown_with, is_numb
 
 -- ---- what can be printed
 
-numbers_of_lines : (lines : List (ℕ × String Global)) → map (λ (line : ℕ × List ℕ). line.0) (map (λ (line : ℕ × String Global). (line.0, string_bytes line.1)) lines) ≡ map (λ (line : ℕ × String Global). line.0) lines
+numbers_of_lines : (lines : List (ℕ × String Global))
+    → map (λ (line : ℕ × List ℕ). line.0) (map (λ (line : ℕ × String Global). (line.0, string_bytes line.1)) lines) ≡ map (λ (line : ℕ × String Global). line.0) lines
 numbers_of_lines [] = refl
 numbers_of_lines (line ∷ lines) = ap (λ (ns : List ℕ). line.0 ∷ ns) (numbers_of_lines lines)
 
@@ -63,7 +64,8 @@ ward_number_few s w wards there =
     leb-true w.number 99 (and_parts (nat_le 1 w.number) (nat_le w.number 99) parts.0).1
 
 -- the election of each ward of a state is textual, by the columns of its candidates
-pub state_is_textual : (s : OfficeState) (w : WardEntry) → IsState s → columns_of (candidates_of s w.number) ≡ map (λ c. c.number) (candidates_of s w.number) → ward_at s w.number ≡ Some w → IsTextual (election_of s w)
+pub state_is_textual : (s : OfficeState) (w : WardEntry) → IsState s → columns_of (candidates_of s w.number) ≡ map (λ c. c.number) (candidates_of s w.number) → ward_at s w.number ≡ Some w
+    → IsTextual (election_of s w)
 state_is_textual s w is columns there =
     let wards = and_parts _ _ is.in_range in
     let candidates = and_parts _ _ wards.1 in

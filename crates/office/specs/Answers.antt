@@ -36,9 +36,13 @@ reply_of (accepted next reply) = reply
 reply_of (kept reply) = reply
 reply_of (refused why) = []
 
--- Of an office that was open at the state s, over a clean disk: this. The disk is judged as the call ends.
+-- What is promised of an office that was open at a state, over a clean disk. The disk is judged as the call ends.
 abbrev pub WhenOpenAt : {S : Type 0} → (Held S → State) → OfficeValue S → OfficeValue S → (OfficeState → Type 0) → Type 0
 WhenOpenAt state_of old new P = HasCleanDisk (state_of new.held) → old.closed ≡ false → (s : OfficeState) → IsAt s (state_of old.held) → P s
+
+-- memory was wanting, or the store failed
+abbrev pub IsMemoryOrStore : Fault → Type 0
+IsMemoryOrStore f = (f ≡ Memory) ⊎ (f ≡ Store)
 
 -- an open office that keeps this state
 pub record IsOpenAt (s : OfficeState) (closed : Bool) (st : State) : Type 0 where
@@ -49,7 +53,7 @@ pub record IsOpenAt (s : OfficeState) (closed : Bool) (st : State) : Type 0 wher
 -- the transaction of an accepted request.
 pub record IsClosedIn (s : OfficeState) (outcome : Outcome) (f : Fault) (closed : Bool) (st : State) : Type 0 where
   pub is_closed : closed ≡ true
-  pub fault : (f ≡ Memory) ⊎ (f ≡ Store)
+  pub fault : IsMemoryOrStore f
   pub inside : f ≡ Memory → is_accepted outcome ≡ true
   pub leaves : LeavesState st (λ x. (x ≡ s) ⊎ (x ≡ state_after s outcome))
 

@@ -1,5 +1,6 @@
 -- What is told of a state, and what a read leaves.
 use Rattle.std.specs.Prelude.{◌≡◌, ◌⊎◌, ⊤, ℕ, Bool, true, if◌then◌else◌, List, Option, Some, None, Result, Ok, Err}
+use Rattle.sqlite.specs.Held.{Held}
 use Rattle.sqlite.specs.State.{State}
 use Rattle.register.specs.declared.refusal.Reason.{Reason}
 use Rattle.register.specs.declared.refusal.Reason.TheVariants.{NumberOutOfRange, NoSuchWard, NoSuchBatch}
@@ -12,7 +13,8 @@ use Rattle.tables.specs.Reading.{FailsBy}
 use Rattle.store.specs.Offices.{LeavesState}
 use Rattle.office.specs.declared.answers.Stop.{Stop}
 use Rattle.office.specs.declared.answers.Stop.TheVariants.{Refused, Fault as Failed}
-use Rattle.office.specs.Answers.{IsOpenAt, IsKeptOpen}
+use Rattle.office.specs.Answers.{IsOpenAt, IsKeptOpen, WhenOpenAt}
+use Rattle.office.specs.Values.{OfficeValue}
 
 -- what was found, or the reason why there is nothing
 abbrev pub found_or : {X : Type 0} → Reason → Option X → Result X Reason
@@ -43,6 +45,10 @@ abbrev pub Read : {X Y : Type 0} → (Y → X) → OfficeState → Result X Reas
 Read view s told (Ok y) closed st = (told ≡ Ok (view y)) × IsOpenAt s closed st
 Read view s told (Err (Refused why)) closed st = (told ≡ Err why) × IsOpenAt s closed st
 Read view s told (Err (Failed f)) closed st = IsKeptOpen s f closed st ⊎ IsClosedReading s f closed st
+
+-- what a read promises of an office that was open at a state
+abbrev pub ReadWhenOpen : {S X Y : Type 0} → (Held S → State) → OfficeValue S → OfficeValue S → (Y → X) → (OfficeState → Result X Reason) → Result Y Stop → Type 0
+ReadWhenOpen state_of old new view told result = WhenOpenAt state_of old new (λ s. Read view s (told s) result new.closed (state_of new.held))
 
 -- a stop that is no refusal: memory was wanting, or the store failed
 abbrev pub StopsBy : State → State → Stop → Type 0

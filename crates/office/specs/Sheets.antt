@@ -37,7 +37,7 @@ abbrev pub shown_with : Option Poll → ElectionEntry → SheetEntry
 shown_with poll e =
     record { number = e.ward.number; name = e.ward.name; seats = e.ward.seats; candidates = map candidate_shown e.candidates; poll = poll }
 
--- with its own
+-- what the texts tell of an election, with its own papers
 abbrev pub election_shown : ElectionEntry → SheetEntry
 election_shown e = shown_with (poll_shown e) e
 

@@ -8,9 +8,9 @@ use std::alloc::Global;
 use store::{CopyFault, Fault, Holdings};
 
 impl<S: Alter> Office<S> {
-    /// Makes a copy of the office that a connection's database holds in that of another, with nothing in it, in one
-    /// transaction, and tells how much it has: the copy opens at the very state of the office, with every receipt.
-    /// No office is open afterwards.
+    /// Copies the office that a connection's database holds into that of another connection, which has nothing in it, in
+    /// one transaction. Tells how much the copy has: it opens at the very state of the office, with every receipt. No
+    /// office is open afterwards.
     ///
     /// `Office` tells what `open_from` would, and nothing is copied; the office is only read, whatever comes of it.
     /// `Taken` where there is a table with the name of one of ours already, or where the other connection is inside

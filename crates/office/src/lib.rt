@@ -1,7 +1,7 @@
 //! The office: requests in, answers out, every accepted request kept before it is acknowledged.
 //!
-//! `Office` stands over any store of `sqlite`. `create` makes an empty office, `open_from` opens one, and
-//! `migrate` makes of an earlier program's office one that opens, and `copy` the same office in another database;
+//! `Office` stands over any store of `sqlite`. `create` makes an empty office, and `open_from` opens one. `migrate`
+//! brings an office of an earlier program over to this one, and `copy` makes the same office in another database.
 //! `handle` answers one request and `run` a list of them; `status`, `columns`, `work`, `sheet`, `result` and
 //! `text` tell of the state, and change nothing, as `wards`, `batches`, `doubtful`, `differences` and `receipts`
 //! tell the office alone. A fault inside a transaction closes the office: it answers 104 until it is opened again,

@@ -1,6 +1,7 @@
 //! An office, open or closed.
 
-ghost use Rattle.std.specs.Prelude.{◌≡◌, ◌⊎◌, ◌==◌, ◌+◌, ℕ, map, ◌<◌, ◌≤◌, ◌++◌, ◌∷◌, [], List, true, false, take, length, vec_len, vec_capacity, Some, None, Err, IfOk, IfErr, OnOk, IfNone, IfSome, IsTrue};
+ghost use Rattle.std.specs.Prelude.{◌≡◌, ◌⊎◌, ◌==◌, ◌+◌, ℕ, map, ◌<◌, ◌≤◌, ◌++◌, ◌∷◌, [], List, true, false, Some, None, Err};
+ghost use Rattle.std.specs.Prelude.{take, length, vec_len, vec_capacity, IfOk, IfErr, OnOk, IfNone, IfSome, IsTrue};
 ghost use Rattle.sqlite.specs.Tree.{Trees};
 ghost use Rattle.sqlite.specs.Effect.{Database};
 ghost use Rattle.sqlite.specs.State.{HasCleanDisk};
@@ -16,7 +17,7 @@ ghost use Rattle.tables.specs.Reading.{OnlyReads, FailsToList, FailsBy};
 ghost use Rattle.store.specs.Offices.{tables_of, HoldsState, IsAt, LeavesState, Wears};
 ghost use Rattle.store.specs.Openings.{IsBlank, IsToldBy, IsLeftAt};
 ghost use Rattle.register.specs.declared.command.Request.{Request};
-ghost use Rattle.office.specs.Answers.{WhenOpenAt, told, told_of, IsOpenAt, Handled, HandledAgain};
+ghost use Rattle.office.specs.Answers.{WhenOpenAt, told, told_of, IsMemoryOrStore, IsOpenAt, Handled, HandledAgain};
 ghost use Rattle.office.specs.Clerks.{none_is_the_office, own_requests, own_answers};
 ghost use Rattle.office.specs.Runs.{outcomes, AnswersFirst, Keeps, StopsAfter};
 
@@ -84,8 +85,9 @@ impl<S: Alter> Office<S> {
         ensures opened { IfOk result (λ o. HasCleanDisk (state S.Store o.held) → (db : Database) → IsOurs db.schema → RestsAt db (state S.Store conn)
             → (s : OfficeState) × HoldsState db s × IsOpenAt s o.closed (state S.Store o.held)) }
         ensures told { IfErr result (λ e. HasCleanDisk (state S.Store e.1) → (db : Database) → IsOurs db.schema → RestsAt db (state S.Store conn) → IsToldBy db e.0) }
-        ensures reopens { IfOk result (λ o. HasCleanDisk (state S.Store o.held) → (db : Database) → RestsAt db (state S.Store conn) → (s : OfficeState) → IsLeftAt s db → IsOpenAt s o.closed (state S.Store o.held)) }
-        ensures refuses { IfErr result (λ e. HasCleanDisk (state S.Store e.1) → (db : Database) → RestsAt db (state S.Store conn) → (s : OfficeState) → IsLeftAt s db → (e.0 ≡ Fault.Memory) ⊎ (e.0 ≡ Fault.Store)) }
+        ensures reopens { IfOk result (λ o. HasCleanDisk (state S.Store o.held) → (db : Database) → RestsAt db (state S.Store conn) → (s : OfficeState) → IsLeftAt s db
+            → IsOpenAt s o.closed (state S.Store o.held)) }
+        ensures refuses { IfErr result (λ e. HasCleanDisk (state S.Store e.1) → (db : Database) → RestsAt db (state S.Store conn) → (s : OfficeState) → IsLeftAt s db → IsMemoryOrStore e.0) }
         ensures fails { IfErr result (λ e. HasCleanDisk (state S.Store e.1) → (db : Database) → IsOurs db.schema → RestsAt db (state S.Store conn)
             → FailsToList db (state S.Store conn) (state S.Store e.1) e.0) }
         ensures cause { IfErr result (λ e. HasCleanDisk (state S.Store e.1) → (db : Database) → RestsAt db (state S.Store conn) → (s : OfficeState) → IsLeftAt s db
@@ -155,6 +157,9 @@ impl<S: Alter> Office<S> {
 
     /// The answer to one request, from the decision on what the store holds and the commit of its change.
     fn answered(&mut self, actor: u32, id: &str, command: &Command) -> Result<Answer, Fault>
+        ensures clean { HasCleanDisk (state S.Store self.new.held) → HasCleanDisk (state S.Store self.old.held) }
+        ensures wears { Wears (state S.Store self.old.held) (state S.Store self.new.held) }
+        ensures closed { self.old.closed ≡ true → (result ≡ Err Fault.Closed) × (self.new ≡ self.old) }
         ensures handled { WhenOpenAt (state S.Store) self.old self.new
             (λ s. Handled s (step s actor id.now command.now) result self.new.closed (state S.Store self.new.held)) }
         ensures again { OnOk result ((s : OfficeState) → IsKeptAgain actor id.now command.now (step s actor id.now command.now)) }
@@ -162,9 +167,6 @@ impl<S: Alter> Office<S> {
         ensures unwritten { IfErr result (λ f. self.new.closed ≡ false → OnlyReads (state S.Store self.old.held) (state S.Store self.new.held)) }
         ensures cause { WhenOpenAt (state S.Store) self.old self.new
             (λ s. IfErr result (λ f. FailsBy (state S.Store self.old.held) (state S.Store self.new.held) f ⊎ (is_accepted (step s actor id.now command.now) ≡ true))) }
-        ensures wears { Wears (state S.Store self.old.held) (state S.Store self.new.held) }
-        ensures closed { self.old.closed ≡ true → (result ≡ Err Fault.Closed) × (self.new ≡ self.old) }
-        ensures clean { HasCleanDisk (state S.Store self.new.held) → HasCleanDisk (state S.Store self.old.held) }
     {
         if self.closed {
             return Err(Fault::Closed);

@@ -1,5 +1,6 @@
 //! What the office alone is told of how all stands: its wards, the batches of a ward, their doubtful papers, where
 //! a batch differs, and what was kept. No read changes the state.
+#![tactic(auto, using(crate::proofs::StopLemmas::stops_of_memory))]
 
 ghost use Rattle.std.specs.Prelude.{◌≡◌, true, map, IfErr, Err};
 ghost use Rattle.sqlite.specs.Held.{state};
@@ -7,12 +8,12 @@ ghost use Rattle.register.specs.Offices.{receipt_entry};
 ghost use Rattle.tables.specs.Reading.{OnlyReads};
 ghost use Rattle.store.specs.Overviews.{ward_view, batch_view, doubtful_view, differences_view};
 ghost use Rattle.office.specs.Answers.{WhenOpenAt};
-ghost use Rattle.office.specs.Reads.{Read, StopsBy, ClosesAt};
+ghost use Rattle.office.specs.Reads.{ReadWhenOpen, StopsBy, ClosesAt};
 ghost use Rattle.office.specs.Overviews.{wards_told, batches_told, doubtful_told, differences_told, receipts_told, may_have_receipts};
 
 use crate::answers::Stop;
 use crate::offices::Office;
-use crate::reads::refused;
+use crate::reads::{read, refused};
 use register::ranges::{is_batch_number, is_clerk, is_ward_number};
 use register::{Reason, Receipt};
 use sqlite::Alter;
@@ -21,7 +22,7 @@ use store::{BatchOverview, Differences, DoubtfulPaper, Fault, WardOverview};
 /// The office itself, as an actor.
 const OFFICE: u32 = 0;
 
-/// Whether this is an actor who may have receipts, the office or a clerk; or none is named.
+/// Whether this actor may have receipts: the office, or a clerk. Where none is named, all are meant.
 fn may_have_receipts(actor: Option<u32>) -> bool
     ensures { result ≡ may_have_receipts actor }
 {
@@ -36,45 +37,28 @@ impl<S: Alter> Office<S> {
     ///
     /// Nothing is changed. `Memory` leaves the office open; any other fault closes it. A closed office tells
     /// `Closed`.
-    #[tactic(auto, using(crate::proofs::StopLemmas::stops_of_memory))]
     pub fn wards(&mut self) -> Result<Vec<WardOverview>, Stop>
-        ensures reads { WhenOpenAt (state S.Store) self.old self.new
-            (λ s. Read (λ wards. map ward_view wards.items) s (wards_told s) result self.new.closed (state S.Store self.new.held)) }
+        ensures reads { ReadWhenOpen (state S.Store) self.old self.new (λ wards. map ward_view wards.items) (λ s. wards_told s) result }
         ensures same { OnlyReads (state S.Store self.old.held) (state S.Store self.new.held) }
         ensures closes { IfErr result (ClosesAt self.new.closed) }
         ensures cause { WhenOpenAt (state S.Store) self.old self.new (λ s. IfErr result (StopsBy (state S.Store self.old.held) (state S.Store self.new.held))) }
         ensures closed { self.old.closed ≡ true → (result ≡ Err (Stop.Fault Fault.Closed)) × (self.new ≡ self.old) }
     {
-        if let Some(stop) = self.stop_before(true) {
-            return Err(stop);
-        }
-        match self.store.load_wards() {
-            Ok(wards) => Ok(wards),
-            Err(fault) => Err(self.stopped_by(fault)),
-        }
+        read!(self, true => load_wards())
     }
 
     /// How the batches of a ward stand, in the order of their numbers.
     ///
     /// Refused where the number is outside 1 to 99, or no ward has it. Nothing is changed. `Memory` leaves
     /// the office open; any other fault closes it. A closed office tells `Closed`.
-    #[tactic(auto, using(crate::proofs::StopLemmas::stops_of_memory))]
     pub fn batches(&mut self, ward: u32) -> Result<Vec<BatchOverview>, Stop>
-        ensures reads { WhenOpenAt (state S.Store) self.old self.new
-            (λ s. Read (λ batches. map batch_view batches.items) s (batches_told s ward) result self.new.closed (state S.Store self.new.held)) }
+        ensures reads { ReadWhenOpen (state S.Store) self.old self.new (λ batches. map batch_view batches.items) (λ s. batches_told s ward) result }
         ensures same { OnlyReads (state S.Store self.old.held) (state S.Store self.new.held) }
         ensures closes { IfErr result (ClosesAt self.new.closed) }
         ensures cause { WhenOpenAt (state S.Store) self.old self.new (λ s. IfErr result (StopsBy (state S.Store self.old.held) (state S.Store self.new.held))) }
         ensures closed { self.old.closed ≡ true → (result ≡ Err (Stop.Fault Fault.Closed)) × (self.new ≡ self.old) }
     {
-        if let Some(stop) = self.stop_before(is_ward_number(ward)) {
-            return Err(stop);
-        }
-        match self.store.load_batches(ward) {
-            Ok(Some(batches)) => Ok(batches),
-            Ok(None) => Err(refused(self.alloc, Reason::NoSuchWard)),
-            Err(fault) => Err(self.stopped_by(fault)),
-        }
+        read!(self, is_ward_number(ward) => load_batches(ward), Reason::NoSuchWard)
     }
 
     /// The doubtful papers of the batches of a ward that are taken, by batch and paper, each with its verdict,
@@ -82,33 +66,22 @@ impl<S: Alter> Office<S> {
     ///
     /// Refused where the number is outside 1 to 99, or no ward has it. Nothing is changed. `Memory` leaves
     /// the office open; any other fault closes it. A closed office tells `Closed`.
-    #[tactic(auto, using(crate::proofs::StopLemmas::stops_of_memory))]
     pub fn doubtful(&mut self, ward: u32) -> Result<Vec<DoubtfulPaper>, Stop>
-        ensures reads { WhenOpenAt (state S.Store) self.old self.new
-            (λ s. Read (λ papers. map doubtful_view papers.items) s (doubtful_told s ward) result self.new.closed (state S.Store self.new.held)) }
+        ensures reads { ReadWhenOpen (state S.Store) self.old self.new (λ papers. map doubtful_view papers.items) (λ s. doubtful_told s ward) result }
         ensures same { OnlyReads (state S.Store self.old.held) (state S.Store self.new.held) }
         ensures closes { IfErr result (ClosesAt self.new.closed) }
         ensures cause { WhenOpenAt (state S.Store) self.old self.new (λ s. IfErr result (StopsBy (state S.Store self.old.held) (state S.Store self.new.held))) }
         ensures closed { self.old.closed ≡ true → (result ≡ Err (Stop.Fault Fault.Closed)) × (self.new ≡ self.old) }
     {
-        if let Some(stop) = self.stop_before(is_ward_number(ward)) {
-            return Err(stop);
-        }
-        match self.store.load_doubtful(ward) {
-            Ok(Some(papers)) => Ok(papers),
-            Ok(None) => Err(refused(self.alloc, Reason::NoSuchWard)),
-            Err(fault) => Err(self.stopped_by(fault)),
-        }
+        read!(self, is_ward_number(ward) => load_doubtful(ward), Reason::NoSuchWard)
     }
 
     /// The papers of a batch on which keyings of its current round differ.
     ///
     /// Refused where the number is outside 1 to 9999, no batch has it, or its keyings don't differ. Nothing is
     /// changed. `Memory` leaves the office open; any other fault closes it. A closed office tells `Closed`.
-    #[tactic(auto, using(crate::proofs::StopLemmas::stops_of_memory))]
     pub fn differences(&mut self, batch: u32) -> Result<Differences, Stop>
-        ensures reads { WhenOpenAt (state S.Store) self.old self.new
-            (λ s. Read differences_view s (differences_told s batch) result self.new.closed (state S.Store self.new.held)) }
+        ensures reads { ReadWhenOpen (state S.Store) self.old self.new differences_view (λ s. differences_told s batch) result }
         ensures same { OnlyReads (state S.Store self.old.held) (state S.Store self.new.held) }
         ensures closes { IfErr result (ClosesAt self.new.closed) }
         ensures cause { WhenOpenAt (state S.Store) self.old self.new (λ s. IfErr result (StopsBy (state S.Store self.old.held) (state S.Store self.new.held))) }
@@ -129,21 +102,13 @@ impl<S: Alter> Office<S> {
     ///
     /// Refused where the number is above 999. Nothing is changed. `Memory` leaves the office open; any other
     /// fault closes it. A closed office tells `Closed`.
-    #[tactic(auto, using(crate::proofs::StopLemmas::stops_of_memory))]
     pub fn receipts(&mut self, actor: Option<u32>) -> Result<Vec<Receipt>, Stop>
-        ensures reads { WhenOpenAt (state S.Store) self.old self.new
-            (λ s. Read (λ receipts. map receipt_entry receipts.items) s (receipts_told s actor) result self.new.closed (state S.Store self.new.held)) }
+        ensures reads { ReadWhenOpen (state S.Store) self.old self.new (λ receipts. map receipt_entry receipts.items) (λ s. receipts_told s actor) result }
         ensures same { OnlyReads (state S.Store self.old.held) (state S.Store self.new.held) }
         ensures closes { IfErr result (ClosesAt self.new.closed) }
         ensures cause { WhenOpenAt (state S.Store) self.old self.new (λ s. IfErr result (StopsBy (state S.Store self.old.held) (state S.Store self.new.held))) }
         ensures closed { self.old.closed ≡ true → (result ≡ Err (Stop.Fault Fault.Closed)) × (self.new ≡ self.old) }
     {
-        if let Some(stop) = self.stop_before(may_have_receipts(actor)) {
-            return Err(stop);
-        }
-        match self.store.load_receipts(actor) {
-            Ok(receipts) => Ok(receipts),
-            Err(fault) => Err(self.stopped_by(fault)),
-        }
+        read!(self, may_have_receipts(actor) => load_receipts(actor))
     }
 }

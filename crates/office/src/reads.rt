@@ -1,4 +1,5 @@
 //! What the office tells of its state, which no read changes.
+#![tactic(auto, using(crate::proofs::StopLemmas::stops_of_memory))]
 
 ghost use Rattle.std.specs.Prelude.{◌≡◌, ◌⊎◌, Bool, true, false, map, IfOk, IfErr, IfSome, IfNone, IsSome, OnOk, Some, None, Ok, Err, string_bytes};
 ghost use Rattle.sqlite.specs.Held.{state};
@@ -9,7 +10,7 @@ ghost use Rattle.tables.specs.Reading.{OnlyReads};
 ghost use Rattle.register.specs.Elections.{ElectionEntry};
 ghost use Rattle.register.specs.Tabulated.{IsCountedWard, IsSheetOf};
 ghost use Rattle.office.specs.Answers.{WhenOpenAt};
-ghost use Rattle.office.specs.Reads.{Read, status_told, columns_told, work_told, StopsFor, StopsBy, ClosesAt};
+ghost use Rattle.office.specs.Reads.{ReadWhenOpen, status_told, columns_told, work_told, StopsFor, StopsBy, ClosesAt};
 ghost use Rattle.office.specs.Sheets.{is_told_in, text_shown, text_told, StopsText, StopsWriting, IsTextual, IsOfMemory};
 
 use crate::answers::Stop;
@@ -21,6 +22,35 @@ use register::{CountedWard, Reason, Refusal, Status, WardSheet, Work};
 use sqlite::Alter;
 use std::alloc::{AllocError, Global};
 use store::Fault;
+
+/// Reads from the store, where the office is open and the number is in its range; else it tells why not. What was found
+/// is told, or what is made of it. Where the store may have nothing under the number, the reason for that is given.
+macro_rules! read {
+    ($office:ident, $is_in_range:expr => $load:ident($($number:ident)?)) => {{
+        if let Some(stop) = $office.stop_before($is_in_range) {
+            return Err(stop);
+        }
+        match $office.store.$load($($number)?) {
+            Ok(found) => Ok(found),
+            Err(fault) => Err($office.stopped_by(fault)),
+        }
+    }};
+    ($office:ident, $is_in_range:expr => $load:ident($number:ident), $missing:expr) => {
+        read!($office, $is_in_range => $load($number), $missing, found => Ok(found))
+    };
+    ($office:ident, $is_in_range:expr => $load:ident($number:ident), $missing:expr, $found:ident => $told:expr) => {{
+        if let Some(stop) = $office.stop_before($is_in_range) {
+            return Err(stop);
+        }
+        match $office.store.$load($number) {
+            Ok(Some($found)) => $told,
+            Ok(None) => Err(refused($office.alloc, $missing)),
+            Err(fault) => Err($office.stopped_by(fault)),
+        }
+    }};
+}
+
+pub(crate) use read;
 
 /// A refusal for a reason, or want of memory.
 pub(crate) fn refused(alloc: Global, reason: Reason) -> Stop
@@ -67,46 +97,28 @@ impl<S: Alter> Office<S> {
     ///
     /// Refused where the number is outside 1 to 99, or no ward has it. Nothing is changed. `Memory` leaves
     /// the office open; any other fault closes it. A closed office tells `Closed`.
-    #[tactic(auto, using(crate::proofs::StopLemmas::stops_of_memory))]
     pub fn status(&mut self, ward: u32) -> Result<Status, Stop>
-        ensures reads { WhenOpenAt (state S.Store) self.old self.new
-            (λ s. Read status_entry s (status_told s ward) result self.new.closed (state S.Store self.new.held)) }
+        ensures reads { ReadWhenOpen (state S.Store) self.old self.new status_entry (λ s. status_told s ward) result }
         ensures same { OnlyReads (state S.Store self.old.held) (state S.Store self.new.held) }
         ensures closes { IfErr result (ClosesAt self.new.closed) }
         ensures cause { WhenOpenAt (state S.Store) self.old self.new (λ s. IfErr result (StopsBy (state S.Store self.old.held) (state S.Store self.new.held))) }
         ensures closed { self.old.closed ≡ true → (result ≡ Err (Stop.Fault Fault.Closed)) × (self.new ≡ self.old) }
     {
-        if let Some(stop) = self.stop_before(is_ward_number(ward)) {
-            return Err(stop);
-        }
-        match self.store.load_status(ward) {
-            Ok(Some(status)) => Ok(status),
-            Ok(None) => Err(refused(self.alloc, Reason::NoSuchWard)),
-            Err(fault) => Err(self.stopped_by(fault)),
-        }
+        read!(self, is_ward_number(ward) => load_status(ward), Reason::NoSuchWard)
     }
 
     /// The columns of the papers of a batch: the numbers of its ward's candidates, in ascending order.
     ///
     /// Refused where the number is outside 1 to 9999, or no batch has it. Nothing is changed. `Memory` leaves
     /// the office open; any other fault closes it. A closed office tells `Closed`.
-    #[tactic(auto, using(crate::proofs::StopLemmas::stops_of_memory))]
     pub fn columns(&mut self, batch: u32) -> Result<Columns, Stop>
-        ensures reads { WhenOpenAt (state S.Store) self.old self.new
-            (λ s. Read (λ columns. columns) s (columns_told s batch) result self.new.closed (state S.Store self.new.held)) }
+        ensures reads { ReadWhenOpen (state S.Store) self.old self.new (λ columns. columns) (λ s. columns_told s batch) result }
         ensures same { OnlyReads (state S.Store self.old.held) (state S.Store self.new.held) }
         ensures closes { IfErr result (ClosesAt self.new.closed) }
         ensures cause { WhenOpenAt (state S.Store) self.old self.new (λ s. IfErr result (StopsBy (state S.Store self.old.held) (state S.Store self.new.held))) }
         ensures closed { self.old.closed ≡ true → (result ≡ Err (Stop.Fault Fault.Closed)) × (self.new ≡ self.old) }
     {
-        if let Some(stop) = self.stop_before(is_batch_number(batch)) {
-            return Err(stop);
-        }
-        match self.store.load_columns(batch) {
-            Ok(Some(columns)) => Ok(columns),
-            Ok(None) => Err(refused(self.alloc, Reason::NoSuchBatch)),
-            Err(fault) => Err(self.stopped_by(fault)),
-        }
+        read!(self, is_batch_number(batch) => load_columns(batch), Reason::NoSuchBatch)
     }
 
     /// The work of a clerk: his batches in wards in keying, in the order of their numbers, each with its
@@ -115,23 +127,15 @@ impl<S: Alter> Office<S> {
     /// It rests on what the clerk sees of the state alone, whatever others keyed. Refused where the number is
     /// outside 1 to 999. Nothing is changed. `Memory` leaves the office open; any other fault closes it. A
     /// closed office tells `Closed`.
-    #[tactic(auto, using(crate::proofs::StopLemmas::stops_of_memory))]
     pub fn work(&mut self, clerk: u32) -> Result<Vec<Work>, Stop>
-        ensures reads { WhenOpenAt (state S.Store) self.old self.new
-            (λ s. Read (λ work. map work_entry work.items) s (work_told s clerk) result self.new.closed (state S.Store self.new.held)) }
+        ensures reads { ReadWhenOpen (state S.Store) self.old self.new (λ work. map work_entry work.items) (λ s. work_told s clerk) result }
         ensures blind { WhenOpenAt (state S.Store) self.old self.new (λ s. IfOk result (λ work. map work_entry work.items ≡ work_of (seen_by clerk s) clerk)) }
         ensures same { OnlyReads (state S.Store self.old.held) (state S.Store self.new.held) }
         ensures closes { IfErr result (ClosesAt self.new.closed) }
         ensures cause { WhenOpenAt (state S.Store) self.old self.new (λ s. IfErr result (StopsBy (state S.Store self.old.held) (state S.Store self.new.held))) }
         ensures closed { self.old.closed ≡ true → (result ≡ Err (Stop.Fault Fault.Closed)) × (self.new ≡ self.old) }
     {
-        if let Some(stop) = self.stop_before(is_clerk(clerk)) {
-            return Err(stop);
-        }
-        match self.store.load_work(clerk) {
-            Ok(work) => Ok(work),
-            Err(fault) => Err(self.stopped_by(fault)),
-        }
+        read!(self, is_clerk(clerk) => load_work(clerk))
     }
 
     /// The stage sheet of a ward: its papers, and the stages that are done, no more. Of an uncontested ward
@@ -140,8 +144,7 @@ impl<S: Alter> Office<S> {
     /// Refused where the number is outside 1 to 99, no ward has it, or the ward isn't sealed yet. Nothing is
     /// changed. `Memory` leaves the office open; any other fault closes it. A closed office tells `Closed`.
     pub fn sheet(&mut self, ward: u32) -> Result<String, Stop>
-        ensures reads { WhenOpenAt (state S.Store) self.old self.new
-            (λ s. Read string_bytes s (text_told Text.Sheet s ward) result self.new.closed (state S.Store self.new.held)) }
+        ensures reads { ReadWhenOpen (state S.Store) self.old self.new string_bytes (λ s. text_told Text.Sheet s ward) result }
         ensures same { OnlyReads (state S.Store self.old.held) (state S.Store self.new.held) }
         ensures closes { IfErr result (ClosesAt self.new.closed) }
         ensures cause { WhenOpenAt (state S.Store) self.old self.new (λ s. IfErr result (StopsBy (state S.Store self.old.held) (state S.Store self.new.held))) }
@@ -156,24 +159,15 @@ impl<S: Alter> Office<S> {
     /// Refused where the number is outside 1 to 99, no ward has it, or the text isn't told yet: the declaration before
     /// the ward is declared, any other before it is sealed. Nothing is changed. `Memory` leaves the office open; any
     /// other fault closes it. A closed office tells `Closed`.
-    #[tactic(auto, using(crate::proofs::StopLemmas::stops_of_memory))]
     pub fn text(&mut self, ward: u32, text: Text) -> Result<String, Stop>
-        ensures reads { WhenOpenAt (state S.Store) self.old self.new
-            (λ s. Read string_bytes s (text_told text s ward) result self.new.closed (state S.Store self.new.held)) }
+        ensures reads { ReadWhenOpen (state S.Store) self.old self.new string_bytes (λ s. text_told text s ward) result }
         ensures same { OnlyReads (state S.Store self.old.held) (state S.Store self.new.held) }
         ensures closes { IfErr result (ClosesAt self.new.closed) }
         ensures cause { WhenOpenAt (state S.Store) self.old self.new (λ s. IfErr result (StopsBy (state S.Store self.old.held) (state S.Store self.new.held))) }
         ensures closed { self.old.closed ≡ true → (result ≡ Err (Stop.Fault Fault.Closed)) × (self.new ≡ self.old) }
     {
-        if let Some(stop) = self.stop_before(is_ward_number(ward)) {
-            return Err(stop);
-        }
         texts_are_there();
-        match self.store.load_sheet(ward) {
-            Ok(Some(sheet)) => self.read_text(&sheet, text),
-            Ok(None) => Err(refused(self.alloc, Reason::NoSuchWard)),
-            Err(fault) => Err(self.stopped_by(fault)),
-        }
+        read!(self, is_ward_number(ward) => load_sheet(ward), Reason::NoSuchWard, sheet => self.read_text(&sheet, text))
     }
 
     /// The declaration of a ward: who is elected.
@@ -181,27 +175,18 @@ impl<S: Alter> Office<S> {
     /// Refused where the number is outside 1 to 99, no ward has it, or the ward isn't declared yet. Nothing
     /// is changed. `Memory` leaves the office open; any other fault closes it. A closed office tells
     /// `Closed`.
-    #[tactic(auto, using(crate::proofs::StopLemmas::stops_of_memory))]
     pub fn result(&mut self, ward: u32) -> Result<String, Stop>
-        ensures reads { WhenOpenAt (state S.Store) self.old self.new
-            (λ s. Read string_bytes s (text_told Text.Declaration s ward) result self.new.closed (state S.Store self.new.held)) }
+        ensures reads { ReadWhenOpen (state S.Store) self.old self.new string_bytes (λ s. text_told Text.Declaration s ward) result }
         ensures same { OnlyReads (state S.Store self.old.held) (state S.Store self.new.held) }
         ensures closes { IfErr result (ClosesAt self.new.closed) }
         ensures cause { WhenOpenAt (state S.Store) self.old self.new (λ s. IfErr result (StopsBy (state S.Store self.old.held) (state S.Store self.new.held))) }
         ensures closed { self.old.closed ≡ true → (result ≡ Err (Stop.Fault Fault.Closed)) × (self.new ≡ self.old) }
     {
-        if let Some(stop) = self.stop_before(is_ward_number(ward)) {
-            return Err(stop);
-        }
         texts_are_there();
-        match self.store.load_counted(ward) {
-            Ok(Some(counted)) => self.declaration_of(&counted),
-            Ok(None) => Err(refused(self.alloc, Reason::NoSuchWard)),
-            Err(fault) => Err(self.stopped_by(fault)),
-        }
+        read!(self, is_ward_number(ward) => load_counted(ward), Reason::NoSuchWard, counted => self.declaration_of(&counted))
     }
 
-    /// Tells a text as it was written. Where the rows let none be written, as those of no office do, the office is closed.
+    /// Tells a text as it was written. Where it can't be written, the rows are those of no office, which is closed then.
     fn told(&mut self, written: Result<Option<String>, AllocError>) -> Result<String, Stop>
         ensures told { IfOk result (λ text. written ≡ Ok (Some text)) }
         ensures stopped { self.old.closed ≡ false → IfErr result (StopsWriting self.new.closed) }
@@ -236,7 +221,8 @@ impl<S: Alter> Office<S> {
 
     /// The declaration of a ward that was read, in the same way.
     fn declaration_of(&mut self, counted: &CountedWard) -> Result<String, Stop>
-        ensures told { IfOk result (λ text. (is_told_in Text.Declaration counted.now.ward.phase ≡ true) × ((e : ElectionEntry) → IsCountedWard e counted.now → string_bytes text ≡ text_shown Text.Declaration e)) }
+        ensures told { IfOk result (λ text. (is_told_in Text.Declaration counted.now.ward.phase ≡ true)
+            × ((e : ElectionEntry) → IsCountedWard e counted.now → string_bytes text ≡ text_shown Text.Declaration e)) }
         ensures stopped { self.old.closed ≡ false → IfErr result (λ stop. StopsText Text.Declaration counted.now.ward.phase self.new.closed stop) }
         ensures closes { IfErr result (ClosesAt self.new.closed) }
         ensures cause { (e : ElectionEntry) → IsCountedWard e counted.now → IsTextual e → IfErr result IsOfMemory }

@@ -59,7 +59,7 @@ impl Text {
     }
 }
 
-/// A candidate's number and name. `None` where the number is out of range, which no candidate of an office has.
+/// A candidate's number and name. `None` where the number is out of range. No candidate of an office has such a number.
 fn candidate_line(candidate: &Candidate) -> Result<Option<(u8, String)>, AllocError>
     ensures is { IfOk result (λ found. IfSome found (λ line. (line.0, string_bytes line.1) ≡ candidate_shown (candidate_entry candidate.now))) }
     ensures some { IfOk result (λ found. is_candidate_number candidate.now.number ≡ true → IsSome found) }
@@ -101,8 +101,8 @@ fn poll_of(sheet: &WardSheet) -> Option<Poll>
     }
 }
 
-/// A ward that was counted, as the texts show it, with these lines of its candidates and its papers. `None` where
-/// it can't be printed, since a number is out of range, as it is in no office.
+/// A ward that was counted, as the texts show it, with these lines of its candidates and its papers. `None` where a
+/// number is out of range, so that it can't be printed. No ward of an office has such a number.
 fn ward_of<'a>(
     counted: &'a CountedWard,
     candidates: &'a [(u8, String)],
@@ -143,7 +143,7 @@ fn stages_of(counted: &CountedWard) -> &[Stage]
     }
 }
 
-/// The bundles of equal valid papers of a ward in count; else these, which are none.
+/// The bundles of equal valid papers of a ward in count; of an uncontested ward `none`, which has no bundle.
 fn bundles_of<'a>(counted: &'a CountedWard, none: &'a Bundles) -> &'a Bundles
     requires { none.now ≡ [] }
     ensures { (e : ElectionEntry) → IsCountedWard e counted.now → is_counted e.ward.phase ≡ true → result.now ≡ bundles_shown e }
@@ -195,8 +195,8 @@ fn written(
     }
 }
 
-/// A text of a ward, of the stages that are done. `None` where the rows let none be written, as those of no office
-/// do. An error is want of memory.
+/// A text of a ward, of the stages that are done. `None` where it can't be written. Each text of an office can be. An
+/// error is want of memory.
 pub(crate) fn text_of(
     alloc: Global,
     sheet: &WardSheet,

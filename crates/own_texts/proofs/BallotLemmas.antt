@@ -21,7 +21,7 @@ use Rattle.register.specs.Papers.{batches_of}
 use Rattle.register.specs.Keyed.{are_rounds_to}
 use Rattle.register.specs.Polls.{judgements, piles_of}
 use Rattle.register.specs.Elections.{contest_of, election_of, has_count, lot_pair}
-use Rattle.register.specs.Items.{IsState, is_batch, is_candidate, is_judged_paper, is_keyed_paper, is_lot, is_receipt, is_third, is_ward, item1}
+use Rattle.register.specs.Items.{IsState, is_batch, is_candidate, is_judged_paper, is_keyed_paper, is_lot, is_receipt, is_third, is_ward, all_in_range}
 use Rattle.register.proofs.MapLemmas.{found_passes, kept_all}
 use Rattle.register.proofs.ContestLemmas.{columns_are_set, few_among, few_batches, papers_are_rankings, papers_have_some}
 use Rattle.office.specs.Sheets.{IsTextual, bundles_shown, candidate_shown, election_shown, lots_shown, shown_with}
@@ -76,7 +76,7 @@ record InRange (s : OfficeState) : Type 0 where
   batches : list_all is_batch s.batches ≡ true
   lots : list_all is_lot s.lots ≡ true
 
-in_range : (s : OfficeState) → item1 s ≡ true → InRange s
+in_range : (s : OfficeState) → all_in_range s ≡ true → InRange s
 in_range s fine =
     let last : Bool = list_all is_lot s.lots && list_all is_receipt s.receipts in
     let verdicts : Bool = list_all is_judged_paper s.verdicts && last in

@@ -19,7 +19,7 @@ use Rattle.register.specs.Marks.{columns_of}
 use Rattle.register.specs.Offices.{OfficeState, WardEntry, ward_at, ward_compared}
 use Rattle.register.specs.Elections.{ElectionEntry, contest_of, elected_of, election_of, has_count, is_counted}
 use Rattle.register.specs.Elections.{is_counted_right, is_declared, is_drawn_for, is_finished, is_in_count, is_right_so_far, is_uncounted, stages_of}
-use Rattle.register.specs.Items.{IsState, item7}
+use Rattle.register.specs.Items.{IsState, all_counted}
 use Rattle.register.proofs.MapLemmas.{found_passes}
 use Rattle.office.specs.Sheets.{bundles_shown, candidate_shown, declaration_of, election_shown, lots_shown, sheet_of, shown_with}
 use Rattle.own_texts.specs.OwnTexts.{IsFinished}
@@ -28,7 +28,7 @@ use Rattle.own_texts.proofs.YesLemmas.{HasYes, IsYes, counted_has, uncontested_h
 
 -- the count of each ward of a state is right
 pub counted_right : (s : OfficeState) (w : WardEntry) → IsState s → ward_at s w.number ≡ Some w → is_counted_right (election_of s w) ≡ true
-unfolding item7
+unfolding all_counted
 counted_right s w is there =
     let rights : Bool = list_all (λ x. is_counted_right (election_of s x)) s.wards in
     found_passes (ward_compared w.number) (λ x. is_counted_right (election_of s x)) w s.wards (and_parts _ rights is.counted).1 there

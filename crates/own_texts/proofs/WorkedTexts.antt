@@ -7,7 +7,7 @@ use Rattle.std.specs.Prelude.{codes}
 use Rattle.std.specs.Str.{chars, is_utf8}
 use Rattle.count.specs.Law.Count.{stages_to}
 use Rattle.sheet.specs.Lines.{line}
-use Rattle.register.specs.Items.{IsState, is_batch, is_candidate, is_judged_paper, is_keyed_paper, is_lot, is_ward, item6, item7}
+use Rattle.register.specs.Items.{IsState, is_batch, is_candidate, is_judged_paper, is_keyed_paper, is_lot, is_ward, all_agreed, all_counted}
 use Rattle.register.specs.Keyed.{are_numbered, are_rounds_to}
 use Rattle.register.specs.Ranges.{is_name}
 use Rattle.register.specs.Offices.{OfficeState, WardEntry, empty_office}
@@ -40,7 +40,7 @@ unfolding stages_to same_marks preferences_from
 finished = refl
 
 is_state : IsState worked
-unfolding stages_to same_marks preferences_from is_ward is_candidate is_batch is_keyed_paper is_judged_paper is_lot is_name is_utf8 chars encode_utf8 are_rounds_to are_numbered item6 item7 IsStrictlySortedBy
+unfolding stages_to same_marks preferences_from is_ward is_candidate is_batch is_keyed_paper is_judged_paper is_lot is_name is_utf8 chars encode_utf8 are_rounds_to are_numbered all_agreed all_counted IsStrictlySortedBy
 is_state = record {
   in_range = refl;
   nominated = refl;

@@ -1,5 +1,6 @@
 -- The fields of a text, from the left.
-use Rattle.std.proofs.Common.{set, replicate, ◌≡◌, ℕ, suc, ◌+◌, ◌-◌, ◌*◌, ◌<◌, ◌≤◌, ◌==◌, nat_le, nat_lt, Bool, true, false, ◌&&◌, List, [], ◌∷◌, ◌++◌, length, take, drop, get_or, Ok, Err, refl, sym, ap, ◌∙◌, arith, drop-cons, length-drop, Result}
+use Rattle.std.proofs.Common.{set, replicate, ◌≡◌, ℕ, suc, ◌+◌, ◌-◌, ◌*◌, ◌<◌, ◌≤◌, ◌==◌, nat_le, nat_lt, Bool, true, false, ◌&&◌, List, [], ◌∷◌, ◌++◌, length, take, drop, get_or, Ok, Err}
+use Rattle.std.proofs.Common.{refl, sym, ap, ◌∙◌, arith, drop-cons, length-drop, Result}
 use Rattle.std.specs.List.{list_all, fold, position_or_len, count_by, before_first, after_first}
 use Rattle.std.proofs.lemmas.Bool.{lt-ltb, ltb-true, ltb-false, leb-true, ne_eqb, cond-true, cond-false, or_from, not_from_true, and_parts}
 use Rattle.std.proofs.lemmas.List.{take_all, drop_all, drop-set-lt, drop-drop, drop-replicate}
@@ -26,7 +27,8 @@ pub fields-first : (text : List ℕ) (others : List (List ℕ)) (field : List �
     (field ≡ before_first (λ b. b == 44) text) × (0 < length others → fields (after_first (λ b. b == 44) text) ≡ others)
 fields-first text others field parts = by_test (nat_lt (position_or_len (λ b. b == 44) text) (length text)) refl
   where
-    by_test : (b : Bool) → nat_lt (position_or_len (λ c. c == 44) text) (length text) ≡ b → (field ≡ before_first (λ c. c == 44) text) × (0 < length others → fields (after_first (λ c. c == 44) text) ≡ others)
+    by_test : (b : Bool) → nat_lt (position_or_len (λ c. c == 44) text) (length text) ≡ b →
+        (field ≡ before_first (λ c. c == 44) text) × (0 < length others → fields (after_first (λ c. c == 44) text) ≡ others)
     by_test true here =
         let first = slice_split_first (λ c. c == 44) text 0 (ltb-true _ _ here) in
         let same : take (position_or_len (λ c. c == 44) text) text ∷ fields (drop (position_or_len (λ c. c == 44) text + 1) text) ≡ field ∷ others = sym first ∙ parts in

@@ -8,3 +8,4 @@ pub mod Fields
 pub mod Markings
 pub mod Preferences
 pub mod Spelling
+pub mod DigitLemmas

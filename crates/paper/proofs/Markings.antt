@@ -1,5 +1,6 @@
 -- Marks side by side with candidates, and who bears a number.
-use Rattle.std.proofs.Common.{◌≡◌, ℕ, suc, zero, ◌+◌, ◌<◌, ◌≤◌, ◌==◌, Bool, true, false, cond, List, [], ◌∷◌, ◌++◌, length, take, drop, set, replicate, get_or, map, inl, inr, refl, sym, ap, ◌∙◌, arith, append-nil, get_or-set_same, get_or-set_other}
+use Rattle.std.proofs.Common.{◌≡◌, ℕ, suc, zero, ◌+◌, ◌<◌, ◌≤◌, ◌==◌, Bool, true, false, cond, List, [], ◌∷◌, ◌++◌, length, take, drop, set, replicate, get_or, map, inl, inr, refl, sym, ap}
+use Rattle.std.proofs.Common.{◌∙◌, arith, append-nil, get_or-set_same, get_or-set_other}
 use Rattle.std.specs.List.{zip, filter}
 use Rattle.std.proofs.lemmas.Bool.{eq-eqb, ne_eqb, cases_eq}
 use Rattle.std.proofs.lemmas.List.{take_all}
@@ -68,7 +69,8 @@ nobody-yet (suc k) zero = refl
 nobody-yet (suc k) (suc n) = nobody-yet k n
 
 -- a candidate more bears his number,
-pub AreBearers-more : (xs ys : List ℕ) (i mark : ℕ) (bearers after : List Bearers) (more : Bearers) → AreBearers (take i (zip xs ys)) bearers → i < length xs → i < length ys → mark ≡ get_or ys i 0 → mark < max_candidates + 1 →
+pub AreBearers-more : (xs ys : List ℕ) (i mark : ℕ) (bearers after : List Bearers) (more : Bearers) → AreBearers (take i (zip xs ys)) bearers → i < length xs → i < length ys → mark ≡ get_or ys i 0 →
+    mark < max_candidates + 1 →
     length bearers ≡ max_candidates + 1 → more ≡ one_more (get_or bearers mark Nobody) (get_or xs i 0) → after ≡ set bearers mark more → AreBearers (take (i + 1) (zip xs ys)) after
 AreBearers-more xs ys i mark bearers after more so_far here there is few size one put n small =
     ap (λ all. get_or all n Nobody) put
@@ -81,7 +83,8 @@ AreBearers-more xs ys i mark bearers after more so_far here there is few size on
     ]
 
 -- and one whose number is too large bears none of these
-pub AreBearers-past : (xs ys : List ℕ) (i mark : ℕ) (bearers after : List Bearers) → AreBearers (take i (zip xs ys)) bearers → i < length xs → i < length ys → mark ≡ get_or ys i 0 → max_candidates + 1 ≤ mark → after ≡ bearers →
+pub AreBearers-past : (xs ys : List ℕ) (i mark : ℕ) (bearers after : List Bearers) → AreBearers (take i (zip xs ys)) bearers → i < length xs → i < length ys → mark ≡ get_or ys i 0 →
+    max_candidates + 1 ≤ mark → after ≡ bearers →
     AreBearers (take (i + 1) (zip xs ys)) after
 AreBearers-past xs ys i mark bearers after so_far here there is large same n small =
     ap (λ all. get_or all n Nobody) same ∙ bearers-no n xs ys i (get_or bearers n Nobody) (so_far n small) here there (λ at. omega (arith, at, is, large, small))

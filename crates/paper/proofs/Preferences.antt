@@ -1,5 +1,6 @@
 -- The preferences worked out are the longest list of candidates who stand alone.
-use Rattle.std.proofs.Common.{◌≡◌, ℕ, suc, zero, ◌+◌, ◌-◌, ◌<◌, ◌≤◌, ◌==◌, nat_eq, Bool, true, false, cond, ◌||◌, List, [], ◌∷◌, ◌++◌, length, take, drop, set, replicate, map, inl, inr, refl, sym, ap, ◌∙◌, arith, append-nil, append_assoc}
+use Rattle.std.proofs.Common.{◌≡◌, ℕ, suc, zero, ◌+◌, ◌-◌, ◌<◌, ◌≤◌, ◌==◌, nat_eq, Bool, true, false, cond, ◌||◌, List, [], ◌∷◌, ◌++◌, length, take, drop, set, replicate, map, inl, inr}
+use Rattle.std.proofs.Common.{refl, sym, ap, ◌∙◌, arith, append-nil, append_assoc}
 use Rattle.std.specs.List.{filter, list_any}
 use Rattle.std.proofs.lemmas.Bool.{eq-eqb, ne_eqb, eqb-true, cases_eq, or_left, or_right, or_from}
 use Rattle.std.proofs.lemmas.List.{take_more_set, take-append-drop, length-take-le}
@@ -76,7 +77,8 @@ mark_is c n low (m ∷ ms) up found =
     tail_mark other true found = rw (ne_eqb c m.0 other) at found
     tail_mark other false found = found
 
-    head_mark : c ≡ m.0 → (b : Bool) → (m.1 == n) ≡ b → list_any (nat_eq c) (map (λ (k : ℕ × ℕ). k.0) (cond b (m ∷ filter (λ (k : ℕ × ℕ). k.1 == n) ms) (filter (λ (k : ℕ × ℕ). k.1 == n) ms))) ≡ true → m.1 ≡ n
+    head_mark : c ≡ m.0 → (b : Bool) → (m.1 == n) ≡ b →
+        list_any (nat_eq c) (map (λ (k : ℕ × ℕ). k.0) (cond b (m ∷ filter (λ (k : ℕ × ℕ). k.1 == n) ms) (filter (λ (k : ℕ × ℕ). k.1 == n) ms))) ≡ true → m.1 ≡ n
     head_mark same true is found = eqb-true m.1 n is
     head_mark same false is found = absurd (omega (arith, same, (in_ascending c m.0 (candidates_of ms) up.2 (in_candidates c n ms found)).0))
 
@@ -127,7 +129,8 @@ pub lower_marks_decide : (ms : Marking) → LowerMarksDecide ms
 lower_marks_decide ms others n same = lower_from max_candidates n 1 others ms (λ k low high. same k low (omega (arith, high)))
 
 -- What a loop that goes up the numbers has so far:
-step_alone : (place : ℕ) (ms : Marking) → place < max_candidates → preferences_from (max_candidates - place) (place + 1) ms ≡ if_alone (marked_with (place + 1) ms) (preferences_from (max_candidates - (place + 1)) (place + 1 + 1) ms)
+step_alone : (place : ℕ) (ms : Marking) → place < max_candidates →
+    preferences_from (max_candidates - place) (place + 1) ms ≡ if_alone (marked_with (place + 1) ms) (preferences_from (max_candidates - (place + 1)) (place + 1 + 1) ms)
 unfolding preferences_from
 step_alone place ms more =
     let e : max_candidates - place ≡ suc (max_candidates - (place + 1)) = omega (arith, more) in
@@ -139,7 +142,8 @@ alone-One (d ∷ []) c one = cc
 alone-One (d ∷ e ∷ cs) c one = cc
 
 -- one preference more,
-pub preferred-more : (ms : Marking) (numbers : List ℕ) (place c : ℕ) → preferences ms ≡ take place numbers ++ preferences_from (max_candidates - place) (place + 1) ms → place < max_candidates → length numbers ≡ max_candidates →
+pub preferred-more : (ms : Marking) (numbers : List ℕ) (place c : ℕ) → preferences ms ≡ take place numbers ++ preferences_from (max_candidates - place) (place + 1) ms → place < max_candidates →
+    length numbers ≡ max_candidates →
     One c ≡ bearers_of (marked_with (place + 1) ms) → preferences ms ≡ take (place + 1) (set numbers place c) ++ preferences_from (max_candidates - (place + 1)) (place + 1 + 1) ms
 preferred-more ms numbers place c whole more size one =
     let behind = preferences_from (max_candidates - (place + 1)) (place + 1 + 1) ms in
@@ -147,7 +151,8 @@ preferred-more ms numbers place c whole more size one =
     ∙ sym (append_assoc (take place numbers) (c ∷ []) behind) ∙ ap (λ l. l ++ behind) (sym (take_more_set numbers place c (omega (arith, size, more))))
 
 -- or all of them
-pub preferred-done : (ms : Marking) (numbers : List ℕ) (place : ℕ) → preferences ms ≡ take place numbers ++ preferences_from (max_candidates - place) (place + 1) ms → drop place numbers ≡ replicate (max_candidates - place) 0 →
+pub preferred-done : (ms : Marking) (numbers : List ℕ) (place : ℕ) → preferences ms ≡ take place numbers ++ preferences_from (max_candidates - place) (place + 1) ms →
+    drop place numbers ≡ replicate (max_candidates - place) 0 →
     length numbers ≡ max_candidates → place ≤ max_candidates → preferences_from (max_candidates - place) (place + 1) ms ≡ [] → numbers ≡ padded (preferences ms)
 preferred-done ms numbers place whole zeros size few none =
     let all : preferences ms ≡ take place numbers = whole ∙ ap (λ l. take place numbers ++ l) none ∙ append-nil (take place numbers) in

@@ -1,7 +1,9 @@
 -- What is read from a text is spelled as the text, and the other way round.
-use Rattle.std.proofs.Common.{◌≡◌, ℕ, suc, zero, ◌+◌, ◌-◌, ◌*◌, ◌/◌, ◌%◌, ◌<◌, ◌≤◌, ◌==◌, nat_le, nat_lt, Bool, true, false, not, cond, ◌&&◌, ◌||◌, List, [], ◌∷◌, ◌++◌, length, take, get_or, map, Result, Ok, Err, inl, inr, refl, sym, ap, ◌∙◌, subst, arith, decimal, codes, bytes_eq, append_assoc}
+use Rattle.std.proofs.Common.{◌≡◌, ℕ, suc, zero, ◌+◌, ◌-◌, ◌*◌, ◌/◌, ◌%◌, ◌<◌, ◌≤◌, ◌==◌, nat_le, nat_lt, Bool, true, false, not, cond, ◌&&◌, ◌||◌, List, [], ◌∷◌, ◌++◌, length, take, get_or}
+use Rattle.std.proofs.Common.{map, Result, Ok, Err, inl, inr, refl, sym, ap, ◌∙◌, subst, arith, decimal, codes, bytes_eq, append_assoc}
 use Rattle.std.specs.List.{list_all, join_with_byte, zip, All, AllByRecursion}
-use Rattle.std.proofs.lemmas.Bool.{le-leb, le-ltb, eq-eqb, ne_eqb, eqb-false, leb-true, cases_lt, cond-true, cond-false, or_from, or_parts, and_from, and_parts, and_left, not_from_true, not-false, ltb-false}
+use Rattle.std.proofs.lemmas.Bool.{le-leb, le-ltb, eq-eqb, ne_eqb, eqb-false, leb-true, cases_lt, cond-true, cond-false, or_from, or_parts, and_from, and_parts, and_left, not_from_true}
+use Rattle.std.proofs.lemmas.Bool.{not-false, ltb-false}
 use Rattle.std.proofs.lemmas.Fmt.{decimal_digit, decimal_step}
 use Rattle.std.proofs.lemmas.List.{length-take, length-map, take_more, map-append}
 use Rattle.std.proofs.lemmas.List.Splits.{slice_split_none, slice_split_at, join_with_byte-slice_split}

@@ -1,10 +1,11 @@
 -- Statuses that are given one after the other, and preferences that are passed over.
-use Rattle.std.proofs.Common.{◌⊎◌, ap, ◌≡◌, ℕ, suc, zero, ◌+◌, ◌<◌, nat_eq, Bool, true, false, not, cond, ◌||◌, List, [], ◌∷◌, length, take, drop, set, replicate, slice_index, inl, inr, refl, ◌∙◌, arith, get_or-set_other, get_or-set_same}
+use Rattle.std.proofs.Common.{◌⊎◌, ap, ◌≡◌, ℕ, suc, zero, ◌+◌, ◌<◌, nat_eq, Bool, true, false, not, cond, ◌||◌, List, [], ◌∷◌, length, take, drop, set, replicate, slice_index, inl, inr}
+use Rattle.std.proofs.Common.{refl, ◌∙◌, arith, get_or-set_other, get_or-set_same}
 use Rattle.std.specs.List.{list_any, find, prefix_len, slice_get}
 use Rattle.std.proofs.lemmas.Bool.{eq-eqb, ne_eqb, cases_eq, cases_lt, or_right}
 use Rattle.std.proofs.lemmas.List.Folds.{list_any_more}
-use Rattle.paper.specs.declared.standing.Status.{Status}
-use Rattle.paper.specs.declared.standing.Status.TheVariants.{Continuing, Elected, Excluded, Absent}
+use Rattle.paper.specs.declared.standing.CandidateStatus.{CandidateStatus}
+use Rattle.paper.specs.declared.standing.CandidateStatus.TheVariants.{Continuing, Elected, Excluded, Absent}
 use Rattle.paper.specs.Columns.{max_candidates, IsColumn}
 use Rattle.paper.specs.Standing.{status_of, status_among, is_continuing_status, is_continuing, from_first}
 
@@ -13,7 +14,7 @@ or_none true c none = refl
 or_none false c none = none
 
 -- one number more has been given the status
-pub status_of-set : (old now : List Status) (s : Status) (xs : List ℕ) (i k : ℕ) → i < length xs → slice_index xs i < length now →
+pub status_of-set : (old now : List CandidateStatus) (s : CandidateStatus) (xs : List ℕ) (i k : ℕ) → i < length xs → slice_index xs i < length now →
     status_of now k ≡ cond (list_any (nat_eq k) (take i xs)) s (status_of old k) →
     status_of (set now (slice_index xs i) s) k ≡ cond (list_any (nat_eq k) (take (i + 1) xs)) s (status_of old k)
 status_of-set old now s xs i k here within given =
@@ -55,7 +56,7 @@ status_of-absent (suc n) zero = refl
 status_of-absent (suc n) (suc k) = status_of-absent n k
 
 -- those who continue are those of the first set
-pub is_continuing-among : (standing : List Status) (continuing elected excluded : List ℕ) (c : ℕ) →
+pub is_continuing-among : (standing : List CandidateStatus) (continuing elected excluded : List ℕ) (c : ℕ) →
     status_of standing c ≡ status_among continuing elected excluded c → is_continuing standing c ≡ list_any (nat_eq c) continuing
 is_continuing-among standing continuing elected excluded c is =
     ap is_continuing_status is ∙ by_sets (list_any (nat_eq c) continuing) (list_any (nat_eq c) elected) (list_any (nat_eq c) excluded)

@@ -8,3 +8,4 @@ pub mod Bearers
 pub mod Ranking
 pub mod Standing
 pub mod Padded
+pub mod Digits

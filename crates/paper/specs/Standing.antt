@@ -1,15 +1,15 @@
 -- Where candidates stand, and the next available preference.
 use Rattle.std.specs.Prelude.{◌≡◌, ℕ, nat_eq, Bool, true, false, if◌then◌else◌, List, [], ◌∷◌, drop, slice_index_or, Option}
 use Rattle.std.specs.List.{list_any, find}
-use Rattle.paper.specs.declared.standing.Status.{Status}
-use Rattle.paper.specs.declared.standing.Status.TheVariants.{Continuing, Elected, Excluded, Absent}
+use Rattle.paper.specs.declared.standing.CandidateStatus.{CandidateStatus}
+use Rattle.paper.specs.declared.standing.CandidateStatus.TheVariants.{Continuing, Elected, Excluded, Absent}
 
 -- the status that a standing gives a number: the one at its place, and absent past the end
-abbrev pub status_of : List Status → ℕ → Status
+abbrev pub status_of : List CandidateStatus → ℕ → CandidateStatus
 status_of standing c = slice_index_or standing c Absent
 
 -- the status of a number by the sets of those who continue, who are elected, and who are excluded
-abbrev pub status_among : List ℕ → List ℕ → List ℕ → ℕ → Status
+abbrev pub status_among : List ℕ → List ℕ → List ℕ → ℕ → CandidateStatus
 status_among continuing elected excluded c =
     if list_any (nat_eq c) continuing then Continuing else (
     if list_any (nat_eq c) elected then Elected else (
@@ -20,19 +20,19 @@ abbrev pub AreApart : List ℕ → List ℕ → Type 0
 AreApart xs ys = (c : ℕ) → list_any (nat_eq c) xs ≡ true → list_any (nat_eq c) ys ≡ false
 
 -- whether a status is that of a continuing candidate
-abbrev pub is_continuing_status : Status → Bool
+abbrev pub is_continuing_status : CandidateStatus → Bool
 is_continuing_status Continuing = true
 is_continuing_status Elected = false
 is_continuing_status Excluded = false
 is_continuing_status Absent = false
 
 -- whether a number is that of a continuing candidate
-abbrev pub is_continuing : List Status → ℕ → Bool
+abbrev pub is_continuing : List CandidateStatus → ℕ → Bool
 is_continuing standing c = is_continuing_status (status_of standing c)
 
 -- Transfer of ballot papers: the next available preference from a place on, the next in order for a continuing
 -- candidate, preferences for others being passed over
-abbrev pub next_available_of : List ℕ → ℕ → List Status → Option ℕ
+abbrev pub next_available_of : List ℕ → ℕ → List CandidateStatus → Option ℕ
 next_available_of prefs from standing = find (is_continuing standing) (drop from prefs)
 
 -- a list from its first element on that passes a test

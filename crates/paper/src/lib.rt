@@ -3,7 +3,7 @@
 //! [`Marks::read`] gives what is [`Keyed`] by a text, or the exact [`MarkFault`], and
 //! [`Keyed::text`] gives the text back. [`judge`] finds the preferences of a [`Marked`] paper, or why
 //! it is rejected. [`Columns`] is a set of candidates' numbers, walked in ascending order;
-//! a [`Standing`] gives each number a [`Status`], by which [`next_available`] passes over preferences.
+//! a [`Standing`] gives each number a [`CandidateStatus`], by which [`next_available`] passes over preferences.
 //!
 //! ```text
 //! let columns = Columns::empty().with(1).with(2).with(3);
@@ -25,10 +25,13 @@ mod prefs;
 mod validity;
 // where candidates stand, and the next available preference
 mod standing;
+// numbers in digits, as files and paths have them
+mod digits;
 
 pub use columns::{Columns, MAX_CANDIDATES};
+pub use digits::{are_digits, plain_number_in};
 pub use marked::{Keyed, Marked};
 pub use marks::{MarkFault, Marks};
 pub use prefs::Prefs;
-pub use standing::{Standing, Status, available_from, next_available};
+pub use standing::{CandidateStatus, Standing, available_from, next_available};
 pub use validity::{Rejection, judge};

@@ -10,7 +10,7 @@ use std::marker::Model;
 
 /// Where the bearer of a number stands.
 #[derive(Clone, Copy, PartialEq, Eq)]
-pub enum Status {
+pub enum CandidateStatus {
     /// Neither elected nor excluded.
     Continuing,
     Elected,
@@ -26,17 +26,17 @@ const NUMBERS: usize = MAX_CANDIDATES + 1;
 /// absent.
 #[derive(Clone, Copy, PartialEq, Eq)]
 pub struct Standing {
-    statuses: [Status; NUMBERS],
+    statuses: [CandidateStatus; NUMBERS],
 }
 
 impl Model for Standing {
     ghost use Rattle.std.specs.Prelude.{List};
-    ghost use Rattle.paper.specs.declared.standing.Status.{Status};
+    ghost use Rattle.paper.specs.declared.standing.CandidateStatus.{CandidateStatus};
 
-    ghost Value = { List Status };
+    ghost Value = { List CandidateStatus };
 
     ghost use Rattle.std.specs.Prelude.{◌≡◌};
-    ghost use Rattle.paper.specs.declared.standing.Status.TheVariants.{Absent};
+    ghost use Rattle.paper.specs.declared.standing.CandidateStatus.TheVariants.{Absent};
     ghost use Rattle.paper.specs.Standing.{status_of};
 
     ghost view = { λ a. a.statuses };
@@ -56,21 +56,21 @@ impl Standing {
         ensures each { (c : ℕ) → status_of result c ≡ status_among continuing elected excluded c }
         ensures continuing { (c : ℕ) → is_continuing result c ≡ list_any (nat_eq c) continuing }
     {
-        let mut statuses = [Status::Absent; NUMBERS];
-        give(&mut statuses, &excluded, Status::Excluded);
-        give(&mut statuses, &elected, Status::Elected);
-        give(&mut statuses, &continuing, Status::Continuing);
+        let mut statuses = [CandidateStatus::Absent; NUMBERS];
+        give(&mut statuses, &excluded, CandidateStatus::Excluded);
+        give(&mut statuses, &elected, CandidateStatus::Elected);
+        give(&mut statuses, &continuing, CandidateStatus::Continuing);
         Standing { statuses }
     }
 
     /// The status of a number.
-    pub fn status(&self, c: u8) -> Status
+    pub fn status(&self, c: u8) -> CandidateStatus
         ensures is { result ≡ status_of self.now c }
-        ensures other { ¬ IsColumn c → result ≡ Status.Absent }
+        ensures other { ¬ IsColumn c → result ≡ CandidateStatus.Absent }
     {
         match self.statuses.get(usize::from(c)) {
             Some(status) => *status,
-            None => Status::Absent,
+            None => CandidateStatus::Absent,
         }
     }
 
@@ -80,16 +80,16 @@ impl Standing {
         ensures known { IsTrue result → IsColumn c }
     {
         match self.status(c) {
-            Status::Continuing => true,
-            Status::Elected => false,
-            Status::Excluded => false,
-            Status::Absent => false,
+            CandidateStatus::Continuing => true,
+            CandidateStatus::Elected => false,
+            CandidateStatus::Excluded => false,
+            CandidateStatus::Absent => false,
         }
     }
 }
 
 /// Gives a status to each number of a set.
-fn give(statuses: &mut [Status; NUMBERS], numbers: &Columns, status: Status)
+fn give(statuses: &mut [CandidateStatus; NUMBERS], numbers: &Columns, status: CandidateStatus)
     ensures each { (c : ℕ) → status_of statuses.new c ≡ (if list_any (nat_eq c) numbers.now then status else status_of statuses.old c) }
     ensures none { status_of statuses.new 0 ≡ status_of statuses.old 0 }
 {

@@ -17,7 +17,8 @@ use Rattle.recount.specs.Wards.{contest_in}
 use Rattle.recount.specs.declared.differences.Checked.{Checked}
 
 -- a whole count ends at its stages
-ends_at : (contest : Contest) (lots : List (ℕ × ℕ)) (stages : List Stage) (history : History) (why : CountEnd) → reverse stages ≡ history → IsWholeCount contest lots history → end_after contest lots history ≡ Some why → EndsAt contest lots stages why
+ends_at : (contest : Contest) (lots : List (ℕ × ℕ)) (stages : List Stage) (history : History) (why : CountEnd) → reverse stages ≡ history → IsWholeCount contest lots history →
+    end_after contest lots history ≡ Some why → EndsAt contest lots stages why
 ends_at contest lots stages history why is whole ended = record {
   whole = subst (IsWholeCount contest lots) (sym is) whole;
   ended = ap (end_after contest lots) is ∙ ended;

@@ -14,9 +14,9 @@ use Rattle.recount.specs.Papers.{Told}
 use Rattle.recount.specs.Pieces.{Text, kind_of, parts, piece, pieces_of}
 use Rattle.recount.specs.ReadingBack.{AreOnce, AreSmall}
 use Rattle.recount.specs.Reading.{Named}
-use Rattle.recount.specs.declared.pieces.Kind.TheVariants.{Comment}
+use Rattle.recount.specs.declared.pieces.LineKind.TheVariants.{Comment}
 use Rattle.recount.specs.declared.pieces.Separator.TheVariants.{Mark}
-use Rattle.recount.specs.declared.state.Place.TheVariants as place
+use Rattle.recount.specs.declared.state.NextLine.TheVariants as place
 use Rattle.recount.proofs.LineLaws.{Reads, cut_piece, figure_other, figure_unblank, is_figure, last_piece, none_of, or_both, or_none, reads-line, reads-nothing, reads-then}
 use Rattle.recount.proofs.NumberLaws.{decimal_figures, number_back}
 use Rattle.recount.proofs.PaperLaws.{state}
@@ -69,7 +69,8 @@ ward_reads papers names remarks ward few first =
 
 -- ---- the rejected papers
 
-next_code : (n mark : ℕ) (rest : Text) → n ≤ 4294967295 → parts Mark mark ≡ false → pieces_of Mark [] (decimal n ++ (44 ∷ 32 ∷ mark ∷ 58 ∷ 32 ∷ rest)) ≡ decimal n ∷ (mark ∷ []) ∷ pieces_of Mark [] rest
+next_code : (n mark : ℕ) (rest : Text) → n ≤ 4294967295 → parts Mark mark ≡ false →
+    pieces_of Mark [] (decimal n ++ (44 ∷ 32 ∷ mark ∷ 58 ∷ 32 ∷ rest)) ≡ decimal n ∷ (mark ∷ []) ∷ pieces_of Mark [] rest
 next_code n mark rest few other = number_then n 44 (32 ∷ mark ∷ 58 ∷ 32 ∷ rest) (omega arith) refl ∙ ap (λ ps. decimal n ∷ ps) (rw other refl)
 
 abbrev rejected_text : ℕ → ℕ → ℕ → ℕ → ℕ → Text

@@ -22,7 +22,7 @@ use Rattle.recount.specs.Outcomes.{and_then}
 use Rattle.recount.specs.Papers.{with_size, with_withdrawn, withdrawn_from}
 use Rattle.recount.specs.Pieces.{Text}
 use Rattle.recount.specs.Reading.{Named, nothing_told, with_size_line, with_withdrawn_line}
-use Rattle.recount.specs.declared.state.Place.TheVariants as place
+use Rattle.recount.specs.declared.state.NextLine.TheVariants as place
 use Rattle.recount.proofs.LineLaws.{AreFigures, IsFigures, Reads, and_both, is_figure, line_numbers, reads-nothing, reads-then, spaced}
 use Rattle.recount.proofs.NumberLaws.{candidate_back, decimal_figures, number_back}
 use Rattle.recount.proofs.PaperLaws.{CanStand, among_papers, bundle_reads, number_line, papers_at, state, told}
@@ -58,7 +58,8 @@ papers_next b bs = length-append (replicate b.1 b.0) (papers_of bs) ∙ ap (λ n
 zero_figures : IsFigures (codes "0")
 zero_figures = record { all = refl; some = omega arith }
 
-end_reads : (first : Bool) (h s : ℕ) (w : List ℕ) (bs : List Bundle) (names : Named) (remarks : Remarks) → Reads (state (papers_at first) (told h s w bs) names remarks) end_line (state place.Names (told h s w bs) names remarks)
+end_reads : (first : Bool) (h s : ℕ) (w : List ℕ) (bs : List Bundle) (names : Named) (remarks : Remarks) →
+    Reads (state (papers_at first) (told h s w bs) names remarks) end_line (state place.Names (told h s w bs) names remarks)
 unfolding line
 end_reads first h s w bs names remarks =
     let here = state (papers_at first) (told h s w bs) names remarks in

@@ -8,7 +8,7 @@ use Rattle.recount.specs.Outcomes.{and_then}
 use Rattle.recount.specs.Passing.{behind_number_sign, pass_over}
 use Rattle.recount.specs.Pieces.{Text, is_blank, kind_of, parts, piece, pieces_of}
 use Rattle.recount.specs.Reading.{Reading, before_comment, read_from, with_line, words_before_comment}
-use Rattle.recount.specs.declared.pieces.Kind.TheVariants.{Content}
+use Rattle.recount.specs.declared.pieces.LineKind.TheVariants.{Content}
 use Rattle.recount.specs.declared.pieces.Separator.{Separator}
 use Rattle.recount.specs.declared.pieces.Separator.TheVariants.{Blank, LineFeed}
 
@@ -29,7 +29,8 @@ or_both a b h k = rw (h, k) refl
 -- ---- pieces
 
 -- a piece ends at the first byte that parts
-pub cut_piece : (s : Separator) (begun body : Text) (b : ℕ) (rest : Text) → list_any (parts s) body ≡ false → parts s b ≡ true → pieces_of s begun (body ++ b ∷ rest) ≡ piece s (begun ++ body) ++ pieces_of s [] rest
+pub cut_piece : (s : Separator) (begun body : Text) (b : ℕ) (rest : Text) → list_any (parts s) body ≡ false → parts s b ≡ true →
+    pieces_of s begun (body ++ b ∷ rest) ≡ piece s (begun ++ body) ++ pieces_of s [] rest
 cut_piece s begun [] b rest none parted = rw (parted, append-nil begun) refl
 cut_piece s begun (x ∷ body) b rest none parted =
     let part = or_none (parts s x) (list_any (parts s) body) none in

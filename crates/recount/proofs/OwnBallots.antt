@@ -15,7 +15,8 @@ use Rattle.recount.specs.declared.problem.Problem.TheVariants as problem
 use Rattle.recount.proofs.ReadBackLaws.{ballots_back}
 
 -- a fact of the ward that a file tells is one of the ward whose ballots it has
-told_of_own : (P : SheetEntry → List Bundle → List (ℕ × ℕ) → Type 0) (ward : SheetEntry) (bundles : List Bundle) (lots : List (ℕ × ℕ)) (back : IsReadBack ward bundles lots) (reading : Reading) → read (ballots ward bundles lots) ≡ Ok reading
+told_of_own : (P : SheetEntry → List Bundle → List (ℕ × ℕ) → Type 0) (ward : SheetEntry) (bundles : List Bundle) (lots : List (ℕ × ℕ)) (back : IsReadBack ward bundles lots) (reading : Reading) →
+    read (ballots ward bundles lots) ≡ Ok reading
     → P (ward_told reading) reading.papers.bundles reading.remarks.lots → P ward bundles lots
 told_of_own P ward bundles lots back reading understood told =
     let same : reading ≡ back.reading = cc (sym understood ∙ back.understood) in
@@ -23,11 +24,13 @@ told_of_own P ward bundles lots back reading understood told =
     subst (λ w. P w bundles lots) back.ward_is (subst (λ bs. P (ward_told back.reading) bs lots) back.bundles_are (subst (λ ls. P (ward_told back.reading) back.reading.papers.bundles ls) back.lots_are own))
 
 -- so what comes of a text
-pub own_check : (ward : SheetEntry) (bundles : List Bundle) (lots : List (ℕ × ℕ)) → CanBeReadBack ward bundles lots → (text : List ℕ) (checked : Checked) → IsChecked (ballots ward bundles lots) text checked → IsWardCheck ward.poll ward bundles lots text checked
+pub own_check : (ward : SheetEntry) (bundles : List Bundle) (lots : List (ℕ × ℕ)) → CanBeReadBack ward bundles lots → (text : List ℕ) (checked : Checked) →
+    IsChecked (ballots ward bundles lots) text checked → IsWardCheck ward.poll ward bundles lots text checked
 own_check ward bundles lots can text checked is =
     told_of_own (λ w bs ls. IsWardCheck w.poll w bs ls text checked) ward bundles lots (ballots_back ward bundles lots can) is.reading is.understood is.compared
 
-own_hindered : (ward : SheetEntry) (bundles : List Bundle) (lots : List (ℕ × ℕ)) (back : IsReadBack ward bundles lots) (why : Problem) → Hinders (ballots ward bundles lots) why → IsWardProblem ward.poll ward bundles lots why
+own_hindered : (ward : SheetEntry) (bundles : List Bundle) (lots : List (ℕ × ℕ)) (back : IsReadBack ward bundles lots) (why : Problem) → Hinders (ballots ward bundles lots) why →
+    IsWardProblem ward.poll ward bundles lots why
 own_hindered ward bundles lots back why is =
     told_of_own (λ w bs ls. IsWardProblem w.poll w bs ls why) ward bundles lots back is.reading is.understood is.hinders
 
@@ -36,7 +39,8 @@ memory_so None ward bundles lots = refl
 memory_so (Some poll) ward bundles lots = tt
 
 -- and a problem is one of the count
-pub own_problem : (ward : SheetEntry) (bundles : List Bundle) (lots : List (ℕ × ℕ)) → CanBeReadBack ward bundles lots → (why : Problem) → IsProblem (ballots ward bundles lots) why → IsWardProblem ward.poll ward bundles lots why
+pub own_problem : (ward : SheetEntry) (bundles : List Bundle) (lots : List (ℕ × ℕ)) → CanBeReadBack ward bundles lots → (why : Problem) → IsProblem (ballots ward bundles lots) why →
+    IsWardProblem ward.poll ward bundles lots why
 own_problem ward bundles lots can (problem.Line line flaw) is = absurd (cc (sym is ∙ (ballots_back ward bundles lots can).understood))
 own_problem ward bundles lots can problem.NoContest is = own_hindered ward bundles lots (ballots_back ward bundles lots can) problem.NoContest is
 own_problem ward bundles lots can (problem.LotNeeded stage among) is = own_hindered ward bundles lots (ballots_back ward bundles lots can) (problem.LotNeeded stage among) is

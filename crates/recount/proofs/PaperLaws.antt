@@ -17,21 +17,22 @@ use Rattle.recount.specs.Pieces.{Text}
 use Rattle.recount.specs.Ranks.{named_from, without}
 use Rattle.recount.specs.Reading.{Named, Reading, begins_with_minus, is_withdrawn_line, with_content_at, with_line_of, with_papers_line, words_before_comment}
 use Rattle.recount.specs.declared.ranks.NextWord.TheVariants.{Preference}
-use Rattle.recount.specs.declared.state.Place.{Place}
-use Rattle.recount.specs.declared.state.Place.TheVariants as place
+use Rattle.recount.specs.declared.state.NextLine.{NextLine}
+use Rattle.recount.specs.declared.state.NextLine.TheVariants as place
 use Rattle.recount.proofs.LineLaws.{AreFigures, IsFigures, Reads, line_content, line_numbers, line_unended, or_both, or_none, reads-line, spaced}
 use Rattle.recount.proofs.NumberLaws.{candidate_back, decimal_alone, decimal_figures, decimal_nonzero, number_back}
 
 -- ---- where a file stands
 
-abbrev pub state : Place → Told → Named → Remarks → Reading
+abbrev pub state : NextLine → Told → Named → Remarks → Reading
 state place papers names remarks = record { place = place; papers = papers; names = names; remarks = remarks }
 
 abbrev pub told : ℕ → ℕ → List ℕ → List Bundle → Told
 told highest seats withdrawn bundles = record { highest = highest; seats = seats; withdrawn = withdrawn; bundles = bundles }
 
 -- a line of numbers
-pub number_line : (here there : Reading) (w : Text) (ws : List Text) → IsFigures w → AreFigures ws → with_content_at here.place here (w ++ spaced ws) ≡ Ok there → Reads here ((w ++ spaced ws) ++ 10 ∷ []) there
+pub number_line : (here there : Reading) (w : Text) (ws : List Text) → IsFigures w → AreFigures ws → with_content_at here.place here (w ++ spaced ws) ≡ Ok there →
+    Reads here ((w ++ spaced ws) ++ 10 ∷ []) there
 number_line here there w ws is are content =
     reads-line here (w ++ spaced ws) there (line_unended w ws is are) (ap (λ kind. with_line_of kind here (w ++ spaced ws)) (line_content w (spaced ws) is) ∙ content)
 
@@ -104,11 +105,12 @@ unminus n small = (decimal_by_steps (λ n ds. (begins_with_minus ds ≡ false) �
     more n ds high is = longer ds (48 + n % 10) is.0 is.1
 
 -- before all papers, or among them
-abbrev pub papers_at : Bool → Place
+abbrev pub papers_at : Bool → NextLine
 papers_at true = place.Withdrawn
 papers_at false = place.Papers
 
-pub among_papers : (first : Bool) (here : Reading) (text : Text) (words : List Text) → words_before_comment text ≡ Ok words → is_withdrawn_line words ≡ false → with_content_at (papers_at first) here text ≡ with_papers_line here words
+pub among_papers : (first : Bool) (here : Reading) (text : Text) (words : List Text) → words_before_comment text ≡ Ok words → is_withdrawn_line words ≡ false →
+    with_content_at (papers_at first) here text ≡ with_papers_line here words
 among_papers true here text words are none = rw (are, none) refl
 among_papers false here text words are none = rw are refl
 
@@ -121,7 +123,8 @@ pub record CanStand (highest : ℕ) (withdrawn : List ℕ) (list : List ℕ) (n 
   pub low : AllByRecursion (λ c. c ≤ highest) list
   pub standing : Standing withdrawn list
 
-list_told : (h s : ℕ) (w : List ℕ) (bs : List Bundle) (n : ℕ) (list : List ℕ) → 1 ≤ length list → length (papers_of bs) + n ≤ max_papers → with_list (told h s w bs) n list ≡ Ok (told h s w (with_papers bs list n))
+list_told : (h s : ℕ) (w : List ℕ) (bs : List Bundle) (n : ℕ) (list : List ℕ) → 1 ≤ length list → length (papers_of bs) + n ≤ max_papers →
+    with_list (told h s w bs) n list ≡ Ok (told h s w (with_papers bs list n))
 list_told h s w bs n [] listed few = absurd (omega arith)
 list_told h s w bs n (c ∷ list) listed few = rw (le-leb (length (papers_of bs) + n) max_papers few) refl
 
@@ -138,7 +141,8 @@ bundle_words : (here : Reading) (n : ℕ) (list : List ℕ) (papers : Told) → 
 bundle_words here n [] papers listed is = absurd (omega arith)
 bundle_words here n (c ∷ list) papers listed is = rw is refl
 
-pub bundle_reads : (first : Bool) (h s : ℕ) (w : List ℕ) (bs : List Bundle) (names : Named) (remarks : Remarks) (list : List ℕ) (n : ℕ) → h ≤ 30 → CanStand h w list n → length (papers_of bs) + n ≤ max_papers
+pub bundle_reads : (first : Bool) (h s : ℕ) (w : List ℕ) (bs : List Bundle) (names : Named) (remarks : Remarks) (list : List ℕ) (n : ℕ) → h ≤ 30 → CanStand h w list n →
+    length (papers_of bs) + n ≤ max_papers
     → Reads (state (papers_at first) (told h s w bs) names remarks) (bundle_line (list, n)) (state place.Papers (told h s w (with_papers bs list n)) names remarks)
 bundle_reads first h s w bs names remarks list n bound can few =
     let here = state (papers_at first) (told h s w bs) names remarks in

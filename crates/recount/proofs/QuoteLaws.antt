@@ -1,5 +1,6 @@
 -- The names are read back.
-use Rattle.std.proofs.Common.{◌≡◌, ◌∙◌, ℕ, zero, suc, ◌+◌, ◌<◌, ◌≤◌, ◌||◌, List, [], ◌∷◌, ◌++◌, Bool, true, false, length, map, refl, sym, ap, subst, arith, append_assoc, append-nil, length-append, Ok, Some}
+use Rattle.std.proofs.Common.{◌≡◌, ◌∙◌, ℕ, zero, suc, ◌+◌, ◌<◌, ◌≤◌, ◌||◌, List, [], ◌∷◌, ◌++◌, Bool, true, false, length, map, refl, sym, ap, subst, arith, append_assoc, append-nil}
+use Rattle.std.proofs.Common.{length-append, Ok, Some}
 use Rattle.std.specs.Prelude.{◌==◌, codes, fold, if◌then◌else◌, Option, option_map}
 use Rattle.std.specs.List.{AllByRecursion, find, flat_map, list_any, range_with_len}
 use Rattle.std.proofs.lemmas.Bool.{le-ltb, lt-ltb}
@@ -13,7 +14,7 @@ use Rattle.recount.specs.Pieces.{Text}
 use Rattle.recount.specs.ReadingBack.{IsName}
 use Rattle.recount.specs.Reading.{Named, with_name}
 use Rattle.recount.specs.declared.names.Within.TheVariants.{Inside}
-use Rattle.recount.specs.declared.state.Place.TheVariants as place
+use Rattle.recount.specs.declared.state.NextLine.TheVariants as place
 use Rattle.recount.proofs.NameLemmas.{ascii_text}
 use Rattle.recount.proofs.LineLaws.{Reads, or_both, or_none, reads-line, reads-nothing, reads-then}
 use Rattle.recount.proofs.PaperLaws.{state}
@@ -83,7 +84,8 @@ pub is_name : (candidates : List (ℕ × Text)) (c : ℕ) → AllByRecursion (λ
 is_name [] c all = withdrawn_name
 is_name (x ∷ candidates) c all = found_name (x.0 == c) x (find (λ (candidate : ℕ × Text). candidate.0 == c) candidates) all.0 (is_name candidates c all.1)
 
-pub names_read : (candidates : List (ℕ × Text)) (papers : Told) (remarks : Remarks) (ward : Text) (before : List Text) (k n : ℕ) → AllByRecursion (λ (candidate : ℕ × Text). IsName candidate.1) candidates → length before + n ≤ papers.highest
+pub names_read : (candidates : List (ℕ × Text)) (papers : Told) (remarks : Remarks) (ward : Text) (before : List Text) (k n : ℕ) →
+    AllByRecursion (λ (candidate : ℕ × Text). IsName candidate.1) candidates → length before + n ≤ papers.highest
     → Reads (state place.Names papers (record { names = before; ward = ward }) remarks) (flat_map (name_line candidates) (range_with_len k n)) (state place.Names papers (record { names = before ++ map (name_of candidates) (range_with_len k n); ward = ward }) remarks)
 names_read candidates papers remarks ward before k zero all few =
     subst (λ l. Reads (state place.Names papers (record { names = before; ward = ward }) remarks) [] (state place.Names papers (record { names = l; ward = ward }) remarks)) (sym (append-nil before))

@@ -51,5 +51,6 @@ pub ranking_without : (withdrawn named : List ℕ) → IsRanking named → IsRan
 ranking_without withdrawn named rank = ranking_kept (λ c. not (list_any (nat_eq c) withdrawn)) named rank
 
 -- one who is named already
-pub named_twice : (highest : ℕ) (ranks : Ranked) (word : List ℕ) (c : ℕ) → candidate_in highest word ≡ Ok c → list_any (λ d. d == c) ranks.named ≡ true → Err CandidateTwice ≡ with_candidate highest ranks word
+pub named_twice : (highest : ℕ) (ranks : Ranked) (word : List ℕ) (c : ℕ) → candidate_in highest word ≡ Ok c → list_any (λ d. d == c) ranks.named ≡ true →
+    Err CandidateTwice ≡ with_candidate highest ranks word
 named_twice highest ranks word c is named = rw (is, named) refl

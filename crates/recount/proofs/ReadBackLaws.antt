@@ -1,5 +1,6 @@
 -- The ballots of a ward are read back.
-use Rattle.std.proofs.Common.{◌≡◌, ◌∙◌, ℕ, zero, suc, ◌+◌, ◌-◌, ◌<◌, ◌≤◌, ◌||◌, nat_eq, Bool, true, false, List, [], ◌∷◌, ◌++◌, length, map, refl, sym, ap, subst, arith, append_assoc, append-nil, length-append, Ok, Some, None, is_none}
+use Rattle.std.proofs.Common.{◌≡◌, ◌∙◌, ℕ, zero, suc, ◌+◌, ◌-◌, ◌<◌, ◌≤◌, ◌||◌, nat_eq, Bool, true, false, List, [], ◌∷◌, ◌++◌, length, map, refl, sym, ap, subst, arith, append_assoc}
+use Rattle.std.proofs.Common.{append-nil, length-append, Ok, Some, None, is_none}
 use Rattle.std.specs.Prelude.{◌==◌, codes, if◌then◌else◌, Option, option_map, replicate, slice_get}
 use Rattle.std.specs.Fmt.{decimal}
 use Rattle.std.specs.List.{AllByRecursion, filter, find, flat_map, list_all, list_any, range_with_len}
@@ -11,7 +12,8 @@ use Rattle.paper.proofs.ColumnSets.{Ascends, ascends_from_columns, columns_from_
 use Rattle.votes.specs.Units.{max_papers}
 use Rattle.count.specs.Bundles.{Bundle, IsBundle, papers_of}
 use Rattle.count.specs.Law.Contest.{AreForCandidates, In}
-use Rattle.sheet.specs.Ballots.{ballots, bundle_line, comments, end_line, highest_number, lot_comment, name_at, name_line, name_lines, number_or_none, papers_text, rejected_comment, size_line, ward_comment, withdrawn, withdrawn_line}
+use Rattle.sheet.specs.Ballots.{ballots, bundle_line, comments, end_line, highest_number, lot_comment, name_at, name_line, name_lines, number_or_none, papers_text, rejected_comment}
+use Rattle.sheet.specs.Ballots.{size_line, ward_comment, withdrawn, withdrawn_line}
 use Rattle.sheet.specs.Entries.{SheetEntry}
 use Rattle.sheet.specs.Lines.{line, quoted}
 use Rattle.sheet.specs.declared.ward.Poll.{Poll}
@@ -23,7 +25,7 @@ use Rattle.recount.specs.Reading.{Named, Reading, nothing_told, read, read_from}
 use Rattle.recount.specs.ReadingBack.{CanBeReadBack, IsPollOf, IsReadBack}
 use Rattle.recount.specs.Wards.{candidates_of, numbers_of, poll_by, poll_told, ward_told}
 use Rattle.recount.specs.declared.pieces.Separator.TheVariants.{LineFeed}
-use Rattle.recount.specs.declared.state.Place.TheVariants as place
+use Rattle.recount.specs.declared.state.NextLine.TheVariants as place
 use Rattle.recount.proofs.CandidateLaws.{Rise, any_range, rebuilt}
 use Rattle.recount.proofs.CommentLaws.{AreCounts, lots_read, rejected_reads, ward_reads}
 use Rattle.recount.proofs.FrontLaws.{bundles_read, size_reads, withdrawn_reads}
@@ -40,7 +42,8 @@ highest_next x y others =
     let e : suc (suc (length others)) - 1 ≡ suc (suc (length others) - 1) = omega arith in
     ap (λ n. number_or_none (slice_get (x ∷ y ∷ others) n)) e
 
-all_low : (low : ℕ) (candidates : List (ℕ × Text)) → Ascends low (map (λ (candidate : ℕ × Text). candidate.0) candidates) → AllByRecursion (λ (x : ℕ × Text). x.0 ≤ highest_number candidates) candidates
+all_low : (low : ℕ) (candidates : List (ℕ × Text)) → Ascends low (map (λ (candidate : ℕ × Text). candidate.0) candidates) →
+    AllByRecursion (λ (x : ℕ × Text). x.0 ≤ highest_number candidates) candidates
 all_low low [] up = tt
 all_low low (x ∷ []) up = (omega arith, tt)
 all_low low (x ∷ y ∷ others) up =
@@ -53,7 +56,8 @@ highest_few low [] up = omega arith
 highest_few low (x ∷ []) up = up.1
 highest_few low (x ∷ y ∷ others) up = omega (arith, highest_next x y others, highest_few x.0 (y ∷ others) up.2)
 
-rises : (low end : ℕ) (candidates : List (ℕ × Text)) → Ascends low (map (λ (candidate : ℕ × Text). candidate.0) candidates) → AllByRecursion (λ (x : ℕ × Text). x.0 ≤ end) candidates → Rise (low + 1) (end + 1) candidates
+rises : (low end : ℕ) (candidates : List (ℕ × Text)) → Ascends low (map (λ (candidate : ℕ × Text). candidate.0) candidates) → AllByRecursion (λ (x : ℕ × Text). x.0 ≤ end) candidates →
+    Rise (low + 1) (end + 1) candidates
 rises low end [] up all = tt
 rises low end (x ∷ others) up all = (omega (arith, up.0), omega (arith, all.0), rises x.0 end others up.2 all.1)
 
@@ -67,7 +71,8 @@ range_ascends : (p : ℕ → Bool) (k n : ℕ) → k + n ≤ max_candidates → 
 range_ascends p k zero few = tt
 range_ascends p k (suc n) few = range_one (p (k + 1)) k (filter p (range_with_len (k + 1 + 1) n)) (omega arith) (range_ascends p (k + 1) n (omega arith))
 
-range_low_one : (b : Bool) (a end : ℕ) (others : List ℕ) → 1 ≤ a → a ≤ end → AllByRecursion (λ c. (1 ≤ c) × (c ≤ end)) others → AllByRecursion (λ c. (1 ≤ c) × (c ≤ end)) (if b then a ∷ others else others)
+range_low_one : (b : Bool) (a end : ℕ) (others : List ℕ) → 1 ≤ a → a ≤ end → AllByRecursion (λ c. (1 ≤ c) × (c ≤ end)) others →
+    AllByRecursion (λ c. (1 ≤ c) × (c ≤ end)) (if b then a ∷ others else others)
 range_low_one true a end others some few all = ((some, few), all)
 range_low_one false a end others some few all = all
 
@@ -120,7 +125,8 @@ module _ (ward : SheetEntry) where
       let stands = any_range (λ d. is_none (name_at ward.candidates d)) 1 highest c number.0 (omega (arith, number.1)) ∙ has_name ward.candidates c all.0 in
       ((number.1, rest.0), (stands, rest.1))
 
-  bundles_stand : (bundles : List Bundle) (most : ℕ) → IsColumnSet (numbers_of ward) → AllByRecursion IsBundle bundles → AreForCandidates (numbers_of ward) (map (λ (b : Bundle). b.0) bundles) → length (papers_of bundles) ≤ max_papers
+  bundles_stand : (bundles : List Bundle) (most : ℕ) → IsColumnSet (numbers_of ward) → AllByRecursion IsBundle bundles → AreForCandidates (numbers_of ward) (map (λ (b : Bundle). b.0) bundles) →
+      length (papers_of bundles) ≤ max_papers
       → AllByRecursion (λ (b : Bundle). CanStand highest (withdrawn ward) b.0 b.1) bundles
   bundles_stand [] most set each fors few = tt
   bundles_stand (b ∷ bundles) most set each fors few =

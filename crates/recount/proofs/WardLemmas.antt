@@ -6,7 +6,6 @@ use Rattle.std.proofs.lemmas.List.{get_or-map, length-map, take_all, take_more}
 use Rattle.paper.specs.Columns.{IsColumn, IsColumnSet, max_candidates}
 use Rattle.paper.proofs.ColumnSets.{Ascends, columns_from_ascends}
 use Rattle.count.proofs.ColumnLemmas.{columns-take}
-use Rattle.sheet.proofs.Candidates.{IsColumn-candidate}
 use Rattle.recount.specs.Wards.{candidates_from, candidates_of}
 
 -- numbers that ascend from above a number on do so from above a lower one
@@ -25,7 +24,8 @@ candidates_ascend withdrawn k (name ∷ names) few =
     one_more (list_any (nat_eq (k + 1)) withdrawn) k name (candidates_from withdrawn (k + 1 + 1) names) (omega arith) (candidates_ascend withdrawn (k + 1) names (omega arith))
 
 -- what is shown of candidates has their numbers
-pub shown_numbers : (candidates : List (ℕ × String Global)) → map (λ (candidate : ℕ × List ℕ). candidate.0) (map (λ candidate. (candidate.0, string_bytes candidate.1)) candidates) ≡ map (λ candidate. candidate.0) candidates
+pub shown_numbers : (candidates : List (ℕ × String Global)) →
+    map (λ (candidate : ℕ × List ℕ). candidate.0) (map (λ candidate. (candidate.0, string_bytes candidate.1)) candidates) ≡ map (λ candidate. candidate.0) candidates
 shown_numbers [] = refl
 shown_numbers (candidate ∷ candidates) = ap (λ numbers. candidate.0 ∷ numbers) (shown_numbers candidates)
 
@@ -41,13 +41,19 @@ candidates_set withdrawn names candidates few is =
 abbrev numbers_in : List (ℕ × String Global) → List ℕ
 numbers_in candidates = map (λ candidate. candidate.0) candidates
 
--- each is one that a candidate may have
-pub number_is : (candidates : List (ℕ × String Global)) (i : ℕ) (candidate : ℕ × String Global) → IsColumnSet (numbers_in candidates) → i < length candidates → candidate ≡ get_or candidates i candidate → IsColumn candidate.0
+-- the number of each candidate is one that a candidate may have
+IsColumn-candidate : {X : Type 0} (number : X → ℕ) (xs : List X) (i : ℕ) (d : X) → i < length xs → IsColumnSet (map number xs) → IsColumn (number (get_or xs i d))
+IsColumn-candidate number xs i d within set =
+    subst IsColumn (get_or-map number xs i d 0 within) (set.within i (omega (arith, length-map xs number)))
+
+pub number_is : (candidates : List (ℕ × String Global)) (i : ℕ) (candidate : ℕ × String Global) → IsColumnSet (numbers_in candidates) → i < length candidates →
+    candidate ≡ get_or candidates i candidate → IsColumn candidate.0
 number_is candidates i candidate set here is =
     subst IsColumn (sym (ap (λ (c : ℕ × String Global). c.0) is)) (IsColumn-candidate (λ (c : ℕ × String Global). c.0) candidates i candidate here set)
 
 -- one more of them
-pub number_more : (candidates : List (ℕ × String Global)) (i : ℕ) (candidate : ℕ × String Global) (columns more : List ℕ) → IsColumnSet (numbers_in candidates) → i < length candidates → candidate ≡ get_or candidates i candidate
+pub number_more : (candidates : List (ℕ × String Global)) (i : ℕ) (candidate : ℕ × String Global) (columns more : List ℕ) → IsColumnSet (numbers_in candidates) → i < length candidates →
+    candidate ≡ get_or candidates i candidate
     → columns ≡ take i (numbers_in candidates) → (IsColumnSet (columns ++ candidate.0 ∷ []) → more ≡ columns ++ candidate.0 ∷ []) → more ≡ take (i + 1) (numbers_in candidates)
 number_more candidates i candidate columns more set here is so last =
     let within : i < length (numbers_in candidates) = omega (arith, length-map candidates (λ (c : ℕ × String Global). c.0)) in

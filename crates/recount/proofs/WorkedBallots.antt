@@ -11,10 +11,10 @@ use Rattle.recount.specs.Pieces.{kind_of, lines_of, words_of}
 use Rattle.recount.specs.Ranks.{named_in}
 use Rattle.recount.specs.Reading.{Reading, nothing_told, read, with_line, words_before_comment}
 use Rattle.recount.proofs.NameLemmas.{ascii_text}
-use Rattle.recount.specs.declared.pieces.Kind.TheVariants.{Comment, Empty}
+use Rattle.recount.specs.declared.pieces.LineKind.TheVariants.{Comment, Empty}
 use Rattle.recount.specs.declared.problem.Flaw.{Flaw}
 use Rattle.recount.specs.declared.problem.Flaw.TheVariants as flaw
-use Rattle.recount.specs.declared.state.Place.TheVariants as place
+use Rattle.recount.specs.declared.state.NextLine.TheVariants as place
 
 -- ---- lines and words
 

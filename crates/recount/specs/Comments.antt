@@ -69,25 +69,25 @@ lot_in (at ∷ stage ∷ k ∷ c ∷ []) =
     if is_word (codes "at") at && is_word (codes "stage") stage then option_and_then (λ number. option_and_then (λ candidate. Some (number, candidate)) (small_in c)) (small_in k) else None
 lot_in (at ∷ stage ∷ k ∷ c ∷ other ∷ words) = None
 
--- what is told, where the same wasn't told before
-abbrev pub once : Bool → Remarks → Result Remarks Flaw
-once before remarks = if before then Err Twice else Ok remarks
+-- what a comment tells, where it is understood, and the same wasn't told before
+abbrev pub told_once : {X : Type 0} → Flaw → Option X → Option X → Result (Option X) Flaw
+told_once flaw before None = Err flaw
+told_once flaw before (Some told) = if is_some before then Err Twice else Ok (Some told)
 
--- what is told, with what a comment tells, where it is understood
+-- what is told, with what a comment tells of the ward, of the rejected papers, and of a lot
 abbrev pub with_ward : Remarks → Option ℕ → Result Remarks Flaw
-with_ward remarks None = Err Ward
-with_ward remarks (Some ward) = once (is_some remarks.ward) (record { ward = Some ward; rejected = remarks.rejected; lots = remarks.lots })
+with_ward remarks ward = and_then (told_once Ward remarks.ward ward) (λ kept. Ok (record { ward = kept; rejected = remarks.rejected; lots = remarks.lots }))
 
 abbrev pub with_rejected : Remarks → Option (List ℕ) → Result Remarks Flaw
-with_rejected remarks None = Err Rejected
-with_rejected remarks (Some rejected) = once (is_some remarks.rejected) (record { ward = remarks.ward; rejected = Some rejected; lots = remarks.lots })
+with_rejected remarks rejected = and_then (told_once Rejected remarks.rejected rejected) (λ kept. Ok (record { ward = remarks.ward; rejected = kept; lots = remarks.lots }))
 
 abbrev pub is_drawn : ℕ → List (ℕ × ℕ) → Bool
 is_drawn stage lots = list_any (λ lot. lot.0 == stage) lots
 
 abbrev pub with_lot : Remarks → Option (ℕ × ℕ) → Result Remarks Flaw
 with_lot remarks None = Err Lot
-with_lot remarks (Some lot) = once (is_drawn lot.0 remarks.lots) (record { ward = remarks.ward; rejected = remarks.rejected; lots = remarks.lots ++ lot ∷ [] })
+with_lot remarks (Some lot) =
+    if is_drawn lot.0 remarks.lots then Err Twice else Ok (record { ward = remarks.ward; rejected = remarks.rejected; lots = remarks.lots ++ lot ∷ [] })
 
 -- a comment that isn't ours tells nothing
 abbrev pub with_other : Remarks → Text → Result Remarks Flaw

@@ -31,14 +31,18 @@ with_bytes quoting bytes = record { name = quoting.name ++ bytes; comment = quot
 abbrev pub with_comment_byte : Quoting → ℕ → Quoting
 with_comment_byte quoting byte = record { name = quoting.name; comment = quoting.comment ++ byte ∷ []; within = Comment }
 
+-- a byte outside the name: a sign leads on, a blank leaves all as it is, and any other byte stands beside a name
+abbrev pub outside : ℕ → Within → Quoting → ℕ → Quoting
+outside sign next quoting byte = if byte == sign then moved_to next quoting else (if is_blank byte then quoting else moved_to Beside quoting)
+
 -- one byte more: a quotation mark opens the name and closes it; within it a backslash stands before a quotation mark and before a
 -- backslash, and before another byte for itself; behind it a `#` begins a comment
 abbrev pub quoting_at : Within → Quoting → ℕ → Quoting
-quoting_at Before quoting byte = if byte == 34 then moved_to Inside quoting else (if is_blank byte then quoting else moved_to Beside quoting)
+quoting_at Before quoting byte = outside 34 Inside quoting byte
 quoting_at Inside quoting byte =
     if byte == 34 then moved_to Behind quoting else (if byte == 92 then moved_to Escaped quoting else with_bytes quoting (byte ∷ []))
 quoting_at Escaped quoting byte = if byte == 34 || byte == 92 then with_bytes quoting (byte ∷ []) else with_bytes quoting (92 ∷ byte ∷ [])
-quoting_at Behind quoting byte = if byte == 35 then moved_to Comment quoting else (if is_blank byte then quoting else moved_to Beside quoting)
+quoting_at Behind quoting byte = outside 35 Comment quoting byte
 quoting_at Comment quoting byte = with_comment_byte quoting byte
 quoting_at Beside quoting byte = quoting
 

@@ -19,7 +19,7 @@ abbrev pub number_from : ℕ → ℕ → Text → Result ℕ Flaw
 number_from most number [] = Ok number
 number_from most number (byte ∷ bytes) = and_then (with_digit most number byte) (λ more. number_from most more bytes)
 
--- the number that a word writes, digits alone, and which is so large at most
+-- the number that a word of digits writes, if it is at most the greatest one given
 abbrev pub number_in : ℕ → Text → Result ℕ Flaw
 number_in most [] = Err NotNumber
 number_in most (byte ∷ bytes) = number_from most 0 (byte ∷ bytes)

@@ -128,7 +128,7 @@ checked_status checked.Sheet = 0
 checked_status checked.Declaration = 0
 checked_status (checked.Differs line should_be) = 1
 
--- and of what hindered it
+-- the status of what hindered a check
 abbrev pub hindered_status : Problem → ℕ
 hindered_status (problem.Line line flaw) = 2
 hindered_status problem.NoContest = 2

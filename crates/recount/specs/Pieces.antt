@@ -1,7 +1,7 @@
 -- A text in lines, and a line in words.
 use Rattle.std.specs.Prelude.{ℕ, ◌==◌, ◌&&◌, ◌||◌, ◌++◌, Bool, List, [], ◌∷◌, if◌then◌else◌}
-use Rattle.recount.specs.declared.pieces.Kind.{Kind}
-use Rattle.recount.specs.declared.pieces.Kind.TheVariants.{Empty, Comment, Content}
+use Rattle.recount.specs.declared.pieces.LineKind.{LineKind}
+use Rattle.recount.specs.declared.pieces.LineKind.TheVariants.{Empty, Comment, Content}
 use Rattle.recount.specs.declared.pieces.Separator.{Separator}
 use Rattle.recount.specs.declared.pieces.Separator.TheVariants.{LineFeed, Blank, Mark, Equals}
 
@@ -53,6 +53,6 @@ abbrev pub words_of : Text → List Text
 words_of line = pieces_of Blank [] line
 
 -- what stands on a line: blanks alone, a `#` behind them, or something else
-abbrev pub kind_of : Text → Kind
+abbrev pub kind_of : Text → LineKind
 kind_of [] = Empty
 kind_of (byte ∷ bytes) = if is_blank byte then kind_of bytes else (if byte == 35 then Comment else Content)

@@ -46,7 +46,7 @@ sharers word = pieces_of Equals [] word
 abbrev pub standing_with : List ℕ → ℕ → ℕ → ℕ
 standing_with withdrawn standing c = if list_any (nat_eq c) withdrawn then standing else standing + 1
 
--- how many of those with some numbers stand, behind so many others
+-- how many of the candidates stand whose numbers some words write, after so many others
 abbrev pub standing_from : ℕ → List ℕ → ℕ → List Text → Result ℕ Flaw
 standing_from highest withdrawn standing [] = Ok standing
 standing_from highest withdrawn standing (word ∷ words) =

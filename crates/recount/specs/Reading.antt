@@ -7,12 +7,12 @@ use Rattle.recount.specs.Passing.{behind_number_sign, pass_over}
 use Rattle.recount.specs.Papers.{Told, with_bundle, with_size, with_withdrawn}
 use Rattle.recount.specs.Names.{name_in}
 use Rattle.recount.specs.Comments.{Remarks, with_comment}
-use Rattle.recount.specs.declared.pieces.Kind.{Kind}
-use Rattle.recount.specs.declared.pieces.Kind.TheVariants.{Empty, Comment, Content}
+use Rattle.recount.specs.declared.pieces.LineKind.{LineKind}
+use Rattle.recount.specs.declared.pieces.LineKind.TheVariants.{Empty, Comment, Content}
 use Rattle.recount.specs.declared.problem.Flaw.{Flaw}
 use Rattle.recount.specs.declared.problem.Flaw.TheVariants.{BehindName, NamesWanting, NoEnd, NoSize}
-use Rattle.recount.specs.declared.state.Place.{Place}
-use Rattle.recount.specs.declared.state.Place.TheVariants as place
+use Rattle.recount.specs.declared.state.NextLine.{NextLine}
+use Rattle.recount.specs.declared.state.NextLine.TheVariants as place
 
 -- the names of the numbers from 1 on, and the name of the ward
 pub record Named : Type 0 where
@@ -21,16 +21,16 @@ pub record Named : Type 0 where
 
 -- what a file has told so far, and where its next line stands
 pub record Reading : Type 0 where
-  pub place : Place
+  pub place : NextLine
   pub papers : Told
   pub names : Named
   pub remarks : Remarks
 
 -- the same, with other papers, other names or other remarks
-abbrev pub with_papers_at : Reading → Place → Told → Reading
+abbrev pub with_papers_at : Reading → NextLine → Told → Reading
 with_papers_at reading place papers = record { place = place; papers = papers; names = reading.names; remarks = reading.remarks }
 
-abbrev pub with_names_at : Reading → Place → Named → Reading
+abbrev pub with_names_at : Reading → NextLine → Named → Reading
 with_names_at reading place names = record { place = place; papers = reading.papers; names = names; remarks = reading.remarks }
 
 abbrev pub with_remarks : Reading → Remarks → Reading
@@ -89,7 +89,7 @@ abbrev pub with_name_line : Reading → Text → Result Reading Flaw
 with_name_line reading line = and_then (name_in line) (λ name. Ok (with_name reading name))
 
 -- a line that tells something, by where it stands
-abbrev pub with_content_at : Place → Reading → Text → Result Reading Flaw
+abbrev pub with_content_at : NextLine → Reading → Text → Result Reading Flaw
 with_content_at place.Size reading line = and_then (words_before_comment line) (with_size_line reading)
 with_content_at place.Withdrawn reading line = and_then (words_before_comment line) (with_withdrawn_line reading)
 with_content_at place.Papers reading line = and_then (words_before_comment line) (with_papers_line reading)
@@ -97,7 +97,7 @@ with_content_at place.Names reading line = with_name_line reading line
 with_content_at place.End reading line = Err BehindName
 
 -- a line: an empty one is passed over; of the comments that stand alone our own are read, between whichever lines
-abbrev pub with_line_of : Kind → Reading → Text → Result Reading Flaw
+abbrev pub with_line_of : LineKind → Reading → Text → Result Reading Flaw
 with_line_of Empty reading line = Ok reading
 with_line_of Comment reading line = and_then (with_comment reading.remarks line) (λ remarks. Ok (with_remarks reading remarks))
 with_line_of Content reading line = with_content_at reading.place reading line
@@ -106,7 +106,7 @@ abbrev pub with_line : Reading → Text → Result Reading Flaw
 with_line reading line = with_line_of (kind_of line) reading line
 
 -- what is wrong with a file that ends where a line of this kind should stand
-abbrev pub at_end : Place → Reading → Result Reading Flaw
+abbrev pub at_end : NextLine → Reading → Result Reading Flaw
 at_end place.Size reading = Err NoSize
 at_end place.Withdrawn reading = Err NoEnd
 at_end place.Papers reading = Err NoEnd

@@ -76,7 +76,7 @@ AreCheckedAsTold =
     (ward : SheetEntry) (bundles : List Bundle) (lots : List (ℕ × ℕ)) → CanBeReadBack ward bundles lots →
     (text : Text) (checked : Checked) → IsChecked (ballots ward bundles lots) text checked → IsWardCheck ward.poll ward bundles lots text checked
 
--- and a problem is one of its count
+-- a problem that is told of it is one of its count
 abbrev pub AreHinderedAsTold : Type 0
 AreHinderedAsTold =
     (ward : SheetEntry) (bundles : List Bundle) (lots : List (ℕ × ℕ)) → CanBeReadBack ward bundles lots →

@@ -1,7 +1,7 @@
 //! Our own comments: the number of the ward, the rejected papers of each code, and the lots.
 
 ghost use Rattle.std.specs.Prelude.{◌≡◌, ◌∷◌, [], map, option_map, IfOk, OnOk, codes};
-ghost use Rattle.recount.specs.Comments.{code_in, codes_in, count_in, is_drawn, is_end, is_word, lot_in, rejected_in, small_in, ward_in};
+ghost use Rattle.recount.specs.Comments.{code_in, codes_in, count_in, is_drawn, is_end, is_word, lot_in, rejected_in, small_in, told_once, ward_in};
 ghost use Rattle.recount.specs.Comments.{with_comment, with_kind, with_lot, with_other, with_rejected, with_ward, with_words};
 ghost use Rattle.recount.specs.Outcomes.{outcome};
 ghost use Rattle.recount.specs.Views.{remarks_of};
@@ -113,33 +113,33 @@ fn is_drawn(stage: u8, lots: &[(u8, u8)]) -> bool
     false
 }
 
+/// Keeps what a comment tells, where it is understood, and the same wasn't told before.
+fn keep_once<T: Copy>(kept: &mut Option<T>, told: Option<T>, flaw: Flaw) -> Result<(), Flaw>
+    ensures { outcome result kept.new ≡ told_once flaw kept.old told }
+{
+    if told.is_none() {
+        return Err(flaw);
+    }
+    if kept.is_some() {
+        return Err(Flaw::Twice);
+    }
+    *kept = told;
+    Ok(())
+}
+
 impl Comments {
     /// The number of the ward, where it is told.
     fn take_ward(&mut self, ward: Option<u8>) -> Result<(), Flaw>
         ensures { outcome result (remarks_of self.new) ≡ with_ward (remarks_of self.old) ward }
     {
-        let Some(ward) = ward else {
-            return Err(Flaw::Ward);
-        };
-        if self.ward.is_some() {
-            return Err(Flaw::Twice);
-        }
-        self.ward = Some(ward);
-        Ok(())
+        keep_once(&mut self.ward, ward, Flaw::Ward)
     }
 
     /// The rejected papers, where they are told.
     fn take_rejected(&mut self, rejected: Option<[u32; 5]>) -> Result<(), Flaw>
         ensures { outcome result (remarks_of self.new) ≡ with_rejected (remarks_of self.old) rejected }
     {
-        let Some(rejected) = rejected else {
-            return Err(Flaw::Rejected);
-        };
-        if self.rejected.is_some() {
-            return Err(Flaw::Twice);
-        }
-        self.rejected = Some(rejected);
-        Ok(())
+        keep_once(&mut self.rejected, rejected, Flaw::Rejected)
     }
 
     /// A lot, where it is told.

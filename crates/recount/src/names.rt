@@ -1,7 +1,7 @@
 //! Names, a line each, in quotation marks.
 
 ghost use Rattle.std.specs.Prelude.{◌≡◌, [], ◌∷◌, IfOk, OnOk, string_bytes};
-ghost use Rattle.recount.specs.Names.{as_text, name_in, name_of, with_byte, with_bytes};
+ghost use Rattle.recount.specs.Names.{as_text, name_in, name_of, outside, with_byte, with_bytes};
 ghost use Rattle.recount.specs.Outcomes.{told_as};
 ghost use Rattle.recount.specs.Views.{quoting_of};
 
@@ -63,17 +63,25 @@ impl Quoted {
         Ok(())
     }
 
+    /// One byte outside the name: a sign leads on, a blank leaves all as it is, and any other byte stands beside
+    /// a name.
+    fn take_outside(&mut self, sign: u8, next: Within, byte: u8)
+        ensures { quoting_of self.new ≡ outside sign next (quoting_of self.old) byte }
+    {
+        if byte == sign {
+            self.within = next;
+        } else if !is_blank(byte) {
+            self.within = Within::Beside;
+        }
+    }
+
     /// One byte more.
     fn take(&mut self, byte: u8) -> Result<(), AllocError>
         ensures { OnOk result (quoting_of self.new ≡ with_byte (quoting_of self.old) byte) }
     {
         match self.within {
             Within::Before => {
-                if byte == b'"' {
-                    self.within = Within::Inside;
-                } else if !is_blank(byte) {
-                    self.within = Within::Beside;
-                }
+                self.take_outside(b'"', Within::Inside, byte);
                 Ok(())
             }
             Within::Inside => {
@@ -94,11 +102,7 @@ impl Quoted {
                 self.add(&[b'\\', byte])
             }
             Within::Behind => {
-                if byte == b'#' {
-                    self.within = Within::Comment;
-                } else if !is_blank(byte) {
-                    self.within = Within::Beside;
-                }
+                self.take_outside(b'#', Within::Comment, byte);
                 Ok(())
             }
             Within::Comment => {

@@ -20,7 +20,7 @@ fn with_digit(most: u32, number: u32, byte: u8) -> Result<u32, Flaw>
     Ok(more as u32)
 }
 
-/// The number that a word writes, and which is so large at most.
+/// The number that a word writes, if it is at most the greatest one given.
 pub(crate) fn number_in(most: u32, word: &[u8]) -> Result<u32, Flaw>
     ensures is { result ≡ number_in most word.now }
     ensures few { IfOk result (λ n. n ≤ most) }
@@ -35,7 +35,7 @@ pub(crate) fn number_in(most: u32, word: &[u8]) -> Result<u32, Flaw>
     Ok(number)
 }
 
-/// The candidate whose number a word writes, where so many is the highest.
+/// The candidate whose number a word writes, at most the highest number.
 pub(crate) fn candidate_in(highest: u8, word: &[u8]) -> Result<u8, Flaw>
     ensures is { result ≡ candidate_in highest word.now }
     ensures some { IfOk result (λ c. 1 ≤ c) }

@@ -20,7 +20,7 @@ pub(crate) enum Separator {
 
 /// What stands on a line.
 #[derive(Clone, Copy)]
-pub(crate) enum Kind {
+pub(crate) enum LineKind {
     /// Blanks alone.
     Empty,
     /// A `#` behind them.
@@ -105,17 +105,17 @@ pub(crate) fn lines_of(alloc: Global, text: &[u8]) -> Result<Vec<&[u8]>, AllocEr
 }
 
 /// What stands on a line.
-pub(crate) fn kind_of(line: &[u8]) -> Kind
+pub(crate) fn kind_of(line: &[u8]) -> LineKind
     ensures { result ≡ kind_of line.now }
 {
     for byte in line {
         if !is_blank(*byte) {
             return if *byte == b'#' {
-                Kind::Comment
+                LineKind::Comment
             } else {
-                Kind::Content
+                LineKind::Content
             };
         }
     }
-    Kind::Empty
+    LineKind::Empty
 }

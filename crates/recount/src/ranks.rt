@@ -4,7 +4,7 @@ ghost use Rattle.std.specs.Prelude.{◌≡◌, ◌≤◌, [], length, map, IfOk}
 ghost use Rattle.paper.specs.Columns.{max_candidates};
 ghost use Rattle.paper.specs.Ranking.{IsRanking};
 ghost use Rattle.recount.specs.Outcomes.{outcome, told_as};
-ghost use Rattle.recount.specs.Ranks.{is_zero, named_in, named_of, standing_from, with_candidate, with_each, with_rank, with_rank_word, with_word, without};
+ghost use Rattle.recount.specs.Ranks.{is_zero, named_in, named_of, standing_from, with_candidate, with_each, with_rank, with_word, without};
 ghost use Rattle.recount.specs.Views.{ranks_of};
 
 use crate::numbers::candidate_in;
@@ -38,7 +38,7 @@ pub(crate) fn is_zero(word: &[u8]) -> bool
     word == b"0".as_slice()
 }
 
-/// How many of those with some numbers stand.
+/// How many of the candidates stand whose numbers these words write.
 fn standing_in(highest: u8, withdrawn: &Columns, words: &[&[u8]]) -> Result<usize, Flaw>
     ensures { result ≡ standing_from highest withdrawn.now 0 (map (λ w. w.now) words.now) }
 {
@@ -107,25 +107,6 @@ impl Ranks {
         self.add_each(highest, words)
     }
 
-    /// The word of a rank.
-    fn take_rank(
-        &mut self,
-        alloc: Global,
-        highest: u8,
-        withdrawn: &Columns,
-        word: &[u8],
-    ) -> Result<Result<(), Flaw>, AllocError>
-        requires { highest ≤ max_candidates }
-        ensures is { IfOk result (λ told. outcome told (ranks_of self.new) ≡ with_rank_word highest withdrawn.now (ranks_of self.old) word.now) }
-        ensures ranking { IfOk result (λ _. IsRanking self.old.named.items → IsRanking self.new.named.items) }
-    {
-        let words = pieces_of(alloc, Separator::Equals, word)?;
-        match standing_in(highest, withdrawn, &words) {
-            Ok(standing) => self.add_rank(highest, &words, standing),
-            Err(flaw) => Ok(Err(flaw)),
-        }
-    }
-
     /// One word more.
     fn take(
         &mut self,
@@ -145,7 +126,11 @@ impl Ranks {
             self.next = NextWord::BehindZero;
             return Ok(Ok(()));
         }
-        self.take_rank(alloc, highest, withdrawn, word)
+        let words = pieces_of(alloc, Separator::Equals, word)?;
+        match standing_in(highest, withdrawn, &words) {
+            Ok(standing) => self.add_rank(highest, &words, standing),
+            Err(flaw) => Ok(Err(flaw)),
+        }
     }
 
     /// The candidates whom a whole line names.

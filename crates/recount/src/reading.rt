@@ -9,10 +9,10 @@ ghost use Rattle.recount.specs.Views.{IsFlawOf, reading_of};
 
 use crate::names::name_in;
 use crate::passing::{behind_number_sign, pass_over};
-use crate::pieces::{Kind, Separator, kind_of, lines_of, pieces_of};
+use crate::pieces::{LineKind, Separator, kind_of, lines_of, pieces_of};
 use crate::problem::{Flaw, Problem};
 use crate::ranks::is_zero;
-use crate::state::{Comments, Names, Papers, Place, Reader};
+use crate::state::{Comments, Names, NextLine, Papers, Reader};
 use count::Bundles;
 use paper::Columns;
 use std::alloc::{AllocError, Global};
@@ -65,7 +65,7 @@ impl Reader {
         ensures { reading_of result ≡ nothing_told }
     {
         Reader {
-            place: Place::Size,
+            place: NextLine::Size,
             papers: Papers {
                 highest: 0,
                 seats: 1,
@@ -89,7 +89,7 @@ impl Reader {
         ensures { outcome result (reading_of self.new) ≡ with_size_line (reading_of self.old) (map (λ w. w.now) words.now) }
     {
         self.papers.take_size(words)?;
-        self.place = Place::Withdrawn;
+        self.place = NextLine::Withdrawn;
         Ok(())
     }
 
@@ -102,13 +102,13 @@ impl Reader {
         ensures { IfOk result (λ told. outcome told (reading_of self.new) ≡ with_papers_line (reading_of self.old) (map (λ w. w.now) words.now)) }
     {
         if is_end_line(words) {
-            self.place = Place::Names;
+            self.place = NextLine::Names;
             return Ok(Ok(()));
         }
         if let Err(flaw) = self.papers.take_bundle(alloc, words)? {
             return Ok(Err(flaw));
         }
-        self.place = Place::Papers;
+        self.place = NextLine::Papers;
         Ok(Ok(()))
     }
 
@@ -118,7 +118,7 @@ impl Reader {
         alloc: Global,
         words: &[&[u8]],
     ) -> Result<Result<(), Flaw>, AllocError>
-        requires { self.old.place ≡ Place.Withdrawn }
+        requires { self.old.place ≡ NextLine.Withdrawn }
         ensures { IfOk result (λ told. outcome told (reading_of self.new) ≡ with_withdrawn_line (reading_of self.old) (map (λ w. w.now) words.now)) }
     {
         if is_withdrawn_line(words) {
@@ -129,7 +129,7 @@ impl Reader {
 
     /// A name.
     fn take_name_line(&mut self, alloc: Global, line: &[u8]) -> Result<Result<(), Flaw>, AllocError>
-        requires { self.old.place ≡ Place.Names }
+        requires { self.old.place ≡ NextLine.Names }
         ensures { IfOk result (λ told. outcome told (reading_of self.new) ≡ with_name_line (reading_of self.old) line.now) }
     {
         let name = match name_in(alloc, line)? {
@@ -140,7 +140,7 @@ impl Reader {
             self.names.names.push(name)?;
         } else {
             self.names.ward = name;
-            self.place = Place::End;
+            self.place = NextLine::End;
         }
         Ok(Ok(()))
     }
@@ -150,29 +150,29 @@ impl Reader {
         ensures { IfOk result (λ told. outcome told (reading_of self.new) ≡ with_content_at self.old.place (reading_of self.old) line.now) }
     {
         match self.place {
-            Place::Names => return self.take_name_line(alloc, line),
-            Place::End => return Ok(Err(Flaw::BehindName)),
-            Place::Size | Place::Withdrawn | Place::Papers => {}
+            NextLine::Names => return self.take_name_line(alloc, line),
+            NextLine::End => return Ok(Err(Flaw::BehindName)),
+            NextLine::Size | NextLine::Withdrawn | NextLine::Papers => {}
         }
         let words = match words_before_comment(alloc, line)? {
             Ok(words) => words,
             Err(flaw) => return Ok(Err(flaw)),
         };
         match self.place {
-            Place::Size => Ok(self.take_size_line(&words)),
-            Place::Withdrawn => self.take_withdrawn_line(alloc, &words),
+            NextLine::Size => Ok(self.take_size_line(&words)),
+            NextLine::Withdrawn => self.take_withdrawn_line(alloc, &words),
             _ => self.take_papers_line(alloc, &words),
         }
     }
 
     /// A line.
-    fn take(&mut self, alloc: Global, line: &[u8]) -> Result<Result<(), Flaw>, AllocError>
+    fn take_line(&mut self, alloc: Global, line: &[u8]) -> Result<Result<(), Flaw>, AllocError>
         ensures { IfOk result (λ told. outcome told (reading_of self.new) ≡ with_line (reading_of self.old) line.now) }
     {
         match kind_of(line) {
-            Kind::Empty => Ok(Ok(())),
-            Kind::Comment => self.comments.take(alloc, line),
-            Kind::Content => self.take_content(alloc, line),
+            LineKind::Empty => Ok(Ok(())),
+            LineKind::Comment => self.comments.take(alloc, line),
+            LineKind::Content => self.take_content(alloc, line),
         }
     }
 
@@ -181,10 +181,10 @@ impl Reader {
         ensures { outcome result (reading_of self.now) ≡ at_end self.now.place (reading_of self.now) }
     {
         match self.place {
-            Place::Size => Err(Flaw::NoSize),
-            Place::Withdrawn | Place::Papers => Err(Flaw::NoEnd),
-            Place::Names => Err(Flaw::NamesWanting),
-            Place::End => Ok(()),
+            NextLine::Size => Err(Flaw::NoSize),
+            NextLine::Withdrawn | NextLine::Papers => Err(Flaw::NoEnd),
+            NextLine::Names => Err(Flaw::NamesWanting),
+            NextLine::End => Ok(()),
         }
     }
 }
@@ -196,7 +196,7 @@ fn read_lines(alloc: Global, lines: &[&[u8]]) -> Result<Reader, Problem>
 {
     let mut reader = Reader::new(alloc);
     for (i, line) in lines.iter().enumerate() {
-        match reader.take(alloc, line) {
+        match reader.take_line(alloc, line) {
             Ok(Ok(())) => {}
             Ok(Err(flaw)) => {
                 return Err(Problem::Line {

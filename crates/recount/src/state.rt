@@ -41,7 +41,7 @@ pub(crate) struct Comments {
 
 /// Where the next line stands.
 #[derive(Clone, Copy)]
-pub(crate) enum Place {
+pub(crate) enum NextLine {
     /// At the numbers of candidates and seats.
     Size,
     /// Where withdrawn candidates may stand.
@@ -57,7 +57,7 @@ pub(crate) enum Place {
 /// What a file has told so far, and where its next line stands.
 #[derive(Drop)]
 pub(crate) struct Reader {
-    pub(crate) place: Place,
+    pub(crate) place: NextLine,
     pub(crate) papers: Papers,
     pub(crate) names: Names,
     pub(crate) comments: Comments,

@@ -17,7 +17,7 @@ use Rattle.register.specs.Ranges.{is_id}
 use Rattle.register.specs.Offices.{BatchEntry, KeyedEntry, JudgedEntry, ReceiptEntry, OfficeState}
 use Rattle.register.specs.Papers.{same_marks}
 use Rattle.register.specs.Keyed.{are_numbered, are_rounds_to}
-use Rattle.register.specs.Items.{item3, item4, item5}
+use Rattle.register.specs.Items.{all_given_out, all_keyed, all_judged}
 use Rattle.register.specs.Marks.{first_bad_marks}
 use Rattle.register.specs.Batches as batches
 use Rattle.register.specs.Keyings as keyings
@@ -187,21 +187,21 @@ judged_already = refl
 
 -- ---- which are states
 
-in_nominations : item3 (with_batch Nominations 1 [] [] []) ≡ false
+in_nominations : all_given_out (with_batch Nominations 1 [] [] []) ≡ false
 in_nominations = refl
 
-half_a_keying : item4 (with_batch Keying 1 (record { batch = 12; round = 1; clerk = 4; paper = 1; marks = codes "1,2," } ∷ []) [] []) ≡ false
+half_a_keying : all_keyed (with_batch Keying 1 (record { batch = 12; round = 1; clerk = 4; paper = 1; marks = codes "1,2," } ∷ []) [] []) ≡ false
 unfolding are_rounds_to are_numbered same_marks
 half_a_keying = refl
 
-agreed_before : item4 (with_batch Keying 2 (keyed 4 (codes "1,2,") ++ keyed 9 (codes "1,2,")) [] []) ≡ false
+agreed_before : all_keyed (with_batch Keying 2 (keyed 4 (codes "1,2,") ++ keyed 9 (codes "1,2,")) [] []) ≡ false
 unfolding are_rounds_to are_numbered same_marks
 agreed_before = refl
 
-differed_before : item4 (with_batch Keying 2 (keyed 4 (codes "1,2,") ++ keyed 9 (codes "2,1,")) [] []) ≡ true
+differed_before : all_keyed (with_batch Keying 2 (keyed 4 (codes "1,2,") ++ keyed 9 (codes "2,1,")) [] []) ≡ true
 unfolding are_rounds_to are_numbered same_marks
 differed_before = refl
 
-judged_too_early : item5 (record once { verdicts = record { batch = 12; paper = 2; code = 5; marks = [] } ∷ [] }) ≡ false
+judged_too_early : all_judged (record once { verdicts = record { batch = 12; paper = 2; code = 5; marks = [] } ∷ [] }) ≡ false
 unfolding same_marks
 judged_too_early = refl

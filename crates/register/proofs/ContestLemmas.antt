@@ -32,7 +32,7 @@ use Rattle.register.specs.Nominations.{is_contested}
 use Rattle.register.specs.Marks.{and_column, columns_of}
 use Rattle.register.specs.Papers.{same_marks, agreed, keyings_now, batches_of}
 use Rattle.register.specs.Keyed.{is_whole, is_round_of, are_rounds_to}
-use Rattle.register.specs.Items.{is_ward, is_candidate, is_batch, item1, item3, item4}
+use Rattle.register.specs.Items.{is_ward, is_candidate, is_batch, all_in_range, all_given_out, all_keyed}
 use Rattle.register.specs.Polls.{Pile, pile_of, piles_of, by_rejection, by_reading, by_verdict, judgement_on, judgements_in, judgements, preferences_by, ballots_in}
 use Rattle.register.specs.Elections.{election_of, contest_of}
 use Rattle.register.proofs.MapLemmas.{kept_all, found_passes}
@@ -263,7 +263,7 @@ papers_are_few s columns ward fine rounds up =
 -- ---- the contest
 
 -- what a ward can have at most: seats from 1 on, and papers
-pub seats_and_papers_are_few : (s : OfficeState) (w : WardEntry) → item1 s ≡ true → item4 s ≡ true → MapsRise s → ward_at s w.number ≡ Some w
+pub seats_and_papers_are_few : (s : OfficeState) (w : WardEntry) → all_in_range s ≡ true → all_keyed s ≡ true → MapsRise s → ward_at s w.number ≡ Some w
     → (1 ≤ w.seats) × (w.seats ≤ max_seats) × (length (election_of s w).ballots.papers ≤ max_papers)
 unfolding is_ward
 seats_and_papers_are_few s w first fourth rise there =
@@ -276,11 +276,11 @@ seats_and_papers_are_few s w first fourth rise there =
     let seats = and_parts (nat_le 1 w.seats) (nat_le w.seats 15) seated.0 in
     (leb-true 1 w.seats seats.0, leb-true w.seats 15 seats.1, papers_are_few s (columns_of (candidates_of s w.number)) w.number batches.0 (and_parts _ _ fourth).1 rise.batches)
 
-candidates_are : (s : OfficeState) → item1 s ≡ true → list_all is_candidate s.candidates ≡ true
+candidates_are : (s : OfficeState) → all_in_range s ≡ true → list_all is_candidate s.candidates ≡ true
 candidates_are s first = (and_parts _ _ (and_parts _ _ first).1).0
 
 -- What is in range, keyed as it has to be, and in the order of its keys, has contests that the rules speak of.
-pub contest_is_fair : (s : OfficeState) (w : WardEntry) → item1 s ≡ true → item4 s ≡ true → MapsRise s → ward_at s w.number ≡ Some w → is_contested w (candidates_of s w.number) ≡ true
+pub contest_is_fair : (s : OfficeState) (w : WardEntry) → all_in_range s ≡ true → all_keyed s ≡ true → MapsRise s → ward_at s w.number ≡ Some w → is_contested w (candidates_of s w.number) ≡ true
     → IsContest (contest_of (election_of s w))
 contest_is_fair s w first fourth rise there contested =
     let cs = candidates_of s w.number in
@@ -298,6 +298,6 @@ contest_is_fair s w first fourth rise there contested =
     few.2
     (papers_are_fair columns (piles_of s w.number))
 
-pub fair_contest : (s : OfficeState) (w : WardEntry) → item1 s ≡ true → item3 s ≡ true → item4 s ≡ true → MapsRise s → ward_at s w.number ≡ Some w
+pub fair_contest : (s : OfficeState) (w : WardEntry) → all_in_range s ≡ true → all_given_out s ≡ true → all_keyed s ≡ true → MapsRise s → ward_at s w.number ≡ Some w
     → is_contested w (candidates_of s w.number) ≡ true → IsContest (contest_of (election_of s w))
 fair_contest s w first third fourth rise there contested = contest_is_fair s w first fourth rise there contested

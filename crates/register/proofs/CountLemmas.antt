@@ -11,7 +11,7 @@ use Rattle.paper.proofs.ColumnSets.{length_columns}
 use Rattle.count.specs.Law.Contest.{IsContest}
 use Rattle.count.specs.Law.Elected.{is_elected, elected_after}
 use Rattle.count.specs.declared.stages.Action.{Action}
-use Rattle.count.specs.declared.stages.Kind.{Kind}
+use Rattle.count.specs.declared.stages.TiedFor.{TiedFor}
 use Rattle.count.specs.declared.stages.Due.{Due}
 use Rattle.count.specs.declared.stages.Due.TheVariants.{Act, Lot as lot_due, Finished}
 use Rattle.count.specs.Law.Count.{stages_to}
@@ -224,7 +224,7 @@ acts Finished open_ none = absurd (cc)
 
 -- a lot at a stage is, among some of whom a candidate is one
 pub record IsLotAt (due : Due) (stage candidate : ℕ) : Type 0 where
-  pub kind : Kind
+  pub kind : TiedFor
   pub tied : List ℕ
   pub is : due ≡ lot_due stage kind tied
   pub among : list_any (nat_eq candidate) tied ≡ true

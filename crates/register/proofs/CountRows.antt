@@ -19,7 +19,7 @@ use Rattle.register.specs.Offices.{WardEntry, KeyedEntry, JudgedEntry, LotEntry,
 use Rattle.register.specs.Papers.{same_marks}
 use Rattle.register.specs.Polls.{piles_of, judgements, poll_of}
 use Rattle.register.specs.Elections.{election_of, due_of}
-use Rattle.register.specs.Items.{item6, item7}
+use Rattle.register.specs.Items.{all_agreed, all_counted}
 use Rattle.register.specs.Counts as counts
 use Rattle.register.specs.Machine.{accepted, refused, step, decided}
 
@@ -83,12 +83,12 @@ unfolding step decided is_id same_marks preferences_from counts.subject_of digit
 not_ready = refl
 
 -- sealed with a doubtful paper without a verdict, it isn't a state
-sealed_open : item6 (polled Sealed []) ≡ false
-unfolding item6 same_marks preferences_from
+sealed_open : all_agreed (polled Sealed []) ≡ false
+unfolding all_agreed same_marks preferences_from
 sealed_open = refl
 
-sealed_void : item6 (polled Sealed void) ≡ true
-unfolding item6 same_marks preferences_from
+sealed_void : all_agreed (polled Sealed void) ≡ true
+unfolding all_agreed same_marks preferences_from
 sealed_void = refl
 
 -- ---- two candidates for one seat, without papers
@@ -184,26 +184,26 @@ declared = refl
 
 -- ---- which are states
 
-counted : item7 (quiet Sealed 2 (lot 1) []) ≡ true
-unfolding item7 stages_to
+counted : all_counted (quiet Sealed 2 (lot 1) []) ≡ true
+unfolding all_counted stages_to
 counted = refl
 
 -- a stage for which the lot wasn't drawn
-counted_without_lot : item7 (quiet Sealed 2 [] []) ≡ false
-unfolding item7 stages_to
+counted_without_lot : all_counted (quiet Sealed 2 [] []) ≡ false
+unfolding all_counted stages_to
 counted_without_lot = refl
 
 -- a stage after the last one
-counted_beyond : item7 (quiet Sealed 3 (lot 1) []) ≡ false
-unfolding item7 stages_to
+counted_beyond : all_counted (quiet Sealed 3 (lot 1) []) ≡ false
+unfolding all_counted stages_to
 counted_beyond = refl
 
 -- declared before the count was finished
-declared_unfinished : item7 (quiet Declared 1 [] []) ≡ false
-unfolding item7 stages_to
+declared_unfinished : all_counted (quiet Declared 1 [] []) ≡ false
+unfolding all_counted stages_to
 declared_unfinished = refl
 
 -- counted before the ward was sealed
-counted_in_keying : item7 (quiet Keying 1 [] []) ≡ false
-unfolding item7 stages_to
+counted_in_keying : all_counted (quiet Keying 1 [] []) ≡ false
+unfolding all_counted stages_to
 counted_in_keying = refl

@@ -8,7 +8,7 @@ use Rattle.register.specs.Marks.{columns_of}
 use Rattle.register.specs.Polls.{Pile, ballots_in}
 use Rattle.register.specs.Elections.{ElectionEntry, lot_pair, election_of, has_count, stages_of, is_counted, is_drawn_for, is_declared, is_right_so_far, is_in_count, is_uncounted, is_agreed}
 use Rattle.register.specs.Elections.{is_counted_right}
-use Rattle.register.specs.Items.{item6, item7, IsState}
+use Rattle.register.specs.Items.{all_agreed, all_counted, IsState}
 use Rattle.register.proofs.MapLemmas.{list_all_weaker, list_all_both, filter_none, found_passes}
 
 -- ---- the sixth and the seventh condition, for a ward
@@ -26,21 +26,21 @@ abbrev pub are_lots_placed : OfficeState → Bool
 are_lots_placed s = list_all (λ l. is_some (ward_at s l.ward)) s.lots
 
 pub sound_of : {s : OfficeState} → IsState s → are_sound s ≡ true
-unfolding item6 item7
+unfolding all_agreed all_counted
 sound_of {s} is =
     list_all_both (λ w. is_agreed (election_of s w)) (λ w. is_counted_right (election_of s w)) (λ w. is_sound (election_of s w)) s.wards (λ w agreed right. and_from _ _ agreed right) is.agreed
     (and_parts _ _ is.counted).1
 
 pub lots_placed_of : {s : OfficeState} → IsState s → are_lots_placed s ≡ true
-unfolding item7
+unfolding all_counted
 lots_placed_of {s} is = (and_parts _ _ is.counted).0
 
-pub agreed_from : (s : OfficeState) → are_sound s ≡ true → item6 s ≡ true
-unfolding item6
+pub agreed_from : (s : OfficeState) → are_sound s ≡ true → all_agreed s ≡ true
+unfolding all_agreed
 agreed_from s sound = list_all_weaker (λ w. is_sound (election_of s w)) (λ w. is_agreed (election_of s w)) s.wards (λ w both. (and_parts _ _ both).0) sound
 
-pub counted_from : (s : OfficeState) → are_lots_placed s ≡ true → are_sound s ≡ true → item7 s ≡ true
-unfolding item7
+pub counted_from : (s : OfficeState) → are_lots_placed s ≡ true → are_sound s ≡ true → all_counted s ≡ true
+unfolding all_counted
 counted_from s placed sound = and_from _ _ placed (list_all_weaker (λ w. is_sound (election_of s w)) (λ w. is_counted_right (election_of s w)) s.wards (λ w both. (and_parts _ _ both).1) sound)
 
 -- where there is no ward of a number, there are no lots of it
@@ -56,7 +56,7 @@ no_lots_of s n placed none =
 
 -- at a state each batch of a ward in count is settled
 pub settled_in_count : (s : OfficeState) (w : WardEntry) → IsState s → ward_at s w.number ≡ Some w → is_in_count (election_of s w) ≡ true → (election_of s w).ballots.settled ≡ true
-unfolding item6
+unfolding all_agreed
 settled_in_count s w is there counted = go (is_in_count (election_of s w)) counted (found_passes (ward_compared w.number) (λ x. is_agreed (election_of s x)) w s.wards is.agreed there)
   where
     go : (b : Bool) → b ≡ true → (not b || (election_of s w).ballots.settled) ≡ true → (election_of s w).ballots.settled ≡ true

@@ -12,7 +12,7 @@ use Rattle.register.specs.Nominations.{are_enough}
 use Rattle.register.specs.Offices.{put, WardEntry, CandidateEntry, BatchEntry, ThirdEntry, KeyedEntry, JudgedEntry, LotEntry, ReceiptEntry, OfficeState, ward_cmp, candidate_cmp, batch_cmp}
 use Rattle.register.specs.Offices.{third_cmp, keyed_cmp, judged_cmp, lot_cmp, receipt_cmp, ward_compared, ward_at, candidates_of, receipt_at}
 use Rattle.register.specs.Keyed.{is_polled, is_given_out, is_round_of, are_rounds_to}
-use Rattle.register.specs.Items.{is_ward, is_candidate, is_batch, is_third, is_keyed_paper, is_judged_paper, is_lot, is_about, is_receipt, item2, item3, item4, item5, IsState}
+use Rattle.register.specs.Items.{is_ward, is_candidate, is_batch, is_third, is_keyed_paper, is_judged_paper, is_lot, is_about, is_receipt, all_nominated, all_given_out, all_keyed, all_judged, IsState}
 use Rattle.register.specs.Elections.{election_of, is_uncounted}
 use Rattle.register.specs.Effects.{EffectEntry, ward_added, with_effect, with_receipt}
 use Rattle.register.proofs.MapLemmas.{IsMap, list_all_weaker, put_all, put_is_map, found_put_too, found_put_still}
@@ -93,10 +93,10 @@ maps_of {s} is m =
 
 -- the conditions of a state beside those of each map alone
 pub record AreJoined (s : OfficeState) : Type 0 where
-  pub nominated : item2 s ≡ true
-  pub given_out : item3 s ≡ true
-  pub keyed : item4 s ≡ true
-  pub judged : item5 s ≡ true
+  pub nominated : all_nominated s ≡ true
+  pub given_out : all_given_out s ≡ true
+  pub keyed : all_keyed s ≡ true
+  pub judged : all_judged s ≡ true
   pub lots_placed : are_lots_placed s ≡ true
   pub sound : are_sound s ≡ true
 

@@ -9,7 +9,7 @@ use Rattle.register.specs.Papers.{agreed, differ, has_doubtful, is_its_clerk, is
 use Rattle.register.specs.Polls.{Pile, pile_of}
 use Rattle.register.specs.Keyed.{is_given_out, is_keyed_for, is_whole, is_round_of, are_rounds_to, is_verdict_on, is_judged}
 use Rattle.register.specs.Ranges.{is_clerk, is_ward_number, is_batch_number, is_paper_number, is_round}
-use Rattle.register.specs.Items.{is_batch, item3, item4, item5, IsState}
+use Rattle.register.specs.Items.{is_batch, all_given_out, all_keyed, all_judged, IsState}
 use Rattle.register.proofs.ThreeKeyingsLemmas.{not_keyed}
 use Rattle.register.proofs.MapLemmas.{list_all_weaker, list_all_both, found_passes}
 
@@ -125,7 +125,7 @@ pub record IsStill (s t : OfficeState) (b : BatchEntry) : Type 0 where
 
 module _ (s : OfficeState) (wards : List WardEntry) (candidates : List CandidateEntry) (is : IsState s)
     (past : (b : BatchEntry) → is_given_out s b ≡ true → IsStill s (with_nominations wards candidates s) b) where
-  pub given_out_still : item3 (with_nominations wards candidates s) ≡ true
+  pub given_out_still : all_given_out (with_nominations wards candidates s) ≡ true
   given_out_still = let parts = and_parts _ _ is.given_out in and_from _ _ (list_all_weaker _ _ s.batches (λ b out. (past b out).given_out) parts.0) parts.1
 
   keyed_for_still : (k : KeyedEntry) → is_keyed_for s k (batch_at s k.batch) ≡ true → is_keyed_for (with_nominations wards candidates s) k (batch_at s k.batch) ≡ true
@@ -140,13 +140,13 @@ module _ (s : OfficeState) (wards : List WardEntry) (candidates : List Candidate
   same_file : (b : BatchEntry) → is_given_out s b ≡ true → HasSameFile s (with_nominations wards candidates s) b
   same_file b out = record { candidates = (past b out).candidates; keyings = λ round. refl; verdicts = refl }
 
-  pub keyed_still : item4 (with_nominations wards candidates s) ≡ true
+  pub keyed_still : all_keyed (with_nominations wards candidates s) ≡ true
   keyed_still =
       let parts = and_parts _ _ is.keyed in
       let rounds = list_all_both _ _ _ s.batches (λ b out rounds. rounds_kept s (with_nominations wards candidates s) b (same_file b out) rounds) (and_parts _ _ is.given_out).0 parts.1 in
       and_from _ _ (list_all_weaker _ _ s.keyings keyed_for_still parts.0) rounds
 
-  pub judged_still : item5 (with_nominations wards candidates s) ≡ true
+  pub judged_still : all_judged (with_nominations wards candidates s) ≡ true
   judged_still =
       let parts = and_parts _ _ is.judged in
       and_from _ _ parts.0 (list_all_both _ _ _ s.batches (λ b out judged. judged_kept s (with_nominations wards candidates s) b (same_file b out) judged) (and_parts _ _ is.given_out).0 parts.1)

@@ -6,7 +6,7 @@ use Rattle.std.proofs.lemmas.Bool.{true≢false}
 use Rattle.register.specs.declared.command.Request.{Request}
 use Rattle.std.specs.List.Sorted.{IsStrictlySortedBy}
 use Rattle.register.specs.Offices.{OfficeState, empty_office}
-use Rattle.register.specs.Items.{item6, item7, IsState}
+use Rattle.register.specs.Items.{all_agreed, all_counted, IsState}
 use Rattle.register.specs.Machine.{Outcome, accepted, kept, refused, step_of, state_after, is_accepted, after_one, after, accepted_of}
 use Rattle.register.proofs.MachineLemmas.{step_stays}
 use Rattle.std.specs.Prelude.{string_bytes}
@@ -37,7 +37,7 @@ after_stays s [] is = is
 after_stays s (r ∷ rs) is = after_stays (after_one s r) rs (step_stays s r.actor (string_bytes r.id) r.command is)
 
 pub empty_is_a_state : IsState empty_office
-unfolding IsStrictlySortedBy item6 item7
+unfolding IsStrictlySortedBy all_agreed all_counted
 empty_is_a_state =
     record {
       in_range = refl;

@@ -11,7 +11,7 @@ use Rattle.register.specs.declared.candidates.CandidateCommand.TheVariants.{Add,
 use Rattle.register.specs.declared.refusal.Reason.TheVariants.{NumberOutOfRange, BadName, NoSuchWard, WrongPhase, CandidateExists, NoSuchCandidate, NoCandidates}
 use Rattle.register.specs.Ranges.{is_id}
 use Rattle.register.specs.Offices.{CandidateEntry, ReceiptEntry, OfficeState, empty_office}
-use Rattle.register.specs.Items.{item2, item7}
+use Rattle.register.specs.Items.{all_nominated, all_counted}
 use Rattle.count.specs.Law.Count.{stages_to}
 use Rattle.register.specs.Wards as wards
 use Rattle.register.specs.Candidates as candidates
@@ -82,31 +82,31 @@ too_late_to_withdraw = refl
 
 -- ---- which are states
 
-contested_in_keying : item2 (with_quay Keying (dee ∷ eve ∷ fay ∷ []) []) ≡ true
+contested_in_keying : all_nominated (with_quay Keying (dee ∷ eve ∷ fay ∷ []) []) ≡ true
 unfolding dee eve fay
 contested_in_keying = refl
 
-uncontested_in_keying : item2 (with_quay Keying (dee ∷ eve ∷ []) []) ≡ false
+uncontested_in_keying : all_nominated (with_quay Keying (dee ∷ eve ∷ []) []) ≡ false
 unfolding dee eve
 uncontested_in_keying = refl
 
-sealed_with_none : item2 (with_quay Sealed [] []) ≡ false
+sealed_with_none : all_nominated (with_quay Sealed [] []) ≡ false
 sealed_with_none = refl
 
-candidate_of_no_ward : item2 (with_quay Nominations (dee ∷ record { ward = 9; number = 1; name = codes "Gil" } ∷ []) []) ≡ false
+candidate_of_no_ward : all_nominated (with_quay Nominations (dee ∷ record { ward = 9; number = 1; name = codes "Gil" } ∷ []) []) ≡ false
 unfolding dee
 candidate_of_no_ward = refl
 
-contested_and_sealed : item7 (with_quay Sealed (dee ∷ eve ∷ fay ∷ []) []) ≡ true
-unfolding item7 stages_to dee eve fay
+contested_and_sealed : all_counted (with_quay Sealed (dee ∷ eve ∷ fay ∷ []) []) ≡ true
+unfolding all_counted stages_to dee eve fay
 contested_and_sealed = refl
 
-declared_uncounted : item7 (with_quay Declared (dee ∷ eve ∷ fay ∷ []) []) ≡ false
-unfolding item7 stages_to dee eve fay
+declared_uncounted : all_counted (with_quay Declared (dee ∷ eve ∷ fay ∷ []) []) ≡ false
+unfolding all_counted stages_to dee eve fay
 declared_uncounted = refl
 
-declared_uncontested : item7 (with_quay Declared (dee ∷ eve ∷ []) []) ≡ true
-unfolding item7 dee eve
+declared_uncontested : all_counted (with_quay Declared (dee ∷ eve ∷ []) []) ≡ true
+unfolding all_counted dee eve
 declared_uncontested = refl
 
 -- ---- names, each good or not

@@ -9,7 +9,7 @@ use Rattle.count.specs.Law.Contest.{History}
 use Rattle.count.specs.Law.Due.{due_after, lot_for}
 use Rattle.count.specs.Law.Count.{stages_to, due_by}
 use Rattle.count.specs.declared.stages.Action.{Action}
-use Rattle.count.specs.declared.stages.Kind.{Kind}
+use Rattle.count.specs.declared.stages.TiedFor.{TiedFor}
 use Rattle.count.specs.declared.stages.Due.{Due}
 use Rattle.count.specs.declared.stages.Due.TheVariants.{Act, Lot, Finished}
 use Rattle.count.proofs.Law.DueLemmas.{stage-due}
@@ -142,7 +142,7 @@ lot_is_new l (x ∷ ls) none = go (x.stage == l.stage) refl (lot_is_new l ls) no
     go true is later found = absurd (cc)
     go false apart later found = rw (other apart (is_eq (lot_cmp l x)) refl) (later found)
 
-module _ (e : ElectionEntry) (ls : List LotEntry) (l : LotEntry) (kind : Kind) (tied : List ℕ) (lots : e.lots ≡ map lot_pair ls) (phased : e.ward.phase ≡ Sealed)
+module _ (e : ElectionEntry) (ls : List LotEntry) (l : LotEntry) (kind : TiedFor) (tied : List ℕ) (lots : e.lots ≡ map lot_pair ls) (phased : e.ward.phase ≡ Sealed)
     (due : due_of e ≡ Lot l.stage kind tied) (sound : is_sound e ≡ true) where
   is_held : IsHeld e (Lot l.stage kind tied)
   is_held = held e (Lot l.stage kind tied) due refl

@@ -6,7 +6,7 @@ use Rattle.count.specs.Law.Contest.{Contest, History}
 use Rattle.count.specs.Law.Due.{due_after, lot_for, next_action, drawn, action_on}
 use Rattle.count.specs.Law.Count.{stage_of, with_stage, with_next, stages_to, due_or, due_by}
 use Rattle.count.specs.declared.stages.Action.{Action}
-use Rattle.count.specs.declared.stages.Kind.{Kind}
+use Rattle.count.specs.declared.stages.TiedFor.{TiedFor}
 use Rattle.count.specs.declared.stages.Due.{Due}
 use Rattle.count.specs.declared.stages.Due.TheVariants.{Act, Lot, Finished}
 use Rattle.register.specs.Elections.{is_finished, is_tied}
@@ -20,7 +20,7 @@ acted contest lots stages action is = go (due_after contest stages) (lot_for lot
     one : (a b : Action) → Act a ≡ Act b → Some a ≡ Some b
     one a b same = cc
 
-    named : (stage : ℕ) (kind : Kind) (tied : List ℕ) (c : ℕ) (b : Bool) → due_or (Lot stage kind tied) (cond b (Some (action_on contest stages kind c)) None) ≡ Act action
+    named : (stage : ℕ) (kind : TiedFor) (tied : List ℕ) (c : ℕ) (b : Bool) → due_or (Lot stage kind tied) (cond b (Some (action_on contest stages kind c)) None) ≡ Act action
         → cond b (Some (action_on contest stages kind c)) None ≡ Some action
     named stage kind tied c true is = one (action_on contest stages kind c) action is
     named stage kind tied c false is = absurd (cc)
@@ -42,11 +42,11 @@ ended contest lots stages is = go (due_after contest stages) (next_action contes
     go due (Some action) is = absurd (cc)
 
 -- a lot that is waited for: it is due, and none is recorded that draws one of the tied
-pub record IsWaitedFor (contest : Contest) (lots : List (ℕ × ℕ)) (stages : History) (stage : ℕ) (kind : Kind) (tied : List ℕ) : Type 0 where
+pub record IsWaitedFor (contest : Contest) (lots : List (ℕ × ℕ)) (stages : History) (stage : ℕ) (kind : TiedFor) (tied : List ℕ) : Type 0 where
   pub due : due_after contest stages ≡ Lot stage kind tied
   pub undrawn : (c : ℕ) → lot_for lots (length stages + 1) ≡ Some c → is_tied (due_after contest stages) c ≡ false
 
-pub waited_for : (contest : Contest) (lots : List (ℕ × ℕ)) (stages : History) (stage : ℕ) (kind : Kind) (tied : List ℕ) → due_by contest lots stages ≡ Lot stage kind tied
+pub waited_for : (contest : Contest) (lots : List (ℕ × ℕ)) (stages : History) (stage : ℕ) (kind : TiedFor) (tied : List ℕ) → due_by contest lots stages ≡ Lot stage kind tied
     → IsWaitedFor contest lots stages stage kind tied
 waited_for contest lots stages stage kind tied is =
     record {
@@ -59,7 +59,7 @@ waited_for contest lots stages stage kind tied is =
     due d None is = is
     due d (Some action) is = absurd (cc)
 
-    missed : (k : ℕ) (other : Kind) (among : List ℕ) (c : ℕ) (b : Bool) → due_or (Lot k other among) (cond b (Some (action_on contest stages other c)) None) ≡ Lot stage kind tied → b ≡ false
+    missed : (k : ℕ) (other : TiedFor) (among : List ℕ) (c : ℕ) (b : Bool) → due_or (Lot k other among) (cond b (Some (action_on contest stages other c)) None) ≡ Lot stage kind tied → b ≡ false
     missed k other among c true is = absurd (cc)
     missed k other among c false is = refl
 

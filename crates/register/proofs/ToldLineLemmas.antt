@@ -20,7 +20,8 @@ use Rattle.count.proofs.Law.StepLemmas.{step-is, step-first}
 use Rattle.register.specs.declared.polls.Judgement.{Judgement}
 use Rattle.register.specs.declared.polls.Judgement.TheVariants.{Valid, Rejected, Open}
 use Rattle.register.specs.Ranges.{is_candidate_number}
-use Rattle.register.specs.Texts.{behind, listed, action_text}
+use Rattle.count.specs.Actions.{action_text}
+use Rattle.register.specs.Texts.{behind, listed}
 use Rattle.register.specs.Offices.{CandidateEntry, OfficeState, batch_cmp, batch_at}
 use Rattle.register.specs.Marks.{and_column, columns_of}
 use Rattle.register.specs.Papers.{batches_of}

@@ -71,13 +71,13 @@ one_each (Rejected code) decided = omega (arith, one_code code decided)
 one_each Open decided = absurd (cc)
 
 -- the valid papers and the rejected ones are as many as the judgements
-all_counted : (js : List Judgement) → list_all is_decided js ≡ true
+each_counted_once : (js : List Judgement) → list_all is_decided js ≡ true
     → length (flat_map preferences_by js) + (rejected_with js 1 + (rejected_with js 2 + (rejected_with js 3 + (rejected_with js 4 + rejected_with js 5)))) ≡ length js
-all_counted [] decided = refl
-all_counted (j ∷ js) decided =
+each_counted_once [] decided = refl
+each_counted_once (j ∷ js) decided =
     let parts = and_parts (is_decided j) (list_all is_decided js) decided in
     omega
-    (arith, length-append (preferences_by j) (flat_map preferences_by js), counted j js 1, counted j js 2, counted j js 3, counted j js 4, counted j js 5, one_each j parts.0, all_counted js parts.1)
+    (arith, length-append (preferences_by j) (flat_map preferences_by js), counted j js 1, counted j js 2, counted j js 3, counted j js 4, counted j js 5, one_each j parts.0, each_counted_once js parts.1)
 
 -- ---- each paper of a batch that is settled is decided
 
@@ -202,13 +202,13 @@ batch_judged s columns b is settled =
     }
 
 -- and so have all batches that are
-all_judged : (s : OfficeState) (columns : List ℕ) (bs : List BatchEntry) → AllByRecursion (Counts s columns) bs → list_all is_settled (map (pile_of s) bs) ≡ true
+each_judged : (s : OfficeState) (columns : List ℕ) (bs : List BatchEntry) → AllByRecursion (Counts s columns) bs → list_all is_settled (map (pile_of s) bs) ≡ true
     → (list_all is_decided (judgements columns (map (pile_of s) bs)) ≡ true) × (length (judgements columns (map (pile_of s) bs)) ≡ sum_by (λ (b : BatchEntry). b.size) bs)
-all_judged s columns [] each settled = (refl, refl)
-all_judged s columns (b ∷ bs) each settled =
+each_judged s columns [] each settled = (refl, refl)
+each_judged s columns (b ∷ bs) each settled =
     let parts = and_parts (is_settled (pile_of s b)) (list_all is_settled (map (pile_of s) bs)) settled in
     let own = batch_judged s columns b each.0 parts.0 in
-    let others = all_judged s columns bs each.1 parts.1 in (
+    let others = each_judged s columns bs each.1 parts.1 in (
       list_all-append is_decided (judgements_in columns (pile_of s b)) (judgements columns (map (pile_of s) bs)) ∙ and_from _ _ own.decided others.0,
       omega (arith, length-append (judgements_in columns (pile_of s b)) (judgements columns (map (pile_of s) bs)), own.each, others.1, sum_by-cons (λ (c : BatchEntry). c.size) b bs),
     )
@@ -301,8 +301,8 @@ polls_add_up s w is settled =
     ward_counts s is w.number s.batches (found_each s.batches is.rise.batches) fine (and_parts (list_all (λ k. is_keyed_for s k (batch_at s k.batch)) s.keyings) _ is.keyed).1
     (and_parts _ _ is.judged).1
     in
-    let all = all_judged s columns (batches_of s w.number) each settled in
-    all_counted (judgements columns (piles_of s w.number)) all.0 ∙ all.1
+    let all = each_judged s columns (batches_of s w.number) each settled in
+    each_counted_once (judgements columns (piles_of s w.number)) all.0 ∙ all.1
   where
     fine : list_all is_batch s.batches ≡ true
     fine = (maps_of is batch_map).in_range

@@ -60,7 +60,7 @@ abbrev pub IsAddedBy : CountCommand → Option CountValue → Addition → Type 
 IsAddedBy (Advance ward) (Some count) addition = IsAddedTo ward count addition
 IsAddedBy command shown addition = addition_entries addition ≡ no_addition
 
--- so any command does
+-- the same of any command: one about something else than a count adds nothing
 abbrev pub IsAddedFor : Command → Option CountValue → Addition → Type 0
 IsAddedFor (Count command) shown addition = IsAddedBy command shown addition
 IsAddedFor command shown addition = addition_entries addition ≡ no_addition
@@ -84,7 +84,7 @@ abbrev pub IsAddedAt : OfficeState → Command → Addition → Type 0
 IsAddedAt s (Count (Advance ward)) addition = AddsStageDue s ward addition
 IsAddedAt s command addition = addition_entries addition ≡ no_addition
 
--- so a decision adds no more, where it accepts a command
+-- a decision adds no more than that, where it accepts a command
 abbrev pub AddsNoMore : OfficeState → Command → Decision → Type 0
 AddsNoMore s command (Accepted change reply) = IsAddedAt s command change.addition
 AddsNoMore s command (Kept reply) = ⊤

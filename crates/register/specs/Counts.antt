@@ -2,6 +2,7 @@
 use Rattle.std.specs.Prelude.{ℕ, ◌+◌, Bool, false, not, ◌&&◌, ◌==◌, nat_le, if◌then◌else◌, List, [], ◌∷◌, ◌++◌, codes, Option, Some, None, is_none, option_map}
 use Rattle.std.specs.Fmt.{decimal}
 use Rattle.votes.specs.Text.{votes_text}
+use Rattle.count.specs.Actions.{action_text}
 use Rattle.count.specs.declared.stages.Due.{Due}
 use Rattle.count.specs.declared.stages.Due.TheVariants.{Act, Lot as lot_due, Finished}
 use Rattle.register.specs.declared.phase.Phase.{Phase}
@@ -12,7 +13,7 @@ use Rattle.register.specs.declared.counts.CountCommand.{CountCommand}
 use Rattle.register.specs.declared.counts.CountCommand.TheVariants.{Seal, Advance, Lot, Declare}
 use Rattle.register.specs.Reasons.{objection}
 use Rattle.register.specs.Ranges.{last_lot_stage, is_office, is_ward_number, is_candidate_number, is_lot_stage}
-use Rattle.register.specs.Texts.{listed, action_text}
+use Rattle.register.specs.Texts.{listed}
 use Rattle.register.specs.Offices.{WardEntry, OfficeState, ward_at, candidate_at}
 use Rattle.register.specs.Polls.{PollEntry, poll_of, all_rejected}
 use Rattle.register.specs.Elections.{election_of, due_of, elected_of, has_finished, is_among}
@@ -56,7 +57,7 @@ abbrev pub is_ready : Option PollEntry → Bool
 is_ready None = false
 is_ready (Some poll) = poll.settled
 
--- the reason that a lot gives which the count waits for: its stage, and those who are tied
+-- the reason where the count waits for a lot: the stage that it is for, and those who are tied
 abbrev pub lot_objection : Option Due → Option Reason
 lot_objection (Some (lot_due stage kind tied)) = Some (LotNeeded stage tied)
 lot_objection (Some (Act action)) = None

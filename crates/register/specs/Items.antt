@@ -47,46 +47,46 @@ unfoldable pub is_receipt : ReceiptEntry → Bool
 is_receipt r = is_about r.actor r.subject && (is_utf8 r.subject && (is_id r.id && is_reply r.reply))
 
 -- the first condition: numbers, names, ids, phases, subjects and replies are in range
-abbrev pub item1 : OfficeState → Bool
-item1 s =
+abbrev pub all_in_range : OfficeState → Bool
+all_in_range s =
     list_all is_ward s.wards
     && (list_all is_candidate s.candidates && (list_all is_batch s.batches && (list_all is_third s.thirds
     && (list_all is_keyed_paper s.keyings && (list_all is_judged_paper s.verdicts && (list_all is_lot s.lots && list_all is_receipt s.receipts))))))
 
 -- the second condition: candidates belong to wards that are there, and each ward has those that its phase asks for
-abbrev pub item2 : OfficeState → Bool
-item2 s = list_all (λ c. is_some (ward_at s c.ward)) s.candidates && list_all (λ w. are_enough w.phase w (candidates_of s w.number)) s.wards
+abbrev pub all_nominated : OfficeState → Bool
+all_nominated s = list_all (λ c. is_some (ward_at s c.ward)) s.candidates && list_all (λ w. are_enough w.phase w (candidates_of s w.number)) s.wards
 
 -- the third condition: batches belong to contested wards past their nominations, and their two clerks differ; third clerks belong
 -- to batches that are there, and differ from both
-abbrev pub item3 : OfficeState → Bool
-item3 s = list_all (is_given_out s) s.batches && list_all (λ t. is_third_for t (batch_at s t.batch)) s.thirds
+abbrev pub all_given_out : OfficeState → Bool
+all_given_out s = list_all (is_given_out s) s.batches && list_all (λ t. is_third_for t (batch_at s t.batch)) s.thirds
 
 -- the fourth condition: papers are keyed of batches that are there, in rounds and by clerks of theirs, and are read; a keying
 -- is whole, and those of an earlier round differ
-abbrev pub item4 : OfficeState → Bool
-item4 s = list_all (λ k. is_keyed_for s k (batch_at s k.batch)) s.keyings && list_all (λ b. are_rounds_to s b b.round) s.batches
+abbrev pub all_keyed : OfficeState → Bool
+all_keyed s = list_all (λ k. is_keyed_for s k (batch_at s k.batch)) s.keyings && list_all (λ b. are_rounds_to s b b.round) s.batches
 
 -- the fifth condition: verdicts belong to batches that are there, and are on doubtful papers of taken ones
-abbrev pub item5 : OfficeState → Bool
-item5 s = list_all (λ v. is_some (batch_at s v.batch)) s.verdicts && list_all (λ b. is_judged s b (verdicts_of s b.number)) s.batches
+abbrev pub all_judged : OfficeState → Bool
+all_judged s = list_all (λ v. is_some (batch_at s v.batch)) s.verdicts && list_all (λ b. is_judged s b (verdicts_of s b.number)) s.batches
 
 -- the sixth condition: in a contested ward that has been sealed all batches are taken, and all their doubtful papers have verdicts
-unfoldable pub item6 : OfficeState → Bool
-item6 s = list_all (λ w. is_agreed (election_of s w)) s.wards
+unfoldable pub all_agreed : OfficeState → Bool
+all_agreed s = list_all (λ w. is_agreed (election_of s w)) s.wards
 
 -- the seventh condition: lots belong to wards that are there; the stages done and the lots are those of the count, and none where
 -- there is no count yet
-unfoldable pub item7 : OfficeState → Bool
-item7 s = list_all (λ l. is_some (ward_at s l.ward)) s.lots && list_all (λ w. is_counted_right (election_of s w)) s.wards
+unfoldable pub all_counted : OfficeState → Bool
+all_counted s = list_all (λ l. is_some (ward_at s l.ward)) s.lots && list_all (λ w. is_counted_right (election_of s w)) s.wards
 
 -- the maps of an office: their entries meet each condition, and stand in the order of their keys
 pub record IsState (s : OfficeState) : Type 0 where
-  pub in_range : item1 s ≡ true
-  pub nominated : item2 s ≡ true
-  pub given_out : item3 s ≡ true
-  pub keyed : item4 s ≡ true
-  pub judged : item5 s ≡ true
-  pub agreed : item6 s ≡ true
-  pub counted : item7 s ≡ true
+  pub in_range : all_in_range s ≡ true
+  pub nominated : all_nominated s ≡ true
+  pub given_out : all_given_out s ≡ true
+  pub keyed : all_keyed s ≡ true
+  pub judged : all_judged s ≡ true
+  pub agreed : all_agreed s ≡ true
+  pub counted : all_counted s ≡ true
   pub rise : MapsRise s

@@ -16,7 +16,7 @@ use Rattle.paper.specs.Preferences.{preferences, rejection_of}
 use Rattle.register.specs.declared.polls.Judgement.{Judgement}
 use Rattle.register.specs.declared.polls.Judgement.TheVariants.{Valid, Rejected, Open}
 use Rattle.register.specs.declared.polls.Ballots.{Ballots}
-use Rattle.register.specs.declared.polls.Poll.{Poll}
+use Rattle.register.specs.declared.polls.PollTally.{PollTally}
 use Rattle.register.specs.Offices.{BatchEntry, ThirdEntry, KeyedEntry, JudgedEntry, OfficeState, third_at, keying_of, verdicts_of}
 use Rattle.register.specs.Papers.{agreed, are_taken, is_open, keyings_now, taken_papers, batches_of}
 
@@ -64,11 +64,11 @@ judgement_on columns verdicts k = by_reading (by_verdict columns (find (λ (v : 
 abbrev pub judgements_on : List ℕ → List JudgedEntry → List KeyedEntry → List Judgement
 judgements_on columns verdicts keying = map (judgement_on columns verdicts) keying
 
--- and on those that a batch is taken with, if it is taken
+-- the judgements on the papers that a batch is taken with; none where it isn't taken
 abbrev pub judgements_in : List ℕ → Pile → List Judgement
 judgements_in columns pile = judgements_on columns pile.verdicts (agreed pile.keyings)
 
--- and of all batches
+-- the judgements on the papers of all batches
 abbrev pub judgements : List ℕ → List Pile → List Judgement
 judgements columns piles = flat_map (judgements_in columns) piles
 
@@ -165,5 +165,5 @@ pub record StandFor {P : Type 0} (holds : P → List (List ℕ) → Type 0) (bal
   pub settled_is : ballots.settled ≡ entry.settled
 
 -- what a poll stands for
-abbrev pub poll_entry : Poll → PollEntry
+abbrev pub poll_entry : PollTally → PollEntry
 poll_entry poll = record { valid = poll.valid; rejected = poll.rejected; quota = poll.quota; settled = poll.settled }

@@ -103,8 +103,8 @@ pub record TabulationRises (t : TabulationEntries) : Type 0 where
   pub figures : IsStrictlySortedBy figure_cmp t.figures
 
 -- the eighth condition: what is tabulated is the tabulation of the state
-abbrev pub item8 : TabulationEntries → OfficeState → Type 0
-item8 t s = t ≡ tabulation_of s
+abbrev pub IsTabulationOf : TabulationEntries → OfficeState → Type 0
+IsTabulationOf t s = t ≡ tabulation_of s
 
 -- ---- what a request adds to it
 
@@ -118,7 +118,7 @@ pub record AdditionEntries : Type 0 where
 abbrev pub no_addition : AdditionEntries
 no_addition = record { placed = []; moved = []; figures = [] }
 
--- the bundles, this one where it lies now
+-- the bundles, with this one where it lies now
 abbrev pub moved_to : PlacedEntry → List PlacedEntry → List PlacedEntry
 moved_to b bundles = map (λ x. if is_eq (placed_cmp b x) then b else x) bundles
 
@@ -159,7 +159,7 @@ shown_of f = record { candidate = f.candidate; units = f.units; mark = f.mark }
 abbrev pub IsTabulated : OfficeState → Change → Type 0
 IsTabulated s change = SameTabulation (with_addition (addition_entries change.addition) (tabulation_of s)) (tabulation_of (with_change (change_entry change) s))
 
--- so does that of an accepted request
+-- and so does the addition of an accepted request
 abbrev pub AddsWhatIsCounted : OfficeState → Decision → Type 0
 AddsWhatIsCounted s (Accepted change reply) = IsTabulated s change
 AddsWhatIsCounted s (Kept reply) = ⊤

@@ -1,9 +1,7 @@
--- Numbers and actions in words.
+-- Numbers in words.
 use Rattle.std.specs.Prelude.{ℕ, List, [], ◌∷◌, ◌++◌, codes}
 use Rattle.std.specs.List.{flat_map}
 use Rattle.std.specs.Fmt.{decimal}
-use Rattle.count.specs.declared.stages.Action.{Action}
-use Rattle.count.specs.declared.stages.Action.TheVariants.{First, Surplus, Exclude, ExcludeLast}
 
 -- a number behind another one: `, 3`
 abbrev pub behind : ℕ → List ℕ
@@ -13,10 +11,3 @@ behind n = codes ", " ++ decimal n
 unfoldable pub listed : List ℕ → List ℕ
 listed [] = []
 listed (n ∷ ns) = decimal n ++ flat_map behind ns
-
--- what is done at a stage: `first preferences`, `surplus of 1`, `exclusion of 2`, `exclusion of 2, last vacancies`
-abbrev pub action_text : Action → List ℕ
-action_text First = codes "first preferences"
-action_text (Surplus c) = codes "surplus of " ++ decimal c
-action_text (Exclude c) = codes "exclusion of " ++ decimal c
-action_text (ExcludeLast c) = codes "exclusion of " ++ (decimal c ++ codes ", last vacancies")

@@ -1,5 +1,5 @@
 -- An office worked by hand, request by request from the empty office on: what each request is answered, and the state that it
--- leads to. Where a row follows another, it stands on the state which that leads to.
+-- leads to. A row that follows another begins at the state to which that one leads.
 use Rattle.std.specs.Prelude.{◌≡◌, ℕ, true, List, [], ◌∷◌, ◌++◌, map, codes, string_bytes}
 use Rattle.std.specs.declared.string.String.{String}
 use Rattle.std.specs.declared.vec.Vec.{Vec}
@@ -199,7 +199,7 @@ pub record WardRows : Type 0 where
   pub added : Written (codes "Harbour") (λ name. step empty_office 0 (codes "w1") (adds_ward 7 2 name) ≡ accepted (in_nominations [] []) (codes "ward 7 added"))
   pub again : Written (codes "Harbour") (λ name. step (in_nominations [] []) 0 (codes "w1") (adds_ward 7 2 name) ≡ kept (codes "ward 7 added"))
   pub id_used : Written (codes "Quay") (λ name. step (in_nominations [] []) 0 (codes "w1") (adds_ward 8 2 name) ≡ refused IdUsed)
-  pub id_of_capitals : Written (codes "Quay") (λ name. step (in_nominations [] []) 0 (codes "W1") (adds_ward 8 2 name) ≡ refused BadId)
+  pub id_of_capitals : Written (codes "Quay") (λ name. step (in_nominations [] []) 0 (codes "Z1") (adds_ward 8 2 name) ≡ refused BadId)
   pub no_ward_zero : Written (codes "Quay") (λ name. step (in_nominations [] []) 0 (codes "w2") (adds_ward 0 2 name) ≡ refused NumberOutOfRange)
   pub there_already : Written (codes "Pier") (λ name. step (in_nominations [] []) 0 (codes "w2") (adds_ward 7 3 name) ≡ refused WardExists)
 
@@ -231,8 +231,8 @@ pub record KeyedRows : Type 0 where
   pub not_ready : step (keyed_twice (codes "2,1,")) 0 (codes "z3") (commands.Count (counts.Seal 7)) ≡ refused NotReady
   pub open_again : step (keyed_twice (codes "2,1,")) 0 (codes "z3") (opens_again 12) ≡ accepted reopened (codes "batch 12 round 2 open")
 
--- A third clerk is set once, where two differ, and is none of them. The batch is taken as soon as two of the three agree, each of the
--- others keys what he keys, and as long as no two agree it differs.
+-- A third clerk is set once, where the two differ, and is neither of them. The batch is taken as soon as he agrees with either, with the
+-- papers on which they agree; as long as no two agree, it differs.
 pub record ThirdRows : Type 0 where
   pub not_his_yet : (papers : Vec (String Global) Global) → step (keyed_twice (codes "2,1,")) 5 (codes "k1") (keys 12 1 papers) ≡ refused NotItsClerk
   pub one_of_two : step (keyed_twice (codes "2,1,")) 0 (codes "z3") (sets_third 12 9) ≡ refused SameClerk

@@ -14,11 +14,11 @@ ghost use Rattle.register.specs.Counts.{is_in_range, is_ready, lot_objection, wa
 use crate::additions;
 use crate::decision::Effect;
 use crate::phase::Phase;
-use crate::polls::Poll;
+use crate::polls::PollTally;
 use crate::ranges::{LAST_LOT_STAGE, is_candidate_number, is_lot_stage, is_office, is_ward_number};
 use crate::refusal::Reason;
 use crate::tabulated::Addition;
-use crate::texts::{action_text, listed};
+use crate::texts::listed;
 use crate::view::Part;
 use crate::wards::{Ward, phase_objection};
 use count::Due;
@@ -78,7 +78,7 @@ fn is_in_range(actor: u32, command: &CountCommand) -> bool
 }
 
 /// Whether each batch is taken, and each doubtful paper has a verdict.
-fn is_ready(poll: &Option<Poll>) -> bool
+fn is_ready(poll: &Option<PollTally>) -> bool
     ensures { result ≡ is_ready (option_map poll_entry poll.now) }
 {
     match poll {
@@ -234,7 +234,7 @@ fn next_stage(ward: &Option<Ward>) -> u32
 }
 
 /// How many papers are rejected, by all five codes.
-fn all_rejected(poll: &Poll) -> u64
+fn all_rejected(poll: &PollTally) -> u64
     ensures { result ≡ all_rejected poll.now.rejected }
 {
     let [first, second, third, fourth, fifth] = poll.rejected;
@@ -243,7 +243,7 @@ fn all_rejected(poll: &Poll) -> u64
 }
 
 /// What is told of a poll.
-fn poll_told(alloc: Global, poll: &Option<Poll>) -> Result<String, AllocError>
+fn poll_told(alloc: Global, poll: &Option<PollTally>) -> Result<String, AllocError>
     ensures { IfOk result (λ text. string_bytes text ≡ poll_told (option_map poll_entry poll.now)) }
 {
     match poll {
@@ -260,7 +260,7 @@ fn action_told(alloc: Global, due: &Option<Due>) -> Result<String, AllocError>
     ensures { IfOk result (λ text. string_bytes text ≡ action_told due.now) }
 {
     match due {
-        Some(Due::Act(action)) => action_text(alloc, *action),
+        Some(Due::Act(action)) => format!(in alloc; "{action}"),
         Some(Due::Lot { .. }) | Some(Due::Finished) | None => Ok(String::new(alloc)),
     }
 }

@@ -10,14 +10,14 @@ ghost use Rattle.register.specs.Polls.{all_rejected, poll_of, poll_entry, piles_
 ghost use Rattle.register.specs.Offices.{WardEntry, OfficeState, MapsRise, ward_entry, candidate_entry, lot_entry, ward_at, candidates_of};
 ghost use Rattle.register.specs.Nominations.{is_contested};
 ghost use Rattle.register.specs.Elections.{ElectionEntry, IsElection, lot_pair, election_of, has_count, is_counted, is_in_count, contest_of, due_of, elected_of};
-ghost use Rattle.register.specs.Items.{item1, item4, is_lot, IsState};
+ghost use Rattle.register.specs.Items.{all_in_range, all_keyed, is_lot, IsState};
 ghost use Rattle.register.specs.Tabulated.{IsCount, IsCountOf};
 
 use crate::candidates::Candidate;
 use crate::counts::DrawnLot;
 use crate::marks::columns_of;
 use crate::phase::Phase;
-use crate::polls::{Ballots, Poll, REJECTIONS};
+use crate::polls::{Ballots, PollTally, REJECTIONS};
 use crate::ranges::{is_candidate_number, is_lot_stage};
 use crate::wards::{Ward, is_contested};
 use count::{BundleBook, Bundles, Due, KeptCount, is_bundled_contest};
@@ -72,9 +72,9 @@ pub struct Progress {
 /// and no ward has more seats or papers than there may be. At a state, once each batch of a ward is
 /// settled, its valid papers and its rejected ones are all the papers of its batches.
 pub fn elections_are_fair()
-    ensures fair { (s : OfficeState) (w : WardEntry) → item1 s ≡ true → item4 s ≡ true → MapsRise s → ward_at s w.number ≡ Some w
+    ensures fair { (s : OfficeState) (w : WardEntry) → all_in_range s ≡ true → all_keyed s ≡ true → MapsRise s → ward_at s w.number ≡ Some w
         → is_contested w (candidates_of s w.number) ≡ true → IsContest (contest_of (election_of s w)) }
-    ensures few { (s : OfficeState) (w : WardEntry) → item1 s ≡ true → item4 s ≡ true → MapsRise s → ward_at s w.number ≡ Some w
+    ensures few { (s : OfficeState) (w : WardEntry) → all_in_range s ≡ true → all_keyed s ≡ true → MapsRise s → ward_at s w.number ≡ Some w
         → (1 ≤ w.seats) × (w.seats ≤ max_seats) × (length (election_of s w).ballots.papers ≤ max_papers) }
     ensures adds_up { (s : OfficeState) (w : WardEntry) → IsState s → (election_of s w).ballots.settled ≡ true
         → length (election_of s w).ballots.papers + all_rejected (election_of s w).ballots.rejected ≡ sum_by (λ b. b.size) (batches_of s w.number) }
@@ -171,7 +171,7 @@ impl Count {
 impl Election {
     /// The poll of the ward; none where it has no seats, or more than a ward can have; no ward of an
     /// office is such a one. Takes no memory.
-    pub fn poll(&self) -> Option<Poll>
+    pub fn poll(&self) -> Option<PollTally>
         ensures is { IfSome result (λ poll. (e : ElectionEntry) → IsElection self.now e → poll_entry poll ≡ poll_of e.ward.seats e.ballots) }
         ensures some { 1 ≤ self.now.ward.seats → self.now.ward.seats ≤ max_seats → IsSome result }
     {
@@ -179,7 +179,7 @@ impl Election {
             return None;
         }
         let valid = self.ballots.papers.papers();
-        Some(Poll {
+        Some(PollTally {
             valid,
             rejected: self.ballots.rejected,
             quota: quota(valid, self.ward.seats as u8),

@@ -35,7 +35,7 @@ pub mod status;
 // What is kept of the counts, and what a stage adds to it.
 mod additions;
 pub mod tabulated;
-// Numbers and actions in words.
+// Numbers in words.
 mod texts;
 // The commands, by subject.
 pub mod batches;
@@ -56,7 +56,7 @@ pub use elections::{Count, CountedWard, Election, WardSheet};
 pub use keyings::{KeyedPaper, KeyingCommand};
 pub use machine::{decide, lists_make_states, rows_are_worked, work_is_seen};
 pub use phase::Phase;
-pub use polls::{Ballots, Judgement, KeepsPapers, NoPapers, Poll};
+pub use polls::{Ballots, Judgement, KeepsPapers, NoPapers, PollTally};
 pub use receipt::Receipt;
 pub use refusal::{Reason, Refusal};
 pub use status::{Status, Work};

@@ -3,7 +3,8 @@
 ghost use Rattle.std.specs.Prelude.{◌≡◌, ℕ, length, map, option_map};
 ghost use Rattle.std.specs.List.{filter};
 ghost use Rattle.register.specs.Offices.{OfficeState, BatchEntry, batch_entry, third_entry, keyed_entry, judged_entry, keying_of};
-ghost use Rattle.register.specs.Papers.{is_keyed, of_three, same_marks, agreed, are_taken, differ, clerks, clerk_list, clerks_of, keying_by, keyings_in, is_doubtful, has_doubtful, has_verdict, is_open};
+ghost use Rattle.register.specs.Papers.{is_keyed, of_three, same_marks, agreed, are_taken, differ, clerks, clerk_list, clerks_of, keying_by, keyings_in, is_doubtful, has_doubtful};
+ghost use Rattle.register.specs.Papers.{has_verdict, is_open};
 ghost use Rattle.register.specs.Polls.{lower_clerk};
 
 use crate::batches::{Batch, ThirdClerk};

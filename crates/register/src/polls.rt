@@ -90,7 +90,7 @@ pub struct Ballots<P> {
 /// What is told of a ward's ballot papers: how many are valid, how many rejected, by code 1 to 5, the
 /// quota ("Quota"), and whether each batch is taken and each doubtful paper has a verdict.
 #[derive(Clone, Copy)]
-pub struct Poll {
+pub struct PollTally {
     pub valid: u32,
     pub rejected: [u32; REJECTIONS],
     pub quota: Votes,

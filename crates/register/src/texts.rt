@@ -1,9 +1,8 @@
-//! Numbers and actions in words.
+//! Numbers in words.
 
 ghost use Rattle.std.specs.Prelude.{◌≡◌, ◌++◌, IfOk, string_bytes};
-ghost use Rattle.register.specs.Texts.{behind, listed, action_text};
+ghost use Rattle.register.specs.Texts.{behind, listed};
 
-use count::Action;
 use paper::Columns;
 use std::alloc::{AllocError, Global};
 
@@ -28,16 +27,4 @@ pub(crate) fn listed(alloc: Global, numbers: &Columns) -> Result<String, AllocEr
         put_behind(alloc, &mut text, *number)?;
     }
     Ok(text)
-}
-
-/// What is done at a stage: `exclusion of 2, last vacancies`.
-pub(crate) fn action_text(alloc: Global, action: Action) -> Result<String, AllocError>
-    ensures { IfOk result (λ text. string_bytes text ≡ action_text action) }
-{
-    match action {
-        Action::First => String::from_str(alloc, "first preferences"),
-        Action::Surplus(c) => format!(in alloc; "surplus of {c}"),
-        Action::Exclude(c) => format!(in alloc; "exclusion of {c}"),
-        Action::ExcludeLast(c) => format!(in alloc; "exclusion of {c}, last vacancies"),
-    }
 }

@@ -7,7 +7,7 @@ use crate::batches::{Batch, ThirdClerk};
 use crate::candidates::Candidate;
 use crate::elections::Count;
 use crate::keyings::KeyedPaper;
-use crate::polls::Poll;
+use crate::polls::PollTally;
 use crate::receipt::Receipt;
 use crate::verdicts::JudgedPaper;
 use crate::wards::Ward;
@@ -35,7 +35,7 @@ pub struct Part {
     pub second: Vec<KeyedPaper>,
     pub third: Vec<KeyedPaper>,
     pub verdict: Option<JudgedPaper>,
-    pub poll: Option<Poll>,
+    pub poll: Option<PollTally>,
     pub due: Option<Due>,
     pub elected: Columns,
     pub count: Option<Count>,

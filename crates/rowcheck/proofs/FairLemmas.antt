@@ -13,7 +13,7 @@ use Rattle.register.specs.declared.counts.DrawnLot.{DrawnLot}
 use Rattle.register.specs.Offices.{WardEntry, LotEntry, OfficeState, ward_entry, lot_entry, ward_cmp, ward_compared, entry_at, ward_at, candidates_of}
 use Rattle.register.specs.Nominations.{is_contested}
 use Rattle.register.specs.Elections.{election_of, contest_of, is_counted_right}
-use Rattle.register.specs.Items.{is_ward, is_candidate, is_batch, is_third, is_keyed_paper, is_judged_paper, is_lot, is_receipt, item1, item7}
+use Rattle.register.specs.Items.{is_ward, is_candidate, is_batch, is_third, is_keyed_paper, is_judged_paper, is_lot, is_receipt, all_in_range, all_counted}
 use Rattle.register.proofs.MapLemmas.{each_weaker}
 use Rattle.rowcheck.specs.declared.rows.Rows.{Rows}
 use Rattle.rowcheck.specs.States.{state_of}
@@ -21,7 +21,7 @@ use Rattle.rowcheck.specs.Walks.Counts.{IsFair}
 use Rattle.rowcheck.proofs.SideBySideLemmas.{below_from, more_differs}
 
 -- of rows in range the lots are
-pub lots_in_range : (s : OfficeState) → item1 s ≡ true → list_all is_lot s.lots ≡ true
+pub lots_in_range : (s : OfficeState) → all_in_range s ≡ true → list_all is_lot s.lots ≡ true
 lots_in_range s in_range =
     let candidates = (and_parts (list_all is_ward s.wards) _ in_range).1 in
     let batches = (and_parts (list_all is_candidate s.candidates) _ candidates).1 in
@@ -65,8 +65,8 @@ all_fair rows rise fair =
 
 -- where each lot has its ward, what is asked is asked of each ward of the rows
 pub by_ward : (rows : Rows) → list_all (λ (l : DrawnLot). is_some (ward_at (state_of rows) l.ward)) rows.lots.items ≡ true
-    → item7 (state_of rows) ≡ list_all (λ (w : Ward). is_counted_right (election_of (state_of rows) (ward_entry w))) rows.wards.items
-unfolding item7
+    → all_counted (state_of rows) ≡ list_all (λ (w : Ward). is_counted_right (election_of (state_of rows) (ward_entry w))) rows.wards.items
+unfolding all_counted
 by_ward rows placed =
     let s = state_of rows in
     rw (list_all-map (λ (l : LotEntry). is_some (ward_at s l.ward)) lot_entry rows.lots.items, placed)

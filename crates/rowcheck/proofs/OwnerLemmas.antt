@@ -9,7 +9,7 @@ use Rattle.std.specs.Cmp.{unsigned_tied}
 use Rattle.std.proofs.lemmas.Bool.Decides.{eqb_tells}
 use Rattle.register.specs.Offices.{BatchEntry, KeyedEntry, OfficeState, batch_cmp, entry_at, batch_at}
 use Rattle.register.specs.Keyed.{is_keyed_for, is_round_of, are_rounds_to}
-use Rattle.register.specs.Items.{item4}
+use Rattle.register.specs.Items.{all_keyed}
 use Rattle.register.proofs.KeyedLemmas.{rounds_more, no_rounds}
 use Rattle.rowcheck.specs.Walks.Keyings.{are_keyed_for, is_rightly_keyed}
 use Rattle.rowcheck.proofs.SideBySideLemmas.{below_from, less_differs}
@@ -105,7 +105,7 @@ module _ {W X : Type 0} (own : W → ℕ) (key : X → ℕ) (test : X → Option
 
 module _ (s : OfficeState) (rise : IsStrictlySortedBy batch_cmp s.batches) where
   -- each keyed paper has its batch, and each batch the papers of its rounds
-  pub keyed_by_batch : (list_all (λ k. is_some (batch_at s k.batch)) s.keyings && list_all (is_rightly_keyed s) s.batches) ≡ item4 s
+  pub keyed_by_batch : (list_all (λ k. is_some (batch_at s k.batch)) s.keyings && list_all (is_rightly_keyed s) s.batches) ≡ all_keyed s
   keyed_by_batch =
       rw (
         all_both (are_keyed_for s) (λ b. are_rounds_to s b b.round) s.batches,

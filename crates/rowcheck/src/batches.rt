@@ -4,7 +4,7 @@ ghost use Rattle.std.specs.Prelude.{◌≡◌, map, option_map, option_copied};
 ghost use Rattle.std.specs.List.{list_all};
 ghost use Rattle.register.specs.Offices.{MapsRise, ward_entry, candidate_entry, batch_entry, third_entry, batch_at};
 ghost use Rattle.register.specs.Keyed.{is_polled, is_given_out, is_third_for};
-ghost use Rattle.register.specs.Items.{item3};
+ghost use Rattle.register.specs.Items.{all_given_out};
 ghost use Rattle.rowcheck.specs.States.{state_of};
 
 use crate::finding::{batch_at, candidates_of, ward_at};
@@ -74,9 +74,9 @@ fn are_set_right(rows: &Rows, thirds: &[ThirdClerk]) -> bool
 /// Whether batches belong to contested wards past their nominations, and their two clerks differ; and third
 /// clerks belong to batches that are there, and are neither of their two. The third condition on the rows
 /// of an office, whose tables stand in the order of their keys, no key twice.
-pub fn item3(rows: &Rows) -> bool
+pub fn all_given_out(rows: &Rows) -> bool
     requires { MapsRise (state_of rows.now) }
-    ensures { result ≡ item3 (state_of rows.now) }
+    ensures { result ≡ all_given_out (state_of rows.now) }
 {
     let given_out = are_given_out(rows, &rows.batches);
     given_out & are_set_right(rows, &rows.thirds)

@@ -1,7 +1,7 @@
 //! The counts of wards: the stages that are done, the lots that are drawn, and what is tabulated of them.
 //!
 //! The stages of a count and what is due before each follow from its papers and lots, so they are counted
-//! again, once, and what the rows say of them is compared; bundles and figures are kept for `item8`.
+//! again, once, and what the rows say of them is compared; bundles and figures are kept for `is_tabulated`.
 
 ghost use Rattle.std.specs.Prelude.{◌≡◌, ◌≤◌, ◌<◌, true, [], map, slice_get, option_copied, is_some, IfOk, IfSome, OnOk};
 ghost use Rattle.std.specs.List.{list_all, flat_map, AllByRecursion};
@@ -9,7 +9,7 @@ ghost use Rattle.count.specs.Law.Contest.{IsContest};
 ghost use Rattle.register.specs.Offices.{MapsRise, ward_entry, candidate_entry, ward_at};
 ghost use Rattle.register.specs.Elections.{ElectionEntry, IsMadeOf, election_of, has_count, contest_of, stages_of};
 ghost use Rattle.register.specs.Elections.{is_declared, has_finished, is_among, is_right_so_far, is_uncounted, is_counted_right};
-ghost use Rattle.register.specs.Items.{is_lot, item1, item4, item7};
+ghost use Rattle.register.specs.Items.{is_lot, all_in_range, all_keyed, all_counted};
 ghost use Rattle.register.specs.Tabulated.{bundles_in, figures_in, tabulation_of, tabulation_entries};
 ghost use Rattle.rowcheck.specs.States.{state_of};
 ghost use Rattle.rowcheck.specs.Walks.Counts.{IsFair, is_drawn_by, IsOnBundlesOf, HasCounted, IsAdded};
@@ -28,7 +28,7 @@ use std::alloc::{AllocError, Global};
 /// How many stages are counted where more are said to be done than a count can have.
 const TOO_MANY: u32 = LAST_LOT_STAGE + 1;
 
-/// How many stages to count where so many are said to be done: that many, or where no count has so many one
+/// How many stages to count where so many are said to be done: that many, or, where no count has so many, one
 /// more than any count has.
 fn stages_asked(done: u32) -> u32
     ensures few { done ≤ 31 → result ≡ done }
@@ -246,13 +246,13 @@ fn are_of_wards(rows: &Rows, lots: &[DrawnLot]) -> bool
 /// other ward no stage is done and no lot is there. The seventh condition on the rows of an office, whose
 /// tables stand in the order of their keys, no key twice, and meet the first and the fourth.
 ///
-/// Where it is met, the answer is what is tabulated of these counts, which `item8` compares; else there is none.
+/// Where it is met, the answer is what is tabulated of these counts, which `is_tabulated` compares; else there is none.
 /// An error is want of memory.
-pub fn item7(alloc: Global, rows: &Rows) -> Result<Option<Tabulation>, AllocError>
+pub fn all_counted(alloc: Global, rows: &Rows) -> Result<Option<Tabulation>, AllocError>
     requires rise { MapsRise (state_of rows.now) }
-    requires in_range { item1 (state_of rows.now) ≡ true }
-    requires keyed { item4 (state_of rows.now) ≡ true }
-    ensures is { IfOk result (λ found. is_some found ≡ item7 (state_of rows.now)) }
+    requires in_range { all_in_range (state_of rows.now) ≡ true }
+    requires keyed { all_keyed (state_of rows.now) ≡ true }
+    ensures is { IfOk result (λ found. is_some found ≡ all_counted (state_of rows.now)) }
     ensures counted { IfOk result (λ found. IfSome found (λ t. tabulation_entries t ≡ tabulation_of (state_of rows.now))) }
 {
     if !are_of_wards(rows, &rows.lots) {

@@ -24,7 +24,7 @@ struct KeyingKey {
 
 /// The keyings of a batch in a round, in the order of the clerks' numbers, each empty where it isn't there.
 #[derive(Clone, Copy)]
-pub(crate) struct Keyings<'a> {
+pub(crate) struct RoundKeyings<'a> {
     pub(crate) first: &'a [KeyedPaper],
     pub(crate) second: &'a [KeyedPaper],
     pub(crate) third: &'a [KeyedPaper],
@@ -191,13 +191,13 @@ fn keying_by(rows: &Rows, batch: u32, round: u32, clerk: Option<u32>) -> &[Keyed
 }
 
 /// The keyings of a batch in a round by its two or three clerks, in the order of their numbers.
-pub(crate) fn keyings_in<'a>(rows: &'a Rows, batch: &Batch, round: u32) -> Keyings<'a>
+pub(crate) fn keyings_in<'a>(rows: &'a Rows, batch: &Batch, round: u32) -> RoundKeyings<'a>
     requires { MapsRise (state_of rows.now) }
     ensures { of_three (map keyed_entry result.first.now) (map keyed_entry result.second.now) (map keyed_entry result.third.now) ≡ keyings_in (state_of rows.now) (batch_entry batch.now) round }
 {
     keyings_are_by_clerks();
     let clerks = clerks_of(batch, &third_at(rows, batch.number));
-    Keyings {
+    RoundKeyings {
         first: keying_of(rows, batch.number, round, clerks.first),
         second: keying_of(rows, batch.number, round, clerks.second),
         third: keying_by(rows, batch.number, round, clerks.third),

@@ -9,11 +9,11 @@ ghost use Rattle.register.specs.Offices.{MapsRise, batch_entry, third_entry, key
 ghost use Rattle.register.specs.Marks.{is_readable};
 ghost use Rattle.register.specs.Papers.{is_keyed, is_its_clerk, of_three};
 ghost use Rattle.register.specs.Keyed.{is_whole, are_numbered, is_round_of, are_rounds_to};
-ghost use Rattle.register.specs.Items.{item4};
+ghost use Rattle.register.specs.Items.{all_keyed};
 ghost use Rattle.rowcheck.specs.States.{state_of};
 ghost use Rattle.rowcheck.specs.Walks.Keyings.{are_keyed_for, is_rightly_keyed};
 
-use crate::finding::{Keyings, candidates_of, has_batch, keyings_in, papers_of, third_at};
+use crate::finding::{RoundKeyings, candidates_of, has_batch, keyings_in, papers_of, third_at};
 use crate::rows::Rows;
 use paper::Columns;
 use register::keyings::is_its_clerk;
@@ -114,7 +114,7 @@ fn is_whole_if_keyed(size: u32, keying: &[KeyedPaper]) -> bool
 }
 
 /// Whether each of the keyings that are there has each of so many papers once.
-fn are_whole(size: u32, keyings: &Keyings) -> bool
+fn are_whole(size: u32, keyings: &RoundKeyings) -> bool
     ensures { result ≡ list_all (is_whole size) (of_three (map keyed_entry keyings.now.first.now) (map keyed_entry keyings.now.second.now) (map keyed_entry keyings.now.third.now)) }
 {
     let first = is_whole_if_keyed(size, keyings.first);
@@ -166,9 +166,9 @@ fn are_rightly_keyed(rows: &Rows, batches: &[Batch]) -> bool
 /// Whether papers are keyed of batches that are there, in rounds and by clerks of theirs, with marks that
 /// are read; and each keying is whole, and those of an earlier round differ. The fourth condition on the
 /// rows of an office, whose tables stand in the order of their keys, no key twice.
-pub fn item4(rows: &Rows) -> bool
+pub fn all_keyed(rows: &Rows) -> bool
     requires { MapsRise (state_of rows.now) }
-    ensures { result ≡ item4 (state_of rows.now) }
+    ensures { result ≡ all_keyed (state_of rows.now) }
 {
     let owned = are_of_batches(rows, &rows.keyings);
     owned & are_rightly_keyed(rows, &rows.batches)

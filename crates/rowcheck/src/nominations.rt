@@ -7,7 +7,7 @@ ghost use Rattle.std.specs.Prelude.{◌≡◌, ◌==◌, map, take_while};
 ghost use Rattle.std.specs.List.{prefix_len};
 ghost use Rattle.register.specs.Offices.{MapsRise, ward_entry, candidate_entry};
 ghost use Rattle.register.specs.Nominations.{are_enough};
-ghost use Rattle.register.specs.Items.{item2};
+ghost use Rattle.register.specs.Items.{all_nominated};
 ghost use Rattle.rowcheck.specs.States.{state_of};
 ghost use Rattle.rowcheck.specs.Walks.Runs.{skip_while};
 ghost use Rattle.rowcheck.specs.Walks.Nominations.{are_nominated};
@@ -62,9 +62,9 @@ fn are_nominated(wards: &[Ward], candidates: &[Candidate]) -> bool
 /// Whether candidates belong to wards that are there, and each ward has the candidates that its phase asks
 /// for: more than seats in keying, one at least once it is sealed. The second condition on the rows of an
 /// office, whose wards and candidates stand in the order of their keys, no key twice.
-pub fn item2(rows: &Rows) -> bool
+pub fn all_nominated(rows: &Rows) -> bool
     requires { MapsRise (state_of rows.now) }
-    ensures { result ≡ item2 (state_of rows.now) }
+    ensures { result ≡ all_nominated (state_of rows.now) }
 {
     are_nominated(&rows.wards, &rows.candidates)
 }

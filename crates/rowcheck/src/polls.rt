@@ -5,7 +5,7 @@ ghost use Rattle.std.specs.List.{list_all};
 ghost use Rattle.register.specs.Offices.{MapsRise, ward_entry, batch_entry};
 ghost use Rattle.register.specs.Polls.{pile_of, piles_of, is_settled, ballots_in, StandFor, are_bundled};
 ghost use Rattle.register.specs.Elections.{election_of, is_counted, is_in_count, is_agreed};
-ghost use Rattle.register.specs.Items.{item6};
+ghost use Rattle.register.specs.Items.{all_agreed};
 ghost use Rattle.rowcheck.specs.States.{state_of};
 ghost use Rattle.rowcheck.specs.Walks.Polls.{is_settled_for, piles_in};
 
@@ -89,9 +89,9 @@ fn are_agreed(rows: &Rows, wards: &[Ward]) -> bool
 /// Whether in each contested ward that has been sealed all batches are taken, and all their doubtful
 /// papers have verdicts. The sixth condition on the rows of an office, whose tables stand in the order of
 /// their keys, no key twice.
-pub fn item6(rows: &Rows) -> bool
+pub fn all_agreed(rows: &Rows) -> bool
     requires { MapsRise (state_of rows.now) }
-    ensures { result ≡ item6 (state_of rows.now) }
+    ensures { result ≡ all_agreed (state_of rows.now) }
 {
     are_agreed(rows, &rows.wards)
 }
@@ -118,7 +118,7 @@ fn add_batch(
     )
 }
 
-/// The papers of this ward among those of some batches. An error is want of memory.
+/// The papers of those of some batches which belong to this ward. An error is want of memory.
 fn ballots_among(
     alloc: Global,
     rows: &Rows,

@@ -1,9 +1,9 @@
 //! Rows in range.
 
-ghost use Rattle.std.specs.Prelude.{◌≡◌};
+ghost use Rattle.std.specs.Prelude.{◌≡◌, Bool};
 ghost use Rattle.std.specs.List.{list_all};
 ghost use Rattle.register.specs.Offices.{ward_entry, candidate_entry, batch_entry, third_entry, keyed_entry, judged_entry, lot_entry, receipt_entry};
-ghost use Rattle.register.specs.Items.{is_ward, is_candidate, is_batch, is_third, is_keyed_paper, is_judged_paper, is_lot, is_about, is_receipt, item1};
+ghost use Rattle.register.specs.Items.{is_ward, is_candidate, is_batch, is_third, is_keyed_paper, is_judged_paper, is_lot, is_about, is_receipt, all_in_range};
 ghost use Rattle.rowcheck.specs.States.{state_of};
 
 use crate::rows::Rows;
@@ -17,66 +17,89 @@ use register::{Batch, Candidate, DrawnLot, JudgedPaper, KeyedPaper, Receipt, Thi
 /// The highest code of a verdict.
 const LAST_CODE: u32 = 5;
 
-fn is_ward(ward: &Ward) -> bool
-    ensures { result ≡ is_ward (ward_entry ward.now) }
-{
-    let number = is_ward_number(ward.number);
-    let seats = is_seat_number(ward.seats);
-    number & (seats & is_name(ward.name.as_str()))
+/// A row whose numbers and texts have ranges.
+trait Ranged {
+    ghost is_ranged: { Self → Bool };
+
+    /// Whether they are in range.
+    fn is_in_range(&self) -> bool
+        ensures { result ≡ is_ranged self.now };
 }
 
-fn is_candidate(candidate: &Candidate) -> bool
-    ensures { result ≡ is_candidate (candidate_entry candidate.now) }
-{
-    let ward = is_ward_number(candidate.ward);
-    let number = is_candidate_number(candidate.number);
-    ward & (number & is_name(candidate.name.as_str()))
+impl Ranged for Ward {
+    ghost is_ranged = { λ w. is_ward (ward_entry w) };
+
+    fn is_in_range(&self) -> bool {
+        let number = is_ward_number(self.number);
+        let seats = is_seat_number(self.seats);
+        number & (seats & is_name(self.name.as_str()))
+    }
 }
 
-fn is_batch(batch: &Batch) -> bool
-    ensures { result ≡ is_batch (batch_entry batch.now) }
-{
-    let number = is_batch_number(batch.number);
-    let ward = is_ward_number(batch.ward);
-    let size = is_paper_number(batch.size);
-    let first = is_clerk(batch.first_clerk);
-    let second = is_clerk(batch.second_clerk);
-    number & (ward & (size & (first & (second & is_round(batch.round)))))
+impl Ranged for Candidate {
+    ghost is_ranged = { λ c. is_candidate (candidate_entry c) };
+
+    fn is_in_range(&self) -> bool {
+        let ward = is_ward_number(self.ward);
+        let number = is_candidate_number(self.number);
+        ward & (number & is_name(self.name.as_str()))
+    }
 }
 
-fn is_third(third: &ThirdClerk) -> bool
-    ensures { result ≡ is_third (third_entry third.now) }
-{
-    let batch = is_batch_number(third.batch);
-    batch & is_clerk(third.clerk)
+impl Ranged for Batch {
+    ghost is_ranged = { λ b. is_batch (batch_entry b) };
+
+    fn is_in_range(&self) -> bool {
+        let number = is_batch_number(self.number);
+        let ward = is_ward_number(self.ward);
+        let size = is_paper_number(self.size);
+        let first = is_clerk(self.first_clerk);
+        let second = is_clerk(self.second_clerk);
+        number & (ward & (size & (first & (second & is_round(self.round)))))
+    }
 }
 
-fn is_keyed_paper(keyed: &KeyedPaper) -> bool
-    ensures { result ≡ is_keyed_paper (keyed_entry keyed.now) }
-{
-    let batch = is_batch_number(keyed.batch);
-    let round = is_round(keyed.round);
-    let clerk = is_clerk(keyed.clerk);
-    // Its marks are text, as each `String` is.
-    let _marks = keyed.marks.as_str();
-    batch & (round & (clerk & is_paper_number(keyed.paper)))
+impl Ranged for ThirdClerk {
+    ghost is_ranged = { λ t. is_third (third_entry t) };
+
+    fn is_in_range(&self) -> bool {
+        let batch = is_batch_number(self.batch);
+        batch & is_clerk(self.clerk)
+    }
 }
 
-fn is_judged_paper(judged: &JudgedPaper) -> bool
-    ensures { result ≡ is_judged_paper (judged_entry judged.now) }
-{
-    let batch = is_batch_number(judged.batch);
-    let paper = is_paper_number(judged.paper);
-    let _marks = judged.marks.as_str();
-    batch & (paper & (judged.code <= LAST_CODE))
+impl Ranged for KeyedPaper {
+    ghost is_ranged = { λ k. is_keyed_paper (keyed_entry k) };
+
+    fn is_in_range(&self) -> bool {
+        let batch = is_batch_number(self.batch);
+        let round = is_round(self.round);
+        let clerk = is_clerk(self.clerk);
+        // Its marks are text, as each `String` is.
+        let _marks = self.marks.as_str();
+        batch & (round & (clerk & is_paper_number(self.paper)))
+    }
 }
 
-fn is_lot(lot: &DrawnLot) -> bool
-    ensures { result ≡ is_lot (lot_entry lot.now) }
-{
-    let ward = is_ward_number(lot.ward);
-    let stage = is_lot_stage(lot.stage);
-    ward & (stage & is_candidate_number(lot.candidate))
+impl Ranged for JudgedPaper {
+    ghost is_ranged = { λ v. is_judged_paper (judged_entry v) };
+
+    fn is_in_range(&self) -> bool {
+        let batch = is_batch_number(self.batch);
+        let paper = is_paper_number(self.paper);
+        let _marks = self.marks.as_str();
+        batch & (paper & (self.code <= LAST_CODE))
+    }
+}
+
+impl Ranged for DrawnLot {
+    ghost is_ranged = { λ l. is_lot (lot_entry l) };
+
+    fn is_in_range(&self) -> bool {
+        let ward = is_ward_number(self.ward);
+        let stage = is_lot_stage(self.stage);
+        ward & (stage & is_candidate_number(self.candidate))
+    }
 }
 
 /// Whether a text is what this actor's receipt may be about.
@@ -89,74 +112,35 @@ fn is_about(actor: u32, subject: &str) -> bool
     is_clerk(actor) && is_clerk_subject(subject)
 }
 
-fn is_receipt(receipt: &Receipt) -> bool
-    ensures { result ≡ is_receipt (receipt_entry receipt.now) }
-{
-    let about = is_about(receipt.actor, receipt.subject.as_str());
-    let id = is_id(receipt.id.as_str());
-    about & (id & is_reply(receipt.reply.as_str()))
+impl Ranged for Receipt {
+    ghost is_ranged = { λ r. is_receipt (receipt_entry r) };
+
+    fn is_in_range(&self) -> bool {
+        let about = is_about(self.actor, self.subject.as_str());
+        let id = is_id(self.id.as_str());
+        about & (id & is_reply(self.reply.as_str()))
+    }
 }
 
-fn are_wards(wards: &[Ward]) -> bool
-    ensures { result ≡ list_all (λ w. is_ward (ward_entry w)) wards.now }
+/// Whether all rows of a table are in range.
+fn are_in_range<T: Ranged>(rows: &[T]) -> bool
+    ensures { result ≡ list_all T.is_ranged rows.now }
 {
-    wards.iter().all(|ward| is_ward(ward))
-}
-
-fn are_candidates(candidates: &[Candidate]) -> bool
-    ensures { result ≡ list_all (λ c. is_candidate (candidate_entry c)) candidates.now }
-{
-    candidates.iter().all(|candidate| is_candidate(candidate))
-}
-
-fn are_batches(batches: &[Batch]) -> bool
-    ensures { result ≡ list_all (λ b. is_batch (batch_entry b)) batches.now }
-{
-    batches.iter().all(|batch| is_batch(batch))
-}
-
-fn are_thirds(thirds: &[ThirdClerk]) -> bool
-    ensures { result ≡ list_all (λ t. is_third (third_entry t)) thirds.now }
-{
-    thirds.iter().all(|third| is_third(third))
-}
-
-fn are_keyed_papers(keyings: &[KeyedPaper]) -> bool
-    ensures { result ≡ list_all (λ k. is_keyed_paper (keyed_entry k)) keyings.now }
-{
-    keyings.iter().all(|keyed| is_keyed_paper(keyed))
-}
-
-fn are_judged_papers(verdicts: &[JudgedPaper]) -> bool
-    ensures { result ≡ list_all (λ v. is_judged_paper (judged_entry v)) verdicts.now }
-{
-    verdicts.iter().all(|judged| is_judged_paper(judged))
-}
-
-fn are_lots(lots: &[DrawnLot]) -> bool
-    ensures { result ≡ list_all (λ l. is_lot (lot_entry l)) lots.now }
-{
-    lots.iter().all(|lot| is_lot(lot))
-}
-
-fn are_receipts(receipts: &[Receipt]) -> bool
-    ensures { result ≡ list_all (λ r. is_receipt (receipt_entry r)) receipts.now }
-{
-    receipts.iter().all(|receipt| is_receipt(receipt))
+    rows.iter().all(|row| row.is_in_range())
 }
 
 /// Whether numbers, names, ids, phases, subjects and replies are in range: the first condition on the
 /// rows of an office.
-pub fn item1(rows: &Rows) -> bool
-    ensures { result ≡ item1 (state_of rows.now) }
+pub fn all_in_range(rows: &Rows) -> bool
+    ensures { result ≡ all_in_range (state_of rows.now) }
 {
-    let wards = are_wards(&rows.wards);
-    let candidates = are_candidates(&rows.candidates);
-    let batches = are_batches(&rows.batches);
-    let thirds = are_thirds(&rows.thirds);
-    let keyings = are_keyed_papers(&rows.keyings);
-    let verdicts = are_judged_papers(&rows.verdicts);
-    let lots = are_lots(&rows.lots);
-    let receipts = are_receipts(&rows.receipts);
+    let wards = are_in_range(&rows.wards);
+    let candidates = are_in_range(&rows.candidates);
+    let batches = are_in_range(&rows.batches);
+    let thirds = are_in_range(&rows.thirds);
+    let keyings = are_in_range(&rows.keyings);
+    let verdicts = are_in_range(&rows.verdicts);
+    let lots = are_in_range(&rows.lots);
+    let receipts = are_in_range(&rows.receipts);
     wards & (candidates & (batches & (thirds & (keyings & (verdicts & (lots & receipts))))))
 }

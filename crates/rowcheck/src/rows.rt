@@ -6,7 +6,7 @@ use register::{
 };
 
 /// The rows of an office, each table's in the order of its keys. Their numbers and texts are in range
-/// only where `item1` says so, and those of bundles and figures where `item8` does.
+/// only where `all_in_range` says so, and those of bundles and figures where `is_tabulated` does.
 #[derive(Drop)]
 pub struct Rows {
     pub wards: Vec<Ward>,

@@ -1,18 +1,18 @@
 //! What is tabulated of the counts: where each bundle of equal papers lies, and every figure.
 
 ghost use Rattle.std.specs.Prelude.{◌≡◌, ◌↔◌, IsTrue};
-ghost use Rattle.register.specs.Tabulated.{tabulation_entries, tabulation_of, item8};
+ghost use Rattle.register.specs.Tabulated.{tabulation_entries, tabulation_of, IsTabulationOf};
 ghost use Rattle.rowcheck.specs.States.{state_of, tabulated};
 
 use crate::rows::Rows;
 use register::Tabulation;
 
 /// Whether the rows of what is tabulated are, one by one and in this order, what was counted. Where this is
-/// the tabulation of the state that the rows stand for, as `item7` answers it of the same rows, that is the
+/// the tabulation of the state that the rows stand for, as `all_counted` answers it of the same rows, that is the
 /// eighth condition on the rows of an office.
-pub fn item8(rows: &Rows, counted: &Tabulation) -> bool
+pub fn is_tabulated(rows: &Rows, counted: &Tabulation) -> bool
     ensures compares { IsTrue result ↔ (tabulated rows.now ≡ tabulation_entries counted.now) }
-    ensures judges { tabulation_entries counted.now ≡ tabulation_of (state_of rows.now) → IsTrue result ↔ item8 (tabulated rows.now) (state_of rows.now) }
+    ensures judges { tabulation_entries counted.now ≡ tabulation_of (state_of rows.now) → IsTrue result ↔ IsTabulationOf (tabulated rows.now) (state_of rows.now) }
 {
     let bundles = rows.bundles == counted.bundles;
     let figures = rows.figures == counted.figures;

@@ -5,7 +5,7 @@ ghost use Rattle.std.specs.List.{list_all};
 ghost use Rattle.register.specs.Offices.{MapsRise, batch_entry, keyed_entry, judged_entry, batch_at, verdicts_of};
 ghost use Rattle.register.specs.Papers.{taken_papers};
 ghost use Rattle.register.specs.Keyed.{is_verdict_on, is_judged};
-ghost use Rattle.register.specs.Items.{item5};
+ghost use Rattle.register.specs.Items.{all_judged};
 ghost use Rattle.rowcheck.specs.States.{state_of};
 
 use crate::finding::{candidates_of, has_batch, keyings_in, verdicts_of};
@@ -78,9 +78,9 @@ fn are_judged(rows: &Rows, batches: &[Batch]) -> bool
 
 /// Whether verdicts belong to batches that are there, and are on doubtful papers of taken ones. The fifth
 /// condition on the rows of an office, whose tables stand in the order of their keys, no key twice.
-pub fn item5(rows: &Rows) -> bool
+pub fn all_judged(rows: &Rows) -> bool
     requires { MapsRise (state_of rows.now) }
-    ensures { result ≡ item5 (state_of rows.now) }
+    ensures { result ≡ all_judged (state_of rows.now) }
 {
     let owned = are_of_batches(rows, &rows.verdicts);
     owned & are_judged(rows, &rows.batches)

@@ -1,16 +1,9 @@
 -- The numbers of the candidates of a ward.
-use Rattle.std.proofs.Common.{ℕ, ◌<◌, ◌≤◌, List, [], ◌∷◌, length, get_or, map, subst, arith}
-use Rattle.std.proofs.lemmas.List.{get_or-map, length-map}
-use Rattle.paper.specs.Columns.{IsColumnSet, IsColumn}
+use Rattle.std.proofs.Common.{ℕ, ◌≤◌, List, [], ◌∷◌, map}
 use Rattle.paper.proofs.ColumnSets.{Ascends, columns_from_ascends, ascends_from_columns}
 use Rattle.sheet.specs.Wards.{Ascend, HasFewPapers, CanBePrinted}
 use Rattle.votes.specs.Units.{max_seats}
 use Rattle.sheet.specs.declared.ward.Ward.{Ward}
-
--- the number of each candidate is 1 to 30
-pub IsColumn-candidate : {X : Type 0} (number : X → ℕ) (xs : List X) (i : ℕ) (d : X) → i < length xs → IsColumnSet (map number xs) → IsColumn (number (get_or xs i d))
-IsColumn-candidate number xs i d within set =
-    subst IsColumn (get_or-map number xs i d 0 within) (set.within i (omega (arith, length-map xs number)))
 
 ascends_of : (low : ℕ) (cs : List ℕ) → Ascend low cs → Ascends low cs
 ascends_of low [] up = tt

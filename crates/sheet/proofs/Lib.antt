@@ -2,7 +2,6 @@
 pub mod Candidates
 pub mod Joined
 pub mod Writing
-pub mod StageTexts
 pub mod Utf8
 pub mod Bytewise
 pub mod Quoted

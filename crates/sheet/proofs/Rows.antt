@@ -1,5 +1,6 @@
 -- A row of a table is UTF-8 where its cells are.
-use Rattle.std.proofs.Common.{◌≡◌, ℕ, ◌<◌, ◌≤◌, ◌==◌, Bool, true, false, cond, if◌then◌else◌, List, [], ◌∷◌, ◌++◌, map, String, string_bytes, IsUtf8, refl, sym, ap, subst, arith, ◌∙◌, append_assoc, append-nil}
+use Rattle.std.proofs.Common.{◌≡◌, ℕ, ◌<◌, ◌≤◌, ◌==◌, Bool, true, false, cond, if◌then◌else◌, List, [], ◌∷◌, ◌++◌, map, String, string_bytes, IsUtf8, refl, sym, ap, subst, arith, ◌∙◌}
+use Rattle.std.proofs.Common.{append_assoc, append-nil}
 use Rattle.std.specs.List.{flat_map}
 use Rattle.std.proofs.lemmas.Bool.{cond-false, ne_eqb}
 use Rattle.std.proofs.lemmas.Grind.{flat_map-append}

@@ -1,22 +1,21 @@
 -- What a table or a picture on a page tells of a stage.
 use Rattle.std.specs.Prelude.{ℕ, ◌+◌, ◌-◌, ◌==◌, nat_lt, if◌then◌else◌, List, [], ◌∷◌, ◌++◌, length, take, drop, slice_get, codes, decimal, Option, Some, None}
 use Rattle.votes.specs.Text.{votes_text}
+use Rattle.count.specs.Actions.{action_text}
 use Rattle.count.specs.Law.Contest.{votes_at}
 use Rattle.count.specs.declared.stages.Stage.{Stage}
 use Rattle.count.specs.declared.stages.Action.{Action}
-use Rattle.count.specs.declared.stages.Action.TheVariants.{First, Surplus, Exclude, ExcludeLast}
 use Rattle.sheet.specs.Lines.{line}
-use Rattle.sheet.specs.Stages.{is_elected_at, is_excluded_at}
+use Rattle.sheet.specs.Stages.{fate_at}
 use Rattle.sheet.specs.Picture.{bar, stage_name}
+use Rattle.sheet.specs.declared.stage.Fate.{Fate}
+use Rattle.sheet.specs.declared.stage.Fate.TheVariants.{NewlyElected, Elected, NewlyExcluded, Excluded, Continuing}
 use Rattle.sheet.specs.declared.cells.Cell.{Cell}
 use Rattle.sheet.specs.declared.cells.Cell.TheVariants.{Head, Candidate, NonTransferable, Lost, Above, Bar}
 
 -- the head of a column: the stage, and what is done at it
 abbrev pub column_head : ℕ → Action → List ℕ
-column_head k First = line (codes "<th scope=\"col\">Stage " ∷ decimal k ∷ codes "<br>first preferences</th>" ∷ [])
-column_head k (Surplus c) = line (codes "<th scope=\"col\">Stage " ∷ decimal k ∷ codes "<br>surplus of " ∷ decimal c ∷ codes "</th>" ∷ [])
-column_head k (Exclude c) = line (codes "<th scope=\"col\">Stage " ∷ decimal k ∷ codes "<br>exclusion of " ∷ decimal c ∷ codes "</th>" ∷ [])
-column_head k (ExcludeLast c) = line (codes "<th scope=\"col\">Stage " ∷ decimal k ∷ codes "<br>exclusion of " ∷ decimal c ∷ codes ", last vacancies</th>" ∷ [])
+column_head k action = line (codes "<th scope=\"col\">Stage " ∷ decimal k ∷ codes "<br>" ∷ action_text action ∷ codes "</th>" ∷ [])
 
 -- a candidate's votes at a stage or, where there is none, others
 abbrev pub votes_or : ℕ → Option Stage → ℕ → ℕ
@@ -28,12 +27,12 @@ abbrev pub votes_before : List Stage → Stage → ℕ → ℕ
 votes_before earlier stage c = votes_or (votes_at stage c) (slice_get earlier (length earlier - 1)) c
 
 -- where a candidate stands at a stage: in bold where that is new at it, small where it was so before
-abbrev pub standing : List Stage → Stage → ℕ → List ℕ
-standing earlier stage c =
-    if is_elected_at (stage ∷ []) c then codes " <b>elected</b>" else (
-    if is_elected_at earlier c then codes " <small>elected</small>" else (
-    if is_excluded_at (stage ∷ []) c then codes " <b>excluded</b>" else (
-    if is_excluded_at earlier c then codes " <small>excluded</small>" else [])))
+abbrev pub standing : Fate → List ℕ
+standing NewlyElected = codes " <b>elected</b>"
+standing Elected = codes " <small>elected</small>"
+standing NewlyExcluded = codes " <b>excluded</b>"
+standing Excluded = codes " <small>excluded</small>"
+standing Continuing = []
 
 -- the sign of what was gained or lost
 abbrev pub sign : ℕ → ℕ → List ℕ
@@ -56,7 +55,7 @@ sum_cell units = line (codes "<td>" ∷ votes_text units ∷ codes "</td>" ∷ [
 -- what a cell tells of a stage after earlier ones
 abbrev pub cell_text : Cell → List Stage → Stage → List ℕ
 cell_text Head earlier stage = column_head (length earlier + 1) stage.action
-cell_text (Candidate c) earlier stage = votes_cell (votes_before earlier stage c) (votes_at stage c) (standing earlier stage c)
+cell_text (Candidate c) earlier stage = votes_cell (votes_before earlier stage c) (votes_at stage c) (standing (fate_at earlier stage c))
 cell_text NonTransferable earlier stage = sum_cell stage.non_transferable
 cell_text Lost earlier stage = sum_cell stage.lost
 cell_text Above earlier stage = stage_name (length earlier)

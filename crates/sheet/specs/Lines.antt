@@ -51,3 +51,7 @@ plain_byte byte =
 -- a text on a page, never markup, whatever bytes it has
 abbrev pub plain : List ℕ → List ℕ
 plain text = flat_map plain_byte text
+
+-- `7 <bdi>Ann</bdi>`: a number and a name on a page; the name's own direction of writing doesn't touch what stands around it
+abbrev pub named : ℕ → List ℕ → List ℕ
+named number name = decimal number ++ codes " <bdi>" ++ plain name ++ codes "</bdi>"

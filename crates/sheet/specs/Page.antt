@@ -7,7 +7,7 @@ use Rattle.count.specs.declared.stages.Stage.{Stage}
 use Rattle.sheet.specs.Ballots.{name_at, name_or_withdrawn}
 use Rattle.sheet.specs.Cells.{from_place}
 use Rattle.sheet.specs.Entries.{SheetEntry}
-use Rattle.sheet.specs.Lines.{line, plain}
+use Rattle.sheet.specs.Lines.{line, plain, named}
 use Rattle.sheet.specs.Look.{style, patterns}
 use Rattle.sheet.specs.Picture.{scale_of}
 use Rattle.sheet.specs.Table.{blocks}
@@ -23,7 +23,7 @@ abbrev pub page_head : SheetEntry → Bool → List ℕ
 page_head ward is_declared = line (
     codes "<!DOCTYPE html>\n<html lang=\"en\">\n<head>\n<meta charset=\"utf-8\">\n<meta name=\"viewport\" content=\"width=device-width, initial-scale=1\">\n<title>Ward "
     ∷ decimal ward.number ∷ codes " " ∷ plain ward.name ∷ codes "</title>\n<style>\n" ∷ style ∷ codes "</style>\n</head>\n<body>\n<h1>Ward "
-    ∷ decimal ward.number ∷ codes " <bdi>" ∷ plain ward.name ∷ codes "</bdi></h1>" ∷ note is_declared ∷ [])
+    ∷ named ward.number ward.name ∷ codes "</h1>" ∷ note is_declared ∷ [])
 
 -- the rejected papers of all codes
 abbrev pub rejected_in_all : List ℕ → ℕ
@@ -46,7 +46,7 @@ papers_table seats poll = line (
 
 -- a candidate who is elected, and at which stage
 abbrev pub elected_item : ℕ → ℕ → List ℕ → List ℕ
-elected_item k c name = line (codes "<li>" ∷ decimal c ∷ codes " <bdi>" ∷ plain name ∷ codes "</bdi>, stage " ∷ decimal k ∷ codes "</li>" ∷ [])
+elected_item k c name = line (codes "<li>" ∷ named c name ∷ codes ", stage " ∷ decimal k ∷ codes "</li>" ∷ [])
 
 -- the same, for a candidate who is among those elected at the stage
 abbrev pub item_at : ℕ → List ℕ → ℕ → List ℕ → List ℕ
@@ -77,7 +77,7 @@ elected_text ward is_declared stages =
 
 -- a candidate of an uncontested ward
 abbrev pub unopposed_item : ℕ → List ℕ → List ℕ
-unopposed_item c name = line (codes "<li>" ∷ decimal c ∷ codes " <bdi>" ∷ plain name ∷ codes "</bdi></li>" ∷ [])
+unopposed_item c name = line (codes "<li>" ∷ named c name ∷ codes "</li>" ∷ [])
 
 -- an uncontested ward: all its candidates are elected, and a seat that none of them takes stays empty
 abbrev pub unopposed_text : SheetEntry → List ℕ
@@ -88,8 +88,8 @@ unopposed_text ward =
 
 -- the candidate whom a lot named, and at which stage
 abbrev pub lot_item : List (ℕ × List ℕ) → (ℕ × ℕ) → List ℕ
-lot_item candidates lot = line (
-    codes "<li>Stage " ∷ decimal lot.0 ∷ codes ": " ∷ decimal lot.1 ∷ codes " <bdi>" ∷ plain (name_or_withdrawn (name_at candidates lot.1)) ∷ codes "</bdi></li>" ∷ [])
+lot_item candidates lot =
+    line (codes "<li>Stage " ∷ decimal lot.0 ∷ codes ": " ∷ named lot.1 (name_or_withdrawn (name_at candidates lot.1)) ∷ codes "</li>" ∷ [])
 
 -- the lots that were drawn
 abbrev pub lots_text : SheetEntry → List (ℕ × ℕ) → List ℕ

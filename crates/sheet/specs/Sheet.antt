@@ -4,6 +4,7 @@ use Rattle.std.specs.List.{list_any, flat_map}
 use Rattle.votes.specs.Units.{quota_of}
 use Rattle.votes.specs.Text.{votes_text}
 use Rattle.count.specs.declared.stages.Stage.{Stage}
+use Rattle.sheet.specs.Cells.{from_place}
 use Rattle.sheet.specs.Lines.{line, number_column}
 use Rattle.sheet.specs.Stages.{heading, candidate_line, sum_lines}
 use Rattle.sheet.specs.Entries.{SheetEntry}
@@ -40,15 +41,14 @@ abbrev pub stage_text : SheetEntry → List Stage → Stage → List ℕ
 stage_text ward earlier stage =
     heading (length earlier + 1) stage.action ++ candidate_lines ward earlier stage ++ sum_lines stage
 
--- stages after earlier ones
-abbrev pub stages_text : SheetEntry → List Stage → List Stage → List ℕ
-stages_text ward earlier [] = []
-stages_text ward earlier (stage ∷ later) = stage_text ward earlier stage ++ stages_text ward (earlier ++ stage ∷ []) later
+-- all stages, each after those before it
+abbrev pub stages_text : SheetEntry → List Stage → List ℕ
+stages_text ward stages = from_place (stage_text ward) 0 stages
 
 -- what stands below the ward's line
 abbrev pub below_ward : SheetEntry → Option Poll → List Stage → List ℕ
 below_ward ward None stages = uncontested_line ward.seats
-below_ward ward (Some poll) stages = seats_line ward.seats poll.valid ++ rejected_line poll.rejected ++ stages_text ward [] stages
+below_ward ward (Some poll) stages = seats_line ward.seats poll.valid ++ rejected_line poll.rejected ++ stages_text ward stages
 
 -- the stage sheet of a ward
 abbrev pub sheet : SheetEntry → List Stage → List ℕ

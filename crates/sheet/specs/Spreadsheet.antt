@@ -1,20 +1,20 @@
 -- The stages of a ward as a table for a spreadsheet (CSV): a row a candidate, and four columns a stage.
-use Rattle.std.specs.Prelude.{ℕ, ◌+◌, ◌-◌, Bool, ◌||◌, ◌==◌, if◌then◌else◌, List, [], ◌∷◌, ◌++◌, length, map, slice_get, codes, decimal, Option, Some, None, ⊤}
+use Rattle.std.specs.Prelude.{ℕ, ◌+◌, ◌-◌, Bool, ◌||◌, ◌==◌, if◌then◌else◌, List, [], ◌∷◌, ◌++◌, length, map, slice_get, codes, decimal, Option, Some, None}
 use Rattle.std.specs.List.{flat_map}
 use Rattle.csv.specs.Writing.{default_writer, row_text}
 use Rattle.csv.specs.declared.writer.QuoteStyle.TheVariants as style
 use Rattle.csv.specs.declared.writer.WriterBuilder.{WriterBuilder}
-use Rattle.paper.specs.Columns.{IsColumn}
 use Rattle.votes.specs.Text.{votes_text}
+use Rattle.count.specs.Actions.{action_text}
 use Rattle.count.specs.Law.Contest.{votes_at}
 use Rattle.count.specs.declared.stages.Stage.{Stage}
-use Rattle.count.specs.declared.stages.Action.{Action}
-use Rattle.count.specs.declared.stages.Action.TheVariants.{First, Surplus, Exclude, ExcludeLast}
 use Rattle.sheet.specs.declared.spreadsheet.Line.{Line}
 use Rattle.sheet.specs.declared.spreadsheet.Line.TheVariants.{Candidate, NonTransferable, Lost}
 use Rattle.sheet.specs.Cells.{each_after}
 use Rattle.sheet.specs.Entries.{SheetEntry}
-use Rattle.sheet.specs.Stages.{is_elected_at, is_excluded_at}
+use Rattle.sheet.specs.Stages.{fate_at}
+use Rattle.sheet.specs.declared.stage.Fate.{Fate}
+use Rattle.sheet.specs.declared.stage.Fate.TheVariants.{NewlyElected, Elected, NewlyExcluded, Excluded, Continuing}
 
 -- each cell stands in quotes, so that a cell is one whatever a spreadsheet takes for the end of a cell
 abbrev pub writer : WriterBuilder
@@ -29,13 +29,6 @@ abbrev pub name_cell : List ℕ → List ℕ
 name_cell [] = []
 name_cell (byte ∷ rest) = if begins_formula byte then codes "'" ++ byte ∷ rest else byte ∷ rest
 
--- what is done at a stage
-abbrev pub action_text : Action → List ℕ
-action_text First = codes "first preferences"
-action_text (Surplus c) = codes "surplus of " ++ decimal c
-action_text (Exclude c) = codes "exclusion of " ++ decimal c
-action_text (ExcludeLast c) = codes "exclusion of " ++ (decimal c ++ codes ", last vacancies")
-
 -- the heads of the columns of the stage of a number: `Stage 2: surplus of 1`, `Stage 2 gained`, `Stage 2 lost`, `Stage 2 standing`
 abbrev pub heads_at : ℕ → Stage → List (List ℕ)
 heads_at k stage =
@@ -47,12 +40,6 @@ heads_at k stage =
 -- those of a stage after earlier ones
 abbrev pub stage_heads : List Stage → Stage → List (List ℕ)
 stage_heads earlier stage = heads_at (length earlier + 1) stage
-
--- a line that is for a candidate has a number that a candidate may have
-abbrev pub IsForCandidate : Line → Type 0
-IsForCandidate (Candidate c) = IsColumn c
-IsForCandidate NonTransferable = ⊤
-IsForCandidate Lost = ⊤
 
 -- the value of a line at a stage, in units
 abbrev pub value_in : Line → Stage → ℕ
@@ -68,11 +55,17 @@ value_after line (Some stage) = value_in line stage
 abbrev pub value_before : Line → List Stage → ℕ
 value_before line earlier = value_after line (slice_get earlier (length earlier - 1))
 
--- how a candidate stands once a stage is done
+-- how a candidate stands once a stage is done, in a word
+abbrev pub standing_word : Fate → List ℕ
+standing_word NewlyElected = codes "elected"
+standing_word Elected = codes "elected"
+standing_word NewlyExcluded = codes "excluded"
+standing_word Excluded = codes "excluded"
+standing_word Continuing = codes "continuing"
+
+-- the same of a line; a running sum has no such word
 abbrev pub standing : Line → List Stage → Stage → List ℕ
-standing (Candidate c) earlier stage =
-    if is_elected_at (stage ∷ earlier) c then codes "elected" else (
-    if is_excluded_at (stage ∷ earlier) c then codes "excluded" else codes "continuing")
+standing (Candidate c) earlier stage = standing_word (fate_at earlier stage c)
 standing NonTransferable earlier stage = []
 standing Lost earlier stage = []
 

@@ -1,19 +1,18 @@
 -- The lines of a stage.
 use Rattle.std.specs.Prelude.{ℕ, Bool, if◌then◌else◌, nat_eq, List, [], ◌∷◌, ◌++◌, codes, decimal}
 use Rattle.std.specs.List.{list_any}
+use Rattle.count.specs.Actions.{action_text}
 use Rattle.count.specs.Law.Contest.{votes_at}
 use Rattle.count.specs.Law.Elected.{excludes}
 use Rattle.count.specs.declared.stages.Stage.{Stage}
 use Rattle.count.specs.declared.stages.Action.{Action}
-use Rattle.count.specs.declared.stages.Action.TheVariants.{First, Surplus, Exclude, ExcludeLast}
 use Rattle.sheet.specs.Lines.{line, number_column, value_column}
+use Rattle.sheet.specs.declared.stage.Fate.{Fate}
+use Rattle.sheet.specs.declared.stage.Fate.TheVariants.{NewlyElected, Elected, NewlyExcluded, Excluded, Continuing}
 
 -- `Stage 1: first preferences`, `Stage 2: surplus of 1`, `Stage 3: exclusion of 2, last vacancies`
 abbrev pub heading : ℕ → Action → List ℕ
-heading k First = line (codes "Stage " ∷ decimal k ∷ codes ": first preferences" ∷ [])
-heading k (Surplus c) = line (codes "Stage " ∷ decimal k ∷ codes ": surplus of " ∷ decimal c ∷ [])
-heading k (Exclude c) = line (codes "Stage " ∷ decimal k ∷ codes ": exclusion of " ∷ decimal c ∷ [])
-heading k (ExcludeLast c) = line (codes "Stage " ∷ decimal k ∷ codes ": exclusion of " ∷ decimal c ∷ codes ", last vacancies" ∷ [])
+heading k action = line (codes "Stage " ∷ decimal k ∷ codes ": " ∷ action_text action ∷ [])
 
 -- whether a candidate is newly elected at one of some stages
 abbrev pub is_elected_at : List Stage → ℕ → Bool
@@ -23,17 +22,26 @@ is_elected_at stages c = list_any (λ s. list_any (nat_eq c) s.elected) stages
 abbrev pub is_excluded_at : List Stage → ℕ → Bool
 is_excluded_at stages c = list_any (λ s. excludes s.action c) stages
 
--- a candidate's letter at a stage: E elected at it, e elected at an earlier one, x excluded at it or earlier, - else
-abbrev pub letter : List Stage → Stage → ℕ → List ℕ
-letter earlier stage c =
-    if is_elected_at (stage ∷ []) c then codes "E" else (
-    if is_elected_at earlier c then codes "e" else (
-    if is_excluded_at (stage ∷ earlier) c then codes "x" else codes "-"))
+-- how a candidate stands at a stage after earlier ones
+abbrev pub fate_at : List Stage → Stage → ℕ → Fate
+fate_at earlier stage c =
+    if is_elected_at (stage ∷ []) c then NewlyElected else (
+    if is_elected_at earlier c then Elected else (
+    if is_excluded_at (stage ∷ []) c then NewlyExcluded else (
+    if is_excluded_at earlier c then Excluded else Continuing)))
+
+-- his letter: E elected at the stage, e elected at an earlier one, x excluded at it or earlier, - else
+abbrev pub letter : Fate → List ℕ
+letter NewlyElected = codes "E"
+letter Elected = codes "e"
+letter NewlyExcluded = codes "x"
+letter Excluded = codes "x"
+letter Continuing = codes "-"
 
 -- ` 1       4.00000 e Ann`
 abbrev pub candidate_line : List Stage → Stage → ℕ → List ℕ → List ℕ
 candidate_line earlier stage c name =
-    line (number_column c ∷ codes " " ∷ value_column (votes_at stage c) ∷ codes " " ∷ letter earlier stage c ∷ codes " " ∷ name ∷ [])
+    line (number_column c ∷ codes " " ∷ value_column (votes_at stage c) ∷ codes " " ∷ letter (fate_at earlier stage c) ∷ codes " " ∷ name ∷ [])
 
 -- `         0.00002 lost by fractions`: a running sum and what it sums up
 abbrev pub sum_line : ℕ → List ℕ → List ℕ

@@ -2,7 +2,7 @@
 use Rattle.std.specs.Prelude.{ℕ, ◌+◌, ◌*◌, ◌%◌, ◌==◌, min, if◌then◌else◌, List, [], ◌∷◌, ◌++◌, length, take, codes, decimal}
 use Rattle.std.specs.List.{flat_map, range_with_len}
 use Rattle.count.specs.declared.stages.Stage.{Stage}
-use Rattle.sheet.specs.Lines.{span, plain}
+use Rattle.sheet.specs.Lines.{span, plain, named}
 use Rattle.sheet.specs.Cells.{row}
 use Rattle.sheet.specs.Entries.{SheetEntry}
 use Rattle.sheet.specs.Look.{legend}
@@ -19,7 +19,7 @@ head_row place stages = row (
 -- a candidate's row
 abbrev pub candidate_row : ℕ → List Stage → ℕ → List ℕ → List ℕ
 candidate_row place stages c name =
-    row (codes "<tr><th scope=\"row\">" ∷ decimal c ∷ codes " <bdi>" ∷ plain name ∷ codes "</bdi></th>" ∷ []) (Candidate c) (codes "</tr>") place stages
+    row (codes "<tr><th scope=\"row\">" ∷ named c name ∷ codes "</th>" ∷ []) (Candidate c) (codes "</tr>") place stages
 
 -- the rows of all candidates
 abbrev pub candidate_rows : SheetEntry → ℕ → List Stage → List ℕ
@@ -43,7 +43,7 @@ picture_head ward place stages = row (
     codes "\">\n<title>" ∷ span (place + 1) (length stages) ∷ codes ": how votes moved</title>\n<rect class=\"paper\" x=\"-2\" width=\"900\" height=\"100%\"/>" ∷ legend ∷ [])
     Above (codes "<g transform=\"translate(0 15)\">") place stages
 
--- a candidate's row in a picture, which opens a group 30 below the one before.
+-- a candidate's row in a picture, which opens a group 30 below the one before
 abbrev pub bar_row : Scale → ℕ → List Stage → ℕ → List ℕ → List ℕ
 bar_row scale place stages c name =
     row (codes "<g transform=\"translate(0 30)\"><text y=\"11\">" ∷ decimal c ∷ codes " <tspan>" ∷ plain name ∷ codes "</tspan></text>" ∷ []) (Bar c scale) [] place stages

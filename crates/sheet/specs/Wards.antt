@@ -5,7 +5,7 @@ use Rattle.votes.specs.Units.{max_papers, max_seats}
 use Rattle.sheet.specs.declared.ward.Ward.{Ward}
 use Rattle.sheet.specs.declared.ward.Poll.{Poll}
 
--- numbers that ascend from above a number on, to the greatest of a candidate
+-- numbers that ascend, the first above a given one, the last at most the highest that a candidate may have
 abbrev pub Ascend : ℕ → List ℕ → Type 0
 Ascend low [] = ⊤
 Ascend low (c ∷ cs) = (low < c) × (c ≤ max_candidates) × Ascend c cs

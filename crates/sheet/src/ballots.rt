@@ -1,7 +1,8 @@
 //! The ballots of a ward, as a file that counting programs share.
 
 ghost use Rattle.std.specs.Prelude.{◌≡◌, ◌-◌, ◌^◌, ◌<◌, is_none, option_map};
-ghost use Rattle.sheet.specs.Ballots.{ballots, bundle_line, comments, highest_number as highest_number_of, lot_comment, minus as minus_of, name_at as name_at_of, name_line, name_lines, papers_text, rejected_comment, size_line, ward_comment, withdrawn, withdrawn_line, withdrawn_number};
+ghost use Rattle.sheet.specs.Ballots.{ballots, bundle_line, comments, highest_number as highest_number_of, lot_comment, minus as minus_of, name_at as name_at_of, name_line, name_lines};
+ghost use Rattle.sheet.specs.Ballots.{papers_text, rejected_comment, size_line, ward_comment, withdrawn, withdrawn_line, withdrawn_number};
 ghost use Rattle.sheet.specs.Ballots.{numbers_of, name_or_withdrawn as name_or_withdrawn_of};
 ghost use Rattle.sheet.specs.Entries.{shown};
 ghost use Rattle.sheet.specs.Wards.{CanBePrinted};

@@ -1,14 +1,13 @@
 //! What a table or a picture on a page tells of a stage.
 
 ghost use Rattle.std.specs.Prelude.{◌≡◌, ◌-◌, ◌^◌, ◌<◌, map};
-ghost use Rattle.count.specs.Law.Contest.{votes_at};
 ghost use Rattle.sheet.specs.Cells.{apart as apart_of, cell_text, column_head, from_place, row, sign as sign_of, standing as standing_of, sum_cell, votes_before as before_of, votes_cell};
 ghost use Rattle.sheet.specs.Pieces.{piece_text};
 ghost use Rattle.sheet.specs.Writing.{Writes};
 
 use crate::line::{Piece, write_line};
 use crate::picture::{Scale, write_bar, write_stage_name};
-use crate::stage::{excludes, is_elected_at, is_excluded_at};
+use crate::stage::{Fate, fate_at, votes_of};
 use count::{Action, Stage};
 use votes::{Broken, Sink, Votes};
 
@@ -29,16 +28,6 @@ pub enum Cell {
     Bar(u8, Scale),
 }
 
-/// The votes of a candidate at a stage.
-fn votes_of(stage: &Stage, c: u8) -> Votes
-    ensures { result ≡ votes_at stage.now c }
-{
-    match stage.votes.get(usize::from(c.saturating_sub(1))) {
-        None => Votes::from_units(0),
-        Some(votes) => *votes,
-    }
-}
-
 /// The votes of a candidate before a stage; at the first one, those that he has at it.
 fn votes_before(earlier: &[Stage], stage: &Stage, c: u8) -> Votes
     ensures { result ≡ before_of earlier.now stage.now c }
@@ -50,22 +39,16 @@ fn votes_before(earlier: &[Stage], stage: &Stage, c: u8) -> Votes
 }
 
 /// Where a candidate stands at a stage, in words.
-fn standing(earlier: &[Stage], stage: &Stage, c: u8) -> &'static str
-    ensures { result.now ≡ standing_of earlier.now stage.now c }
+fn standing(fate: Fate) -> &'static str
+    ensures { result.now ≡ standing_of fate }
 {
-    if stage.elected.has(c) {
-        return " <b>elected</b>";
+    match fate {
+        Fate::NewlyElected => " <b>elected</b>",
+        Fate::Elected => " <small>elected</small>",
+        Fate::NewlyExcluded => " <b>excluded</b>",
+        Fate::Excluded => " <small>excluded</small>",
+        Fate::Continuing => "",
     }
-    if is_elected_at(earlier, c) {
-        return " <small>elected</small>";
-    }
-    if excludes(&stage.action, c) {
-        return " <b>excluded</b>";
-    }
-    if is_excluded_at(earlier, c) {
-        return " <small>excluded</small>";
-    }
-    ""
 }
 
 /// The sign of what was gained or lost.
@@ -119,30 +102,14 @@ fn write_column_head<W: Sink>(sink: &mut W, k: u64, action: Action) -> Result<()
     requires { W.failed sink.old < 2 ^ 64 - 1 }
     ensures { Writes W.taken W.failed sink.old sink.new (column_head k action) result }
 {
-    let stage = Piece::Text("<th scope=\"col\">Stage ");
-    let k = Piece::Number(k);
-    match action {
-        Action::First => {
-            let first = Piece::Text("<br>first preferences</th>");
-            write_line(sink, &[stage, k, first])
-        }
-        Action::Surplus(c) => {
-            let candidate = Piece::Number(u64::from(c));
-            let (what, end) = (Piece::Text("<br>surplus of "), Piece::Text("</th>"));
-            write_line(sink, &[stage, k, what, candidate, end])
-        }
-        Action::Exclude(c) => {
-            let candidate = Piece::Number(u64::from(c));
-            let (what, end) = (Piece::Text("<br>exclusion of "), Piece::Text("</th>"));
-            write_line(sink, &[stage, k, what, candidate, end])
-        }
-        Action::ExcludeLast(c) => {
-            let candidate = Piece::Number(u64::from(c));
-            let what = Piece::Text("<br>exclusion of ");
-            let last = Piece::Text(", last vacancies</th>");
-            write_line(sink, &[stage, k, what, candidate, last])
-        }
-    }
+    let pieces = [
+        Piece::Text("<th scope=\"col\">Stage "),
+        Piece::Number(k),
+        Piece::Text("<br>"),
+        Piece::Done(action),
+        Piece::Text("</th>"),
+    ];
+    write_line(sink, &pieces)
 }
 
 /// Writes a running sum.
@@ -168,7 +135,7 @@ fn write_cell<W: Sink>(
         Cell::Head => write_column_head(sink, earlier.len() as u64 + 1, stage.action),
         Cell::Candidate(c) => {
             let before = votes_before(earlier, stage, c);
-            let stands = standing(earlier, stage, c);
+            let stands = standing(fate_at(earlier, stage, c));
             write_votes_cell(sink, before, votes_of(stage, c), stands)
         }
         Cell::NonTransferable => write_sum_cell(sink, stage.non_transferable),

@@ -1,47 +1,39 @@
 //! The declaration of who is elected.
 
-ghost use Rattle.std.specs.Prelude.{◌-◌, ◌^◌, ◌<◌, string_bytes};
+ghost use Rattle.std.specs.Prelude.{◌-◌, ◌^◌, ◌<◌};
 ghost use Rattle.sheet.specs.Entries.{shown};
-ghost use Rattle.sheet.specs.Sheet.{elected_line, elected_lines, declaration};
+ghost use Rattle.sheet.specs.Sheet.{elected_line, declaration};
 ghost use Rattle.sheet.specs.Wards.{CanBePrinted};
 ghost use Rattle.sheet.specs.Writing.{Writes};
 
 use crate::line::{Piece, write_line};
 use crate::opening::write_ward_line;
+use crate::told::{OfCandidate, write_each};
 use crate::ward::Ward;
 use paper::Columns;
 use votes::{Broken, Sink};
 
-/// Writes the line of a candidate, by his number and his name, if he is among the elected.
-fn write_elected_line<W: Sink>(
-    sink: &mut W,
-    elected: &Columns,
-    candidate: &(u8, String),
-) -> Result<(), Broken>
-    requires { W.failed sink.old < 2 ^ 64 - 1 }
-    ensures { Writes W.taken W.failed sink.old sink.new (elected_line elected.now candidate.now.0 (string_bytes candidate.now.1)) result }
-{
-    let (c, name) = candidate;
-    if !elected.has(*c) {
-        return Ok(());
-    }
-    let pieces = [
-        Piece::NumberColumn(*c),
-        Piece::Text(" "),
-        Piece::Text(name.as_str()),
-    ];
-    write_line(sink, &pieces)
+/// The line of a candidate who is among the elected.
+#[derive(Clone, Copy)]
+struct ElectedLine<'a> {
+    elected: &'a Columns,
 }
 
-/// Writes the lines of the elected candidates.
-fn write_elected_lines<W: Sink>(sink: &mut W, ward: &Ward, elected: &Columns) -> Result<(), Broken>
-    requires { W.failed sink.old < 2 ^ 64 - 1 }
-    ensures { Writes W.taken W.failed sink.old sink.new (elected_lines (shown ward.now) elected.now) result }
-{
-    for candidate in ward.candidates {
-        write_elected_line(sink, elected, candidate)?;
+impl<'a> OfCandidate for ElectedLine<'a> {
+    ghost text = { λ l. elected_line l.elected.now };
+
+    fn write<W: Sink>(&self, sink: &mut W, candidate: &(u8, String)) -> Result<(), Broken> {
+        let (c, name) = candidate;
+        if !self.elected.has(*c) {
+            return Ok(());
+        }
+        let pieces = [
+            Piece::NumberColumn(*c),
+            Piece::Text(" "),
+            Piece::Text(name.as_str()),
+        ];
+        write_line(sink, &pieces)
     }
-    Ok(())
 }
 
 /// Writes the declaration of a ward: its number and name, and a line for each candidate who is
@@ -56,5 +48,5 @@ pub fn write_declaration<W: Sink>(sink: &mut W, ward: &Ward, elected: Columns) -
 {
     write_ward_line(sink, ward)?;
     write_line(sink, &[Piece::Text("Elected")])?;
-    write_elected_lines(sink, ward, &elected)
+    write_each(sink, ward, &ElectedLine { elected: &elected })
 }

@@ -1,42 +1,42 @@
 //! Who is elected, on a page.
 
-ghost use Rattle.std.specs.Prelude.{◌≡◌, ◌-◌, ◌^◌, ◌<◌, string_bytes};
-ghost use Rattle.std.specs.List.{flat_map};
+ghost use Rattle.std.specs.Prelude.{◌≡◌, ◌-◌, ◌^◌, ◌<◌};
 ghost use Rattle.sheet.specs.Cells.{from_place};
 ghost use Rattle.sheet.specs.Entries.{shown};
 ghost use Rattle.sheet.specs.Page.{elected_at, elected_end, elected_text, item_at, left_words as words_of, seats_left as left_of, unopposed_item, unopposed_text};
 ghost use Rattle.sheet.specs.Writing.{Writes};
 
 use crate::line::{Piece, write_line};
+use crate::told::{OfCandidate, write_each};
 use crate::ward::Ward;
 use count::Stage;
 use paper::Columns;
 use votes::{Broken, Sink};
 
-/// Writes a candidate, by his number and his name, and the stage, if he is among those elected at it.
-fn write_item_at<W: Sink>(
-    sink: &mut W,
+/// A candidate who is among those elected at a stage, and the stage's number.
+#[derive(Clone, Copy)]
+struct ItemAt<'a> {
     k: u64,
-    elected: &Columns,
-    candidate: &(u8, String),
-) -> Result<(), Broken>
-    requires { W.failed sink.old < 2 ^ 64 - 1 }
-    ensures { Writes W.taken W.failed sink.old sink.new (item_at k elected.now candidate.now.0 (string_bytes candidate.now.1)) result }
-{
-    let (c, name) = candidate;
-    if !elected.has(*c) {
-        return Ok(());
+    elected: &'a Columns,
+}
+
+impl<'a> OfCandidate for ItemAt<'a> {
+    ghost text = { λ i. item_at i.k i.elected.now };
+
+    fn write<W: Sink>(&self, sink: &mut W, candidate: &(u8, String)) -> Result<(), Broken> {
+        let (c, name) = candidate;
+        if !self.elected.has(*c) {
+            return Ok(());
+        }
+        let pieces = [
+            Piece::Text("<li>"),
+            Piece::Named(*c, name.as_str()),
+            Piece::Text(", stage "),
+            Piece::Number(self.k),
+            Piece::Text("</li>"),
+        ];
+        write_line(sink, &pieces)
     }
-    let pieces = [
-        Piece::Text("<li>"),
-        Piece::Number(u64::from(*c)),
-        Piece::Text(" <bdi>"),
-        Piece::Escaped(name.as_str()),
-        Piece::Text("</bdi>, stage "),
-        Piece::Number(k),
-        Piece::Text("</li>"),
-    ];
-    write_line(sink, &pieces)
 }
 
 /// Writes those elected at a stage, by their numbers.
@@ -50,10 +50,8 @@ fn write_elected_at<W: Sink>(
     ensures { Writes W.taken W.failed sink.old sink.new (elected_at (shown ward.now) earlier.now stage.now) result }
 {
     let k = earlier.len() as u64 + 1;
-    for candidate in ward.candidates {
-        write_item_at(sink, k, &stage.elected, candidate)?;
-    }
-    Ok(())
+    let elected = &stage.elected;
+    write_each(sink, ward, &ItemAt { k, elected })
 }
 
 /// Writes those elected, stage by stage.
@@ -117,31 +115,18 @@ pub fn write_elected<W: Sink>(
     write_elected_end(sink, is_declared, seats_left(ward.seats, stages))
 }
 
-/// Writes a candidate of an uncontested ward, by his number and his name.
-fn write_unopposed_item<W: Sink>(sink: &mut W, candidate: &(u8, String)) -> Result<(), Broken>
-    requires { W.failed sink.old < 2 ^ 64 - 1 }
-    ensures { Writes W.taken W.failed sink.old sink.new (unopposed_item candidate.now.0 (string_bytes candidate.now.1)) result }
-{
-    let (c, name) = candidate;
-    let pieces = [
-        Piece::Text("<li>"),
-        Piece::Number(u64::from(*c)),
-        Piece::Text(" <bdi>"),
-        Piece::Escaped(name.as_str()),
-        Piece::Text("</bdi></li>"),
-    ];
-    write_line(sink, &pieces)
-}
+/// A candidate of an uncontested ward.
+#[derive(Clone, Copy)]
+struct Unopposed;
 
-/// Writes the candidates of an uncontested ward.
-fn write_unopposed_items<W: Sink>(sink: &mut W, ward: &Ward) -> Result<(), Broken>
-    requires { W.failed sink.old < 2 ^ 64 - 1 }
-    ensures { Writes W.taken W.failed sink.old sink.new (flat_map (λ candidate. unopposed_item candidate.0 candidate.1) (shown ward.now).candidates) result }
-{
-    for candidate in ward.candidates {
-        write_unopposed_item(sink, candidate)?;
+impl OfCandidate for Unopposed {
+    ghost text = { λ u. unopposed_item };
+
+    fn write<W: Sink>(&self, sink: &mut W, candidate: &(u8, String)) -> Result<(), Broken> {
+        let (c, name) = candidate;
+        let named = Piece::Named(*c, name.as_str());
+        write_line(sink, &[Piece::Text("<li>"), named, Piece::Text("</li>")])
     }
-    Ok(())
 }
 
 /// Writes that a ward is uncontested, and all its candidates. What seats are left is known without a count.
@@ -157,7 +142,7 @@ pub fn write_unopposed<W: Sink>(sink: &mut W, ward: &Ward) -> Result<(), Broken>
         ),
     ];
     write_line(sink, &opening)?;
-    write_unopposed_items(sink, ward)?;
+    write_each(sink, ward, &Unopposed)?;
     let left = usize::from(ward.seats).saturating_sub(ward.candidates.len());
     write_elected_end(sink, true, left)
 }

@@ -11,22 +11,14 @@ fn put_plain_byte<W: Sink>(sink: &mut W, byte: u8) -> Result<(), Broken>
     requires { W.failed sink.old < 2 ^ 64 - 1 }
     ensures { Puts W.taken W.failed sink.old sink.new (plain_byte byte) result }
 {
-    if byte == b'&' {
-        return put_all(sink, b"&amp;");
+    match byte {
+        b'&' => put_all(sink, b"&amp;"),
+        b'<' => put_all(sink, b"&lt;"),
+        b'>' => put_all(sink, b"&gt;"),
+        b'"' => put_all(sink, b"&quot;"),
+        b'\'' => put_all(sink, b"&#39;"),
+        _ => put_all(sink, &[byte]),
     }
-    if byte == b'<' {
-        return put_all(sink, b"&lt;");
-    }
-    if byte == b'>' {
-        return put_all(sink, b"&gt;");
-    }
-    if byte == b'"' {
-        return put_all(sink, b"&quot;");
-    }
-    if byte == b'\'' {
-        return put_all(sink, b"&#39;");
-    }
-    put_all(sink, &[byte])
 }
 
 /// Puts the bytes of a text on a page.

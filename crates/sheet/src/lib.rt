@@ -29,6 +29,7 @@ mod spreadsheet;
 mod stage;
 mod table;
 mod texts;
+mod told;
 mod ward;
 
 pub use ballots::write_ballots;

@@ -1,14 +1,16 @@
 //! Lines, piece by piece.
 
-ghost use Rattle.std.specs.Prelude.{◌≡◌, ◌-◌, ◌^◌, ◌<◌, ◌≤◌, decimal, length, map, replicate};
+ghost use Rattle.std.specs.Prelude.{◌≡◌, ◌-◌, ◌^◌, ◌<◌, ◌≤◌, ◌++◌, decimal, length, map, replicate};
 ghost use Rattle.std.specs.Str.{IsUtf8};
 ghost use Rattle.votes.specs.Text.{votes_text};
 ghost use Rattle.std.specs.List.{flat_map};
-ghost use Rattle.sheet.specs.Lines.{line, number_column, right_in, span, preference, preferences, escaped, quoted};
+ghost use Rattle.count.specs.Actions.{action_text};
+ghost use Rattle.sheet.specs.Lines.{line, number_column, right_in, span, preference, preferences, escaped, quoted, named};
 ghost use Rattle.sheet.specs.Pieces.{piece_text};
 ghost use Rattle.sheet.specs.Writing.{Puts, Writes};
 
 use crate::escaping::write_plain;
+use count::Action;
 use itoa::Buffer;
 use votes::{Broken, Sink, Votes, put_all};
 
@@ -25,12 +27,16 @@ pub enum Piece<'a> {
     ValueColumn(Votes),
     /// Some stages by the numbers of the first and the last: `Stages 1 to 8`, `Stage 9`.
     Span(u64, u64),
+    /// What is done at a stage.
+    Done(Action),
     /// The numbers of some candidates, each behind a space.
     Preferences(&'a [u8]),
     /// A text in quotation marks.
     Quoted(&'a str),
     /// A text on a page, never markup.
     Escaped(&'a str),
+    /// A number and a name on a page.
+    Named(u8, &'a str),
 }
 
 /// Writes a text.
@@ -103,6 +109,31 @@ fn write_span<W: Sink>(sink: &mut W, first: u64, last: u64) -> Result<(), Broken
     write_text(sink, Buffer::new().format(last))
 }
 
+/// Writes what is done with a candidate.
+fn write_acted_on<W: Sink>(sink: &mut W, what: &str, c: u8) -> Result<(), Broken>
+    requires { W.failed sink.old < 2 ^ 64 - 1 }
+    ensures { Writes W.taken W.failed sink.old sink.new (what.now ++ decimal c) result }
+{
+    write_text(sink, what)?;
+    write_number(sink, c)
+}
+
+/// Writes what is done at a stage.
+fn write_action<W: Sink>(sink: &mut W, action: Action) -> Result<(), Broken>
+    requires { W.failed sink.old < 2 ^ 64 - 1 }
+    ensures { Writes W.taken W.failed sink.old sink.new (action_text action) result }
+{
+    match action {
+        Action::First => write_text(sink, "first preferences"),
+        Action::Surplus(c) => write_acted_on(sink, "surplus of ", c),
+        Action::Exclude(c) => write_acted_on(sink, "exclusion of ", c),
+        Action::ExcludeLast(c) => {
+            write_acted_on(sink, "exclusion of ", c)?;
+            write_text(sink, ", last vacancies")
+        }
+    }
+}
+
 /// Writes the number of a candidate behind a space.
 fn write_preference<W: Sink>(sink: &mut W, c: u8) -> Result<(), Broken>
     requires { W.failed sink.old < 2 ^ 64 - 1 }
@@ -155,6 +186,17 @@ fn write_quoted<W: Sink>(sink: &mut W, text: &str) -> Result<(), Broken>
     write_text(sink, "\"")
 }
 
+/// Writes a number and a name on a page.
+fn write_named<W: Sink>(sink: &mut W, number: u8, name: &str) -> Result<(), Broken>
+    requires { W.failed sink.old < 2 ^ 64 - 1 }
+    ensures { Writes W.taken W.failed sink.old sink.new (named number name.now) result }
+{
+    write_number(sink, number)?;
+    write_text(sink, " <bdi>")?;
+    write_plain(sink, name)?;
+    write_text(sink, "</bdi>")
+}
+
 /// Writes a piece of a line.
 fn write_piece<W: Sink>(sink: &mut W, piece: &Piece) -> Result<(), Broken>
     requires { W.failed sink.old < 2 ^ 64 - 1 }
@@ -167,9 +209,11 @@ fn write_piece<W: Sink>(sink: &mut W, piece: &Piece) -> Result<(), Broken>
         Piece::NumberColumn(c) => write_number_column(sink, *c),
         Piece::ValueColumn(value) => write_value(sink, 13, *value),
         Piece::Span(first, last) => write_span(sink, *first, *last),
+        Piece::Done(action) => write_action(sink, *action),
         Piece::Preferences(list) => write_preferences(sink, list),
         Piece::Quoted(text) => write_quoted(sink, text),
         Piece::Escaped(text) => write_plain(sink, text),
+        Piece::Named(number, name) => write_named(sink, *number, name),
     }
 }
 

@@ -44,10 +44,8 @@ fn write_page_head<W: Sink>(sink: &mut W, ward: &Ward, is_declared: bool) -> Res
         Piece::Text("</title>\n<style>\n"),
         Piece::Text(style()),
         Piece::Text("</style>\n</head>\n<body>\n<h1>Ward "),
-        Piece::Number(u64::from(ward.number)),
-        Piece::Text(" <bdi>"),
-        Piece::Escaped(ward.name),
-        Piece::Text("</bdi></h1>"),
+        Piece::Named(ward.number, ward.name),
+        Piece::Text("</h1>"),
         Piece::Text(note(is_declared)),
     ];
     write_line(sink, &pieces)
@@ -122,10 +120,8 @@ fn write_lot_item<W: Sink>(sink: &mut W, ward: &Ward, lot: &(u8, u8)) -> Result<
         Piece::Text("<li>Stage "),
         Piece::Number(u64::from(stage)),
         Piece::Text(": "),
-        Piece::Number(u64::from(candidate)),
-        Piece::Text(" <bdi>"),
-        Piece::Escaped(name_or_withdrawn(ward, candidate)),
-        Piece::Text("</bdi></li>"),
+        Piece::Named(candidate, name_or_withdrawn(ward, candidate)),
+        Piece::Text("</li>"),
     ];
     write_line(sink, &pieces)
 }

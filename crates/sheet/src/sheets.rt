@@ -1,7 +1,6 @@
 //! The stage sheet.
 
-ghost use Rattle.std.specs.Prelude.{◌-◌, ◌^◌, ◌<◌, [], map};
-ghost use Rattle.paper.specs.Columns.{IsColumnSet};
+ghost use Rattle.std.specs.Prelude.{◌-◌, ◌^◌, ◌<◌};
 ghost use Rattle.sheet.specs.Entries.{shown};
 ghost use Rattle.sheet.specs.Sheet.{stages_text, below_ward, sheet};
 ghost use Rattle.sheet.specs.Wards.{CanBePrinted};
@@ -17,9 +16,8 @@ use votes::{Broken, Sink};
 
 /// Writes all stages.
 fn write_stages<W: Sink>(sink: &mut W, ward: &Ward, stages: &[Stage]) -> Result<(), Broken>
-    requires candidate_set { IsColumnSet (map (λ candidate. candidate.0) ward.now.candidates.now) }
-    requires failures { W.failed sink.old < 2 ^ 64 - 1 }
-    ensures { Writes W.taken W.failed sink.old sink.new (stages_text (shown ward.now) [] stages.now) result }
+    requires { W.failed sink.old < 2 ^ 64 - 1 }
+    ensures { Writes W.taken W.failed sink.old sink.new (stages_text (shown ward.now) stages.now) result }
 {
     for k in 0..stages.len() {
         write_stage(sink, ward, &stages[..k], &stages[k])?;

@@ -2,20 +2,32 @@
 
 ghost use Rattle.std.specs.Prelude.{◌≡◌, ◌+◌, ◌-◌, ◌++◌, [], ◌∷◌, map, string_bytes, IfOk, OnOk};
 ghost use Rattle.csv.specs.Writing.{row_text};
-ghost use Rattle.paper.specs.Columns.{IsColumn, IsColumnSet};
 ghost use Rattle.votes.specs.Text.{votes_text};
 ghost use Rattle.std.specs.List.{flat_map};
 ghost use Rattle.sheet.specs.Cells.{each_after};
 ghost use Rattle.sheet.specs.Entries.{shown};
-ghost use Rattle.sheet.specs.Spreadsheet.{IsForCandidate, action_text as action_text_of, begins_formula as begins_formula_of, candidate_row as candidate_row_of, head_row as head_row_of, name_cell as name_cell_of, stage_cells, stage_heads, standing as standing_of, sum_row as sum_row_of, spreadsheet, value_before as value_before_of, value_in as value_in_of, writer};
+ghost use Rattle.sheet.specs.Spreadsheet.{begins_formula as begins_formula_of, candidate_row as candidate_row_of, head_row as head_row_of, name_cell as name_cell_of, stage_cells};
+ghost use Rattle.sheet.specs.Spreadsheet.{stage_heads, standing as standing_of, standing_word as standing_word_of, sum_row as sum_row_of, spreadsheet, value_before as value_before_of};
+ghost use Rattle.sheet.specs.Spreadsheet.{value_in as value_in_of, writer};
 ghost use Rattle.sheet.specs.Wards.{CanBePrinted};
 
-use crate::stage::{excludes, is_elected_at, is_excluded_at};
+use crate::stage::{Fate, fate_at, votes_of};
 use crate::ward::Ward;
-use count::{Action, Stage};
+use count::Stage;
 use csv::{QuoteStyle, WriterBuilder};
 use std::alloc::{AllocError, Global};
 use votes::Votes;
+
+/// How a candidate stands once a stage is done, in a word.
+fn standing_word(fate: Fate) -> &'static str
+    ensures { result.now ≡ standing_word_of fate }
+{
+    match fate {
+        Fate::NewlyElected | Fate::Elected => "elected",
+        Fate::NewlyExcluded | Fate::Excluded => "excluded",
+        Fate::Continuing => "continuing",
+    }
+}
 
 /// What a row of the table tells.
 #[derive(Clone, Copy)]
@@ -31,11 +43,10 @@ enum Line {
 impl Line {
     /// The value of the line at a stage.
     fn value_in(self, stage: &Stage) -> Votes
-        requires { IsForCandidate self }
         ensures { result ≡ value_in_of self stage.now }
     {
         match self {
-            Line::Candidate(c) => stage.votes[usize::from(c - 1)],
+            Line::Candidate(c) => votes_of(stage, c),
             Line::NonTransferable => stage.non_transferable,
             Line::Lost => stage.lost,
         }
@@ -43,7 +54,6 @@ impl Line {
 
     /// Its value at the last of some stages, none before the first.
     fn value_before(self, earlier: &[Stage]) -> Votes
-        requires { IsForCandidate self }
         ensures { result ≡ value_before_of self earlier.now }
     {
         match earlier.last() {
@@ -56,16 +66,10 @@ impl Line {
     fn standing(self, earlier: &[Stage], stage: &Stage) -> &'static str
         ensures { result.now ≡ standing_of self earlier.now stage.now }
     {
-        let Line::Candidate(c) = self else {
-            return "";
-        };
-        if stage.elected.has(c) || is_elected_at(earlier, c) {
-            return "elected";
+        match self {
+            Line::Candidate(c) => standing_word(fate_at(earlier, stage, c)),
+            Line::NonTransferable | Line::Lost => "",
         }
-        if excludes(&stage.action, c) || is_excluded_at(earlier, c) {
-            return "excluded";
-        }
-        "continuing"
     }
 }
 
@@ -100,7 +104,6 @@ fn push_cells(
     earlier: &[Stage],
     stage: &Stage,
 ) -> Result<(), AllocError>
-    requires { IsForCandidate line }
     ensures { OnOk result (map string_bytes row.new.items ≡ map string_bytes row.old.items ++ stage_cells line earlier.now stage.now) }
 {
     let value = line.value_in(stage);
@@ -118,25 +121,12 @@ fn push_all_cells(
     line: Line,
     stages: &[Stage],
 ) -> Result<(), AllocError>
-    requires { IsForCandidate line }
     ensures { OnOk result (map string_bytes row.new.items ≡ map string_bytes row.old.items ++ each_after (stage_cells line) [] stages.now) }
 {
     for k in 0..stages.len() {
         push_cells(alloc, row, line, &stages[..k], &stages[k])?;
     }
     Ok(())
-}
-
-/// What is done at a stage.
-fn action_text(alloc: Global, action: Action) -> Result<String, AllocError>
-    ensures { IfOk result (λ text. string_bytes text ≡ action_text_of action) }
-{
-    match action {
-        Action::First => String::from_str(alloc, "first preferences"),
-        Action::Surplus(c) => format!(in alloc; "surplus of {c}"),
-        Action::Exclude(c) => format!(in alloc; "exclusion of {c}"),
-        Action::ExcludeLast(c) => format!(in alloc; "exclusion of {c}, last vacancies"),
-    }
 }
 
 /// Adds the heads of a stage's columns.
@@ -149,7 +139,7 @@ fn push_heads(
     ensures { OnOk result (map string_bytes row.new.items ≡ map string_bytes row.old.items ++ stage_heads earlier.now stage.now) }
 {
     let k = earlier.len() as u64 + 1;
-    let action = action_text(alloc, stage.action)?;
+    let action = stage.action;
     row.push(format!(in alloc; "Stage {k}: {action}")?)?;
     row.push(format!(in alloc; "Stage {k} gained")?)?;
     row.push(format!(in alloc; "Stage {k} lost")?)?;
@@ -201,7 +191,6 @@ fn candidate_row(
     stages: &[Stage],
     candidate: &(u8, String),
 ) -> Result<Vec<String>, AllocError>
-    requires { IsColumn candidate.now.0 }
     ensures { IfOk result (λ row. map string_bytes row.items ≡ candidate_row_of stages.now (candidate.now.0, string_bytes candidate.now.1)) }
 {
     let (c, name) = candidate;
@@ -219,7 +208,6 @@ fn sum_row(
     line: Line,
     what: &str,
 ) -> Result<Vec<String>, AllocError>
-    requires { IsForCandidate line }
     ensures { IfOk result (λ row. map string_bytes row.items ≡ sum_row_of stages.now line what.now) }
 {
     let mut row = Vec::new(alloc);
@@ -273,7 +261,6 @@ fn push_candidate_rows(
     ward: &Ward,
     stages: &[Stage],
 ) -> Result<(), AllocError>
-    requires { IsColumnSet (map (λ candidate. candidate.0) ward.now.candidates.now) }
     ensures { OnOk result (string_bytes text.new ≡ string_bytes text.old ++ flat_map (row_text writer) (map (candidate_row_of stages.now) (shown ward.now).candidates)) }
 {
     for candidate in ward.candidates {

@@ -1,44 +1,45 @@
 //! The lines of one stage.
 
-ghost use Rattle.std.specs.Prelude.{◌≡◌, ◌-◌, ◌^◌, ◌<◌, map, string_bytes};
-ghost use Rattle.paper.specs.Columns.{IsColumnSet, IsColumn};
-ghost use Rattle.count.specs.Law.Elected.{excludes as excludes_of};
+ghost use Rattle.std.specs.Prelude.{◌≡◌, ◌-◌, ◌^◌, ◌<◌};
+ghost use Rattle.count.specs.Law.Contest.{votes_at};
 ghost use Rattle.sheet.specs.Entries.{shown};
-ghost use Rattle.sheet.specs.Stages.{is_elected_at as is_elected_of, is_excluded_at as is_excluded_of, letter as letter_of, heading, candidate_line, sum_line, sum_lines};
-ghost use Rattle.sheet.specs.Sheet.{candidate_lines, stage_text};
+ghost use Rattle.sheet.specs.Stages.{is_elected_at as is_elected_of, is_excluded_at as is_excluded_of, fate_at as fate_of, letter as letter_of, heading, candidate_line, sum_line, sum_lines};
+ghost use Rattle.sheet.specs.Sheet.{stage_text};
 ghost use Rattle.sheet.specs.Writing.{Writes};
 
 use crate::line::{Piece, write_line};
+use crate::told::{OfCandidate, write_each};
 use crate::ward::Ward;
 use count::{Action, Stage};
 use votes::{Broken, Sink, Votes};
+
+/// How a candidate stands at a stage.
+#[derive(Clone, Copy)]
+pub enum Fate {
+    /// He is elected at it.
+    NewlyElected,
+    /// He was elected at an earlier one.
+    Elected,
+    /// He is excluded at it.
+    NewlyExcluded,
+    /// He was excluded at an earlier one.
+    Excluded,
+    /// None of these.
+    Continuing,
+}
 
 /// Writes what is done at the stage of a number.
 fn write_heading<W: Sink>(sink: &mut W, k: u64, action: Action) -> Result<(), Broken>
     requires { W.failed sink.old < 2 ^ 64 - 1 }
     ensures { Writes W.taken W.failed sink.old sink.new (heading k action) result }
 {
-    let stage = Piece::Text("Stage ");
-    let k = Piece::Number(k);
-    match action {
-        Action::First => write_line(sink, &[stage, k, Piece::Text(": first preferences")]),
-        Action::Surplus(c) => {
-            let candidate = Piece::Number(u64::from(c));
-            write_line(sink, &[stage, k, Piece::Text(": surplus of "), candidate])
-        }
-        Action::Exclude(c) => {
-            let candidate = Piece::Number(u64::from(c));
-            write_line(sink, &[stage, k, Piece::Text(": exclusion of "), candidate])
-        }
-        Action::ExcludeLast(c) => {
-            let candidate = Piece::Number(u64::from(c));
-            let last = Piece::Text(", last vacancies");
-            write_line(
-                sink,
-                &[stage, k, Piece::Text(": exclusion of "), candidate, last],
-            )
-        }
-    }
+    let pieces = [
+        Piece::Text("Stage "),
+        Piece::Number(k),
+        Piece::Text(": "),
+        Piece::Done(action),
+    ];
+    write_line(sink, &pieces)
 }
 
 /// Whether a candidate is newly elected at one of some stages.
@@ -48,79 +49,78 @@ pub fn is_elected_at(stages: &[Stage], c: u8) -> bool
     stages.iter().any(|stage| stage.elected.has(c))
 }
 
-/// Whether an action excludes a candidate.
-pub fn excludes(action: &Action, c: u8) -> bool
-    ensures { result ≡ excludes_of action.now c }
-{
-    match action {
-        Action::First | Action::Surplus(_) => false,
-        Action::Exclude(d) | Action::ExcludeLast(d) => *d == c,
-    }
-}
-
 /// Whether a candidate is excluded at one of some stages.
 pub fn is_excluded_at(stages: &[Stage], c: u8) -> bool
     ensures { result ≡ is_excluded_of stages.now c }
 {
-    stages.iter().any(|stage| excludes(&stage.action, c))
+    stages.iter().any(|stage| stage.action.excludes(c))
 }
 
-/// The letter of a candidate at a stage: `E` elected at it, `e` elected at an earlier one, `x`
-/// excluded at it or earlier, `-` else.
-fn letter(earlier: &[Stage], stage: &Stage, c: u8) -> &'static str
-    ensures { result.now ≡ letter_of earlier.now stage.now c }
+/// How a candidate stands at a stage after earlier ones.
+pub fn fate_at(earlier: &[Stage], stage: &Stage, c: u8) -> Fate
+    ensures { result ≡ fate_of earlier.now stage.now c }
 {
     if stage.elected.has(c) {
-        return "E";
+        return Fate::NewlyElected;
     }
     if is_elected_at(earlier, c) {
-        return "e";
+        return Fate::Elected;
     }
-    if excludes(&stage.action, c) || is_excluded_at(earlier, c) {
-        return "x";
+    if stage.action.excludes(c) {
+        return Fate::NewlyExcluded;
     }
-    "-"
+    if is_excluded_at(earlier, c) {
+        return Fate::Excluded;
+    }
+    Fate::Continuing
 }
 
-/// Writes the line of a candidate, by his number and his name, at a stage.
-fn write_candidate_line<W: Sink>(
-    sink: &mut W,
-    earlier: &[Stage],
-    stage: &Stage,
-    candidate: &(u8, String),
-) -> Result<(), Broken>
-    requires column { IsColumn candidate.now.0 }
-    requires failures { W.failed sink.old < 2 ^ 64 - 1 }
-    ensures { Writes W.taken W.failed sink.old sink.new (candidate_line earlier.now stage.now candidate.now.0 (string_bytes candidate.now.1)) result }
+/// The letter of a candidate: `E` elected at the stage, `e` elected at an earlier one, `x` excluded at it or
+/// earlier, `-` else.
+fn letter(fate: Fate) -> &'static str
+    ensures { result.now ≡ letter_of fate }
 {
-    let (c, name) = candidate;
-    let pieces = [
-        Piece::NumberColumn(*c),
-        Piece::Text(" "),
-        Piece::ValueColumn(stage.votes[usize::from(*c - 1)]),
-        Piece::Text(" "),
-        Piece::Text(letter(earlier, stage, *c)),
-        Piece::Text(" "),
-        Piece::Text(name.as_str()),
-    ];
-    write_line(sink, &pieces)
+    match fate {
+        Fate::NewlyElected => "E",
+        Fate::Elected => "e",
+        Fate::NewlyExcluded | Fate::Excluded => "x",
+        Fate::Continuing => "-",
+    }
 }
 
-/// Writes the lines of all candidates at a stage.
-fn write_candidate_lines<W: Sink>(
-    sink: &mut W,
-    ward: &Ward,
-    earlier: &[Stage],
-    stage: &Stage,
-) -> Result<(), Broken>
-    requires candidate_set { IsColumnSet (map (λ candidate. candidate.0) ward.now.candidates.now) }
-    requires failures { W.failed sink.old < 2 ^ 64 - 1 }
-    ensures { Writes W.taken W.failed sink.old sink.new (candidate_lines (shown ward.now) earlier.now stage.now) result }
+/// The votes of a candidate at a stage.
+pub fn votes_of(stage: &Stage, c: u8) -> Votes
+    ensures { result ≡ votes_at stage.now c }
 {
-    for candidate in ward.candidates {
-        write_candidate_line(sink, earlier, stage, candidate)?;
+    match stage.votes.get(usize::from(c.saturating_sub(1))) {
+        None => Votes::from_units(0),
+        Some(votes) => *votes,
     }
-    Ok(())
+}
+
+/// A candidate's line at a stage after earlier ones.
+#[derive(Clone, Copy)]
+struct CandidateLine<'a> {
+    earlier: &'a [Stage],
+    stage: &'a Stage,
+}
+
+impl<'a> OfCandidate for CandidateLine<'a> {
+    ghost text = { λ l. candidate_line l.earlier.now l.stage.now };
+
+    fn write<W: Sink>(&self, sink: &mut W, candidate: &(u8, String)) -> Result<(), Broken> {
+        let (c, name) = candidate;
+        let pieces = [
+            Piece::NumberColumn(*c),
+            Piece::Text(" "),
+            Piece::ValueColumn(votes_of(self.stage, *c)),
+            Piece::Text(" "),
+            Piece::Text(letter(fate_at(self.earlier, self.stage, *c))),
+            Piece::Text(" "),
+            Piece::Text(name.as_str()),
+        ];
+        write_line(sink, &pieces)
+    }
 }
 
 /// Writes a running sum of a stage and what it sums up.
@@ -153,11 +153,10 @@ pub fn write_stage<W: Sink>(
     earlier: &[Stage],
     stage: &Stage,
 ) -> Result<(), Broken>
-    requires candidate_set { IsColumnSet (map (λ candidate. candidate.0) ward.now.candidates.now) }
-    requires failures { W.failed sink.old < 2 ^ 64 - 1 }
+    requires { W.failed sink.old < 2 ^ 64 - 1 }
     ensures { Writes W.taken W.failed sink.old sink.new (stage_text (shown ward.now) earlier.now stage.now) result }
 {
     write_heading(sink, earlier.len() as u64 + 1, stage.action)?;
-    write_candidate_lines(sink, ward, earlier, stage)?;
+    write_each(sink, ward, &CandidateLine { earlier, stage })?;
     write_sum_lines(sink, stage)
 }

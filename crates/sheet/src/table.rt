@@ -1,25 +1,35 @@
 //! The table of a block of stages, and its picture.
 
-ghost use Rattle.std.specs.Prelude.{◌≡◌, ◌-◌, ◌+◌, ◌^◌, ◌<◌, length, string_bytes, take};
+ghost use Rattle.std.specs.Prelude.{◌≡◌, ◌-◌, ◌+◌, ◌^◌, ◌<◌, length, take};
 ghost use Rattle.sheet.specs.Entries.{shown};
-ghost use Rattle.sheet.specs.Table.{bar_row, bar_rows, block, block_at, blocks, candidate_row, candidate_rows, head_row, picture, picture_end, picture_head, sum_rows, table};
+ghost use Rattle.sheet.specs.Table.{bar_row, block_at, blocks, candidate_row, head_row, picture, picture_end, picture_head, sum_rows, table};
 ghost use Rattle.sheet.specs.Writing.{Writes};
 
 use crate::cells::{Cell, write_row};
 use crate::line::{Piece, write_text};
 use crate::look::legend;
 use crate::picture::Scale;
+use crate::told::{OfCandidate, write_each};
 use crate::ward::Ward;
 use count::Stage;
 use votes::{Broken, Sink};
 
+/// A block of stages of a ward: those from a place on, as a table and as a picture.
+#[derive(Clone, Copy)]
+struct Block<'a> {
+    ward: &'a Ward<'a>,
+    scale: Scale,
+    place: usize,
+    stages: &'a [Stage],
+    ghost within: { place < length stages.now },
+}
+
 /// Writes the heads of a table's columns, with its caption.
-fn write_head_row<W: Sink>(sink: &mut W, place: usize, stages: &[Stage]) -> Result<(), Broken>
-    requires within { place < length stages.now }
-    requires failures { W.failed sink.old < 2 ^ 64 - 1 }
-    ensures { Writes W.taken W.failed sink.old sink.new (head_row place stages.now) result }
+fn write_head_row<W: Sink>(sink: &mut W, block: &Block) -> Result<(), Broken>
+    requires { W.failed sink.old < 2 ^ 64 - 1 }
+    ensures { Writes W.taken W.failed sink.old sink.new (head_row block.now.place block.now.stages.now) result }
 {
-    let (first, last) = (place as u64 + 1, stages.len() as u64);
+    let (first, last) = (block.place as u64 + 1, block.stages.len() as u64);
     let opening = [
         Piece::Text("<div class=\"wide\" role=\"region\" tabindex=\"0\" aria-label=\""),
         Piece::Span(first, last),
@@ -28,51 +38,43 @@ fn write_head_row<W: Sink>(sink: &mut W, place: usize, stages: &[Stage]) -> Resu
         Piece::Text("</caption>\n<thead>\n<tr><th scope=\"col\">Candidate</th>"),
     ];
     let end = "</tr>\n</thead>\n<tbody>";
-    write_row(sink, &opening, Cell::Head, end, place, stages)
+    write_row(sink, &opening, Cell::Head, end, block.place, block.stages)
 }
 
-/// Writes the row of a candidate, by his number and his name.
-fn write_candidate_row<W: Sink>(
-    sink: &mut W,
-    place: usize,
-    stages: &[Stage],
-    candidate: &(u8, String),
-) -> Result<(), Broken>
-    requires { W.failed sink.old < 2 ^ 64 - 1 }
-    ensures { Writes W.taken W.failed sink.old sink.new (candidate_row place stages.now candidate.now.0 (string_bytes candidate.now.1)) result }
-{
-    let (c, name) = candidate;
-    let opening = [
-        Piece::Text("<tr><th scope=\"row\">"),
-        Piece::Number(u64::from(*c)),
-        Piece::Text(" <bdi>"),
-        Piece::Escaped(name.as_str()),
-        Piece::Text("</bdi></th>"),
-    ];
-    write_row(sink, &opening, Cell::Candidate(*c), "</tr>", place, stages)
+/// The row of a candidate.
+#[derive(Clone, Copy)]
+struct CandidateRow<'a> {
+    block: &'a Block<'a>,
 }
 
-/// Writes the rows of all candidates.
-fn write_candidate_rows<W: Sink>(
-    sink: &mut W,
-    ward: &Ward,
-    place: usize,
-    stages: &[Stage],
-) -> Result<(), Broken>
-    requires { W.failed sink.old < 2 ^ 64 - 1 }
-    ensures { Writes W.taken W.failed sink.old sink.new (candidate_rows (shown ward.now) place stages.now) result }
-{
-    for candidate in ward.candidates {
-        write_candidate_row(sink, place, stages, candidate)?;
+impl<'a> OfCandidate for CandidateRow<'a> {
+    ghost text = { λ r. candidate_row r.block.now.place r.block.now.stages.now };
+
+    fn write<W: Sink>(&self, sink: &mut W, candidate: &(u8, String)) -> Result<(), Broken> {
+        let (c, name) = candidate;
+        let opening = [
+            Piece::Text("<tr><th scope=\"row\">"),
+            Piece::Named(*c, name.as_str()),
+            Piece::Text("</th>"),
+        ];
+        let (cell, end) = (Cell::Candidate(*c), "</tr>");
+        write_row(
+            sink,
+            &opening,
+            cell,
+            end,
+            self.block.place,
+            self.block.stages,
+        )
     }
-    Ok(())
 }
 
 /// Writes the rows of the running sums, and the table's end.
-fn write_sum_rows<W: Sink>(sink: &mut W, place: usize, stages: &[Stage]) -> Result<(), Broken>
+fn write_sum_rows<W: Sink>(sink: &mut W, block: &Block) -> Result<(), Broken>
     requires { W.failed sink.old < 2 ^ 64 - 1 }
-    ensures { Writes W.taken W.failed sink.old sink.new (sum_rows place stages.now) result }
+    ensures { Writes W.taken W.failed sink.old sink.new (sum_rows block.now.place block.now.stages.now) result }
 {
+    let (place, stages) = (block.place, block.stages);
     let rest = [Piece::Text("<tr class=\"sum\"><th scope=\"row\">non-transferable</th>")];
     write_row(sink, &rest, Cell::NonTransferable, "</tr>", place, stages)?;
     let lost = [Piece::Text("<tr class=\"sum\"><th scope=\"row\">lost by fractions</th>")];
@@ -80,39 +82,27 @@ fn write_sum_rows<W: Sink>(sink: &mut W, place: usize, stages: &[Stage]) -> Resu
     write_row(sink, &lost, Cell::Lost, end, place, stages)
 }
 
-/// Writes the table of the stages from a place on.
-fn write_table<W: Sink>(
-    sink: &mut W,
-    ward: &Ward,
-    place: usize,
-    stages: &[Stage],
-) -> Result<(), Broken>
-    requires within { place < length stages.now }
-    requires failures { W.failed sink.old < 2 ^ 64 - 1 }
-    ensures { Writes W.taken W.failed sink.old sink.new (table (shown ward.now) place stages.now) result }
+/// Writes the table of a block.
+fn write_table<W: Sink>(sink: &mut W, block: &Block) -> Result<(), Broken>
+    requires { W.failed sink.old < 2 ^ 64 - 1 }
+    ensures { Writes W.taken W.failed sink.old sink.new (table (shown block.now.ward.now) block.now.place block.now.stages.now) result }
 {
-    write_head_row(sink, place, stages)?;
-    write_candidate_rows(sink, ward, place, stages)?;
-    write_sum_rows(sink, place, stages)
+    write_head_row(sink, block)?;
+    write_each(sink, block.ward, &CandidateRow { block })?;
+    write_sum_rows(sink, block)
 }
 
 /// Writes the head of a picture: what it shows, what its bars mean, and the names of the stages.
-fn write_picture_head<W: Sink>(
-    sink: &mut W,
-    ward: &Ward,
-    place: usize,
-    stages: &[Stage],
-) -> Result<(), Broken>
-    requires within { place < length stages.now }
-    requires failures { W.failed sink.old < 2 ^ 64 - 1 }
-    ensures { Writes W.taken W.failed sink.old sink.new (picture_head (shown ward.now) place stages.now) result }
+fn write_picture_head<W: Sink>(sink: &mut W, block: &Block) -> Result<(), Broken>
+    requires { W.failed sink.old < 2 ^ 64 - 1 }
+    ensures { Writes W.taken W.failed sink.old sink.new (picture_head (shown block.now.ward.now) block.now.place block.now.stages.now) result }
 {
-    let (first, last) = (place as u64 + 1, stages.len() as u64);
+    let (first, last) = (block.place as u64 + 1, block.stages.len() as u64);
     let opening = [
         Piece::Text("<div class=\"wide\" role=\"region\" tabindex=\"0\" aria-label=\""),
         Piece::Span(first, last),
         Piece::Text(", as a picture\">\n<svg class=\"moves\" role=\"img\" viewBox=\"-2 0 900 "),
-        Piece::Number(50 + 30 * ward.candidates.len().min(30) as u64),
+        Piece::Number(50 + 30 * block.ward.candidates.len().min(30) as u64),
         Piece::Text("\">\n<title>"),
         Piece::Span(first, last),
         Piece::Text(
@@ -121,46 +111,37 @@ fn write_picture_head<W: Sink>(
         Piece::Text(legend()),
     ];
     let end = "<g transform=\"translate(0 15)\">";
-    write_row(sink, &opening, Cell::Above, end, place, stages)
+    write_row(sink, &opening, Cell::Above, end, block.place, block.stages)
 }
 
-/// Writes the row of a candidate in a picture.
-fn write_bar_row<W: Sink>(
-    sink: &mut W,
-    scale: Scale,
-    place: usize,
-    stages: &[Stage],
-    candidate: &(u8, String),
-) -> Result<(), Broken>
-    requires { W.failed sink.old < 2 ^ 64 - 1 }
-    ensures { Writes W.taken W.failed sink.old sink.new (bar_row scale place stages.now candidate.now.0 (string_bytes candidate.now.1)) result }
-{
-    let (c, name) = candidate;
-    let opening = [
-        Piece::Text("<g transform=\"translate(0 30)\"><text y=\"11\">"),
-        Piece::Number(u64::from(*c)),
-        Piece::Text(" <tspan>"),
-        Piece::Escaped(name.as_str()),
-        Piece::Text("</tspan></text>"),
-    ];
-    write_row(sink, &opening, Cell::Bar(*c, scale), "", place, stages)
+/// The row of a candidate in a picture.
+#[derive(Clone, Copy)]
+struct BarRow<'a> {
+    block: &'a Block<'a>,
 }
 
-/// Writes the rows of all candidates in a picture.
-fn write_bar_rows<W: Sink>(
-    sink: &mut W,
-    ward: &Ward,
-    scale: Scale,
-    place: usize,
-    stages: &[Stage],
-) -> Result<(), Broken>
-    requires { W.failed sink.old < 2 ^ 64 - 1 }
-    ensures { Writes W.taken W.failed sink.old sink.new (bar_rows (shown ward.now) scale place stages.now) result }
-{
-    for candidate in ward.candidates {
-        write_bar_row(sink, scale, place, stages, candidate)?;
+impl<'a> OfCandidate for BarRow<'a> {
+    ghost text = { λ r. bar_row r.block.now.scale r.block.now.place r.block.now.stages.now };
+
+    fn write<W: Sink>(&self, sink: &mut W, candidate: &(u8, String)) -> Result<(), Broken> {
+        let (c, name) = candidate;
+        let opening = [
+            Piece::Text("<g transform=\"translate(0 30)\"><text y=\"11\">"),
+            Piece::Number(u64::from(*c)),
+            Piece::Text(" <tspan>"),
+            Piece::Escaped(name.as_str()),
+            Piece::Text("</tspan></text>"),
+        ];
+        let cell = Cell::Bar(*c, self.block.scale);
+        write_row(
+            sink,
+            &opening,
+            cell,
+            "",
+            self.block.place,
+            self.block.stages,
+        )
     }
-    Ok(())
 }
 
 /// Writes the end of a group for each candidate, and of the picture.
@@ -174,21 +155,14 @@ fn write_picture_end<W: Sink>(sink: &mut W, ward: &Ward) -> Result<(), Broken>
     write_text(sink, "</g>\n</svg>\n</div>\n")
 }
 
-/// Writes the picture of the stages from a place on.
-fn write_picture<W: Sink>(
-    sink: &mut W,
-    ward: &Ward,
-    scale: Scale,
-    place: usize,
-    stages: &[Stage],
-) -> Result<(), Broken>
-    requires within { place < length stages.now }
-    requires failures { W.failed sink.old < 2 ^ 64 - 1 }
-    ensures { Writes W.taken W.failed sink.old sink.new (picture (shown ward.now) scale place stages.now) result }
+/// Writes the picture of a block.
+fn write_picture<W: Sink>(sink: &mut W, block: &Block) -> Result<(), Broken>
+    requires { W.failed sink.old < 2 ^ 64 - 1 }
+    ensures { Writes W.taken W.failed sink.old sink.new (picture (shown block.now.ward.now) block.now.scale block.now.place block.now.stages.now) result }
 {
-    write_picture_head(sink, ward, place, stages)?;
-    write_bar_rows(sink, ward, scale, place, stages)?;
-    write_picture_end(sink, ward)
+    write_picture_head(sink, block)?;
+    write_each(sink, block.ward, &BarRow { block })?;
+    write_picture_end(sink, block.ward)
 }
 
 /// The stages up to the eighth from a place on, or all where fewer are left.
@@ -218,8 +192,14 @@ fn write_block_at<W: Sink>(
         return Ok(());
     }
     let upto = up_to_eighth(stages, place);
-    write_table(sink, ward, place, upto)?;
-    write_picture(sink, ward, scale, place, upto)
+    let block = Block {
+        ward,
+        scale,
+        place,
+        stages: upto,
+    };
+    write_table(sink, &block)?;
+    write_picture(sink, &block)
 }
 
 /// Writes the blocks of all stages, eight in each.

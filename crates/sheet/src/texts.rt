@@ -1,6 +1,7 @@
 //! The stage sheet, the declaration, the ballots and the page as texts in memory.
 
-ghost use Rattle.std.specs.Prelude.{◌≡◌, Some, IfOk, string_bytes};
+ghost use Rattle.std.specs.Prelude.{◌≡◌, [], Some, IfOk, string_bytes};
+ghost use Rattle.std.specs.Str.{IsUtf8};
 ghost use Rattle.sheet.specs.Entries.{shown};
 ghost use Rattle.sheet.specs.Ballots.{ballots};
 ghost use Rattle.sheet.specs.Page.{page};
@@ -22,6 +23,27 @@ use votes::{Broken, Sink};
 struct InMemory {
     text: Vec<u8>,
     failed: u64,
+}
+
+impl InMemory {
+    /// A sink that has taken nothing. Takes no memory.
+    fn new(alloc: Global) -> InMemory
+        ensures text { result.text.items ≡ [] }
+        ensures none { result.failed ≡ 0 }
+    {
+        InMemory {
+            text: Vec::new(alloc),
+            failed: 0,
+        }
+    }
+
+    /// What it has taken.
+    fn into_text(self) -> String
+        requires { IsUtf8 self.text.items }
+        ensures { string_bytes result ≡ self.text.items }
+    {
+        String::from_utf8(self.text).unwrap()
+    }
 }
 
 impl Sink for InMemory {
@@ -51,14 +73,11 @@ pub fn sheet_text(alloc: Global, ward: &Ward, stages: &[Stage]) -> Result<String
     requires { CanBePrinted ward.now }
     ensures { IfOk result (λ text. string_bytes text ≡ sheet (shown ward.now) stages.now) }
 {
-    let mut page = InMemory {
-        text: Vec::new(alloc),
-        failed: 0,
-    };
-    if write_sheet(&mut page, ward, stages).is_err() {
-        return Err(AllocError);
+    let mut page = InMemory::new(alloc);
+    match write_sheet(&mut page, ward, stages) {
+        Ok(()) => Ok(page.into_text()),
+        Err(Broken) => Err(AllocError),
     }
-    Ok(String::from_utf8(page.text).unwrap())
 }
 
 /// The declaration of a ward, as [`write_declaration`] writes it.
@@ -68,14 +87,11 @@ pub fn declaration_text(alloc: Global, ward: &Ward, elected: Columns) -> Result<
     requires { CanBePrinted ward.now }
     ensures { IfOk result (λ text. string_bytes text ≡ declaration (shown ward.now) elected) }
 {
-    let mut page = InMemory {
-        text: Vec::new(alloc),
-        failed: 0,
-    };
-    if write_declaration(&mut page, ward, elected).is_err() {
-        return Err(AllocError);
+    let mut page = InMemory::new(alloc);
+    match write_declaration(&mut page, ward, elected) {
+        Ok(()) => Ok(page.into_text()),
+        Err(Broken) => Err(AllocError),
     }
-    Ok(String::from_utf8(page.text).unwrap())
 }
 
 /// The ballots of a ward, as [`write_ballots`] writes them.
@@ -90,14 +106,11 @@ pub fn ballots_text(
     requires { CanBePrinted ward.now }
     ensures { IfOk result (λ text. string_bytes text ≡ ballots (shown ward.now) bundles.now lots.now) }
 {
-    let mut page = InMemory {
-        text: Vec::new(alloc),
-        failed: 0,
-    };
-    if write_ballots(&mut page, ward, bundles, lots).is_err() {
-        return Err(AllocError);
+    let mut page = InMemory::new(alloc);
+    match write_ballots(&mut page, ward, bundles, lots) {
+        Ok(()) => Ok(page.into_text()),
+        Err(Broken) => Err(AllocError),
     }
-    Ok(String::from_utf8(page.text).unwrap())
 }
 
 /// The page of a ward, as [`write_page`] writes it.
@@ -113,12 +126,9 @@ pub fn page_text(
     requires { CanBePrinted ward.now }
     ensures { IfOk result (λ text. string_bytes text ≡ page (shown ward.now) is_declared stages.now lots.now) }
 {
-    let mut page = InMemory {
-        text: Vec::new(alloc),
-        failed: 0,
-    };
-    if write_page(&mut page, ward, is_declared, stages, lots).is_err() {
-        return Err(AllocError);
+    let mut page = InMemory::new(alloc);
+    match write_page(&mut page, ward, is_declared, stages, lots) {
+        Ok(()) => Ok(page.into_text()),
+        Err(Broken) => Err(AllocError),
     }
-    Ok(String::from_utf8(page.text).unwrap())
 }

@@ -7,7 +7,7 @@ use Rattle.sqlite.specs.Tree.{Trees}
 use Rattle.sqlite.specs.Effect.{Database}
 use Rattle.sqlite.specs.State.{State, HasCleanDisk, Survives}
 use Rattle.register.specs.Offices.{OfficeState, empty_office, ward_entry, candidate_entry, batch_entry, third_entry, keyed_entry, judged_entry, lot_entry, receipt_entry}
-use Rattle.register.specs.Tabulated.{TabulationEntries, tabulation_of, item8, placed_entry, figure_entry}
+use Rattle.register.specs.Tabulated.{TabulationEntries, tabulation_of, IsTabulationOf, placed_entry, figure_entry}
 use Rattle.rowcheck.specs.declared.rows.Rows.{Rows}
 use Rattle.rowcheck.specs.States.{state_of, tabulated}
 use Rattle.tables.specs.declared.table.Table.TheVariants.{Office, Ward, Candidate, Batch, Keying, Verdict, Lot, Receipt, Bundle, Vote, Third}
@@ -28,30 +28,22 @@ rows_alone : {V X : Type 0} (entry : V → X) (row : X → Row) (items : List V)
 rows_alone entry row items =
     subst (IsPermutation (map (λ v. row (entry v)) items ++ [])) (append-nil (map (λ v. row (entry v)) items) ∙ sym (mapped_twice entry row items)) (IsPermutation-refl _)
 
--- the wards, the candidates and the batches,
-abbrev pub contests_added : Rows → Contents → Contents
-contests_added rows c =
-    added_all Batch (map (λ b. row_of_batch (batch_entry b)) rows.batches.items)
-    (added_all Candidate (map (λ x. row_of_candidate (candidate_entry x)) rows.candidates.items)
-    (added_all Ward (map (λ w. row_of_ward (ward_entry w)) rows.wards.items) c))
-
--- the third clerks, the papers and the verdicts,
-abbrev pub papers_added : Rows → Contents → Contents
-papers_added rows c =
-    added_all Verdict (map (λ v. row_of_judged (judged_entry v)) rows.verdicts.items)
-    (added_all Keying (map (λ k. row_of_keyed (keyed_entry k)) rows.keyings.items)
-    (added_all Third (map (λ t. row_of_third (third_entry t)) rows.thirds.items) c))
-
--- the lots, the receipts, and what is tabulated,
-abbrev pub records_added : Rows → Contents → Contents
-records_added rows c =
+-- the rows of all entries, added table by table,
+abbrev pub all_added : Rows → Contents → Contents
+all_added rows c =
     added_all Vote (map (λ f. row_of_figure (figure_entry f)) rows.figures.items)
     (added_all Bundle (map (λ b. row_of_placed (placed_entry b)) rows.bundles.items)
     (added_all Receipt (map (λ r. row_of_receipt (receipt_entry r)) rows.receipts.items)
-    (added_all Lot (map (λ l. row_of_lot (lot_entry l)) rows.lots.items) c)))
+    (added_all Lot (map (λ l. row_of_lot (lot_entry l)) rows.lots.items)
+    (added_all Verdict (map (λ v. row_of_judged (judged_entry v)) rows.verdicts.items)
+    (added_all Keying (map (λ k. row_of_keyed (keyed_entry k)) rows.keyings.items)
+    (added_all Third (map (λ t. row_of_third (third_entry t)) rows.thirds.items)
+    (added_all Batch (map (λ b. row_of_batch (batch_entry b)) rows.batches.items)
+    (added_all Candidate (map (λ x. row_of_candidate (candidate_entry x)) rows.candidates.items)
+    (added_all Ward (map (λ w. row_of_ward (ward_entry w)) rows.wards.items) c)))))))))
 
 -- make of an empty office the one of these rows
-pub whole_put : (rows : Rows) → SameContents (records_added rows (papers_added rows (contests_added rows (tables_of empty_office)))) (tables_with (state_of rows) (tabulated rows))
+pub whole_put : (rows : Rows) → SameContents (all_added rows (tables_of empty_office)) (tables_with (state_of rows) (tabulated rows))
 unfolding added_all tables_of tables_with tabulation_of
 whole_put rows Office = IsPermutation-refl _
 whole_put rows Ward = rows_alone ward_entry row_of_ward rows.wards.items
@@ -68,7 +60,7 @@ whole_put rows Third = rows_alone third_entry row_of_third rows.thirds.items
 -- ---- the state of a copy
 
 -- the tables of a state, where what is tabulated beside it is that of its counts
-pub are_tables : (s : OfficeState) (t : TabulationEntries) → item8 t s → tables_with s t ≡ tables_of s
+pub are_tables : (s : OfficeState) (t : TabulationEntries) → IsTabulationOf t s → tables_with s t ≡ tables_of s
 unfolding tables_of
 are_tables s t is = ap (tables_with s) is
 
@@ -78,7 +70,7 @@ pub copy_is_at : (s : OfficeState) (t : TabulationEntries) (st : State) → IsTa
 copy_is_at s t st is settled rests = rests_is_at s st settled is.0 (subst (λ (c : Contents). Rests c st) (are_tables s t is.1) rests)
 
 -- and a stop leaves none of it or all
-pub copy_stops : (s : OfficeState) (t : TabulationEntries) (old new : State) → item8 t s → HasCleanDisk new → Survives old new (Stores (tables_with s t)) → LeavesNoneOrAll s old new
+pub copy_stops : (s : OfficeState) (t : TabulationEntries) (old new : State) → IsTabulationOf t s → HasCleanDisk new → Survives old new (Stores (tables_with s t)) → LeavesNoneOrAll s old new
 copy_stops s t old new is clean survives trees may = elim (survives.crash clean trees may) [
   | inl was ↦ inl was
   | inr made ↦ inr (subst (λ (c : Contents). Stores c trees) (are_tables s t is) made)

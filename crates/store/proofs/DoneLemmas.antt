@@ -15,7 +15,7 @@ use Rattle.count.proofs.Law.ActionLemmas.{length-right}
 use Rattle.register.specs.Offices.{WardEntry, OfficeState, ward_cmp, ward_compared, entry_at, candidates_of, ward_at}
 use Rattle.register.specs.Nominations.{is_contested}
 use Rattle.register.specs.Elections.{election_of, has_count, contest_of, stages_of, is_counted, is_in_count, is_right_so_far, is_uncounted, is_counted_right}
-use Rattle.register.specs.Items.{item7, IsState}
+use Rattle.register.specs.Items.{all_counted, IsState}
 use Rattle.register.proofs.ContestLemmas.{fair_contest}
 
 -- ---- each ward is the one of its number
@@ -58,5 +58,5 @@ each_few s is (w ∷ ws) there right = let both = and_parts _ _ right in (done_f
 
 -- the stages done in the wards of a state are numbers that a column holds
 pub wards_few : (s : OfficeState) → IsState s → AllByRecursion (λ (w : WardEntry). w.done < 2 ^ 32) s.wards
-unfolding item7
+unfolding all_counted
 wards_few s is = each_few s is s.wards (wards_there s.wards is.rise.wards) (and_parts _ _ is.counted).1

@@ -1,12 +1,13 @@
 -- What is read for the count of a ward is what the state has.
-use Rattle.std.proofs.Common.{◌≡◌, ◌≤◌, ◌==◌, ◌&&◌, not, ℕ, map, Option, Some, None, MatchOption, IfSome, IsSome, option_map, true, false, refl, sym, ap, subst, ◌∙◌, true≢false, arith}
+use Rattle.std.proofs.Common.{◌≡◌, ◌≤◌, ◌==◌, ◌&&◌, not, ℕ, Bool, List, map, Option, Some, None, MatchOption, IfSome, IsSome, option_map, true, false, refl, sym, ap, subst, ◌∙◌, true≢false, arith}
 use Rattle.std.proofs.Math.Bool.{and-false}
 use Rattle.std.proofs.lemmas.Bool.{and_parts, and_from, ne_eqb}
+use Rattle.register.specs.declared.candidates.Candidate.{Candidate}
 use Rattle.register.specs.declared.elections.Count.{Count}
 use Rattle.register.specs.declared.elections.CountedWard.{CountedWard}
 use Rattle.register.specs.declared.elections.Election.{Election}
 use Rattle.register.specs.declared.elections.WardSheet.{WardSheet}
-use Rattle.register.specs.Offices.{WardEntry, OfficeState, ward_at, ward_entry, candidate_entry}
+use Rattle.register.specs.Offices.{WardEntry, CandidateEntry, OfficeState, ward_at, ward_entry, candidate_entry}
 use Rattle.register.specs.Elections.{ElectionEntry, IsElection, election_of, has_count, is_counted, is_in_count, contest_of}
 use Rattle.register.specs.Items.{IsState}
 use Rattle.register.proofs.MapLemmas.{found_number}
@@ -17,8 +18,9 @@ use Rattle.register.specs.Counts.{poll_for, due_for, elected_for}
 use Rattle.register.specs.Parts.{empty_part}
 use Rattle.register.specs.declared.command.Command.TheVariants.{Count as counting}
 use Rattle.register.specs.declared.counts.CountCommand.TheVariants.{Advance}
+use Rattle.register.specs.Nominations.{is_contested}
 use Rattle.register.specs.Tabulated.{has_stages, IsCount, IsCountIn, IsCountFor, IsCountedWard}
-use Rattle.store.specs.Elections.{IsFoundFor, polled_part, counted_part, IsBook, IsHeld, IsWardCount, IsBegun, IsCounted, IsCountedFor, IsShown, IsCountedIn, IsSheet}
+use Rattle.store.specs.Elections.{IsFoundFor, polled_part, counted_part, election_in, IsThere, IsContestAt, IsBook, IsHeld, IsWardCount, IsBegun, IsCounted, IsCountedFor, IsShown, IsCountedIn, IsCountedInFor, IsSheet, IsSheetFor}
 
 -- the part with the poll, of a ward that may be there
 pub part_polled : (s : OfficeState) (ward : Option WardEntry) → polled_part (option_map (election_of s) ward) ≡ record empty_part { ward = ward; poll = poll_for s ward }
@@ -61,6 +63,11 @@ sound_polled {R = R} s ward (Some e) is there r = by_ward (ward_at s ward) refl 
 -- the ward of a number is there by its own
 pub ward_there : (s : OfficeState) (ward : ℕ) (w : WardEntry) → ward_at s ward ≡ Some w → ward_at s w.number ≡ Some w
 ward_there s ward w found = subst (λ (n : ℕ). ward_at s n ≡ Some w) (found_number (λ (x : WardEntry). x.number) s.wards ward w found) found
+
+-- whether it is contested by the candidates that were found with it
+pub contested_told : (s : OfficeState) (found : CountedWard) (candidates : List Candidate) (told : Bool) → candidates ≡ found.candidates.items → IsThere s found → told ≡ is_contested (ward_entry found.ward) (map candidate_entry candidates)
+    → has_count (election_in s found) ≡ told
+contested_told s found candidates told same there is = ap (is_contested (ward_entry found.ward)) (sym (ap (map candidate_entry) same ∙ there.1)) ∙ sym is
 
 -- what was found, of which that holds
 pub some_found : {X : Type 0} {P : X → Type 0} (found : Option X) → IsSome found → IfSome found P → (x : X) × (found ≡ Some x) × P x
@@ -106,6 +113,14 @@ begun_found e from (Some sheet) of contested fresh fair some same is rejected = 
   rejected e of,
 )
 
+-- a ward that isn't contested has no count
+pub bare_counted : (s : OfficeState) (ward : ℕ) (found : CountedWard) → IsContestAt s ward (Some found) → has_count (election_in s found) ≡ false → IsCountedFor (option_map (election_of s) (ward_at s ward)) (Some found)
+bare_counted s ward found is none =
+    let e = election_in s found in
+    let held : IsHeld e found.count = subst (IsHeld e) (sym is.2) none in
+    let counted : IsCounted e (Some found) = (found, refl, record { ward_is = refl; candidates_are = is.1.1; count_is = held }) in
+    subst (λ (o : Option WardEntry). IsCountedFor (option_map (election_of s) o) (Some found)) (sym is.0) counted
+
 -- what a command sees of a count that was found
 pub held_shown : (e : ElectionEntry) (found : Option Count) → IsHeld e found → has_count e ≡ true → IsCount e found
 held_shown e None none contested = absurd (true≢false (sym contested ∙ none))
@@ -144,3 +159,25 @@ sheet_of e sheet counted is rejected = (sheet, refl, record { counted_is = ward_
 
 pub begun_sheet : (e : ElectionEntry) (found : Option WardSheet) → is_in_count e ≡ true → IsBegun e found → IsSheet e found
 begun_sheet e found counted is = subst (IsSheet e) (sym is.1) (sheet_of e is.0 counted is.2 is.3)
+
+-- whether it is in count by the candidates that were found with it
+pub in_count_told : (s : OfficeState) (found : CountedWard) (candidates : List Candidate) (told : Bool) → candidates ≡ found.candidates.items → IsThere s found
+    → told ≡ (is_counted (ward_entry found.ward).phase && is_contested (ward_entry found.ward) (map candidate_entry candidates)) → is_in_count (election_in s found) ≡ told
+in_count_told s found candidates told same there is =
+    ap (λ (cs : List CandidateEntry). is_counted (ward_entry found.ward).phase && is_contested (ward_entry found.ward) cs) (sym (ap (map candidate_entry) same ∙ there.1)) ∙ sym is
+
+-- of a ward that isn't in count there is no count to be told, and no paper
+module _ (s : OfficeState) (ward : ℕ) (found : CountedWard) (is : IsContestAt s ward (Some found)) (none : is_in_count (election_in s found) ≡ false) where
+  bare_ward : IsCountedWard (election_in s found) found
+  bare_ward = record { ward_is = refl; candidates_are = is.1.1; count_is = subst (IsCountIn (election_in s found)) (sym is.2) none }
+
+  pub bare_in_count : IsCountedInFor (option_map (election_of s) (ward_at s ward)) (Some found)
+  bare_in_count =
+      let told : IsCountedIn (election_in s found) (Some found) = (found, refl, bare_ward) in
+      subst (λ (o : Option WardEntry). IsCountedInFor (option_map (election_of s) o) (Some found)) (sym is.0) told
+
+  pub bare_sheet : (sheet : WardSheet) → sheet.counted ≡ found → IsSheetFor (option_map (election_of s) (ward_at s ward)) (Some sheet)
+  bare_sheet sheet same =
+      let e = election_in s found in
+      let told : IsSheet e (Some sheet) = (sheet, refl, record { counted_is = subst (IsCountedWard e) (sym same) bare_ward; rejected_are = λ counted. absurd (true≢false (sym counted ∙ none)) }) in
+      subst (λ (o : Option WardEntry). IsSheetFor (option_map (election_of s) o) (Some sheet)) (sym is.0) told

@@ -17,7 +17,7 @@ pub mod TallyLemmas
 pub mod WorkLemmas
 pub mod PartLemmas
 pub mod ElectionLemmas
-pub mod ReadsLemmas
+pub mod LoadsLemmas
 pub mod SettledLemmas
 pub mod MigrationLemmas
 pub mod OverviewLemmas

@@ -14,6 +14,7 @@ use Rattle.register.specs.Items.{IsState}
 use Rattle.register.proofs.MapLemmas.{found_number}
 use Rattle.store.specs.Elections.{is_counted_with, IsInCount}
 use Rattle.store.specs.Settled.{CountAfter}
+use Rattle.store.proofs.ElectionLemmas.{ward_there}
 
 module _ {P : Type 0} (holds : P → List (List ℕ) → Type 0) (were : List Judgement → Type 0) (columns : List ℕ) (verdicts : List JudgedEntry) where
   -- no paper is counted yet
@@ -39,10 +40,6 @@ judgements_after s columns bs b =
 
 -- ---- wards in count
 
--- a ward that was found stands under its own number
-pub found_own : (s : OfficeState) (ward : ℕ) (w : WardEntry) → ward_at s ward ≡ Some w → ward_at s w.number ≡ Some w
-found_own s ward w there = ap (ward_at s) (sym (found_number (λ (x : WardEntry). x.number) s.wards ward w there)) ∙ there
-
 -- a ward that was found in count is
 pub found_in_count : (s : OfficeState) (ward : ℕ) (found : Option WardEntry) (candidates : List CandidateEntry) (in_count : Bool) → found ≡ ward_at s ward → candidates ≡ candidates_of s ward
     → in_count ≡ is_counted_with found candidates → in_count ≡ true → IsInCount s ward
@@ -56,4 +53,4 @@ pub counted_alone : ((s : OfficeState) (w : WardEntry) (columns : List ℕ) → 
     → (s : OfficeState) → IsState s → (ward : ℕ) (columns : List ℕ) → IsInCount s ward → ballots_by (settled_judgements s columns (batches_of s ward)) ≡ ballots_in columns (piles_of s ward)
 counted_alone suffice s is ward columns (w, there, counted) =
     let number : ward ≡ w.number = found_number (λ (x : WardEntry). x.number) s.wards ward w there in
-    sym (subst (λ n. ballots_in columns (piles_of s n) ≡ ballots_by (settled_judgements s columns (batches_of s n))) (sym number) (suffice s w columns is (found_own s ward w there) counted))
+    sym (subst (λ n. ballots_in columns (piles_of s n) ≡ ballots_by (settled_judgements s columns (batches_of s n))) (sym number) (suffice s w columns is (ward_there s ward w there) counted))

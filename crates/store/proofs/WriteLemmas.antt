@@ -1,5 +1,5 @@
 -- What each write makes of the tables of a state.
-use Rattle.std.proofs.Common.{◌≡◌, ℕ, pos, List, [], ◌∷◌, ◌++◌, map, fold, not, cond, Result, Ok, Err, OnOk, refl, sym, ap, ◌∙◌, subst}
+use Rattle.std.proofs.Common.{◌≡◌, ℕ, pos, List, [], ◌∷◌, ◌++◌, map, fold, not, cond, refl, sym, ap, ◌∙◌, subst}
 use Rattle.std.specs.Ordering.{is_eq}
 use Rattle.std.specs.List.{filter}
 use Rattle.std.specs.List.Sorted.{IsPermutation}
@@ -8,7 +8,6 @@ use Rattle.std.proofs.lemmas.List.{map-append}
 use Rattle.std.specs.declared.cmp.Ordering.{Ordering}
 use Rattle.sqlite.specs.declared.types.Value.TheVariants.{Int}
 use Rattle.sqlite.specs.Order.{Row}
-use Rattle.sqlite.specs.State.{State}
 use Rattle.register.specs.declared.phase.Phase.{Phase}
 use Rattle.register.specs.Phases.{phase_number}
 use Rattle.register.specs.Offices.{WardEntry, CandidateEntry, BatchEntry, ThirdEntry, KeyedEntry, JudgedEntry, LotEntry, ReceiptEntry, OfficeState, empty_office, put, put_each, without, changed, ward_cmp, candidate_cmp, batch_cmp, third_cmp, keyed_cmp, judged_cmp, lot_cmp, receipt_cmp, ward_compared, candidate_compared, batch_compared}
@@ -21,14 +20,14 @@ use Rattle.tables.specs.declared.table.Table.{Table}
 use Rattle.tables.specs.declared.table.Table.TheVariants.{Office, Ward, Candidate, Batch, Keying, Verdict, Lot, Receipt, Bundle, Vote, Third}
 use Rattle.tables.specs.declared.table.Setting.TheVariants.{PhaseOfWard, DoneOfWard, RoundOfBatch}
 use Rattle.tables.specs.Rows.{has_key, value_set, with_value}
-use Rattle.tables.specs.Contents.{Contents, SameContents, added, added_all, replaced_all, value_put, removed, Sees}
+use Rattle.tables.specs.Contents.{Contents, SameContents, added, added_all, replaced_all, value_put, removed}
 use Rattle.tables.specs.Making.{no_contents}
 use Rattle.store.specs.EntryRows.{this_version, office_row, row_of_ward, row_of_candidate, row_of_batch, row_of_third, row_of_keyed, row_of_judged, row_of_lot, row_of_receipt, row_of_placed, row_of_figure}
 use Rattle.store.specs.Offices.{tables_of, tables_with}
 use Rattle.tables.proofs.ListLemmas.{mapped_twice}
 use Rattle.tables.proofs.OrderLemmas.{key_of_number, key_of_two_numbers, key_of_number_and_bytes}
 use Rattle.tables.proofs.ChangeLemmas.{rows_set, removed_rows, all_replaced, replaced_all_there, replaced_each}
-use Rattle.tables.proofs.SameLemmas.{sees_same, filled_changed}
+use Rattle.tables.proofs.SameLemmas.{same_then, same_added_all, filled_changed}
 
 -- ---- the rows of each table
 
@@ -185,9 +184,13 @@ receipt_put s t r = filled_changed (office_rows ∷ ward_rows s ∷ candidate_ro
 abbrev state_rows : OfficeState → List (Table × List Row)
 state_rows s = office_rows ∷ ward_rows s ∷ candidate_rows s ∷ batch_rows s ∷ keying_rows s ∷ verdict_rows s ∷ lot_rows s ∷ receipt_rows s ∷ []
 
+-- a tabulation with some bundles where they lie now
+abbrev pub with_moved : List PlacedBundle → TabulationEntries → TabulationEntries
+with_moved moved t = record t { bundles = fold (λ bundles b. moved_to b bundles) t.bundles (map placed_entry moved) }
+
 -- bundles that lie elsewhere
 pub bundles_moved : (s : OfficeState) (t : TabulationEntries) (moved : List PlacedBundle)
-    → SameContents (replaced_all Bundle (map (λ b. row_of_placed (placed_entry b)) moved) (tables_with s t)) (tables_with s (record t { bundles = fold (λ bundles b. moved_to b bundles) t.bundles (map placed_entry moved) }))
+    → SameContents (replaced_all Bundle (map (λ b. row_of_placed (placed_entry b)) moved) (tables_with s t)) (tables_with s (with_moved moved t))
 unfolding tables_with
 bundles_moved s t moved u =
     let entries : List PlacedEntry = map placed_entry moved in
@@ -219,6 +222,13 @@ figures_put s t figures =
     let rows : List Row = map (λ f. row_of_figure (figure_entry f)) figures in
     filled_changed (state_rows s ++ bundle_rows t ∷ []) Vote (map row_of_figure t.figures) (map row_of_figure (map figure_entry figures ++ t.figures)) (third_rows s ∷ []) (λ l. rows ++ l) refl (equal_rows _ _ (rows_before figure_entry row_of_figure figures t.figures))
 
+-- bundles and figures more
+pub both_put : (s : OfficeState) (t : TabulationEntries) (placed : List PlacedBundle) (figures : List StageFigure)
+    → SameContents (added_all Vote (map (λ f. row_of_figure (figure_entry f)) figures) (added_all Bundle (map (λ b. row_of_placed (placed_entry b)) placed) (tables_with s t)))
+    (tables_with s (record { bundles = map placed_entry placed ++ t.bundles; figures = map figure_entry figures ++ t.figures }))
+both_put s t placed figures =
+    same_then _ _ _ (same_added_all Vote _ _ _ (bundles_put s t placed)) (figures_put s (record t { bundles = map placed_entry placed ++ t.bundles }) figures)
+
 -- ---- a new office
 
 -- the office row
@@ -235,8 +245,3 @@ office_put Receipt = IsPermutation-refl _
 office_put Bundle = IsPermutation-refl _
 office_put Vote = IsPermutation-refl _
 office_put Third = IsPermutation-refl _
-
--- what a transaction sees of the same contents in another order
-pub seen : {X E : Type 0} (r : Result X E) (c d : Contents) (s : State) → SameContents c d → OnOk r (Sees c s) → OnOk r (Sees d s)
-seen (Ok x) c d s same sees = sees_same c d s same sees
-seen (Err e) c d s same sees = tt

@@ -12,7 +12,7 @@ use Rattle.register.specs.Elections.{ElectionEntry, IsElection, has_count, conte
 use Rattle.register.specs.Nominations.{is_contested}
 use Rattle.register.specs.Parts.{PartEntries, empty_part}
 use Rattle.register.specs.Tabulated.{PlacedEntry, FigureEntry, tabulation_of, has_stages, IsCount, IsCountOf, IsCountedWard, IsSheetOf}
-use Rattle.store.specs.declared.views.elections.BatchPapers.{BatchPapers}
+use Rattle.store.specs.declared.views.papers.BatchPapers.{BatchPapers}
 use Rattle.store.specs.Keyings.{keyings_by}
 
 -- what the papers of a batch stand for
@@ -54,9 +54,18 @@ bundles_at s ward = filter (λ (b : PlacedEntry). b.ward == ward) (tabulation_of
 abbrev pub figures_at : OfficeState → ℕ → List FigureEntry
 figures_at s ward = filter (λ (f : FigureEntry). f.ward == ward) (tabulation_of s).figures
 
--- the ward is there, and these are its candidates
-abbrev pub IsThere : OfficeState → WardEntry → List CandidateEntry → Type 0
-IsThere s w candidates = (ward_at s w.number ≡ Some w) × (candidates ≡ candidates_of s w.number)
+-- the election of a ward that was found
+abbrev pub election_in : OfficeState → CountedWard → ElectionEntry
+election_in s found = election_of s (ward_entry found.ward)
+
+-- the ward that was found is there, and its candidates are those that were found with it
+abbrev pub IsThere : OfficeState → CountedWard → Type 0
+IsThere s found = (ward_at s found.ward.number ≡ Some (ward_entry found.ward)) × (map candidate_entry found.candidates.items ≡ candidates_of s found.ward.number)
+
+-- the ward of this number was found with its candidates, if it is there, and none of its count
+abbrev pub IsContestAt : OfficeState → ℕ → Option CountedWard → Type 0
+IsContestAt s ward None = ward_at s ward ≡ None
+IsContestAt s ward (Some found) = (ward_at s ward ≡ Some (ward_entry found.ward)) × IsThere s found × (found.count ≡ None)
 
 -- this was found, and kept of the count of an election
 abbrev pub IsKept : ElectionEntry → Option CountKept → Type 0

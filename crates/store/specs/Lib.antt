@@ -5,7 +5,6 @@ pub mod Listings
 pub mod Keyings
 pub mod Tallies
 pub mod Elections
-pub mod Reads
 pub mod Loads
 pub mod Settled
 pub mod Migrations

@@ -6,31 +6,22 @@ use Rattle.sqlite.specs.Schema.{Schema}
 use Rattle.sqlite.specs.Effect.{Database}
 use Rattle.sqlite.specs.Held.{Held, state}
 use Rattle.sqlite.specs.State.{State, HasCleanDisk}
-use Rattle.register.specs.declared.wards.Ward.{Ward as WardValue}
-use Rattle.register.specs.declared.candidates.Candidate.{Candidate as CandidateValue}
 use Rattle.register.specs.declared.batches.Batch.{Batch as BatchValue}
 use Rattle.register.specs.declared.keyings.KeyedPaper.{KeyedPaper}
 use Rattle.register.specs.declared.verdicts.JudgedPaper.{JudgedPaper}
-use Rattle.register.specs.declared.counts.DrawnLot.{DrawnLot}
-use Rattle.register.specs.declared.receipt.Receipt.{Receipt as ReceiptValue}
-use Rattle.register.specs.declared.tabulated.PlacedBundle.{PlacedBundle}
-use Rattle.register.specs.declared.tabulated.StageFigure.{StageFigure}
-use Rattle.register.specs.Offices.{OfficeState, ward_entry, candidate_entry, batch_entry, keyed_entry, judged_entry, lot_entry, receipt_entry}
+use Rattle.register.specs.Offices.{OfficeState, batch_entry, keyed_entry, judged_entry}
 use Rattle.register.specs.Items.{IsState}
-use Rattle.register.specs.Tabulated.{TabulationEntries, placed_entry, figure_entry}
+use Rattle.register.specs.Tabulated.{TabulationEntries}
 use Rattle.tables.specs.declared.fault.Fault.{Fault}
 use Rattle.tables.specs.declared.fault.Fault.TheVariants.{Memory, Store, Damaged, Closed, WrongDatabase, NewerSchema, OlderSchema}
 use Rattle.tables.specs.declared.table.Table.{Table}
-use Rattle.tables.specs.declared.table.Table.TheVariants.{Ward, Candidate, Batch, Keying, Verdict, Lot, Receipt, Bundle, Vote}
+use Rattle.tables.specs.declared.table.Table.TheVariants.{Batch, Keying, Verdict}
 use Rattle.tables.specs.Schema.{BeginsTo, place_of}
 use Rattle.tables.specs.Rows.{row_cmp}
 use Rattle.tables.specs.Contents.{HoldsTable, RestsAt}
 use Rattle.tables.specs.Reading.{OnlyReads, FailsToList, ListsEntries}
-use Rattle.store.specs.declared.listing.Contests.{Contests}
 use Rattle.store.specs.declared.listing.Papers.{Papers}
-use Rattle.store.specs.declared.listing.Records.{Records}
-use Rattle.store.specs.declared.listing.Counts.{Counts}
-use Rattle.store.specs.EntryRows.{row_of_ward, row_of_candidate, row_of_batch, row_of_keyed, row_of_judged, row_of_lot, row_of_receipt, row_of_placed, row_of_figure}
+use Rattle.store.specs.EntryRows.{row_of_batch, row_of_keyed, row_of_judged}
 use Rattle.store.specs.Offices.{tables_of, tables_with}
 use Rattle.store.specs.Openings.{has_entries}
 
@@ -47,7 +38,7 @@ pub record ListsAt {X : Type 0} (old new : State) (result : Result X Fault) (IsK
 abbrev pub Lists : {S X : Type 0} → Ghosts S → Held S → Held S → Result X Fault → (Database → Type 0) → (Database → X → Type 0) → (Database → Fault → Type 0) → Type 0
 Lists store old new result IsKind IsTold Gives = ListsAt (state store old) (state store new) result IsKind IsTold Gives
 
--- ---- the parts
+-- ---- the tables
 
 -- the schema begins with so many of the tables
 abbrev pub BeginsFirst : ℕ → Schema → Type 0
@@ -71,16 +62,6 @@ TellsStrange n db OlderSchema = ⊥
 abbrev pub ListsFirst : ℕ → Database → OfficeState → TabulationEntries → Type 0
 ListsFirst n db s t = (u : Table) → has_entries u ≡ true → place_of u < n → ListsEntries u db (tables_with s t u)
 
--- all rows of the wards and of the candidates
-pub record ListsContests (db : Database) (contests : Contests) : Type 0 where
-  pub wards : ListsEntries Ward db (map (λ (w : WardValue). row_of_ward (ward_entry w)) contests.wards.items)
-  pub candidates : ListsEntries Candidate db (map (λ (c : CandidateValue). row_of_candidate (candidate_entry c)) contests.candidates.items)
-
--- each row's key is above that of the one before
-pub record ContestsRise (contests : Contests) : Type 0 where
-  pub wards : IsStrictlySortedBy (row_cmp Ward) (map (λ (w : WardValue). row_of_ward (ward_entry w)) contests.wards.items)
-  pub candidates : IsStrictlySortedBy (row_cmp Candidate) (map (λ (c : CandidateValue). row_of_candidate (candidate_entry c)) contests.candidates.items)
-
 -- all rows of the batches, of the keyed papers and of the judged ones
 pub record ListsPapers (db : Database) (papers : Papers) : Type 0 where
   pub batches : ListsEntries Batch db (map (λ (b : BatchValue). row_of_batch (batch_entry b)) papers.batches.items)
@@ -92,23 +73,3 @@ pub record PapersRise (papers : Papers) : Type 0 where
   pub batches : IsStrictlySortedBy (row_cmp Batch) (map (λ (b : BatchValue). row_of_batch (batch_entry b)) papers.batches.items)
   pub keyings : IsStrictlySortedBy (row_cmp Keying) (map (λ (k : KeyedPaper). row_of_keyed (keyed_entry k)) papers.keyings.items)
   pub verdicts : IsStrictlySortedBy (row_cmp Verdict) (map (λ (v : JudgedPaper). row_of_judged (judged_entry v)) papers.verdicts.items)
-
--- all rows of the lots and of the receipts
-pub record ListsRecords (db : Database) (records : Records) : Type 0 where
-  pub lots : ListsEntries Lot db (map (λ (l : DrawnLot). row_of_lot (lot_entry l)) records.lots.items)
-  pub receipts : ListsEntries Receipt db (map (λ (r : ReceiptValue). row_of_receipt (receipt_entry r)) records.receipts.items)
-
--- each row's key is above that of the one before
-pub record RecordsRise (records : Records) : Type 0 where
-  pub lots : IsStrictlySortedBy (row_cmp Lot) (map (λ (l : DrawnLot). row_of_lot (lot_entry l)) records.lots.items)
-  pub receipts : IsStrictlySortedBy (row_cmp Receipt) (map (λ (r : ReceiptValue). row_of_receipt (receipt_entry r)) records.receipts.items)
-
--- all rows of the bundles and of the figures
-pub record ListsCounts (db : Database) (counts : Counts) : Type 0 where
-  pub bundles : ListsEntries Bundle db (map (λ (b : PlacedBundle). row_of_placed (placed_entry b)) counts.bundles.items)
-  pub figures : ListsEntries Vote db (map (λ (f : StageFigure). row_of_figure (figure_entry f)) counts.figures.items)
-
--- each row's key is above that of the one before
-pub record CountsRise (counts : Counts) : Type 0 where
-  pub bundles : IsStrictlySortedBy (row_cmp Bundle) (map (λ (b : PlacedBundle). row_of_placed (placed_entry b)) counts.bundles.items)
-  pub figures : IsStrictlySortedBy (row_cmp Vote) (map (λ (f : StageFigure). row_of_figure (figure_entry f)) counts.figures.items)

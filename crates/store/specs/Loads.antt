@@ -19,3 +19,7 @@ pub record LoadsAt {X : Type 0} (old new : State) (result : Result X Fault) (IsT
 
 abbrev pub Loads : {S X : Type 0} → Ghosts S → Held S → Held S → Result X Fault → (OfficeState → X → Type 0) → Type 0
 Loads store old new result IsTold = LoadsAt (state store old) (state store new) result IsTold
+
+-- the connection of a store is open, as it is behind each load that told something
+abbrev pub IsOpen : {S : Type 0} → Ghosts S → Held S → Type 0
+IsOpen store held = HasCleanDisk (state store held) → IsTrue (state store held).is_open

@@ -15,7 +15,7 @@ use Rattle.tables.specs.declared.table.Table.TheVariants.{Office}
 use Rattle.tables.specs.declared.presence.Form.{Form}
 use Rattle.tables.specs.declared.presence.Form.TheVariants.{WithoutThird, WithoutCounts as WithoutCountTables}
 use Rattle.tables.specs.Contents.{Contents, SameContents, RestsAt, changed, Stores}
-use Rattle.tables.specs.Making.{HasFirst, RestsFirst, StoresFirst}
+use Rattle.tables.specs.Making.{HasFirst, RestsFirst, SeesMade, StoresFirst}
 use Rattle.tables.specs.Presence.{IsOurs, IsOlderSchema}
 use Rattle.tables.specs.Reading.{OnlyReads, FailsToList}
 use Rattle.store.specs.declared.older.OlderForm.{OlderForm}
@@ -66,6 +66,10 @@ pub record HoldsOlder (form : OlderForm) (db : Database) (s : OfficeState) : Typ
 pub record RestsOlder (form : OlderForm) (s : OfficeState) (st : State) : Type 0 where
   pub is : IsOlderState s
   pub rests : RestsFirst (tables_in form) (older_tables form s) st
+
+-- a connection inside a transaction, which sees the older tables of this state
+abbrev pub SeesOlder : OlderForm → OfficeState → State → Type 0
+SeesOlder form s st = IsOlderState s × SeesMade (tables_in form) (older_tables form s) st
 
 -- these are the older tables of this, which is an older state
 pub record StoresOlder (form : OlderForm) (s : OfficeState) (trees : Trees) : Type 0 where

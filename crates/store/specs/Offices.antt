@@ -1,15 +1,17 @@
 -- The tables of a state, and a store that keeps a state.
-use Rattle.std.specs.Prelude.{◌≡◌, ◌≤◌, ◌⊎◌, [], ◌∷◌, map, IsTrue}
+use Rattle.std.specs.Prelude.{◌≡◌, ◌≤◌, ◌⊎◌, false, [], ◌∷◌, map, Result, IfErr, OnOk, IsTrue}
 use Rattle.sqlite.specs.Tree.{Trees}
 use Rattle.sqlite.specs.Effect.{Database}
 use Rattle.sqlite.specs.Disk.{MoreFaults}
-use Rattle.sqlite.specs.State.{State, HasCleanDisk}
+use Rattle.sqlite.specs.State.{State, HasCleanDisk, Survives}
 use Rattle.register.specs.Offices.{OfficeState}
 use Rattle.register.specs.Items.{IsState}
 use Rattle.register.specs.Effects.{ChangeEntry, with_change}
 use Rattle.register.specs.Tabulated.{TabulationEntries, tabulation_of, AdditionEntries, with_addition}
+use Rattle.tables.specs.declared.fault.Fault.{Fault}
+use Rattle.tables.specs.declared.fault.Fault.TheVariants.{Memory, Store as StoreFailed}
 use Rattle.tables.specs.declared.table.Table.TheVariants.{Office, Ward, Candidate, Batch, Keying, Verdict, Lot, Receipt, Bundle, Vote, Third}
-use Rattle.tables.specs.Contents.{Contents, filled, IsOffice, Stores, Rests}
+use Rattle.tables.specs.Contents.{Contents, filled, IsOffice, Stores, Rests, Sees}
 use Rattle.store.specs.EntryRows.{this_version, office_row, row_of_ward, row_of_candidate, row_of_batch, row_of_third, row_of_keyed, row_of_judged, row_of_lot, row_of_receipt, row_of_placed, row_of_figure}
 
 -- nothing tabulated
@@ -37,6 +39,10 @@ tables_with s t =
 -- the rows that stand for a state, which tells what is tabulated of its counts
 unfoldable pub tables_of : OfficeState → Contents
 tables_of s = tables_with s (tabulation_of s)
+
+-- a connection inside a transaction, which sees the tables of a state, and of what is tabulated beside it
+abbrev pub SeesState : OfficeState × TabulationEntries → State → Type 0
+SeesState x = Sees (tables_with x.0 x.1)
 
 -- contents that are the tables of a state, and those that a change and what it adds to the tabulation make of them
 pub record ChangesTo (change : ChangeEntry) (addition : AdditionEntries) (before after : Contents) : Type 0 where
@@ -69,3 +75,13 @@ pub record Wears (old new : State) : Type 0 where
   pub limit : new.step_limit ≡ old.step_limit
   pub counts : old.faults ≤ new.faults
   pub closes : HasCleanDisk new → IsTrue old.is_open → IsTrue new.is_open ⊎ MoreFaults old.faults new.faults
+
+-- A transaction that writes an office: where its connection is as it takes it, the connection rests at these tables once it is committed, and a stop leaves what it could leave before,
+-- or them. It ends the transaction, and fails only where memory is wanting or the store failed.
+pub record Commits {X V : Type 0} (old new : State) (result : Result V Fault) (Takes : X → State → Type 0) (tables : X → Contents) : Type 0 where
+  pub done : HasCleanDisk new → (x : X) → Takes x old → OnOk result (Rests (tables x) new)
+  pub survives : (x : X) → Takes x old → Survives old new (Stores (tables x))
+  pub wears : Wears old new
+  pub clean : HasCleanDisk new → HasCleanDisk old
+  pub outside : new.in_transaction ≡ false
+  pub cause : IfErr result (λ f. (f ≡ Memory) ⊎ (f ≡ StoreFailed))

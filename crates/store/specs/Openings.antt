@@ -6,7 +6,7 @@ use Rattle.sqlite.specs.Effect.{Database, IsDatabase}
 use Rattle.sqlite.specs.State.{State}
 use Rattle.register.specs.Offices.{OfficeState}
 use Rattle.register.specs.Items.{IsState}
-use Rattle.register.specs.Tabulated.{TabulationEntries, item8}
+use Rattle.register.specs.Tabulated.{TabulationEntries, IsTabulationOf}
 use Rattle.tables.specs.declared.fault.Fault.{Fault}
 use Rattle.tables.specs.declared.fault.Fault.TheVariants.{Memory, Store, Damaged, Closed, WrongDatabase, NewerSchema, OlderSchema}
 use Rattle.tables.specs.declared.table.Table.{Table}
@@ -136,7 +136,7 @@ ListsMaps db s t = (u : Table) → has_entries u ≡ true → ListsEntries u db 
 
 -- maps are a state, and this is what is tabulated of its counts
 abbrev pub IsTabulatedAs : OfficeState → TabulationEntries → Type 0
-IsTabulatedAs s t = IsState s × item8 t s
+IsTabulatedAs s t = IsState s × IsTabulationOf t s
 
 -- each table of entries holds those of the state
 pub record HoldsEntries (db : Database) (s : OfficeState) : Type 0 where

@@ -1,14 +1,12 @@
 //! An office, copied into another database.
 
-ghost use Rattle.std.specs.Prelude.{◌≡◌, ◌⊎◌, false, map, filter, length, Err, IfErr, OnOk};
-ghost use Rattle.sqlite.specs.State.{HasCleanDisk, Survives};
+ghost use Rattle.std.specs.Prelude.{◌≡◌, ⊤, false, map, filter, length};
 ghost use Rattle.sqlite.specs.Held.{state};
 ghost use Rattle.register.specs.Offices.{keyed_entry};
 ghost use Rattle.rowcheck.specs.States.{state_of, tabulated};
-ghost use Rattle.tables.specs.Contents.{Rests, Stores};
 ghost use Rattle.tables.specs.Presence.{has_some_table};
 ghost use Rattle.store.specs.Copies.{is_first_paper, holdings_of, CopiesTo};
-ghost use Rattle.store.specs.Offices.{tables_with, Wears};
+ghost use Rattle.store.specs.Offices.{tables_with, Commits};
 ghost use Rattle.store.specs.Openings.{IsBlank};
 
 use crate::opening::checked_rows;
@@ -71,14 +69,7 @@ fn holdings_of(rows: &Rows) -> Holdings
 /// Makes an office of these rows in one transaction.
 fn commit_copy<T: Alter>(alloc: Global, copy: &mut Connection<T>, rows: &Rows) -> Result<(), Fault>
     requires { copy.old.in_transaction ≡ false }
-    ensures done { HasCleanDisk (state T.Store copy.new) → IsBlank (state T.Store copy.old)
-        → OnOk result (Rests (tables_with (state_of rows.now) (tabulated rows.now)) (state T.Store copy.new)) }
-    ensures survives { IsBlank (state T.Store copy.old)
-        → Survives (state T.Store copy.old) (state T.Store copy.new) (Stores (tables_with (state_of rows.now) (tabulated rows.now))) }
-    ensures wears { Wears (state T.Store copy.old) (state T.Store copy.new) }
-    ensures clean { HasCleanDisk (state T.Store copy.new) → HasCleanDisk (state T.Store copy.old) }
-    ensures outside { copy.new.in_transaction ≡ false }
-    ensures cause { IfErr result (λ f. (f ≡ Fault.Memory) ⊎ (f ≡ Fault.Store)) }
+    ensures { Commits (state T.Store copy.old) (state T.Store copy.new) result (λ (x : ⊤). IsBlank) (λ x. tables_with (state_of rows.now) (tabulated rows.now)) }
 {
     let mut tx = copy.transaction();
     write_whole_office(alloc, &mut tx, rows)?;

@@ -6,7 +6,7 @@ ghost use Rattle.rowcheck.specs.States.{state_of, tabulated};
 ghost use Rattle.tables.specs.Schema.{IsOfficeSchema};
 ghost use Rattle.store.specs.Offices.{no_tabulation};
 ghost use Rattle.store.specs.Openings.{TellsNoState, ListsMaps};
-ghost use Rattle.store.specs.Listings.{Lists, BeginsFirst, TellsStrange, ListsFirst, ListsContests, ContestsRise, ListsPapers, PapersRise, ListsRecords, RecordsRise, ListsCounts, CountsRise};
+ghost use Rattle.store.specs.Listings.{Lists, BeginsFirst, TellsStrange, ListsFirst, ListsPapers, PapersRise};
 
 use crate::entries::batches::Batches;
 use crate::entries::bundles::PlacedBundles;
@@ -18,22 +18,12 @@ use crate::entries::receipts::Receipts;
 use crate::entries::thirds::ThirdClerks;
 use crate::entries::verdicts::JudgedPapers;
 use crate::entries::wards::Wards;
-use register::{
-    Batch, Candidate, DrawnLot, JudgedPaper, KeyedPaper, PlacedBundle, Receipt, StageFigure,
-    ThirdClerk, Ward,
-};
+use register::{Batch, JudgedPaper, KeyedPaper};
 use rowcheck::Rows;
 use sqlite::{Alter, Connection};
 use std::alloc::Global;
 use tables::Fault;
 use tables::listing::all_entries;
-
-/// The wards, and the candidates in them.
-#[derive(Drop)]
-struct Contests {
-    wards: Vec<Ward>,
-    candidates: Vec<Candidate>,
-}
 
 /// The batches of ballot papers, and those papers as they were keyed and judged.
 #[derive(Drop)]
@@ -41,31 +31,6 @@ struct Papers {
     batches: Vec<Batch>,
     keyings: Vec<KeyedPaper>,
     verdicts: Vec<JudgedPaper>,
-}
-
-/// The lots that were drawn, and the receipts.
-#[derive(Drop)]
-struct Records {
-    lots: Vec<DrawnLot>,
-    receipts: Vec<Receipt>,
-}
-
-/// What is tabulated of the counts: the bundles where they lie, and the figures.
-#[derive(Drop)]
-struct Counts {
-    bundles: Vec<PlacedBundle>,
-    figures: Vec<StageFigure>,
-}
-
-/// The wards and the candidates of a database. `Damaged` where the rows are those of no state.
-fn all_contests<S: Alter>(alloc: Global, conn: &mut Connection<S>) -> Result<Contests, Fault>
-    requires { conn.old.in_transaction ≡ false }
-    ensures lists { Lists S.Store conn.old conn.new result (λ db. BeginsFirst 8 db.schema) ListsContests (TellsStrange 8) }
-    ensures rise { IfOk result ContestsRise }
-{
-    let wards = all_entries::<Wards, S>(alloc, conn)?;
-    let candidates = all_entries::<Candidates, S>(alloc, conn)?;
-    Ok(Contests { wards, candidates })
 }
 
 /// The batches of a database, and their papers. `Damaged` where the rows are those of no state.
@@ -84,28 +49,6 @@ fn all_papers<S: Alter>(alloc: Global, conn: &mut Connection<S>) -> Result<Paper
     })
 }
 
-/// The lots and the receipts of a database. `Damaged` where the rows are those of no state.
-fn all_records<S: Alter>(alloc: Global, conn: &mut Connection<S>) -> Result<Records, Fault>
-    requires { conn.old.in_transaction ≡ false }
-    ensures lists { Lists S.Store conn.old conn.new result (λ db. BeginsFirst 8 db.schema) ListsRecords (TellsStrange 8) }
-    ensures rise { IfOk result RecordsRise }
-{
-    let lots = all_entries::<Lots, S>(alloc, conn)?;
-    let receipts = all_entries::<Receipts, S>(alloc, conn)?;
-    Ok(Records { lots, receipts })
-}
-
-/// What is tabulated in a database of the counts. `Damaged` where the rows are those of no state.
-fn all_counts<S: Alter>(alloc: Global, conn: &mut Connection<S>) -> Result<Counts, Fault>
-    requires { conn.old.in_transaction ≡ false }
-    ensures lists { Lists S.Store conn.old conn.new result (λ db. BeginsFirst 10 db.schema) ListsCounts (TellsStrange 10) }
-    ensures rise { IfOk result CountsRise }
-{
-    let bundles = all_entries::<PlacedBundles, S>(alloc, conn)?;
-    let figures = all_entries::<StageFigures, S>(alloc, conn)?;
-    Ok(Counts { bundles, figures })
-}
-
 /// The entries of the first eight tables of a database, each table's in the order of its key. `Damaged` where
 /// the rows are those of no state.
 pub(crate) fn first_rows<S: Alter>(alloc: Global, conn: &mut Connection<S>) -> Result<Rows, Fault>
@@ -115,13 +58,15 @@ pub(crate) fn first_rows<S: Alter>(alloc: Global, conn: &mut Connection<S>) -> R
     ensures no_thirds { IfOk result (λ rows. (state_of rows).thirds ≡ []) }
     ensures no_counts { IfOk result (λ rows. tabulated rows ≡ no_tabulation) }
 {
-    let Contests { wards, candidates } = all_contests(alloc, conn)?;
+    let wards = all_entries::<Wards, S>(alloc, conn)?;
+    let candidates = all_entries::<Candidates, S>(alloc, conn)?;
     let Papers {
         batches,
         keyings,
         verdicts,
     } = all_papers(alloc, conn)?;
-    let Records { lots, receipts } = all_records(alloc, conn)?;
+    let lots = all_entries::<Lots, S>(alloc, conn)?;
+    let receipts = all_entries::<Receipts, S>(alloc, conn)?;
     Ok(Rows {
         wards,
         candidates,
@@ -144,7 +89,8 @@ pub(crate) fn counted_rows<S: Alter>(alloc: Global, conn: &mut Connection<S>) ->
     ensures no_thirds { IfOk result (λ rows. (state_of rows).thirds ≡ []) }
 {
     let mut rows = first_rows(alloc, conn)?;
-    let Counts { bundles, figures } = all_counts(alloc, conn)?;
+    let bundles = all_entries::<PlacedBundles, S>(alloc, conn)?;
+    let figures = all_entries::<StageFigures, S>(alloc, conn)?;
     rows.bundles = bundles;
     rows.figures = figures;
     Ok(rows)

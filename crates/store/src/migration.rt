@@ -1,16 +1,16 @@
 //! The migration of an office that a program before this one made.
 
-ghost use Rattle.std.specs.Prelude.{◌≡◌, ◌⊎◌, false, Err, IfOk, IfErr, OnOk};
+ghost use Rattle.std.specs.Prelude.{◌≡◌, ◌⊎◌, false, Err, IfOk, IfErr};
 ghost use Rattle.sqlite.specs.Effect.{Database, IsDatabase};
-ghost use Rattle.sqlite.specs.State.{HasCleanDisk, Survives};
+ghost use Rattle.sqlite.specs.State.{HasCleanDisk};
 ghost use Rattle.sqlite.specs.Held.{state};
 ghost use Rattle.register.specs.Offices.{OfficeState};
 ghost use Rattle.register.specs.Tabulated.{addition_entries};
-ghost use Rattle.tables.specs.Contents.{Rests, RestsAt, SameContents, Stores};
+ghost use Rattle.tables.specs.Contents.{RestsAt, SameContents};
 ghost use Rattle.tables.specs.Presence.{IsOurs, IsOlderSchema};
 ghost use Rattle.tables.specs.Reading.{OnlyReads};
 ghost use Rattle.store.specs.declared.older.OlderForm.{OlderForm};
-ghost use Rattle.store.specs.Offices.{tables_of, HoldsState, IsAt, Wears};
+ghost use Rattle.store.specs.Offices.{tables_of, HoldsState, IsAt, Commits, Wears};
 ghost use Rattle.store.specs.Openings.{HasVersion};
 ghost use Rattle.store.specs.Migrations.{older_tables, IsOlderState, HoldsOlder, RestsOlder, StoresOlder, WasAt, IsToldInMigration, FailsToMigrate, Lacks, TellsOlder, LeavesOlderOr, Migrates};
 
@@ -37,14 +37,8 @@ fn commit_migration<S: Alter>(
     older: &Older,
 ) -> Result<(), Fault>
     requires { conn.old.in_transaction ≡ false }
-    ensures done { HasCleanDisk (state S.Store conn.new) → (s : OfficeState) → RestsOlder older.now.form s (state S.Store conn.old) → Lacks older.now.form s (addition_entries older.now.missing)
-        → OnOk result (Rests (tables_of s) (state S.Store conn.new)) }
-    ensures survives { (s : OfficeState) → RestsOlder older.now.form s (state S.Store conn.old) → Lacks older.now.form s (addition_entries older.now.missing)
-        → Survives (state S.Store conn.old) (state S.Store conn.new) (Stores (tables_of s)) }
-    ensures wears { Wears (state S.Store conn.old) (state S.Store conn.new) }
-    ensures clean { HasCleanDisk (state S.Store conn.new) → HasCleanDisk (state S.Store conn.old) }
-    ensures outside { conn.new.in_transaction ≡ false }
-    ensures cause { IfErr result (λ f. (f ≡ Fault.Memory) ⊎ (f ≡ Fault.Store)) }
+    ensures { Commits (state S.Store conn.old) (state S.Store conn.new) result
+        (λ (s : OfficeState) st. RestsOlder older.now.form s st × Lacks older.now.form s (addition_entries older.now.missing)) tables_of }
 {
     let mut tx = conn.transaction();
     write_migration(alloc, &mut tx, older)?;

@@ -21,7 +21,7 @@ ghost use Rattle.store.specs.Migrations.{tables_in, name_of, tabulation_in, is_a
 use crate::listing::{counted_rows, first_rows};
 use crate::opening::counted_state;
 use register::{Addition, Receipt, Tabulation};
-use rowcheck::{Rows, item8};
+use rowcheck::{Rows, is_tabulated};
 use sqlite::{Alter, Connection};
 use std::alloc::Global;
 use tables::Fault;
@@ -100,7 +100,7 @@ fn lacking(alloc: Global, form: OlderForm, rows: &Rows, counted: Tabulation) -> 
 {
     match form {
         OlderForm::WithCounts => {
-            if item8(rows, &counted) {
+            if is_tabulated(rows, &counted) {
                 Some(Addition::none(alloc))
             } else {
                 None

@@ -6,7 +6,7 @@ ghost use Rattle.sqlite.specs.State.{HasCleanDisk};
 ghost use Rattle.sqlite.specs.Held.{state};
 ghost use Rattle.register.specs.Offices.{OfficeState, MapsRise};
 ghost use Rattle.register.specs.Items.{IsState};
-ghost use Rattle.register.specs.Tabulated.{tabulation_entries, item8};
+ghost use Rattle.register.specs.Tabulated.{tabulation_entries, IsTabulationOf};
 ghost use Rattle.rowcheck.specs.States.{state_of, tabulated};
 ghost use Rattle.tables.specs.Schema.{BeginsTo, IsOfficeSchema};
 ghost use Rattle.tables.specs.Contents.{RestsAt};
@@ -19,7 +19,10 @@ ghost use Rattle.store.specs.Openings.{IsToldBy, TellsNoState, IsVersion, TellsR
 use crate::listing::all_rows;
 use crate::writing::VERSION;
 use register::Tabulation;
-use rowcheck::{Rows, item1, item2, item3, item4, item5, item6, item7, item8};
+use rowcheck::{
+    Rows, all_agreed, all_counted, all_given_out, all_in_range, all_judged, all_keyed,
+    all_nominated, is_tabulated,
+};
 use sqlite::{Alter, Connection, Row};
 use std::alloc::Global;
 use tables::cells::integer_at;
@@ -93,25 +96,25 @@ pub(crate) fn counted_state(alloc: Global, rows: &Rows) -> Result<Option<Tabulat
     ensures none { IfOk result (λ found. IfNone found (¬ IsState (state_of rows.now))) }
     ensures cause { IfErr result (λ f. f ≡ Fault.Memory) }
 {
-    if !item1(rows) {
+    if !all_in_range(rows) {
         return Ok(None);
     }
-    if !item2(rows) {
+    if !all_nominated(rows) {
         return Ok(None);
     }
-    if !item3(rows) {
+    if !all_given_out(rows) {
         return Ok(None);
     }
-    if !item4(rows) {
+    if !all_keyed(rows) {
         return Ok(None);
     }
-    if !item5(rows) {
+    if !all_judged(rows) {
         return Ok(None);
     }
-    if !item6(rows) {
+    if !all_agreed(rows) {
         return Ok(None);
     }
-    match item7(alloc, rows) {
+    match all_counted(alloc, rows) {
         Ok(Some(counted)) => Ok(Some(counted)),
         Ok(None) => Ok(None),
         Err(_) => Err(Fault::Memory),
@@ -127,7 +130,7 @@ fn are_of_state(alloc: Global, rows: &Rows) -> Result<bool, Fault>
     ensures cause { IfErr result (λ f. f ≡ Fault.Memory) }
 {
     match counted_state(alloc, rows) {
-        Ok(Some(counted)) => Ok(item8(rows, &counted)),
+        Ok(Some(counted)) => Ok(is_tabulated(rows, &counted)),
         Ok(None) => Ok(false),
         Err(fault) => Err(fault),
     }
@@ -137,7 +140,7 @@ fn are_of_state(alloc: Global, rows: &Rows) -> Result<bool, Fault>
 fn checked_tables<S: Alter>(alloc: Global, conn: &mut Connection<S>) -> Result<Rows, Fault>
     requires { conn.old.in_transaction ≡ false }
     ensures holds { HasCleanDisk (state S.Store conn.new) → (db : Database) → IsOfficeSchema db.schema → IsDatabase db → RestsAt db (state S.Store conn.old)
-        → IfOk result (λ rows. HoldsEntries db (state_of rows) × item8 (tabulated rows) (state_of rows)) }
+        → IfOk result (λ rows. HoldsEntries db (state_of rows) × IsTabulationOf (tabulated rows) (state_of rows)) }
     ensures told { HasCleanDisk (state S.Store conn.new) → (db : Database) → IsOfficeSchema db.schema → RestsAt db (state S.Store conn.old)
         → IfErr result (TellsNoState db) }
     ensures fails { HasCleanDisk (state S.Store conn.new) → (db : Database) → IsOfficeSchema db.schema → RestsAt db (state S.Store conn.old)
@@ -160,7 +163,7 @@ fn checked_tables<S: Alter>(alloc: Global, conn: &mut Connection<S>) -> Result<R
 pub(crate) fn checked_rows<S: Alter>(alloc: Global, conn: &mut Connection<S>) -> Result<Rows, Fault>
     requires { conn.old.in_transaction ≡ false }
     ensures holds { HasCleanDisk (state S.Store conn.new) → (db : Database) → IsOurs db.schema → RestsAt db (state S.Store conn.old)
-        → IfOk result (λ rows. HoldsState db (state_of rows) × item8 (tabulated rows) (state_of rows)) }
+        → IfOk result (λ rows. HoldsState db (state_of rows) × IsTabulationOf (tabulated rows) (state_of rows)) }
     ensures told { HasCleanDisk (state S.Store conn.new) → (db : Database) → IsOurs db.schema → RestsAt db (state S.Store conn.old)
         → IfErr result (IsToldBy db) }
     ensures fails { HasCleanDisk (state S.Store conn.new) → (db : Database) → IsOurs db.schema → RestsAt db (state S.Store conn.old)

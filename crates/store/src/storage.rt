@@ -172,6 +172,11 @@ impl<S: Alter> Store<S> {
         commit_change(self.alloc, &mut self.conn, change)
     }
 
+    /// What allocates what is read.
+    pub(crate) fn allocator(&self) -> Global {
+        self.alloc
+    }
+
     /// Gives the connection back as it is.
     pub fn into_connection(self) -> Connection<S>
         ensures { result ≡ self }

@@ -1,25 +1,17 @@
 //! The work of a clerk, read from the tables.
 
-ghost use Rattle.std.specs.Prelude.{◌≡◌, if◌then◌else◌, false, map, filter, option_map, Some, None, IsTrue};
-ghost use Rattle.sqlite.specs.State.{HasCleanDisk};
-ghost use Rattle.sqlite.specs.Held.{state};
+ghost use Rattle.std.specs.Prelude.{◌≡◌, if◌then◌else◌, map, filter, option_map, Some, None};
 ghost use Rattle.register.specs.declared.phase.Phase.TheVariants.{Keying};
 ghost use Rattle.register.specs.Offices.{ward_entry, batch_entry};
 ghost use Rattle.register.specs.Parts.{is_in_phase};
 ghost use Rattle.register.specs.Standings.{work_entry, is_work, work_on, work_of};
-ghost use Rattle.store.specs.Loads.{Loads};
-ghost use Rattle.store.specs.Reads.{Reads};
+ghost use Rattle.store.specs.Loads.{Loads, IsOpen};
 
 use crate::storage::Store;
-use crate::views::batches::{all_batches, find_third};
-use crate::views::candidates::list_candidates;
-use crate::views::papers::has_keyed;
-use crate::views::wards::find_ward;
 use register::keyings::is_its_clerk;
 use register::marks::columns_of;
 use register::{Batch, Phase, Ward, Work};
-use sqlite::{Alter, Connection};
-use std::alloc::Global;
+use sqlite::Alter;
 use tables::Fault;
 
 /// Whether a ward is there, in keying.
@@ -32,89 +24,57 @@ fn is_in_keying(ward: &Option<Ward>) -> bool
     }
 }
 
-/// A batch as a clerk's work.
-fn work_on<S: Alter>(
-    alloc: Global,
-    conn: &mut Connection<S>,
-    batch: &Batch,
-    clerk: u32,
-) -> Result<Work, Fault>
-    requires { conn.old.in_transaction ≡ false }
-    ensures { Reads (state S.Store conn.old) (state S.Store conn.new) result (λ s work. work_entry work ≡ work_on s clerk (batch_entry batch.now)) }
-{
-    let candidates = list_candidates(alloc, conn, batch.ward)?;
-    let keyed = has_keyed(conn, batch.number, batch.round, clerk)?;
-    Ok(Work {
-        batch: batch.number,
-        ward: batch.ward,
-        columns: columns_of(&candidates),
-        size: batch.size,
-        round: batch.round,
-        keyed,
-    })
-}
-
-/// A batch as a clerk's work, where it is his to key.
-fn own_work<S: Alter>(
-    alloc: Global,
-    conn: &mut Connection<S>,
-    batch: &Batch,
-    clerk: u32,
-) -> Result<Option<Work>, Fault>
-    requires outside { conn.old.in_transaction ≡ false }
-    requires is_open { HasCleanDisk (state S.Store conn.old) → IsTrue (state S.Store conn.old).is_open }
-    ensures { Reads (state S.Store conn.old) (state S.Store conn.new) result
-        (λ s found. option_map work_entry found ≡ (if is_work s clerk (batch_entry batch.now) then Some (work_on s clerk (batch_entry batch.now)) else None)) }
-{
-    let third = find_third(conn, batch.number)?;
-    if !is_its_clerk(clerk, batch, &third) {
-        return Ok(None);
+impl<S: Alter> Store<S> {
+    /// A batch as a clerk's work.
+    fn work_on(&mut self, batch: &Batch, clerk: u32) -> Result<Work, Fault>
+        ensures { Loads S.Store self.old self.new result (λ s work. work_entry work ≡ work_on s clerk (batch_entry batch.now)) }
+    {
+        let candidates = self.list_candidates(batch.ward)?;
+        let keyed = self.has_keyed(batch.number, batch.round, clerk)?;
+        Ok(Work {
+            batch: batch.number,
+            ward: batch.ward,
+            columns: columns_of(&candidates),
+            size: batch.size,
+            round: batch.round,
+            keyed,
+        })
     }
-    let ward = find_ward(conn, batch.ward)?;
-    if !is_in_keying(&ward) {
-        return Ok(None);
-    }
-    let work = work_on(alloc, conn, batch, clerk)?;
-    Ok(Some(work))
-}
 
-/// What of some batches is a clerk's work, read one after the other.
-fn work_in<S: Alter>(
-    alloc: Global,
-    conn: &mut Connection<S>,
-    batches: &[Batch],
-    clerk: u32,
-) -> Result<Vec<Work>, Fault>
-    requires outside { conn.old.in_transaction ≡ false }
-    requires is_open { HasCleanDisk (state S.Store conn.old) → IsTrue (state S.Store conn.old).is_open }
-    ensures { Reads (state S.Store conn.old) (state S.Store conn.new) result (λ s found. map work_entry found.items ≡ map (work_on s clerk) (filter (is_work s clerk) (map batch_entry batches.now))) }
-{
-    let mut found = Vec::new(alloc);
-    for batch in batches {
-        if let Some(work) = own_work(alloc, conn, batch, clerk)? {
-            if found.push(work).is_err() {
-                return Err(Fault::Memory);
+    /// A batch as a clerk's work, where it is his to key.
+    fn own_work(&mut self, batch: &Batch, clerk: u32) -> Result<Option<Work>, Fault>
+        requires { IsOpen S.Store self.old }
+        ensures { Loads S.Store self.old self.new result
+            (λ s found. option_map work_entry found ≡ (if is_work s clerk (batch_entry batch.now) then Some (work_on s clerk (batch_entry batch.now)) else None)) }
+    {
+        let third = self.find_third(batch.number)?;
+        if !is_its_clerk(clerk, batch, &third) {
+            return Ok(None);
+        }
+        let ward = self.find_ward(batch.ward)?;
+        if !is_in_keying(&ward) {
+            return Ok(None);
+        }
+        let work = self.work_on(batch, clerk)?;
+        Ok(Some(work))
+    }
+
+    /// What of some batches is a clerk's work, read one after the other.
+    fn work_in(&mut self, batches: &[Batch], clerk: u32) -> Result<Vec<Work>, Fault>
+        requires { IsOpen S.Store self.old }
+        ensures { Loads S.Store self.old self.new result (λ s found. map work_entry found.items ≡ map (work_on s clerk) (filter (is_work s clerk) (map batch_entry batches.now))) }
+    {
+        let mut found = Vec::new(self.allocator());
+        for batch in batches {
+            if let Some(work) = self.own_work(batch, clerk)? {
+                if found.push(work).is_err() {
+                    return Err(Fault::Memory);
+                }
             }
         }
+        Ok(found)
     }
-    Ok(found)
-}
 
-/// The work of a clerk, in the order of the batches' numbers.
-fn find_work<S: Alter>(
-    alloc: Global,
-    conn: &mut Connection<S>,
-    clerk: u32,
-) -> Result<Vec<Work>, Fault>
-    requires { conn.old.in_transaction ≡ false }
-    ensures { Reads (state S.Store conn.old) (state S.Store conn.new) result (λ s found. map work_entry found.items ≡ work_of s clerk) }
-{
-    let batches = all_batches(alloc, conn)?;
-    let found = work_in(alloc, conn, &batches, clerk)?;
-    Ok(found)
-}
-
-impl<S: Alter> Store<S> {
     /// The work of a clerk (1 to 999): his batches in wards in keying, in the order of their numbers, each
     /// with the columns of its papers and whether he has keyed its current round. All batches are read at
     /// once; then of each its third clerk, and of each of his own its ward, the candidates there, and the
@@ -123,6 +83,8 @@ impl<S: Alter> Store<S> {
     pub fn load_work(&mut self, clerk: u32) -> Result<Vec<Work>, Fault>
         ensures { Loads S.Store self.old self.new result (λ s found. map work_entry found.items ≡ work_of s clerk) }
     {
-        find_work(self.alloc, &mut self.conn, clerk)
+        let batches = self.all_batches()?;
+        let found = self.work_in(&batches, clerk)?;
+        Ok(found)
     }
 }

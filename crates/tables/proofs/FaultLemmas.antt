@@ -9,7 +9,7 @@ use Rattle.sqlite.specs.State.{State}
 use Rattle.tables.specs.declared.table.Table.{Table}
 use Rattle.tables.specs.declared.fault.Fault.{Fault}
 use Rattle.tables.specs.declared.fault.Fault.TheVariants.{Memory, Store}
-use Rattle.tables.specs.Faults.{fault_of, TellsQuery}
+use Rattle.tables.specs.Faults.{fault_of, TellsQuery, TellsStatement}
 use Rattle.tables.specs.Schema.{tree_of, changes_rows}
 use Rattle.tables.specs.Rows.{begins_with, Keyed}
 use Rattle.tables.specs.Reading.{Lists, ListsKeyed}
@@ -24,6 +24,9 @@ query_cause sql params old new f tells = subst (λ (x : Fault). (x ≡ Memory) �
 pub if_query_cause : {X : Type 0} (sql : List ℕ) (params : Row) (old new : State) (r : Result X Fault) → IfErr r (TellsQuery sql params old new) → IfErr r (λ f. (f ≡ Memory) ⊎ (f ≡ Store))
 if_query_cause sql params old new (Ok x) tells = tt
 if_query_cause sql params old new (Err f) tells = query_cause sql params old new f tells
+
+pub statement_cause : (sql : List ℕ) (params : Row) (old new : State) (f : Fault) → TellsStatement sql params old new f → (f ≡ Memory) ⊎ (f ≡ Store)
+statement_cause sql params old new f tells = subst (λ (x : Fault). (x ≡ Memory) ⊎ (x ≡ Store)) (sym tells.1) (cause_of tells.0)
 
 -- all rows, where it is known whether rowids are their own
 pub if_listed_keyed : {X : Type 0} (t : Table) (db : Database) (rows : X → List Row) (r : Result X Fault) → (changes_rows t ≡ true → Keyed (db.trees (tree_of t)))

@@ -15,6 +15,7 @@ pub mod ContentsLemmas
 pub mod SameLemmas
 pub mod ChangeLemmas
 pub mod FaultLemmas
+pub mod AlterLemmas
 pub mod QueryLemmas
 pub mod SelectLemmas
 pub mod Queries

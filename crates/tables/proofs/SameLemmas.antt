@@ -3,7 +3,7 @@ use Rattle.std.proofs.Common.{List, Bool, not, ◌++◌, ◌∙◌, true, false,
 use Rattle.std.specs.List.{list_all}
 use Rattle.std.specs.List.Sorted.{IsPermutation}
 use Rattle.std.proofs.lemmas.Bool.{and_parts, not-true}
-use Rattle.std.proofs.lemmas.List.Sorted.{IsPermutation-refl, IsPermutation-sym, IsPermutation-trans, IsPermutation-cons}
+use Rattle.std.proofs.lemmas.List.Sorted.{IsPermutation-refl, IsPermutation-sym, IsPermutation-trans, IsPermutation-cons, IsPermutation-append_right}
 use Rattle.sqlite.specs.Order.{Row}
 use Rattle.sqlite.specs.Tree.{Trees}
 use Rattle.sqlite.specs.Effect.{Database, IsDatabase}
@@ -13,7 +13,7 @@ use Rattle.tables.specs.Schema.{place_of, IsOfficeSchema, tree_of}
 use Rattle.tables.specs.Rows.{is_row_of}
 use Rattle.tables.specs.Making.{no_contents}
 use Rattle.tables.proofs.TableLemmas.{which_table}
-use Rattle.tables.specs.Contents.{added, Contents, SameContents, changed, filled, HoldsTable, Holds, IsOffice, Stores, Rests, Sees, Leaves}
+use Rattle.tables.specs.Contents.{added, added_all, Contents, SameContents, changed, filled, HoldsTable, Holds, IsOffice, Stores, Rests, Sees, Leaves}
 use Rattle.tables.proofs.ListLemmas.{permuted_all}
 
 pub same_itself : (c : Contents) → SameContents c c
@@ -119,6 +119,12 @@ added_elsewhere t row c u apart = elim (which_table t u) [ inl same ↦ absurd (
 pub same_added : (t : Table) (row : Row) (c d : Contents) → SameContents c d → SameContents (added t row c) (added t row d)
 unfolding added
 same_added t row c d same = same_changed t (λ rows. row ∷ rows) (λ xs ys h. IsPermutation-cons row xs ys h) c d same
+
+-- ---- many rows more
+
+pub same_added_all : (t : Table) (news : List Row) (c d : Contents) → SameContents c d → SameContents (added_all t news c) (added_all t news d)
+unfolding added_all
+same_added_all t news c d same = same_changed t (λ rows. news ++ rows) (λ xs ys h. IsPermutation-append_right news xs ys h) c d same
 
 pub no_rows : (t : Table) → no_contents t ≡ []
 unfolding no_contents

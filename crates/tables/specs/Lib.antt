@@ -4,6 +4,7 @@ pub mod Cells
 pub mod Rows
 pub mod Contents
 pub mod Faults
+pub mod Writing
 pub mod Making
 pub mod Presence
 pub mod Reading

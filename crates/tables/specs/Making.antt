@@ -4,7 +4,7 @@ use Rattle.sqlite.specs.Tree.{Trees}
 use Rattle.sqlite.specs.Effect.{Database, IsDatabase}
 use Rattle.sqlite.specs.State.{State}
 use Rattle.tables.specs.declared.table.Table.{Table}
-use Rattle.tables.specs.Schema.{schema_from, place_of}
+use Rattle.tables.specs.Schema.{schema_from, no_schema, place_of}
 use Rattle.tables.specs.Contents.{Contents, HoldsTable}
 
 -- no row in any table; opaque, so that a search does not compute it
@@ -42,3 +42,9 @@ pub record RestsFirst (n : ℕ) (c : Contents) (s : State) : Type 0 where
 pub record SeesMade (n : ℕ) (c : Contents) (s : State) : Type 0 where
   pub inside : IsTrue s.in_transaction
   pub first : HasFirst n c s.now
+
+-- a connection inside a transaction, which sees a database with nothing in it
+pub record SeesNothing (s : State) : Type 0 where
+  pub inside : IsTrue s.in_transaction
+  pub schema : s.now.schema ≡ no_schema
+  pub sound : IsDatabase s.now

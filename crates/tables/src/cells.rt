@@ -1,7 +1,8 @@
 //! Values on their way into a row and out of it.
 
-ghost use Rattle.std.specs.Prelude.{◌≡◌, ◌≢◌, ◌⊎◌, ◌<◌, ◌^◌, pos, IfOk, IfErr, string_bytes};
+ghost use Rattle.std.specs.Prelude.{◌≡◌, ◌≢◌, ◌⊎◌, ◌<◌, ◌^◌, ◌++◌, map, pos, IfOk, IfErr, string_bytes};
 ghost use Rattle.sqlite.specs.Value.{owned};
+ghost use Rattle.sqlite.specs.Values.{bound};
 ghost use Rattle.sqlite.specs.Order.{column};
 ghost use Rattle.sqlite.specs.declared.types.Value.TheVariants.{Int as Number, Text as Words, Blob as Bytes};
 ghost use Rattle.tables.specs.Cells.{IsNumber, IsAmount, IsText, IsBytes};
@@ -10,6 +11,7 @@ ghost use Rattle.tables.specs.Faults.{value_fault};
 use crate::fault::Fault;
 use sqlite::{Error, ErrorCode, Row};
 use sqlite_value::value::ValueRef;
+use std::alloc::Global;
 
 /// A whole number as a parameter.
 pub fn number<'a>(n: u32) -> ValueRef<'a>
@@ -43,6 +45,28 @@ pub fn bytes(b: &[u8]) -> ValueRef<'_>
     ValueRef::Blob(b)
 }
 
+/// The values of a row that begins with these numbers, with the others behind them; `Memory` where there is no
+/// room for them.
+pub fn row_values<'a>(
+    alloc: Global,
+    numbers: &[u32],
+    others: &[ValueRef<'a>],
+) -> Result<Vec<ValueRef<'a>>, Fault>
+    ensures values { IfOk result (λ values. bound values.items ≡ map (λ n. Number (pos n)) numbers.now ++ bound others.now) }
+    ensures cause { IfErr result (λ f. f ≡ Fault.Memory) }
+{
+    let mut values = Vec::new(alloc);
+    for n in numbers {
+        if values.push(number(*n)).is_err() {
+            return Err(Fault::Memory);
+        }
+    }
+    if values.extend_from_slice(others).is_err() {
+        return Err(Fault::Memory);
+    }
+    Ok(values)
+}
+
 /// Why a value did not read: `Memory` for want of memory, else `Damaged`.
 fn value_fault(e: Error) -> Fault
     ensures { result ≡ value_fault e }
@@ -58,10 +82,7 @@ pub fn number_at(row: &Row, place: usize) -> Result<u32, Fault>
     ensures number { IfOk result (λ n. column row.now place ≡ Number (pos n)) }
     ensures cause { IfErr result (λ f. (f ≡ Fault.Memory) ⊎ ((f ≡ Fault.Damaged) × ¬ IsNumber (column row.now place))) }
 {
-    match row.get::<u32>(place) {
-        Ok(n) => Ok(n),
-        Err(e) => Err(value_fault(e)),
-    }
+    row.get::<u32>(place).map_err(value_fault)
 }
 
 /// The number in a column; `Damaged` where there is none, or one below 0.
@@ -69,10 +90,7 @@ pub fn amount_at(row: &Row, place: usize) -> Result<u64, Fault>
     ensures amount { IfOk result (λ n. column row.now place ≡ Number (pos n)) }
     ensures cause { IfErr result (λ f. (f ≡ Fault.Memory) ⊎ ((f ≡ Fault.Damaged) × ¬ IsAmount (column row.now place))) }
 {
-    match row.get::<u64>(place) {
-        Ok(n) => Ok(n),
-        Err(e) => Err(value_fault(e)),
-    }
+    row.get::<u64>(place).map_err(value_fault)
 }
 
 /// The integer in a column; `Damaged` where there is none.
@@ -80,10 +98,7 @@ pub fn integer_at(row: &Row, place: usize) -> Result<i64, Fault>
     ensures integer { IfOk result (λ n. column row.now place ≡ Number n) }
     ensures cause { IfErr result (λ f. (f ≡ Fault.Memory) ⊎ ((f ≡ Fault.Damaged) × ((n : _) → column row.now place ≢ Number n))) }
 {
-    match row.get::<i64>(place) {
-        Ok(n) => Ok(n),
-        Err(e) => Err(value_fault(e)),
-    }
+    row.get::<i64>(place).map_err(value_fault)
 }
 
 /// The text in a column; `Damaged` where there is none, or one that is not UTF-8.
@@ -91,10 +106,7 @@ pub fn text_at(row: &Row, place: usize) -> Result<String, Fault>
     ensures text { IfOk result (λ s. column row.now place ≡ Words (string_bytes s)) }
     ensures cause { IfErr result (λ f. (f ≡ Fault.Memory) ⊎ ((f ≡ Fault.Damaged) × ¬ IsText (column row.now place))) }
 {
-    match row.get::<String>(place) {
-        Ok(s) => Ok(s),
-        Err(e) => Err(value_fault(e)),
-    }
+    row.get::<String>(place).map_err(value_fault)
 }
 
 /// The bytes in a column; `Damaged` where there are none, as where it has a text.
@@ -102,8 +114,5 @@ pub fn bytes_at(row: &Row, place: usize) -> Result<Vec<u8>, Fault>
     ensures bytes { IfOk result (λ b. column row.now place ≡ Bytes b.items) }
     ensures cause { IfErr result (λ f. (f ≡ Fault.Memory) ⊎ ((f ≡ Fault.Damaged) × ¬ IsBytes (column row.now place))) }
 {
-    match row.get::<Vec<u8>>(place) {
-        Ok(b) => Ok(b),
-        Err(e) => Err(value_fault(e)),
-    }
+    row.get::<Vec<u8>>(place).map_err(value_fault)
 }

@@ -26,34 +26,34 @@ pub enum Fault {
 }
 
 impl Fault {
+    /// The number that the fault is told by, from 101 on, and the fault in words.
+    fn told(&self) -> (u32, &'static str)
+        ensures number { result.0 ≡ fault_number self.now }
+        ensures text { result.1.now ≡ fault_text self.now }
+    {
+        match self {
+            Fault::Memory => (101, "memory"),
+            Fault::Store => (102, "store"),
+            Fault::Damaged => (103, "damaged"),
+            Fault::Closed => (104, "closed"),
+            Fault::WrongDatabase => (105, "wrong database"),
+            Fault::NewerSchema => (106, "newer schema"),
+            Fault::OlderSchema => (108, "older schema"),
+        }
+    }
+
     /// The number that the fault is told by, from 101 on.
     pub fn number(&self) -> u32
         ensures { result ≡ fault_number self.now }
     {
-        match self {
-            Fault::Memory => 101,
-            Fault::Store => 102,
-            Fault::Damaged => 103,
-            Fault::Closed => 104,
-            Fault::WrongDatabase => 105,
-            Fault::NewerSchema => 106,
-            Fault::OlderSchema => 108,
-        }
+        self.told().0
     }
 
     /// The fault in words.
     pub fn text(&self) -> &'static str
         ensures { result.now ≡ fault_text self.now }
     {
-        match self {
-            Fault::Memory => "memory",
-            Fault::Store => "store",
-            Fault::Damaged => "damaged",
-            Fault::Closed => "closed",
-            Fault::WrongDatabase => "wrong database",
-            Fault::NewerSchema => "newer schema",
-            Fault::OlderSchema => "older schema",
-        }
+        self.told().1
     }
 }
 

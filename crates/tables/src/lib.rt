@@ -21,6 +21,7 @@ pub mod fault;
 pub mod table;
 // Statements over rows.
 pub mod cells;
+mod execution;
 pub mod insertion;
 pub mod making;
 pub mod order;

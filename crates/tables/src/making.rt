@@ -1,18 +1,19 @@
 //! The tables of a new office, and those that an older one lacks.
 
-ghost use Rattle.std.specs.Prelude.{◌≡◌, ◌⊎◌, ◌↔◌, ◌<◌, ◌+◌, ℕ, [], true, IfErr, OnOk, IsTrue};
+ghost use Rattle.std.specs.Prelude.{◌≡◌, ◌↔◌, ◌<◌, ◌+◌, ℕ, [], true, ⊤, IfErr};
 ghost use Rattle.sqlite.specs.Schema.{Schema};
 ghost use Rattle.sqlite.specs.Effect.{Database, IsDatabase};
-ghost use Rattle.sqlite.specs.State.{HasCleanDisk, KeepsCommit, Survives};
 ghost use Rattle.sqlite.specs.Held.{Held, state};
 ghost use Rattle.tables.specs.Texts.{create_text};
-ghost use Rattle.tables.specs.Schema.{BeginsTo, schema_from, no_schema, place_of};
+ghost use Rattle.tables.specs.Schema.{BeginsTo, schema_from, place_of};
 ghost use Rattle.tables.specs.Contents.{Contents, Sees};
-ghost use Rattle.tables.specs.Making.{no_contents, FirstAt, HasFirst, RestsFirst, SeesMade, StoresFirst};
+ghost use Rattle.tables.specs.Making.{no_contents, FirstAt, HasFirst, RestsFirst, SeesMade, SeesNothing, StoresFirst};
 ghost use Rattle.tables.specs.Faults.{TellsStatement};
+ghost use Rattle.tables.specs.Writing.{Alters};
 ghost use Rattle.tables.specs.declared.table.Table.{Table};
 
-use crate::fault::{Fault, fault_of};
+use crate::execution::execute;
+use crate::fault::Fault;
 use crate::table::Table;
 use crate::texts::create_text;
 use sqlite::{Alter, Transaction};
@@ -20,29 +21,16 @@ use sqlite::{Alter, Transaction};
 /// Makes a table with no row, once those before it are made; their rows stay. A fault leaves the last
 /// commit as it was.
 pub fn create_table<S: Alter>(tx: &mut Transaction<'_, S>, table: Table) -> Result<(), Fault>
-    ensures same_reference { tx.new.conn.ghost_name ≡ tx.old.conn.ghost_name }
-    ensures makes { HasCleanDisk (state S.Store tx.new.conn.now) → (c : Contents) → c table ≡ [] → SeesMade (place_of table) c (state S.Store tx.old.conn.now)
-        → OnOk result (SeesMade (place_of table + 1) c (state S.Store tx.new.conn.now)) }
-    ensures keeps { HasCleanDisk (state S.Store tx.new.conn.now) → KeepsCommit (state S.Store tx.old.conn.now) (state S.Store tx.new.conn.now) }
-    ensures survives { Survives (state S.Store tx.old.conn.now) (state S.Store tx.new.conn.now) (λ _. ⊥) }
-    ensures cause { IfErr result (TellsStatement (create_text table) [] (state S.Store tx.old.conn.now) (state S.Store tx.new.conn.now)) }
+    ensures makes { Alters S.Store tx.old.conn tx.new.conn result (λ (c : Contents) s. (c table ≡ []) × SeesMade (place_of table) c s) (SeesMade (place_of table + 1)) }
+    ensures told { IfErr result (TellsStatement (create_text table) [] (state S.Store tx.old.conn.now) (state S.Store tx.new.conn.now)) }
 {
-    match tx.execute(create_text(table), &[]) {
-        Ok(_) => Ok(()),
-        Err(e) => Err(fault_of(e)),
-    }
+    execute(tx, create_text(table), &[])
 }
 
 /// Makes all tables of an office, each empty, in a database with nothing in it. A fault leaves the
 /// last commit as it was.
 pub fn create_tables<S: Alter>(tx: &mut Transaction<'_, S>) -> Result<(), Fault>
-    ensures same_reference { tx.new.conn.ghost_name ≡ tx.old.conn.ghost_name }
-    ensures makes { HasCleanDisk (state S.Store tx.new.conn.now) → IsTrue (state S.Store tx.old.conn.now).in_transaction
-        → (state S.Store tx.old.conn.now).now.schema ≡ no_schema → IsDatabase (state S.Store tx.old.conn.now).now
-        → OnOk result (Sees no_contents (state S.Store tx.new.conn.now)) }
-    ensures keeps { HasCleanDisk (state S.Store tx.new.conn.now) → KeepsCommit (state S.Store tx.old.conn.now) (state S.Store tx.new.conn.now) }
-    ensures survives { Survives (state S.Store tx.old.conn.now) (state S.Store tx.new.conn.now) (λ _. ⊥) }
-    ensures cause { IfErr result (λ f. (f ≡ Fault.Memory) ⊎ (f ≡ Fault.Store)) }
+    ensures { Alters S.Store tx.old.conn tx.new.conn result (λ (x : ⊤). SeesNothing) (λ x. Sees no_contents) }
 {
     for table in Table::ALL {
         create_table(tx, table)?;

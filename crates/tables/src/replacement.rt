@@ -1,16 +1,17 @@
 //! Rows that are replaced, or changed in one column, inside a transaction.
 
-ghost use Rattle.std.specs.Prelude.{◌≡◌, true, IfErr, OnOk};
+ghost use Rattle.std.specs.Prelude.{◌≡◌, true, IfErr};
 ghost use Rattle.sqlite.specs.Values.{bound};
-ghost use Rattle.sqlite.specs.State.{HasCleanDisk, KeepsCommit, Survives};
 ghost use Rattle.sqlite.specs.Held.{state};
 ghost use Rattle.tables.specs.Texts.{update_text, set_text};
 ghost use Rattle.tables.specs.Schema.{changes_rows};
 ghost use Rattle.tables.specs.Rows.{is_row_of, is_setting};
-ghost use Rattle.tables.specs.Contents.{Contents, Sees, replaced, value_put};
+ghost use Rattle.tables.specs.Contents.{Sees, replaced, value_put};
 ghost use Rattle.tables.specs.Faults.{TellsStatement};
+ghost use Rattle.tables.specs.Writing.{Alters};
 
-use crate::fault::{Fault, fault_of};
+use crate::execution::execute;
+use crate::fault::Fault;
 use crate::table::{Setting, Table};
 use crate::texts::{set_text, update_text};
 use sqlite::{Alter, Transaction};
@@ -26,17 +27,10 @@ pub fn replace<S: Alter>(
 ) -> Result<(), Fault>
     requires changes { changes_rows table ≡ true }
     requires kinds { is_row_of table (bound values.now) ≡ true }
-    ensures same_reference { tx.new.conn.ghost_name ≡ tx.old.conn.ghost_name }
-    ensures replaces { HasCleanDisk (state S.Store tx.new.conn.now) → (c : Contents) → Sees c (state S.Store tx.old.conn.now)
-        → OnOk result (Sees (replaced table (bound values.now) c) (state S.Store tx.new.conn.now)) }
-    ensures keeps { HasCleanDisk (state S.Store tx.new.conn.now) → KeepsCommit (state S.Store tx.old.conn.now) (state S.Store tx.new.conn.now) }
-    ensures survives { Survives (state S.Store tx.old.conn.now) (state S.Store tx.new.conn.now) (λ _. ⊥) }
-    ensures cause { IfErr result (TellsStatement (update_text table) (bound values.now) (state S.Store tx.old.conn.now) (state S.Store tx.new.conn.now)) }
+    ensures replaces { Alters S.Store tx.old.conn tx.new.conn result Sees (λ c. Sees (replaced table (bound values.now) c)) }
+    ensures told { IfErr result (TellsStatement (update_text table) (bound values.now) (state S.Store tx.old.conn.now) (state S.Store tx.new.conn.now)) }
 {
-    match tx.execute(update_text(table), values) {
-        Ok(_) => Ok(()),
-        Err(e) => Err(fault_of(e)),
-    }
+    execute(tx, update_text(table), values)
 }
 
 /// Sets one column of the row with a key: the values are those of the key's columns and then the new one,
@@ -48,15 +42,8 @@ pub fn set_value<S: Alter>(
     values: &[ValueRef<'_>],
 ) -> Result<(), Fault>
     requires kind { is_setting setting (bound values.now) ≡ true }
-    ensures same_reference { tx.new.conn.ghost_name ≡ tx.old.conn.ghost_name }
-    ensures sets { HasCleanDisk (state S.Store tx.new.conn.now) → (c : Contents) → Sees c (state S.Store tx.old.conn.now)
-        → OnOk result (Sees (value_put setting (bound values.now) c) (state S.Store tx.new.conn.now)) }
-    ensures keeps { HasCleanDisk (state S.Store tx.new.conn.now) → KeepsCommit (state S.Store tx.old.conn.now) (state S.Store tx.new.conn.now) }
-    ensures survives { Survives (state S.Store tx.old.conn.now) (state S.Store tx.new.conn.now) (λ _. ⊥) }
-    ensures cause { IfErr result (TellsStatement (set_text setting) (bound values.now) (state S.Store tx.old.conn.now) (state S.Store tx.new.conn.now)) }
+    ensures sets { Alters S.Store tx.old.conn tx.new.conn result Sees (λ c. Sees (value_put setting (bound values.now) c)) }
+    ensures told { IfErr result (TellsStatement (set_text setting) (bound values.now) (state S.Store tx.old.conn.now) (state S.Store tx.new.conn.now)) }
 {
-    match tx.execute(set_text(setting), values) {
-        Ok(_) => Ok(()),
-        Err(e) => Err(fault_of(e)),
-    }
+    execute(tx, set_text(setting), values)
 }

@@ -1,7 +1,7 @@
 //! The tables of an office.
 
-ghost use Rattle.std.specs.Prelude.{◌≡◌, length};
-ghost use Rattle.tables.specs.Schema.{shape, changes_rows, table_sought, table_set};
+ghost use Rattle.std.specs.Prelude.{◌≡◌};
+ghost use Rattle.tables.specs.Schema.{shape, changes_rows};
 
 /// The tables, in the order of making.
 #[derive(Clone, Copy, PartialEq, Eq)]
@@ -89,17 +89,6 @@ pub enum Reference {
     WardOfBatch,
 }
 
-impl Reference {
-    /// The table of the column.
-    pub fn table(self) -> Table
-        ensures { result ≡ table_sought self }
-    {
-        match self {
-            Reference::WardOfBatch => Table::Batch,
-        }
-    }
-}
-
 /// The columns outside a key that are set alone, while the others stay.
 #[derive(Clone, Copy, PartialEq, Eq)]
 pub enum Setting {
@@ -111,17 +100,4 @@ pub enum Setting {
     DoneOfWard,
     /// The round of a batch.
     RoundOfBatch,
-}
-
-impl Setting {
-    /// The table of the column.
-    pub fn table(self) -> Table
-        ensures { result ≡ table_set self }
-    {
-        match self {
-            Setting::VersionOfOffice => Table::Office,
-            Setting::PhaseOfWard | Setting::DoneOfWard => Table::Ward,
-            Setting::RoundOfBatch => Table::Batch,
-        }
-    }
 }

@@ -1,10 +1,9 @@
 //! Entries that are written, inside a transaction.
 
-ghost use Rattle.std.specs.Prelude.{◌≡◌, ◌⊎◌, true, map, IfErr, OnOk};
-ghost use Rattle.sqlite.specs.State.{HasCleanDisk, KeepsCommit, Survives};
-ghost use Rattle.sqlite.specs.Held.{state};
+ghost use Rattle.std.specs.Prelude.{◌≡◌, true, map};
 ghost use Rattle.tables.specs.Schema.{changes_rows};
-ghost use Rattle.tables.specs.Contents.{Contents, Sees, added, added_all, replaced, replaced_all};
+ghost use Rattle.tables.specs.Contents.{Sees, added, added_all, replaced, replaced_all};
+ghost use Rattle.tables.specs.Writing.{Alters};
 
 use crate::entry::Entries;
 use crate::fault::Fault;
@@ -20,16 +19,10 @@ pub fn add_entry<E: Entries, S: Alter>(
     tx: &mut Transaction<'_, S>,
     entry: &E::Entry,
 ) -> Result<(), Fault>
-    ensures same_reference { tx.new.conn.ghost_name ≡ tx.old.conn.ghost_name }
-    ensures adds { HasCleanDisk (state S.Store tx.new.conn.now) → (c : Contents) → Sees c (state S.Store tx.old.conn.now)
-        → OnOk result (Sees (added E.TABLE (E.row_of entry.now) c) (state S.Store tx.new.conn.now)) }
-    ensures keeps { HasCleanDisk (state S.Store tx.new.conn.now) → KeepsCommit (state S.Store tx.old.conn.now) (state S.Store tx.new.conn.now) }
-    ensures survives { Survives (state S.Store tx.old.conn.now) (state S.Store tx.new.conn.now) (λ _. ⊥) }
-    ensures cause { IfErr result (λ f. (f ≡ Fault.Memory) ⊎ (f ≡ Fault.Store)) }
+    ensures { Alters S.Store tx.old.conn tx.new.conn result Sees (λ c. Sees (added E.TABLE (E.row_of entry.now) c)) }
 {
     let values = E::values(entry, alloc)?;
-    insert(tx, E::TABLE, &values)?;
-    Ok(())
+    insert(tx, E::TABLE, &values)
 }
 
 /// Adds the rows of entries, each as `add_entry` does. A fault leaves the last commit as it was.
@@ -38,17 +31,26 @@ pub fn add_entries<E: Entries, S: Alter>(
     tx: &mut Transaction<'_, S>,
     entries: &[E::Entry],
 ) -> Result<(), Fault>
-    ensures same_reference { tx.new.conn.ghost_name ≡ tx.old.conn.ghost_name }
-    ensures adds { HasCleanDisk (state S.Store tx.new.conn.now) → (c : Contents) → Sees c (state S.Store tx.old.conn.now)
-        → OnOk result (Sees (added_all E.TABLE (map E.row_of entries.now) c) (state S.Store tx.new.conn.now)) }
-    ensures keeps { HasCleanDisk (state S.Store tx.new.conn.now) → KeepsCommit (state S.Store tx.old.conn.now) (state S.Store tx.new.conn.now) }
-    ensures survives { Survives (state S.Store tx.old.conn.now) (state S.Store tx.new.conn.now) (λ _. ⊥) }
-    ensures cause { IfErr result (λ f. (f ≡ Fault.Memory) ⊎ (f ≡ Fault.Store)) }
+    ensures { Alters S.Store tx.old.conn tx.new.conn result Sees (λ c. Sees (added_all E.TABLE (map E.row_of entries.now) c)) }
 {
     for entry in entries {
         add_entry::<E, S>(alloc, tx, entry)?;
     }
     Ok(())
+}
+
+/// Adds the rows of entries to their table, and those of others to theirs. A fault leaves the last commit as
+/// it was.
+pub fn add_both<E: Entries, F: Entries, S: Alter>(
+    alloc: Global,
+    tx: &mut Transaction<'_, S>,
+    entries: &[E::Entry],
+    others: &[F::Entry],
+) -> Result<(), Fault>
+    ensures { Alters S.Store tx.old.conn tx.new.conn result Sees (λ c. Sees (added_all F.TABLE (map F.row_of others.now) (added_all E.TABLE (map E.row_of entries.now) c))) }
+{
+    add_entries::<E, S>(alloc, tx, entries)?;
+    add_entries::<F, S>(alloc, tx, others)
 }
 
 /// Puts the row of an entry in the place of the one with its key; where there is none, nothing changes. A
@@ -59,16 +61,10 @@ pub fn replace_entry<E: Entries, S: Alter>(
     entry: &E::Entry,
 ) -> Result<(), Fault>
     requires { changes_rows E.TABLE ≡ true }
-    ensures same_reference { tx.new.conn.ghost_name ≡ tx.old.conn.ghost_name }
-    ensures replaces { HasCleanDisk (state S.Store tx.new.conn.now) → (c : Contents) → Sees c (state S.Store tx.old.conn.now)
-        → OnOk result (Sees (replaced E.TABLE (E.row_of entry.now) c) (state S.Store tx.new.conn.now)) }
-    ensures keeps { HasCleanDisk (state S.Store tx.new.conn.now) → KeepsCommit (state S.Store tx.old.conn.now) (state S.Store tx.new.conn.now) }
-    ensures survives { Survives (state S.Store tx.old.conn.now) (state S.Store tx.new.conn.now) (λ _. ⊥) }
-    ensures cause { IfErr result (λ f. (f ≡ Fault.Memory) ⊎ (f ≡ Fault.Store)) }
+    ensures { Alters S.Store tx.old.conn tx.new.conn result Sees (λ c. Sees (replaced E.TABLE (E.row_of entry.now) c)) }
 {
     let values = E::values(entry, alloc)?;
-    replace(tx, E::TABLE, &values)?;
-    Ok(())
+    replace(tx, E::TABLE, &values)
 }
 
 /// Puts the row of each entry, in turn, in the place of the one with its key, as `replace_entry` does. A
@@ -79,12 +75,7 @@ pub fn replace_entries<E: Entries, S: Alter>(
     entries: &[E::Entry],
 ) -> Result<(), Fault>
     requires { changes_rows E.TABLE ≡ true }
-    ensures same_reference { tx.new.conn.ghost_name ≡ tx.old.conn.ghost_name }
-    ensures replaces { HasCleanDisk (state S.Store tx.new.conn.now) → (c : Contents) → Sees c (state S.Store tx.old.conn.now)
-        → OnOk result (Sees (replaced_all E.TABLE (map E.row_of entries.now) c) (state S.Store tx.new.conn.now)) }
-    ensures keeps { HasCleanDisk (state S.Store tx.new.conn.now) → KeepsCommit (state S.Store tx.old.conn.now) (state S.Store tx.new.conn.now) }
-    ensures survives { Survives (state S.Store tx.old.conn.now) (state S.Store tx.new.conn.now) (λ _. ⊥) }
-    ensures cause { IfErr result (λ f. (f ≡ Fault.Memory) ⊎ (f ≡ Fault.Store)) }
+    ensures { Alters S.Store tx.old.conn tx.new.conn result Sees (λ c. Sees (replaced_all E.TABLE (map E.row_of entries.now) c)) }
 {
     for entry in entries {
         replace_entry::<E, S>(alloc, tx, entry)?;

@@ -1,5 +1,6 @@
 -- What an action is on, and how many there can be.
-use Rattle.std.proofs.Common.{◌≡◌, ℕ, ◌+◌, ◌-◌, ◌*◌, ◌<◌, ◌≤◌, ◌||◌, ◌&&◌, ◌⊎◌, inl, inr, Bool, true, false, not, cond, eqb, nat_eq, nat_lt, List, [], ◌∷◌, length, map, Option, Some, None, refl, sym, ap, ◌∙◌, arith, slice_index}
+use Rattle.std.proofs.Common.{◌≡◌, ℕ, ◌+◌, ◌-◌, ◌*◌, ◌<◌, ◌≤◌, ◌||◌, ◌&&◌, ◌⊎◌, inl, inr, Bool, true, false, not, cond, eqb, nat_eq, nat_lt, List, [], ◌∷◌, length, map, Option, Some, None}
+use Rattle.std.proofs.Common.{refl, sym, ap, ◌∙◌, arith, slice_index}
 use Rattle.std.specs.List.{list_any, filter, sum_by}
 use Rattle.std.proofs.lemmas.Bool.{eq-eqb, eqb-true, ltb-true}
 use Rattle.std.proofs.lemmas.List.{get_or_default}
@@ -16,8 +17,8 @@ use Rattle.count.specs.Advance.{AdvancesBy}
 use Rattle.count.specs.declared.stages.Stage.{Stage}
 use Rattle.count.specs.declared.stages.Action.{Action}
 use Rattle.count.specs.declared.stages.Action.TheVariants.{Exclude, ExcludeLast}
-use Rattle.count.specs.declared.stages.Kind.{Kind}
-use Rattle.count.specs.declared.stages.Kind.TheVariants.{Surplus as of_surplus, Exclusion as of_exclusion}
+use Rattle.count.specs.declared.stages.TiedFor.{TiedFor}
+use Rattle.count.specs.declared.stages.TiedFor.TheVariants.{Surplus as of_surplus, Exclusion as of_exclusion}
 use Rattle.count.specs.declared.stages.Due.TheVariants.{Finished}
 use Rattle.count.proofs.ChoiceLemmas.{and_true, not_true, or_later}
 
@@ -35,17 +36,17 @@ in-filter c p [] h = cc
 in-filter c p (x ∷ xs) h = in_choice c x p xs (p x) (eqb c x) refl refl (in-filter c p xs) h
 
 -- an action that is drawn is on one of the group
-pub record IsOn (contest : Contest) (stages : History) (kind : Kind) (group : List ℕ) (action : Action) : Type 0 where
+pub record IsOn (contest : Contest) (stages : History) (kind : TiedFor) (group : List ℕ) (action : Action) : Type 0 where
   pub candidate : ℕ
   pub in_group : In candidate group
   pub is : action ≡ action_on contest stages kind candidate
 
-drawn_lot : (contest : Contest) (stages : History) (kind : Kind) (group : List ℕ) (x : ℕ) (b : Bool) (action : Action) →
+drawn_lot : (contest : Contest) (stages : History) (kind : TiedFor) (group : List ℕ) (x : ℕ) (b : Bool) (action : Action) →
     list_any (nat_eq x) group ≡ b → cond b (Some (action_on contest stages kind x)) None ≡ Some action → IsOn contest stages kind group action
 drawn_lot contest stages kind group x true action e h = record { candidate = x; in_group = e; is = cc }
 drawn_lot contest stages kind group x false action e h = cc
 
-drawn-among : (contest : Contest) (stages : History) (lot : Option ℕ) (kind : Kind) (group : List ℕ) (action : Action) →
+drawn-among : (contest : Contest) (stages : History) (lot : Option ℕ) (kind : TiedFor) (group : List ℕ) (action : Action) →
     drawn contest stages lot (among contest stages kind group) ≡ Some action → IsOn contest stages kind group action
 drawn-among contest stages None kind [] action h = cc
 drawn-among contest stages (Some x) kind [] action h = cc
@@ -180,7 +181,8 @@ length-acted contest handed (s ∷ s' ∷ before) fair right =
     omega (arith, length-acted contest handed (s' ∷ before) fair right.0, acted-more contest s s' before (handed (s' ∷ before) s) fair right.0.1.tells right.1)
 
 -- a right history has at most two stages for each candidate, and one
-pub stages-bound : (contest : Contest) (handed : History → Stage → Option ℕ) (stages : History) → IsContest contest → IsRightBy contest handed stages → length stages ≤ 2 * length contest.candidates + 1
+pub stages-bound : (contest : Contest) (handed : History → Stage → Option ℕ) (stages : History) → IsContest contest → IsRightBy contest handed stages →
+    length stages ≤ 2 * length contest.candidates + 1
 unfolding acted
 stages-bound contest handed stages fair right =
     omega (arith, length-acted contest handed stages fair right, filter_length (is_transferred stages) contest.candidates, filter_length (is_excluded stages) contest.candidates)

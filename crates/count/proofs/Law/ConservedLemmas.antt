@@ -40,7 +40,8 @@ zero_or n = by_order (cases_order n 0)
     by_order (inr (inl h)) = absurd (omega (arith, h))
     by_order (inr (inr h)) = inr (omega (arith, h))
 
-next_holder_at : (contest : Contest) (before : History) (d : ℕ) (p : List ℕ) → (next_available contest before d p ≡ 0) ⊎ (1 ≤ next_available contest before d p) → IsHolder contest.candidates (next_available contest before d p)
+next_holder_at : (contest : Contest) (before : History) (d : ℕ) (p : List ℕ) → (next_available contest before d p ≡ 0) ⊎ (1 ≤ next_available contest before d p) →
+    IsHolder contest.candidates (next_available contest before d p)
 next_holder_at contest before d p (inl none) = inl none
 next_holder_at contest before d p (inr some) =
     let first = first-passes (is_continuing contest before) (after d p) (next_available contest before d p) some refl in
@@ -51,7 +52,8 @@ passed_holder : (contest : Contest) (before : History) (d : ℕ) (p : List ℕ) 
 passed_holder contest before d p at v true h = next_holder_at contest before d p (zero_or (next_available contest before d p))
 passed_holder contest before d p at v false h = h
 
-moved_holder : (contest : Contest) (before : History) (action : Action) (p : List ℕ) (at : Place) → AllByRecursion (λ c. In c contest.candidates) p → IsHolder contest.candidates at.holder → IsHolder contest.candidates (moved contest before action p at).holder
+moved_holder : (contest : Contest) (before : History) (action : Action) (p : List ℕ) (at : Place) → AllByRecursion (λ c. In c contest.candidates) p → IsHolder contest.candidates at.holder →
+    IsHolder contest.candidates (moved contest before action p at).holder
 moved_holder contest before First p at of h = first_holder contest.candidates p of
 moved_holder contest before (Surplus d) p at of h = passed_holder contest before d p at _ (eqb at.holder d) h
 moved_holder contest before (Exclude d) p at of h = passed_holder contest before d p at _ (eqb at.holder d) h
@@ -71,7 +73,8 @@ one_holder candidates at false e some (inl is_zero) = omega (arith, at_equal at.
 one_holder candidates at false e some (inr found) = cc
 
 -- equal at each paper for candidates, equal in sum
-pub sum-of : (candidates : List ℕ) (papers : List (List ℕ)) → AreForCandidates candidates papers → (f g : List ℕ → ℕ) → ((p : List ℕ) → AllByRecursion (λ c. In c candidates) p → f p ≡ g p) → sum_by f papers ≡ sum_by g papers
+pub sum-of : (candidates : List ℕ) (papers : List (List ℕ)) → AreForCandidates candidates papers → (f g : List ℕ → ℕ) → ((p : List ℕ) → AllByRecursion (λ c. In c candidates) p → f p ≡ g p) →
+    sum_by f papers ≡ sum_by g papers
 sum-of candidates [] of f g h = refl
 sum-of candidates (p ∷ ps) of f g h = omega (arith, sum_by-cons f p ps, sum_by-cons g p ps, h p of.0, sum-of candidates ps of.1 f g h)
 
@@ -99,12 +102,14 @@ transferred-passed [] c h = cc
 transferred-passed (s ∷ before) c h =
     either_or (transfers s.action c) (is_transferred before c) (passes_on s.action c) (has_passed before c) (action_passed s.action c) (transferred-passed before c) h
 
-votes_split : (contest : Contest) (stages : History) (c : ℕ) (b : Bool) → (b ≡ true → held contest stages c ≡ 0) → cond b contest.quota (held contest stages c) ≡ cond b contest.quota 0 + held contest stages c
+votes_split : (contest : Contest) (stages : History) (c : ℕ) (b : Bool) → (b ≡ true → held contest stages c ≡ 0) →
+    cond b contest.quota (held contest stages c) ≡ cond b contest.quota 0 + held contest stages c
 votes_split contest stages c true h = omega (arith, h refl)
 votes_split contest stages c false h = omega arith
 
 -- The votes of the candidates, what no one holds and what is lost make up a vote for each paper.
-pub votes-conserved : (contest : Contest) (handed : History → Stage → Option ℕ) (s : Stage) (before : History) → IsContest contest → IsRightBy contest handed (s ∷ before) → AreRankings contest.papers →
+pub votes-conserved : (contest : Contest) (handed : History → Stage → Option ℕ) (s : Stage) (before : History) → IsContest contest → IsRightBy contest handed (s ∷ before) →
+    AreRankings contest.papers →
     sum_by (votes_after contest (s ∷ before)) contest.candidates + non_transferable_after contest (s ∷ before) + lost_after contest (s ∷ before) ≡ one_vote * length contest.papers
 votes-conserved contest handed s before fair right rankings =
     let stages = s ∷ before in
@@ -118,7 +123,8 @@ votes-conserved contest handed s before fair right rankings =
     omega (arith, below, above, split, held-all contest stages fair, values-conserved contest handed s before fair right)
 
 -- After each stage the figures of the candidates, the non-transferable and the lost make up a vote for each paper.
-pub figures-conserved : (contest : Contest) (handed : History → Stage → Option ℕ) (s : Stage) (before : History) → IsContest contest → IsRightBy contest handed (s ∷ before) → AreRankings contest.papers →
+pub figures-conserved : (contest : Contest) (handed : History → Stage → Option ℕ) (s : Stage) (before : History) → IsContest contest → IsRightBy contest handed (s ∷ before) →
+    AreRankings contest.papers →
     sum_by (votes_at s) contest.candidates + s.non_transferable + s.lost ≡ one_vote * length contest.papers
 figures-conserved contest handed s before fair right rankings =
     let told : (c : ℕ) → In c contest.candidates → votes_at s c ≡ votes_after contest (s ∷ before) c =
@@ -128,6 +134,7 @@ figures-conserved contest handed s before fair right rankings =
     omega (arith, below, above, right.1.tells.non_transferable_told, right.1.tells.lost_told, votes-conserved contest handed s before fair right rankings)
 
 -- The same after each stage.
-pub all-conserved : (contest : Contest) (handed : History → Stage → Option ℕ) (stages : History) → IsContest contest → IsRightBy contest handed stages → AreRankings contest.papers → IsConserved contest stages
+pub all-conserved : (contest : Contest) (handed : History → Stage → Option ℕ) (stages : History) → IsContest contest → IsRightBy contest handed stages → AreRankings contest.papers →
+    IsConserved contest stages
 all-conserved contest handed [] fair right rankings = tt
 all-conserved contest handed (s ∷ before) fair right rankings = (figures-conserved contest handed s before fair right rankings, all-conserved contest handed before fair right.0 rankings)

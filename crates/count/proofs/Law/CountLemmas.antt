@@ -23,7 +23,8 @@ use Rattle.count.proofs.Law.RightLemmas.{is_told, same_tells}
 told_of : (contest : Contest) (before : History) (action : Action) → Tells contest before (stage_of contest before action)
 told_of contest before action = record { votes_told = refl; elected_told = refl; non_transferable_told = refl; lost_told = refl }
 
-next_right : (contest : Contest) (lots : List (ℕ × ℕ)) (before : History) → IsRight contest lots before → (o : Option Action) → next_action contest lots before ≡ o → IsRight contest lots (with_stage contest before o)
+next_right : (contest : Contest) (lots : List (ℕ × ℕ)) (before : History) → IsRight contest lots before → (o : Option Action) → next_action contest lots before ≡ o →
+    IsRight contest lots (with_stage contest before o)
 next_right contest lots before right None is = right
 next_right contest lots before right (Some action) is = (right, record { was_due = is; tells = told_of contest before action })
 
@@ -99,13 +100,15 @@ refused_none contest stages (Some c) (Lot stage kind tied) e is = by_tied (list_
     by_tied true h = cc
     by_tied false h = refl
 
-pub due_by-drawn : (contest : Contest) (lots : List (ℕ × ℕ)) (stages : History) (stage : ℕ) (lot : Option ℕ) (action : Action) → stage ≡ length stages + 1 → lot ≡ lot_for lots stage → drawn contest stages lot (due_after contest stages) ≡ Some action
+pub due_by-drawn : (contest : Contest) (lots : List (ℕ × ℕ)) (stages : History) (stage : ℕ) (lot : Option ℕ) (action : Action) → stage ≡ length stages + 1 → lot ≡ lot_for lots stage →
+    drawn contest stages lot (due_after contest stages) ≡ Some action
     → Act action ≡ due_by contest lots stages
 due_by-drawn contest lots stages stage lot action here is drew =
     let lot_is : lot_for lots (length stages + 1) ≡ lot = ap (lot_for lots) (sym here) ∙ sym is in
     sym (ap (λ (l : Option ℕ). due_or (due_after contest stages) (drawn contest stages l (due_after contest stages))) lot_is ∙ ap (due_or (due_after contest stages)) drew)
 
-pub due_by-refused : (contest : Contest) (lots : List (ℕ × ℕ)) (stages : History) (stage : ℕ) (lot : Option ℕ) (e : AdvanceError) → stage ≡ length stages + 1 → lot ≡ lot_for lots stage → refusal lot (due_after contest stages) ≡ Some e
+pub due_by-refused : (contest : Contest) (lots : List (ℕ × ℕ)) (stages : History) (stage : ℕ) (lot : Option ℕ) (e : AdvanceError) → stage ≡ length stages + 1 → lot ≡ lot_for lots stage →
+    refusal lot (due_after contest stages) ≡ Some e
     → due_after contest stages ≡ due_by contest lots stages
 due_by-refused contest lots stages stage lot e here is refused =
     let lot_is : lot_for lots (length stages + 1) ≡ lot = ap (lot_for lots) (sym here) ∙ sym is in
@@ -115,14 +118,16 @@ due_by-refused contest lots stages stage lot e here is refused =
 pub ruleset due_lots = (due_by-drawn, due_by-refused)
 
 -- a book that advanced by the lots, or ended, has the stages that come next
-pub stages_next : (contest : Contest) (lots : List (ℕ × ℕ)) (old new : History) (end : Option CountEnd) → end ≡ end_after contest lots old → IfSome end (λ _. new ≡ old) → IfNone end (AdvancesBy contest lots old new)
+pub stages_next : (contest : Contest) (lots : List (ℕ × ℕ)) (old new : History) (end : Option CountEnd) → end ≡ end_after contest lots old → IfSome end (λ _. new ≡ old) →
+    IfNone end (AdvancesBy contest lots old new)
     → new ≡ with_next contest lots old
 stages_next contest lots old new None is same more =
     more.one_more ∙ ap (λ (t : Stage). t ∷ old) (is_told contest old more.stage more.next.tells) ∙ ap (with_stage contest old) (sym more.next.was_due)
 stages_next contest lots old new (Some e) is same more = same ∙ sym (ap (with_stage contest old) (ended_none contest old (lot_for lots (length old + 1)) (due_after contest old) e (sym is)))
 
 -- a book with so many stages, and the next one by the lots, has one stage more of the count
-pub counted_more : (contest now : Contest) (lots : List (ℕ × ℕ)) (k : ℕ) (old new : History) → now ≡ contest → old ≡ stages_to contest lots k → new ≡ with_next now lots old → new ≡ stages_to contest lots (k + 1)
+pub counted_more : (contest now : Contest) (lots : List (ℕ × ℕ)) (k : ℕ) (old new : History) → now ≡ contest → old ≡ stages_to contest lots k → new ≡ with_next now lots old →
+    new ≡ stages_to contest lots (k + 1)
 unfolding stages_to
 counted_more contest now lots k old new same counted next =
     let more : suc k ≡ k + 1 = omega arith in
@@ -132,7 +137,8 @@ counted_more contest now lots k old new same counted next =
     ∙ ap (stages_to contest lots) more
 
 -- what is due before each stage so far, and then what is due after them
-pub dues_more : (contest now : Contest) (lots : List (ℕ × ℕ)) (k n : ℕ) (stages : History) (due : Due) (dues more : List Due) → now ≡ contest → stages ≡ stages_to contest lots k → due ≡ due_after now stages
+pub dues_more : (contest now : Contest) (lots : List (ℕ × ℕ)) (k n : ℕ) (stages : History) (due : Due) (dues more : List Due) → now ≡ contest → stages ≡ stages_to contest lots k →
+    due ≡ due_after now stages
     → dues ≡ map (λ j. due_after contest (stages_to contest lots j)) (range_with_len 0 k) → more ≡ dues ++ due ∷ [] → k + 1 ≡ n
     → more ≡ map (λ j. due_after contest (stages_to contest lots j)) (range_with_len 0 n)
 dues_more contest now lots k n stages due dues more same counted is all pushed one_more =

@@ -8,28 +8,28 @@ use Rattle.count.specs.Law.Elected.{vacancies_after, continuing_after, elected_a
 use Rattle.count.specs.Advance.{Advances}
 use Rattle.count.specs.declared.stages.Stage.{Stage}
 use Rattle.count.specs.declared.stages.Due.TheVariants.{Act, Lot, Finished}
-use Rattle.count.specs.declared.stages.Kind.{Kind}
-use Rattle.count.specs.declared.stages.Kind.TheVariants.{Surplus as of_surplus, Exclusion as of_exclusion}
+use Rattle.count.specs.declared.stages.TiedFor.{TiedFor}
+use Rattle.count.specs.declared.stages.TiedFor.TheVariants.{Surplus as of_surplus, Exclusion as of_exclusion}
 use Rattle.count.specs.declared.stages.Action.{Action}
 
-stage-among : (contest : Contest) (stages : History) (kind : Kind) (group : List ℕ) (n : ℕ) (k : Kind) (tied : List ℕ) →
+stage-among : (contest : Contest) (stages : History) (kind : TiedFor) (group : List ℕ) (n : ℕ) (k : TiedFor) (tied : List ℕ) →
     among contest stages kind group ≡ Lot n k tied → n ≡ length stages + 1
 stage-among contest stages kind [] n k tied h = cc
 stage-among contest stages kind (c ∷ []) n k tied h = cc
 stage-among contest stages kind (c ∷ d ∷ rest) n k tied h = cc
 
-stage-due_for : (contest : Contest) (stages : History) (group : List ℕ) (n : ℕ) (k : Kind) (tied : List ℕ) →
+stage-due_for : (contest : Contest) (stages : History) (group : List ℕ) (n : ℕ) (k : TiedFor) (tied : List ℕ) →
     due_for contest stages group ≡ Lot n k tied → n ≡ length stages + 1
 stage-due_for contest stages [] n k tied h = stage-among contest stages of_exclusion _ n k tied h
 stage-due_for contest stages (c ∷ cs) n k tied h = stage-among contest stages of_surplus _ n k tied h
 
-stage-choice : (contest : Contest) (stages : History) (b : Bool) (group : List ℕ) (n : ℕ) (k : Kind) (tied : List ℕ) →
+stage-choice : (contest : Contest) (stages : History) (b : Bool) (group : List ℕ) (n : ℕ) (k : TiedFor) (tied : List ℕ) →
     cond b Finished (due_for contest stages group) ≡ Lot n k tied → n ≡ length stages + 1
 stage-choice contest stages true group n k tied h = cc
 stage-choice contest stages false group n k tied h = stage-due_for contest stages group n k tied h
 
 -- a lot is for the stage after those that are done
-pub stage-due : (contest : Contest) (stages : History) (n : ℕ) (k : Kind) (tied : List ℕ) →
+pub stage-due : (contest : Contest) (stages : History) (n : ℕ) (k : TiedFor) (tied : List ℕ) →
     due_after contest stages ≡ Lot n k tied → n ≡ length stages + 1
 stage-due contest [] n k tied h = cc
 stage-due contest (s ∷ before) n k tied h = stage-choice contest (s ∷ before) _ _ n k tied h
@@ -50,19 +50,21 @@ any_lot contest old new action lot lot' is_act h =
 pub ruleset due_lot = (stage-due, any_lot)
 
 -- what is done with a group, by its size
-pub among-one : (contest : Contest) (stages : History) (kind : Kind) (group : List ℕ) → length group ≡ 1 → Act (action_on contest stages kind (slice_index group 0)) ≡ among contest stages kind group
+pub among-one : (contest : Contest) (stages : History) (kind : TiedFor) (group : List ℕ) → length group ≡ 1 →
+    Act (action_on contest stages kind (slice_index group 0)) ≡ among contest stages kind group
 among-one contest stages kind [] h = absurd (omega (arith, h))
 among-one contest stages kind (c ∷ []) h = refl
 among-one contest stages kind (c ∷ d ∷ rest) h = absurd (omega (arith, h))
 
-pub among-more : (contest : Contest) (stages : History) (kind : Kind) (group : List ℕ) → length group ≢ 1 → Lot (length stages + 1) kind group ≡ among contest stages kind group
+pub among-more : (contest : Contest) (stages : History) (kind : TiedFor) (group : List ℕ) → length group ≢ 1 → Lot (length stages + 1) kind group ≡ among contest stages kind group
 among-more contest stages kind [] k = refl
 among-more contest stages kind (c ∷ []) k = absurd (k refl)
 among-more contest stages kind (c ∷ d ∷ rest) k = refl
 
 pub ruleset among_sizes = (among-one, among-more)
 
-pub due-none : (contest : Contest) (stages : History) (group : List ℕ) → length group ≡ 0 → among contest stages of_exclusion (lowest stages (continuing_after contest stages)) ≡ due_for contest stages group
+pub due-none : (contest : Contest) (stages : History) (group : List ℕ) → length group ≡ 0 →
+    among contest stages of_exclusion (lowest stages (continuing_after contest stages)) ≡ due_for contest stages group
 due-none contest stages [] h = refl
 due-none contest stages (c ∷ rest) h = absurd (omega (arith, h))
 

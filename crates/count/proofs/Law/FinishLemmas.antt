@@ -1,5 +1,6 @@
 -- A finished count has filled all seats, and until then somebody continues.
-use Rattle.std.proofs.Common.{◌≡◌, ℕ, ◌+◌, ◌<◌, ◌≤◌, ◌==◌, ◌||◌, ◌&&◌, ◌⊎◌, inl, inr, Bool, true, false, not, cond, eqb, nat_eq, nat_le, List, [], ◌∷◌, length, Option, Some, None, refl, sym, ap, ◌∙◌, arith, subst}
+use Rattle.std.proofs.Common.{◌≡◌, ℕ, ◌+◌, ◌<◌, ◌≤◌, ◌==◌, ◌||◌, ◌&&◌, ◌⊎◌, inl, inr, Bool, true, false, not, cond, eqb, nat_eq, nat_le, List, [], ◌∷◌, length, Option, Some, None, refl, sym}
+use Rattle.std.proofs.Common.{ap, ◌∙◌, arith, subst}
 use Rattle.std.specs.List.{list_any, filter}
 use Rattle.std.proofs.lemmas.Bool.{eqb-true, eqb-false}
 use Rattle.std.proofs.lemmas.List.Sums.{sum_by-le-sum_by}
@@ -12,8 +13,8 @@ use Rattle.count.specs.Law.Due.{lot_for, due_after, due_for, among, with_surplus
 use Rattle.count.specs.Law.Elected.{continuing_after, elected_after, vacancies_after, is_excluded, has_reached, undecided_fill, with_quota, undecided, excludes}
 use Rattle.count.specs.declared.stages.Stage.{Stage}
 use Rattle.count.specs.declared.stages.Action.TheVariants.{Exclude, ExcludeLast}
-use Rattle.count.specs.declared.stages.Kind.{Kind}
-use Rattle.count.specs.declared.stages.Kind.TheVariants.{Surplus as of_surplus, Exclusion as of_exclusion}
+use Rattle.count.specs.declared.stages.TiedFor.{TiedFor}
+use Rattle.count.specs.declared.stages.TiedFor.TheVariants.{Surplus as of_surplus, Exclusion as of_exclusion}
 use Rattle.count.specs.declared.stages.Due.{Due}
 use Rattle.count.specs.declared.stages.Due.TheVariants.{Act, Lot, Finished}
 use Rattle.count.proofs.Law.ActionLemmas.{filter-le}
@@ -59,7 +60,8 @@ continuing_unfilled contest stages open_ =
     ap (λ f. filter (λ c. not (has_reached contest stages c || (f && not (is_excluded stages c))) && not (is_excluded stages c)) contest.candidates) open_
     ∙ filter-same _ _ contest.candidates (λ c. ap (λ b. not b && not (is_excluded stages c)) (or_none (has_reached contest stages c)))
 
-few_elected : (contest : Contest) (stages : History) (b : Bool) → undecided_fill contest stages ≡ b → length (with_quota contest stages) ≤ contest.seats → length (elected_after contest stages) ≤ contest.seats
+few_elected : (contest : Contest) (stages : History) (b : Bool) → undecided_fill contest stages ≡ b → length (with_quota contest stages) ≤ contest.seats →
+    length (elected_after contest stages) ≤ contest.seats
 few_elected contest stages true full few = omega (arith, elected_filled contest stages full)
 few_elected contest stages false open_ few = omega (arith, ap length (elected_unfilled contest stages open_), few)
 
@@ -122,7 +124,8 @@ exclusion_excludes : (b : Bool) (d c : ℕ) → excludes (cond b (ExcludeLast d)
 exclusion_excludes true d c = refl
 exclusion_excludes false d c = refl
 
-race_step : (contest : Contest) (s s' : Stage) (before : History) → IsContest contest → (vacancies_after contest (s' ∷ before) == 0) ≡ false → IsSurplus contest (s' ∷ before) s.action ⊎ IsExclusion contest (s' ∷ before) s.action →
+race_step : (contest : Contest) (s s' : Stage) (before : History) → IsContest contest → (vacancies_after contest (s' ∷ before) == 0) ≡ false →
+    IsSurplus contest (s' ∷ before) s.action ⊎ IsExclusion contest (s' ∷ before) s.action →
     contest.seats ≤ length (in_race contest (s' ∷ before)) → contest.seats ≤ length (in_race contest (s ∷ s' ∷ before))
 race_step contest s s' before fair left (inl on) enough = omega (arith, enough, race_same contest s (s' ∷ before) (λ c. ap (λ a. excludes a c) on.is))
 race_step contest s s' before fair left (inr on) enough =
@@ -145,7 +148,7 @@ race-enough contest handed (s ∷ s' ∷ before) fair right =
     race_step contest s s' before fair (step-vacant contest s' before (handed (s' ∷ before) s) s.action right.1.was_due) (step-is contest s' before (handed (s' ∷ before) s) s.action right.1.was_due)
     (race-enough contest handed (s' ∷ before) fair right.0)
 
-never_among : (contest : Contest) (stages : History) (kind : Kind) (group : List ℕ) → among contest stages kind group ≡ Finished → ⊥
+never_among : (contest : Contest) (stages : History) (kind : TiedFor) (group : List ℕ) → among contest stages kind group ≡ Finished → ⊥
 never_among contest stages kind [] h = cc
 never_among contest stages kind (c ∷ []) h = cc
 never_among contest stages kind (c ∷ d ∷ rest) h = cc
@@ -165,7 +168,7 @@ pub finished-elected : (contest : Contest) (handed : History → Stage → Optio
 finished-elected contest handed [] fair right h = cc
 finished-elected contest handed (s ∷ before) fair right h = finished_choice contest s before _ refl (few-reach contest handed (s ∷ before) fair right) h
 
-among_several : (contest : Contest) (stages : History) (kind : Kind) (group : List ℕ) → (group ≡ [] → ⊥) → IsAmongSeveral (among contest stages kind group)
+among_several : (contest : Contest) (stages : History) (kind : TiedFor) (group : List ℕ) → (group ≡ [] → ⊥) → IsAmongSeveral (among contest stages kind group)
 among_several contest stages kind [] some = absurd (some refl)
 among_several contest stages kind (c ∷ []) some = tt
 among_several contest stages kind (c ∷ d ∷ rest) some = omega arith

@@ -30,7 +30,8 @@ last_votes contest s before d c is =
     ap (λ a. cond (transfers a c || is_transferred before c) contest.quota (sum_by (λ p. value_with c (moved contest before a p (place contest before p))) contest.papers)) is
 
 -- an exclusion that moves nothing lets nobody reach the quota
-last_reached : (contest : Contest) (s s' : Stage) (before : History) (d c : ℕ) → IsContest contest → In c contest.candidates → Tells contest before s' → Tells contest (s' ∷ before) s → s.action ≡ ExcludeLast d →
+last_reached : (contest : Contest) (s s' : Stage) (before : History) (d c : ℕ) → IsContest contest → In c contest.candidates → Tells contest before s' → Tells contest (s' ∷ before) s →
+    s.action ≡ ExcludeLast d →
     has_reached contest (s ∷ s' ∷ before) c ≡ has_reached contest (s' ∷ before) c
 last_reached contest s s' before d c fair is_candidate tells' tells is =
     let column = column-in c contest.candidates fair.candidate_set is_candidate in
@@ -56,7 +57,8 @@ not_reached contest stages c true e h = let k = reached-elected contest stages c
 not_reached contest stages c false e h = refl
 
 -- it takes one from the race
-last_race : (contest : Contest) (s s' : Stage) (before : History) (d : ℕ) → IsContest contest → In d contest.candidates → is_elected contest (s' ∷ before) d ≡ false → is_excluded (s' ∷ before) d ≡ false →
+last_race : (contest : Contest) (s s' : Stage) (before : History) (d : ℕ) → IsContest contest → In d contest.candidates → is_elected contest (s' ∷ before) d ≡ false →
+    is_excluded (s' ∷ before) d ≡ false →
     Tells contest before s' → Tells contest (s' ∷ before) s → s.action ≡ ExcludeLast d → length (in_race contest (s ∷ s' ∷ before)) + 1 ≤ length (in_race contest (s' ∷ before))
 unfolding in_race
 last_race contest s s' before d fair is_candidate not_elected not_excluded tells' tells is =
@@ -95,7 +97,8 @@ last_after contest handed s s' before d fair right (inr on) is =
     eq-eqb _ _ (omega (arith, fewer, others, chosen, standing, enough, some, race-parts contest stages, race-parts contest (s ∷ stages), few-reach contest handed stages fair right.0))
 
 -- after it no vacancy is left
-pub last-fills : (contest : Contest) (handed : History → Stage → Option ℕ) (s : Stage) (before : History) (d : ℕ) → IsContest contest → IsRightBy contest handed (s ∷ before) → s.action ≡ ExcludeLast d → vacancies_after contest (s ∷ before) ≡ 0
+pub last-fills : (contest : Contest) (handed : History → Stage → Option ℕ) (s : Stage) (before : History) (d : ℕ) → IsContest contest → IsRightBy contest handed (s ∷ before) →
+    s.action ≡ ExcludeLast d → vacancies_after contest (s ∷ before) ≡ 0
 last-fills contest handed s [] d fair right is = let e = sym (step-first contest (handed [] s) s.action right.1.was_due) ∙ is in cc
 last-fills contest handed s (s' ∷ before) d fair right is =
     let full = last_after contest handed s s' before d fair right (step-is contest s' before (handed (s' ∷ before) s) s.action right.1.was_due) is in
@@ -108,7 +111,8 @@ action_excludes (Exclude d) c none h = h
 action_excludes (ExcludeLast d) c none h = absurd (none d refl)
 
 -- where a stage follows, whoever is excluded has passed his papers on
-pub excluded-passed : (contest : Contest) (handed : History → Stage → Option ℕ) (s : Stage) (before : History) (c : ℕ) → IsContest contest → IsRightBy contest handed (s ∷ before) → is_excluded before c ≡ true → has_passed before c ≡ true
+pub excluded-passed : (contest : Contest) (handed : History → Stage → Option ℕ) (s : Stage) (before : History) (c : ℕ) → IsContest contest → IsRightBy contest handed (s ∷ before) →
+    is_excluded before c ≡ true → has_passed before c ≡ true
 excluded-passed contest handed s [] c fair right h = cc
 excluded-passed contest handed s (s' ∷ before) c fair right h =
     let left = eqb-false _ _ (step-vacant contest s' before (handed (s' ∷ before) s) s.action right.1.was_due) in
@@ -116,7 +120,8 @@ excluded-passed contest handed s (s' ∷ before) c fair right h =
     (action_excludes s'.action c (λ d is. left (last-fills contest handed s' before d fair right.0 is))) (excluded-passed contest handed s' before c fair right.0) h
 
 -- one whose surplus has gone has reached the quota
-reached_now : (contest : Contest) (s s' : Stage) (before : History) (c : ℕ) → IsSurplus contest (s' ∷ before) s.action ⊎ IsExclusion contest (s' ∷ before) s.action → transfers s.action c ≡ true → has_reached contest (s' ∷ before) c ≡ true
+reached_now : (contest : Contest) (s s' : Stage) (before : History) (c : ℕ) → IsSurplus contest (s' ∷ before) s.action ⊎ IsExclusion contest (s' ∷ before) s.action → transfers s.action c ≡ true →
+    has_reached contest (s' ∷ before) c ≡ true
 reached_now contest s s' before c (inl on) h = ap (has_reached contest (s' ∷ before)) (sym (eqb-true on.c c (ap (λ a. transfers a c) (sym on.is) ∙ h))) ∙ above-reached contest s' before on.c on.above
 reached_now contest s s' before c (inr on) h = absurd (never _ (ap (λ a. transfers a c) (sym on.is) ∙ h))
   where
@@ -124,12 +129,14 @@ reached_now contest s s' before c (inr on) h = absurd (never _ (ap (λ a. transf
     never true k = cc
     never false k = cc
 
-transferred_choice : (contest : Contest) (s s' : Stage) (before : History) (c : ℕ) (b : Bool) → transfers s.action c ≡ b → IsSurplus contest (s' ∷ before) s.action ⊎ IsExclusion contest (s' ∷ before) s.action →
+transferred_choice : (contest : Contest) (s s' : Stage) (before : History) (c : ℕ) (b : Bool) → transfers s.action c ≡ b →
+    IsSurplus contest (s' ∷ before) s.action ⊎ IsExclusion contest (s' ∷ before) s.action →
     (is_transferred (s' ∷ before) c ≡ true → has_reached contest (s' ∷ before) c ≡ true) → (b || is_transferred (s' ∷ before) c) ≡ true → has_reached contest (s ∷ s' ∷ before) c ≡ true
 transferred_choice contest s s' before c true e step old h = or_later (nat_le contest.quota (votes_at s c)) _ (reached_now contest s s' before c step e)
 transferred_choice contest s s' before c false e step old h = or_later (nat_le contest.quota (votes_at s c)) _ (old h)
 
-pub transferred-reached : (contest : Contest) (handed : History → Stage → Option ℕ) (stages : History) (c : ℕ) → IsRightBy contest handed stages → is_transferred stages c ≡ true → has_reached contest stages c ≡ true
+pub transferred-reached : (contest : Contest) (handed : History → Stage → Option ℕ) (stages : History) (c : ℕ) → IsRightBy contest handed stages → is_transferred stages c ≡ true →
+    has_reached contest stages c ≡ true
 transferred-reached contest handed [] c right h = cc
 transferred-reached contest handed (s ∷ []) c right h =
     let none : false ≡ true = ap (λ a. transfers a c || false) (sym (step-first contest (handed [] s) s.action right.1.was_due)) ∙ h in cc
@@ -141,7 +148,8 @@ either_way true b h = inl refl
 either_way false b h = inr h
 
 -- a surplus is of one not excluded, and an exclusion of one not transferred
-apart_step : (contest : Contest) (handed : History → Stage → Option ℕ) (s s' : Stage) (before : History) (c : ℕ) → IsContest contest → AreRankings contest.papers → IsRightBy contest handed (s ∷ s' ∷ before) → In c contest.candidates →
+apart_step : (contest : Contest) (handed : History → Stage → Option ℕ) (s s' : Stage) (before : History) (c : ℕ) → IsContest contest → AreRankings contest.papers →
+    IsRightBy contest handed (s ∷ s' ∷ before) → In c contest.candidates →
     IsSurplus contest (s' ∷ before) s.action ⊎ IsExclusion contest (s' ∷ before) s.action → (is_transferred (s' ∷ before) c ≡ true → is_excluded (s' ∷ before) c ≡ true → ⊥) →
     (transfers s.action c ≡ true) ⊎ (is_transferred (s' ∷ before) c ≡ true) → (excludes s.action c ≡ true) ⊎ (is_excluded (s' ∷ before) c ≡ true) → ⊥
 apart_step contest handed s s' before c fair rankings right is_candidate step old (inr t) (inr e) = old t e
@@ -169,7 +177,8 @@ apart_step contest handed s s' before c fair rankings right is_candidate (inr on
     one false k = k
 
 -- nobody is both transferred and excluded
-pub transferred-apart : (contest : Contest) (handed : History → Stage → Option ℕ) (stages : History) (c : ℕ) → IsContest contest → AreRankings contest.papers → IsRightBy contest handed stages → In c contest.candidates →
+pub transferred-apart : (contest : Contest) (handed : History → Stage → Option ℕ) (stages : History) (c : ℕ) → IsContest contest → AreRankings contest.papers → IsRightBy contest handed stages →
+    In c contest.candidates →
     is_transferred stages c ≡ true → is_excluded stages c ≡ true → ⊥
 transferred-apart contest handed [] c fair rankings right is_candidate t e = cc
 transferred-apart contest handed (s ∷ []) c fair rankings right is_candidate t e =
@@ -193,7 +202,8 @@ filter-apart p q (x ∷ xs) apart =
     omega (arith, one)
 
 -- A count has at most as many stages as candidates, and one.
-pub stages-few : (contest : Contest) (handed : History → Stage → Option ℕ) (stages : History) → IsContest contest → AreRankings contest.papers → IsRightBy contest handed stages → length stages ≤ length contest.candidates + 1
+pub stages-few : (contest : Contest) (handed : History → Stage → Option ℕ) (stages : History) → IsContest contest → AreRankings contest.papers → IsRightBy contest handed stages →
+    length stages ≤ length contest.candidates + 1
 unfolding acted
 stages-few contest handed stages fair rankings right =
     omega (arith, length-acted contest handed stages fair right, filter-apart (is_transferred stages) (is_excluded stages) contest.candidates (λ c k. transferred-apart contest handed stages c fair rankings right k))

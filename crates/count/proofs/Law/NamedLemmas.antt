@@ -46,7 +46,8 @@ open-elected contest stages c open_ = ap (λ b. has_reached contest stages c || 
     or_none true = refl
     or_none false = refl
 
-before-open : (contest : Contest) (handed : History → Stage → Option ℕ) (s : Stage) (before : History) → IsContest contest → IsRightBy contest handed (s ∷ before) → undecided_fill contest before ≡ false
+before-open : (contest : Contest) (handed : History → Stage → Option ℕ) (s : Stage) (before : History) → IsContest contest → IsRightBy contest handed (s ∷ before) →
+    undecided_fill contest before ≡ false
 before-open contest handed s [] fair right = unfilled-first contest fair
 before-open contest handed s (s' ∷ before) fair right = vacant-unfilled contest (s' ∷ before) (step-vacant contest s' before (handed (s' ∷ before) s) s.action right.1.was_due)
 
@@ -108,7 +109,8 @@ excludes_one : (b : Bool) (c d : ℕ) → excludes (cond b (ExcludeLast c) (Excl
 excludes_one true c d = refl
 excludes_one false c d = refl
 
-not_gone : (contest : Contest) (handed : History → Stage → Option ℕ) (stages : History) (d : ℕ) (b : Bool) → is_transferred stages d ≡ b → IsRightBy contest handed stages → is_elected contest stages d ≡ false → b ≡ false
+not_gone : (contest : Contest) (handed : History → Stage → Option ℕ) (stages : History) (d : ℕ) (b : Bool) → is_transferred stages d ≡ b → IsRightBy contest handed stages →
+    is_elected contest stages d ≡ false → b ≡ false
 not_gone contest handed stages d true gone right out = let k = reached-elected contest stages d (transferred-reached contest handed stages d right gone) in cc
 not_gone contest handed stages d false gone right out = refl
 

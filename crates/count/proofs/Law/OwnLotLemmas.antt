@@ -6,8 +6,8 @@ use Rattle.count.specs.Law.Due.{drawn, action_on}
 use Rattle.count.specs.Law.Right.{candidate_of}
 use Rattle.count.specs.declared.stages.Action.{Action}
 use Rattle.count.specs.declared.stages.Action.TheVariants.{Exclude, ExcludeLast}
-use Rattle.count.specs.declared.stages.Kind.{Kind}
-use Rattle.count.specs.declared.stages.Kind.TheVariants.{Surplus as of_surplus, Exclusion as of_exclusion}
+use Rattle.count.specs.declared.stages.TiedFor.{TiedFor}
+use Rattle.count.specs.declared.stages.TiedFor.TheVariants.{Surplus as of_surplus, Exclusion as of_exclusion}
 use Rattle.count.specs.declared.stages.Due.{Due}
 use Rattle.count.specs.declared.stages.Due.TheVariants.{Act, Lot, Finished}
 
@@ -15,11 +15,12 @@ own_exclusion : (b : Bool) (c : ℕ) → candidate_of (cond b (ExcludeLast c) (E
 own_exclusion true c = refl
 own_exclusion false c = refl
 
-own_action : (contest : Contest) (stages : History) (kind : Kind) (c : ℕ) → candidate_of (action_on contest stages kind c) ≡ Some c
+own_action : (contest : Contest) (stages : History) (kind : TiedFor) (c : ℕ) → candidate_of (action_on contest stages kind c) ≡ Some c
 own_action contest stages of_surplus c = refl
 own_action contest stages of_exclusion c = own_exclusion _ c
 
-own_lot : (contest : Contest) (stages : History) (n : ℕ) (kind : Kind) (tied : List ℕ) (c : ℕ) (b : Bool) (action : Action) → list_any (nat_eq c) tied ≡ b → cond b (Some (action_on contest stages kind c)) None ≡ Some action →
+own_lot : (contest : Contest) (stages : History) (n : ℕ) (kind : TiedFor) (tied : List ℕ) (c : ℕ) (b : Bool) (action : Action) → list_any (nat_eq c) tied ≡ b →
+    cond b (Some (action_on contest stages kind c)) None ≡ Some action →
     drawn contest stages (candidate_of action) (Lot n kind tied) ≡ Some action
 own_lot contest stages n kind tied c true action e h =
     let is : action_on contest stages kind c ≡ action = cc in
@@ -29,7 +30,8 @@ own_lot contest stages n kind tied c true action e h =
 own_lot contest stages n kind tied c false action e h = cc
 
 -- an action that a lot draws is drawn by the lot that it names itself
-pub drawn-own : (contest : Contest) (stages : History) (lot : Option ℕ) (d : Due) (action : Action) → drawn contest stages lot d ≡ Some action → drawn contest stages (candidate_of action) d ≡ Some action
+pub drawn-own : (contest : Contest) (stages : History) (lot : Option ℕ) (d : Due) (action : Action) → drawn contest stages lot d ≡ Some action →
+    drawn contest stages (candidate_of action) d ≡ Some action
 drawn-own contest stages lot (Act a) action h = h
 drawn-own contest stages lot Finished action h = cc
 drawn-own contest stages None (Lot n kind tied) action h = cc

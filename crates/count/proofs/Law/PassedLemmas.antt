@@ -73,7 +73,8 @@ excluded_gone contest before action d c p at false is r some old h held_by =
     (new_or_old d c (eqb d c) (has_passed before c) (IsApart contest before at c) refl old (ap (λ a. passes_on a c || has_passed before c) (sym is) ∙ h))
     (ap (λ a. (moved contest before a p at).holder) (sym is) ∙ held_by)
 
-moved_gone : (contest : Contest) (s' : Stage) (before : History) (action : Action) (c : ℕ) (p : List ℕ) (at : Place) → IsSurplus contest (s' ∷ before) action ⊎ IsExclusion contest (s' ∷ before) action →
+moved_gone : (contest : Contest) (s' : Stage) (before : History) (action : Action) (c : ℕ) (p : List ℕ) (at : Place) →
+    IsSurplus contest (s' ∷ before) action ⊎ IsExclusion contest (s' ∷ before) action →
     IsRanking p → 1 ≤ c → (has_passed (s' ∷ before) c ≡ true → IsApart contest (s' ∷ before) at c) → (passes_on action c || has_passed (s' ∷ before) c) ≡ true → (moved contest (s' ∷ before) action p at).holder ≡ c → ⊥
 moved_gone contest s' before action c p at (inl on) r some old h held_by =
     passed_gone contest (s' ∷ before) on.c c p at _ (eqb at.holder on.c) refl r some
@@ -98,7 +99,8 @@ exclusion_both false d c h = h
 pub above-reached : (contest : Contest) (s : Stage) (before : History) (c : ℕ) → contest.quota < newest_votes (s ∷ before) c → has_reached contest (s ∷ before) c ≡ true
 above-reached contest s before c above = ap (λ b. b || has_reached contest before c) (le-leb contest.quota (votes_at s c) (omega (arith, above)))
 
-out_now : (contest : Contest) (s s' : Stage) (before : History) (c : ℕ) → IsSurplus contest (s' ∷ before) s.action ⊎ IsExclusion contest (s' ∷ before) s.action → passes_on s.action c ≡ true → IsOut contest (s ∷ s' ∷ before) c
+out_now : (contest : Contest) (s s' : Stage) (before : History) (c : ℕ) → IsSurplus contest (s' ∷ before) s.action ⊎ IsExclusion contest (s' ∷ before) s.action → passes_on s.action c ≡ true →
+    IsOut contest (s ∷ s' ∷ before) c
 unfolding IsOut
 out_now contest s s' before c (inl on) h =
     let same : on.c ≡ c = eqb-true on.c c (ap (λ a. passes_on a c) (sym on.is) ∙ h) in
@@ -107,7 +109,8 @@ out_now contest s s' before c (inr on) h =
     let now : excludes s.action c ≡ true = ap (λ a. excludes a c) on.is ∙ exclusion_both _ on.c c (ap (λ a. passes_on a c) (sym on.is) ∙ h) in
     inr (ap (λ b. b || is_excluded (s' ∷ before) c) now)
 
-out_choice : (contest : Contest) (s s' : Stage) (before : History) (c : ℕ) (b : Bool) → passes_on s.action c ≡ b → IsSurplus contest (s' ∷ before) s.action ⊎ IsExclusion contest (s' ∷ before) s.action →
+out_choice : (contest : Contest) (s s' : Stage) (before : History) (c : ℕ) (b : Bool) → passes_on s.action c ≡ b →
+    IsSurplus contest (s' ∷ before) s.action ⊎ IsExclusion contest (s' ∷ before) s.action →
     (has_passed (s' ∷ before) c ≡ true → IsOut contest (s' ∷ before) c) → (b || has_passed (s' ∷ before) c) ≡ true → IsOut contest (s ∷ s' ∷ before) c
 out_choice contest s s' before c true e step old h = out_now contest s s' before c step e
 out_choice contest s s' before c false e step old h = out_later contest s (s' ∷ before) c (old h)
@@ -137,7 +140,8 @@ out_continuing contest stages c true e (inr h) =
 out_continuing contest stages c false e out = refl
 
 -- One who has passed his papers on holds none afterwards.
-pub passed-gone : (contest : Contest) (handed : History → Stage → Option ℕ) (stages : History) → IsRightBy contest handed stages → (p : List ℕ) → IsRanking p → (c : ℕ) → 1 ≤ c → has_passed stages c ≡ true →
+pub passed-gone : (contest : Contest) (handed : History → Stage → Option ℕ) (stages : History) → IsRightBy contest handed stages → (p : List ℕ) → IsRanking p → (c : ℕ) → 1 ≤ c →
+    has_passed stages c ≡ true →
     (place contest stages p).holder ≡ c → ⊥
 passed-gone contest handed [] right p r c some h held_by = cc
 passed-gone contest handed (s ∷ []) right p r c some h held_by =
@@ -148,7 +152,8 @@ passed-gone contest handed (s ∷ s' ∷ before) right p r c some h held_by =
     (λ k. (passed-gone contest handed (s' ∷ before) right.0 p r c some k, out_continuing contest (s' ∷ before) c _ refl (passed-out contest handed (s' ∷ before) right.0 c k))) h held_by
 
 -- so the values that he holds are none
-pub passed-held : (contest : Contest) (handed : History → Stage → Option ℕ) (stages : History) → IsRightBy contest handed stages → AreRankings contest.papers → (c : ℕ) → 1 ≤ c → has_passed stages c ≡ true →
+pub passed-held : (contest : Contest) (handed : History → Stage → Option ℕ) (stages : History) → IsRightBy contest handed stages → AreRankings contest.papers → (c : ℕ) → 1 ≤ c →
+    has_passed stages c ≡ true →
     held contest stages c ≡ 0
 passed-held contest handed stages right rankings c some h =
     sum-rankings contest.papers rankings (λ p. value_with c (place contest stages p)) (λ p. 0)

@@ -36,7 +36,8 @@ takes-not contest s before action c (inl on) reached stays = ap (λ a. takes a c
 takes-not contest s before action c (inr on) reached stays =
     ap (λ a. takes a c) on.is ∙ takes_exclusion _ on.c c (differs contest (s ∷ before) on.c c _ refl on.not_elected (reached-elected contest (s ∷ before) c reached))
 
-kept_votes : (contest : Contest) (s s' : Stage) (before : History) (c : ℕ) (b : Bool) → is_transferred (s ∷ s' ∷ before) c ≡ b → Tells contest before s' → IsSurplus contest (s' ∷ before) s.action ⊎ IsExclusion contest (s' ∷ before) s.action →
+kept_votes : (contest : Contest) (s s' : Stage) (before : History) (c : ℕ) (b : Bool) → is_transferred (s ∷ s' ∷ before) c ≡ b → Tells contest before s' →
+    IsSurplus contest (s' ∷ before) s.action ⊎ IsExclusion contest (s' ∷ before) s.action →
     has_reached contest (s' ∷ before) c ≡ true → newest_votes (s' ∷ before) c ≡ votes_after contest (s' ∷ before) c → contest.quota ≤ newest_votes (s' ∷ before) c → contest.quota ≤ votes_after contest (s ∷ s' ∷ before) c
 kept_votes contest s s' before c true gone tells step reached told enough = omega (arith, votes-transferred contest (s ∷ s' ∷ before) c gone)
 kept_votes contest s s' before c false gone tells step reached told enough =
@@ -45,7 +46,8 @@ kept_votes contest s s' before c false gone tells step reached told enough =
     omega (arith, more, enough, told, votes-held contest (s' ∷ before) c parts.1, votes-held contest (s ∷ s' ∷ before) c gone)
 
 kept_later : (contest : Contest) (handed : History → Stage → Option ℕ) (s : Stage) (before : History) → IsContest contest → IsRightBy contest handed (s ∷ before) →
-    (c : ℕ) → In c contest.candidates → (has_reached contest before c ≡ true → contest.quota ≤ newest_votes before c) → has_reached contest before c ≡ true → contest.quota ≤ newest_votes (s ∷ before) c
+    (c : ℕ) → In c contest.candidates → (has_reached contest before c ≡ true → contest.quota ≤ newest_votes before c) → has_reached contest before c ≡ true →
+    contest.quota ≤ newest_votes (s ∷ before) c
 kept_later contest handed s [] fair right c is_candidate enough reached = cc
 kept_later contest handed s (s' ∷ before) fair right c is_candidate enough reached =
     let column = column-in c contest.candidates fair.candidate_set is_candidate in
@@ -103,7 +105,8 @@ first_values contest s is =
     let left : quotas_left contest (s ∷ []) ≡ 0 = sum_by-none _ contest.candidates (λ c. ap (λ a. cond (transfers a c || false) contest.quota 0) is) in
     omega (arith, first-values contest s is, none, left)
 
-step_values : (contest : Contest) (s s' : Stage) (before : History) → IsContest contest → Tells contest before s' → IsSurplus contest (s' ∷ before) s.action ⊎ IsExclusion contest (s' ∷ before) s.action →
+step_values : (contest : Contest) (s s' : Stage) (before : History) → IsContest contest → Tells contest before s' →
+    IsSurplus contest (s' ∷ before) s.action ⊎ IsExclusion contest (s' ∷ before) s.action →
     all_values contest (s ∷ s' ∷ before) + quotas_left contest (s ∷ s' ∷ before) + lost_after contest (s ∷ s' ∷ before) ≡ all_values contest (s' ∷ before) + quotas_left contest (s' ∷ before) + lost_after contest (s' ∷ before)
 step_values contest s s' before fair tells (inl on) =
     let column = column-in on.c contest.candidates fair.candidate_set on.is_candidate in
@@ -120,7 +123,8 @@ values-conserved contest handed s (s' ∷ before) fair right =
     omega (arith, values-conserved contest handed s' before fair right.0, step_values contest s s' before fair right.0.1.tells (step-is contest s' before (handed (s' ∷ before) s) s.action right.1.was_due))
 
 -- the same where the newest stage has its action alone
-pub values-conserved-next : (contest : Contest) (handed : History → Stage → Option ℕ) (s : Stage) (before : History) → IsContest contest → IsRightBy contest handed before → IsDue contest before s.action →
+pub values-conserved-next : (contest : Contest) (handed : History → Stage → Option ℕ) (s : Stage) (before : History) → IsContest contest → IsRightBy contest handed before →
+    IsDue contest before s.action →
     all_values contest (s ∷ before) + quotas_left contest (s ∷ before) + lost_after contest (s ∷ before) ≡ one_vote * length contest.papers
 values-conserved-next contest handed s [] fair right due = first_values contest s (step-first contest due.lot s.action due.is)
 values-conserved-next contest handed s (s' ∷ before) fair right due =

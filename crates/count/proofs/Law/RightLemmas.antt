@@ -1,5 +1,6 @@
 -- Of two right lists of stages one is a beginning of the other, and a count is the only one.
-use Rattle.std.proofs.Common.{◌≡◌, ℕ, ◌+◌, ◌-◌, Bool, true, false, not, cond, ◌≤◌, inl, inr, drop, eqb, nat_eq, List, [], ◌∷◌, length, map, Option, Some, None, refl, sym, ap, ◌∙◌, arith, subst, suc, zero, length-drop}
+use Rattle.std.proofs.Common.{◌≡◌, ℕ, ◌+◌, ◌-◌, Bool, true, false, not, cond, ◌≤◌, inl, inr, drop, eqb, nat_eq, List, [], ◌∷◌, length, map, Option, Some, None, refl, sym, ap, ◌∙◌, arith}
+use Rattle.std.proofs.Common.{subst, suc, zero, length-drop}
 use Rattle.std.specs.List.{sum_by, filter, list_any}
 use Rattle.std.specs.List.Sorted.{IsPermutation}
 use Rattle.std.proofs.lemmas.List.Sorted.{sum_by-IsPermutation}
@@ -137,7 +138,8 @@ ended-next contest stages None (Lot n k tied) end h = refl
 ended-next contest stages (Some c) (Lot n k tied) end h = ended_among (list_any (nat_eq c) tied) (LotNotAmong n) (action_on contest stages k c) end h
 
 -- Where a count ends, each right history of its papers, in any order, is a beginning of it.
-begins_each_right : (contest : Contest) (lots : List (ℕ × ℕ)) (whole : History) (end : CountEnd) → IsRight contest lots whole → end_after contest lots whole ≡ Some end → BeginsEachRight contest lots whole
+begins_each_right : (contest : Contest) (lots : List (ℕ × ℕ)) (whole : History) (end : CountEnd) → IsRight contest lots whole → end_after contest lots whole ≡ Some end →
+    BeginsEachRight contest lots whole
 begins_each_right contest lots whole end right ended papers stages order right_stages =
     let here = right_reordered contest lots papers stages order right_stages in
     let within = longest contest lots whole stages right (ended-next contest whole (lot_for lots (length whole + 1)) (due_after contest whole) end ended) here in

@@ -44,7 +44,8 @@ not_beaten beats x m d true laws e over not_over = let t = laws.through d x m e 
 not_beaten beats x m d false laws e over not_over = refl
 
 -- by whether d is the first or in the rest
-by_member : (beats : ℕ → ℕ → Bool) (d x c : ℕ) (b : Bool) (rest : List ℕ) → nat_eq d x ≡ b → beats x c ≡ false → (In d rest → beats d c ≡ false) → (b || list_any (nat_eq d) rest) ≡ true → beats d c ≡ false
+by_member : (beats : ℕ → ℕ → Bool) (d x c : ℕ) (b : Bool) (rest : List ℕ) → nat_eq d x ≡ b → beats x c ≡ false → (In d rest → beats d c ≡ false) → (b || list_any (nat_eq d) rest) ≡ true →
+    beats d c ≡ false
 by_member beats d x c true rest same first others h = ap (λ y. beats y c) (eqb-true d x same) ∙ first
 by_member beats d x c false rest same first others h = others h
 

@@ -30,7 +30,8 @@ held_none contest stages c fair some other =
     ∙ sum_by-none (λ p. 0) contest.papers (λ p. refl)
 
 -- whoever's surplus an action transfers is a candidate
-transfers_known : (contest : Contest) (stages : History) (action : Action) (c : ℕ) → IsSurplus contest stages action ⊎ IsExclusion contest stages action → transfers action c ≡ true → In c contest.candidates
+transfers_known : (contest : Contest) (stages : History) (action : Action) (c : ℕ) → IsSurplus contest stages action ⊎ IsExclusion contest stages action → transfers action c ≡ true →
+    In c contest.candidates
 transfers_known contest stages action c (inl on) h =
     ap (λ d. list_any (nat_eq d) contest.candidates) (sym (eqb-true on.c c (ap (λ a. transfers a c) (sym on.is) ∙ h))) ∙ on.is_candidate
 transfers_known contest stages action c (inr on) h = absurd (never _ (ap (λ a. transfers a c) (sym on.is) ∙ h))
@@ -39,7 +40,8 @@ transfers_known contest stages action c (inr on) h = absurd (never _ (ap (λ a. 
     never true k = cc
     never false k = cc
 
-known_choice : (contest : Contest) (s s' : Stage) (before : History) (c : ℕ) (b : Bool) → transfers s.action c ≡ b → IsSurplus contest (s' ∷ before) s.action ⊎ IsExclusion contest (s' ∷ before) s.action →
+known_choice : (contest : Contest) (s s' : Stage) (before : History) (c : ℕ) (b : Bool) → transfers s.action c ≡ b →
+    IsSurplus contest (s' ∷ before) s.action ⊎ IsExclusion contest (s' ∷ before) s.action →
     (is_transferred (s' ∷ before) c ≡ true → In c contest.candidates) → (b || is_transferred (s' ∷ before) c) ≡ true → In c contest.candidates
 known_choice contest s s' before c true e step old h = transfers_known contest (s' ∷ before) s.action c step e
 known_choice contest s s' before c false e step old h = old h
@@ -51,7 +53,8 @@ transferred_known contest handed (s ∷ []) c right h =
 transferred_known contest handed (s ∷ s' ∷ before) c right h =
     known_choice contest s s' before c _ refl (step-is contest s' before (handed (s' ∷ before) s) s.action right.1.was_due) (transferred_known contest handed (s' ∷ before) c right.0) h
 
-untransferred : (contest : Contest) (handed : History → Stage → Option ℕ) (stages : History) (c : ℕ) (b : Bool) → is_transferred stages c ≡ b → IsRightBy contest handed stages → list_any (nat_eq c) contest.candidates ≡ false → b ≡ false
+untransferred : (contest : Contest) (handed : History → Stage → Option ℕ) (stages : History) (c : ℕ) (b : Bool) → is_transferred stages c ≡ b → IsRightBy contest handed stages →
+    list_any (nat_eq c) contest.candidates ≡ false → b ≡ false
 untransferred contest handed stages c true gone right other = let found : In c contest.candidates = transferred_known contest handed stages c right gone in cc
 untransferred contest handed stages c false gone right other = refl
 

@@ -59,11 +59,11 @@ worth_placed f (at ∷ places) (b ∷ bundles) = b.1 * f at + worth_placed f pla
 abbrev pub nowhere : Placed
 nowhere = record { holder = 0; value = 0 }
 
--- where a paper lies as its first preference's, as one vote
+-- where a paper lies once it has gone to its first preference, as one vote
 abbrev pub first_place : List ℕ → Placed
 first_place paper = record { holder = first_of paper; value = one_vote }
 
--- where the papers of bundles lie as their first preferences'
+-- where the papers of bundles lie once each has gone to its first preference
 abbrev pub first_places : List Bundle → List Placed
 first_places bundles = map (λ (b : Bundle). first_place b.0) bundles
 

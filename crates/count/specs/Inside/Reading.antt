@@ -1,14 +1,15 @@
--- What figures tell, candidate by candidate, where those of the candidates are told by a function.
+-- What figures tell, candidate by candidate: a function gives the figure of each.
 use Rattle.std.specs.Prelude.{ℕ, ◌==◌, ◌||◌, Bool, nat_eq, if◌then◌else◌, List, [], ◌∷◌, map, Option, Some, None}
 use Rattle.std.specs.List.{filter, list_any}
 use Rattle.count.specs.Law.Contest.{numbers}
+use Rattle.count.specs.Marks.{elected, surplus_now, excluded_now, excluded_last}
 use Rattle.count.specs.declared.figures.Figure.{Figure}
 use Rattle.count.specs.declared.stages.Action.{Action}
 use Rattle.count.specs.declared.stages.Action.TheVariants.{First, Surplus, Exclude, ExcludeLast}
 
 -- whether a mark is that of one who is elected
 abbrev pub is_elected_mark : ℕ → Bool
-is_elected_mark mark = mark == 1 || mark == 3
+is_elected_mark mark = mark == elected || mark == surplus_now
 
 -- the candidates who are marked as elected
 abbrev pub elected_shown : (ℕ → Figure) → List ℕ → List ℕ
@@ -24,14 +25,15 @@ votes_shown f candidates = map (units_shown f candidates) numbers
 
 -- the action on a candidate that his mark tells, where it tells one
 abbrev pub action_by : ℕ → ℕ → Option Action
-action_by mark c = if mark == 3 then Some (Surplus c) else if mark == 4 then Some (Exclude c) else if mark == 5 then Some (ExcludeLast c) else None
+action_by mark c =
+    if mark == surplus_now then Some (Surplus c) else if mark == excluded_now then Some (Exclude c) else if mark == excluded_last then Some (ExcludeLast c) else None
 
 -- an action, or else another
 abbrev pub action_or : Action → Option Action → Action
 action_or other None = other
 action_or other (Some action) = action
 
--- the action that the first of the marks tells that tells one; where none does, the first stage's
+-- the action that is told by the first mark to tell one; where none does, the first stage's
 abbrev pub action_shown : (ℕ → Figure) → List ℕ → Action
 action_shown f [] = First
 action_shown f (c ∷ candidates) = action_or (action_shown f candidates) (action_by (f c).mark c)

@@ -8,8 +8,8 @@ use Rattle.count.specs.Law.Contest.{Contest, History, votes_at, newest_votes}
 use Rattle.count.specs.Law.Elected.{elected_after, continuing_after, vacancies_after}
 use Rattle.count.specs.declared.stages.Action.{Action}
 use Rattle.count.specs.declared.stages.Action.TheVariants.{First, Surplus, Exclude, ExcludeLast}
-use Rattle.count.specs.declared.stages.Kind.{Kind}
-use Rattle.count.specs.declared.stages.Kind.TheVariants.{Surplus as of_surplus, Exclusion as of_exclusion}
+use Rattle.count.specs.declared.stages.TiedFor.{TiedFor}
+use Rattle.count.specs.declared.stages.TiedFor.TheVariants.{Surplus as of_surplus, Exclusion as of_exclusion}
 use Rattle.count.specs.declared.stages.Due.{Due}
 use Rattle.count.specs.declared.stages.Due.TheVariants.{Act, Lot, Finished}
 
@@ -22,11 +22,11 @@ trace stages c = map (λ s. votes_at s c) stages
 abbrev pub is_above : History → ℕ → ℕ → Bool
 is_above stages c d = is_lt (slice_cmp nat_cmp (trace stages d) (trace stages c))
 
--- Transfer of ballot papers: those of a group whom none of it is above
+-- Transfer of ballot papers: those of a group whom nobody in it is above
 abbrev pub highest : History → List ℕ → List ℕ
 highest stages group = filter (λ c. not (list_any (λ d. is_above stages d c) group)) group
 
--- Exclusion of candidates: those of a group who are above none of it
+-- Exclusion of candidates: those of a group who are above nobody in it
 abbrev pub lowest : History → List ℕ → List ℕ
 lowest stages group = filter (λ c. not (list_any (λ d. is_above stages c d) group)) group
 
@@ -39,13 +39,13 @@ abbrev pub exclusion : Contest → History → ℕ → Action
 exclusion contest stages c =
     if length (continuing_after contest stages) - 1 == vacancies_after contest stages then ExcludeLast c else Exclude c
 
--- what is done with a candidate, by what he was tied for or alone in
-abbrev pub action_on : Contest → History → Kind → ℕ → Action
+-- what is done with a candidate: his surplus is transferred, or he is excluded, by what the group was chosen for
+abbrev pub action_on : Contest → History → TiedFor → ℕ → Action
 action_on contest stages of_surplus c = Surplus c
 action_on contest stages of_exclusion c = exclusion contest stages c
 
 -- the action on the one candidate who is tied with nobody, else a lot among the tied; where a lot is due they are two or more, as is proved
-abbrev pub among : Contest → History → Kind → List ℕ → Due
+abbrev pub among : Contest → History → TiedFor → List ℕ → Due
 among contest stages kind [] = Lot (length stages + 1) kind []
 among contest stages kind (c ∷ []) = Act (action_on contest stages kind c)
 among contest stages kind (c ∷ d ∷ tied) = Lot (length stages + 1) kind (c ∷ d ∷ tied)

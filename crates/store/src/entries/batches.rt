@@ -39,19 +39,13 @@ impl Entries for Batches {
     }
 
     fn read(row: &Row) -> Result<Batch, Fault> {
-        let number = number_at(row, 0)?;
-        let ward = number_at(row, 1)?;
-        let size = number_at(row, 2)?;
-        let first_clerk = number_at(row, 3)?;
-        let second_clerk = number_at(row, 4)?;
-        let round = number_at(row, 5)?;
         Ok(Batch {
-            number,
-            ward,
-            size,
-            first_clerk,
-            second_clerk,
-            round,
+            number: number_at(row, 0)?,
+            ward: number_at(row, 1)?,
+            size: number_at(row, 2)?,
+            first_clerk: number_at(row, 3)?,
+            second_clerk: number_at(row, 4)?,
+            round: number_at(row, 5)?,
         })
     }
 

@@ -39,17 +39,12 @@ impl Entries for PlacedBundles {
     }
 
     fn read(row: &Row) -> Result<PlacedBundle, Fault> {
-        let ward = number_at(row, 0)?;
-        let list = bytes_at(row, 1)?;
-        let papers = number_at(row, 2)?;
-        let holder = number_at(row, 3)?;
-        let value = amount_at(row, 4)?;
         Ok(PlacedBundle {
-            ward,
-            list,
-            papers,
-            holder,
-            value,
+            ward: number_at(row, 0)?,
+            list: bytes_at(row, 1)?,
+            papers: number_at(row, 2)?,
+            holder: number_at(row, 3)?,
+            value: amount_at(row, 4)?,
         })
     }
 

@@ -9,7 +9,7 @@ use register::Candidate;
 use sqlite::Row;
 use sqlite_value::value::ValueRef;
 use std::alloc::Global;
-use tables::cells::{number, number_at, text, text_at};
+use tables::cells::{number_at, row_values, text, text_at};
 use tables::{Entries, Fault, Table};
 
 /// The candidates, by ward and number.
@@ -27,19 +27,16 @@ impl Entries for Candidates {
     const TABLE: Table = Table::Candidate;
 
     fn values<'a>(candidate: &'a Candidate, alloc: Global) -> Result<Vec<ValueRef<'a>>, Fault> {
-        let values = [
-            number(candidate.ward),
-            number(candidate.number),
-            text(candidate.name.as_str()),
-        ];
-        Vec::from_array(alloc, values).map_err(|_| Fault::Memory)
+        let numbers = [candidate.ward, candidate.number];
+        row_values(alloc, &numbers, &[text(candidate.name.as_str())])
     }
 
     fn read(row: &Row) -> Result<Candidate, Fault> {
-        let ward = number_at(row, 0)?;
-        let number = number_at(row, 1)?;
-        let name = text_at(row, 2)?;
-        Ok(Candidate { ward, number, name })
+        Ok(Candidate {
+            ward: number_at(row, 0)?,
+            number: number_at(row, 1)?,
+            name: text_at(row, 2)?,
+        })
     }
 
     ghost typed = { λ c. refl };

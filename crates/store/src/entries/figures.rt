@@ -10,7 +10,7 @@ use register::StageFigure;
 use sqlite::Row;
 use sqlite_value::value::ValueRef;
 use std::alloc::Global;
-use tables::cells::{amount_at, number, number_at};
+use tables::cells::{amount_at, number, number_at, row_values};
 use tables::{Entries, Fault, Table};
 
 /// The figures, by ward, stage and candidate.
@@ -28,28 +28,21 @@ impl Entries for StageFigures {
     const TABLE: Table = Table::Vote;
 
     fn values<'a>(figure: &'a StageFigure, alloc: Global) -> Result<Vec<ValueRef<'a>>, Fault> {
-        let values = [
-            number(figure.ward),
-            number(figure.stage),
-            number(figure.candidate),
-            units(figure.units)?,
-            number(figure.mark),
-        ];
-        Vec::from_array(alloc, values).map_err(|_| Fault::Memory)
+        let numbers = [figure.ward, figure.stage, figure.candidate];
+        row_values(
+            alloc,
+            &numbers,
+            &[units(figure.units)?, number(figure.mark)],
+        )
     }
 
     fn read(row: &Row) -> Result<StageFigure, Fault> {
-        let ward = number_at(row, 0)?;
-        let stage = number_at(row, 1)?;
-        let candidate = number_at(row, 2)?;
-        let units = amount_at(row, 3)?;
-        let mark = number_at(row, 4)?;
         Ok(StageFigure {
-            ward,
-            stage,
-            candidate,
-            units,
-            mark,
+            ward: number_at(row, 0)?,
+            stage: number_at(row, 1)?,
+            candidate: number_at(row, 2)?,
+            units: amount_at(row, 3)?,
+            mark: number_at(row, 4)?,
         })
     }
 

@@ -9,7 +9,7 @@ use register::KeyedPaper;
 use sqlite::Row;
 use sqlite_value::value::ValueRef;
 use std::alloc::Global;
-use tables::cells::{number, number_at, text, text_at};
+use tables::cells::{number_at, row_values, text, text_at};
 use tables::{Entries, Fault, Table};
 
 /// The keyed papers, by batch, round, clerk and paper.
@@ -27,28 +27,17 @@ impl Entries for KeyedPapers {
     const TABLE: Table = Table::Keying;
 
     fn values<'a>(keyed: &'a KeyedPaper, alloc: Global) -> Result<Vec<ValueRef<'a>>, Fault> {
-        let values = [
-            number(keyed.batch),
-            number(keyed.round),
-            number(keyed.clerk),
-            number(keyed.paper),
-            text(keyed.marks.as_str()),
-        ];
-        Vec::from_array(alloc, values).map_err(|_| Fault::Memory)
+        let numbers = [keyed.batch, keyed.round, keyed.clerk, keyed.paper];
+        row_values(alloc, &numbers, &[text(keyed.marks.as_str())])
     }
 
     fn read(row: &Row) -> Result<KeyedPaper, Fault> {
-        let batch = number_at(row, 0)?;
-        let round = number_at(row, 1)?;
-        let clerk = number_at(row, 2)?;
-        let paper = number_at(row, 3)?;
-        let marks = text_at(row, 4)?;
         Ok(KeyedPaper {
-            batch,
-            round,
-            clerk,
-            paper,
-            marks,
+            batch: number_at(row, 0)?,
+            round: number_at(row, 1)?,
+            clerk: number_at(row, 2)?,
+            paper: number_at(row, 3)?,
+            marks: text_at(row, 4)?,
         })
     }
 

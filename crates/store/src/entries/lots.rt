@@ -9,7 +9,7 @@ use register::DrawnLot;
 use sqlite::Row;
 use sqlite_value::value::ValueRef;
 use std::alloc::Global;
-use tables::cells::{number, number_at};
+use tables::cells::{number_at, row_values};
 use tables::{Entries, Fault, Table};
 
 /// The lots, by ward and stage.
@@ -27,18 +27,15 @@ impl Entries for Lots {
     const TABLE: Table = Table::Lot;
 
     fn values<'a>(lot: &'a DrawnLot, alloc: Global) -> Result<Vec<ValueRef<'a>>, Fault> {
-        let values = [number(lot.ward), number(lot.stage), number(lot.candidate)];
-        Vec::from_array(alloc, values).map_err(|_| Fault::Memory)
+        let numbers = [lot.ward, lot.stage, lot.candidate];
+        row_values(alloc, &numbers, &[])
     }
 
     fn read(row: &Row) -> Result<DrawnLot, Fault> {
-        let ward = number_at(row, 0)?;
-        let stage = number_at(row, 1)?;
-        let candidate = number_at(row, 2)?;
         Ok(DrawnLot {
-            ward,
-            stage,
-            candidate,
+            ward: number_at(row, 0)?,
+            stage: number_at(row, 1)?,
+            candidate: number_at(row, 2)?,
         })
     }
 

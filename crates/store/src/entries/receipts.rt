@@ -37,15 +37,11 @@ impl Entries for Receipts {
     }
 
     fn read(row: &Row) -> Result<Receipt, Fault> {
-        let actor = number_at(row, 0)?;
-        let id = text_at(row, 1)?;
-        let subject = text_at(row, 2)?;
-        let reply = text_at(row, 3)?;
         Ok(Receipt {
-            actor,
-            id,
-            subject,
-            reply,
+            actor: number_at(row, 0)?,
+            id: text_at(row, 1)?,
+            subject: text_at(row, 2)?,
+            reply: text_at(row, 3)?,
         })
     }
 

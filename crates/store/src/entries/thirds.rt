@@ -9,7 +9,7 @@ use register::ThirdClerk;
 use sqlite::Row;
 use sqlite_value::value::ValueRef;
 use std::alloc::Global;
-use tables::cells::{number, number_at};
+use tables::cells::{number_at, row_values};
 use tables::{Entries, Fault, Table};
 
 /// The third clerks, by batch.
@@ -27,14 +27,15 @@ impl Entries for ThirdClerks {
     const TABLE: Table = Table::Third;
 
     fn values<'a>(third: &'a ThirdClerk, alloc: Global) -> Result<Vec<ValueRef<'a>>, Fault> {
-        let values = [number(third.batch), number(third.clerk)];
-        Vec::from_array(alloc, values).map_err(|_| Fault::Memory)
+        let numbers = [third.batch, third.clerk];
+        row_values(alloc, &numbers, &[])
     }
 
     fn read(row: &Row) -> Result<ThirdClerk, Fault> {
-        let batch = number_at(row, 0)?;
-        let clerk = number_at(row, 1)?;
-        Ok(ThirdClerk { batch, clerk })
+        Ok(ThirdClerk {
+            batch: number_at(row, 0)?,
+            clerk: number_at(row, 1)?,
+        })
     }
 
     ghost typed = { λ t. refl };

@@ -9,7 +9,7 @@ use register::JudgedPaper;
 use sqlite::Row;
 use sqlite_value::value::ValueRef;
 use std::alloc::Global;
-use tables::cells::{number, number_at, text, text_at};
+use tables::cells::{number_at, row_values, text, text_at};
 use tables::{Entries, Fault, Table};
 
 /// The judged papers, by batch and paper.
@@ -27,25 +27,16 @@ impl Entries for JudgedPapers {
     const TABLE: Table = Table::Verdict;
 
     fn values<'a>(judged: &'a JudgedPaper, alloc: Global) -> Result<Vec<ValueRef<'a>>, Fault> {
-        let values = [
-            number(judged.batch),
-            number(judged.paper),
-            number(judged.code),
-            text(judged.marks.as_str()),
-        ];
-        Vec::from_array(alloc, values).map_err(|_| Fault::Memory)
+        let numbers = [judged.batch, judged.paper, judged.code];
+        row_values(alloc, &numbers, &[text(judged.marks.as_str())])
     }
 
     fn read(row: &Row) -> Result<JudgedPaper, Fault> {
-        let batch = number_at(row, 0)?;
-        let paper = number_at(row, 1)?;
-        let code = number_at(row, 2)?;
-        let marks = text_at(row, 3)?;
         Ok(JudgedPaper {
-            batch,
-            paper,
-            code,
-            marks,
+            batch: number_at(row, 0)?,
+            paper: number_at(row, 1)?,
+            code: number_at(row, 2)?,
+            marks: text_at(row, 3)?,
         })
     }
 

@@ -12,7 +12,7 @@ use register::{Phase, Ward};
 use sqlite::Row;
 use sqlite_value::value::ValueRef;
 use std::alloc::Global;
-use tables::cells::{number, number_at, text, text_at};
+use tables::cells::{number_at, row_values, text, text_at};
 use tables::{Entries, Fault, Table};
 
 /// The phase in a column; `Damaged` where there is none.
@@ -42,28 +42,17 @@ impl Entries for Wards {
     const TABLE: Table = Table::Ward;
 
     fn values<'a>(ward: &'a Ward, alloc: Global) -> Result<Vec<ValueRef<'a>>, Fault> {
-        let values = [
-            number(ward.number),
-            number(ward.seats),
-            number(ward.phase.number()),
-            number(ward.done),
-            text(ward.name.as_str()),
-        ];
-        Vec::from_array(alloc, values).map_err(|_| Fault::Memory)
+        let numbers = [ward.number, ward.seats, ward.phase.number(), ward.done];
+        row_values(alloc, &numbers, &[text(ward.name.as_str())])
     }
 
     fn read(row: &Row) -> Result<Ward, Fault> {
-        let number = number_at(row, 0)?;
-        let seats = number_at(row, 1)?;
-        let phase = phase_at(row, 2)?;
-        let done = number_at(row, 3)?;
-        let name = text_at(row, 4)?;
         Ok(Ward {
-            number,
-            seats,
-            phase,
-            done,
-            name,
+            number: number_at(row, 0)?,
+            seats: number_at(row, 1)?,
+            phase: phase_at(row, 2)?,
+            done: number_at(row, 3)?,
+            name: text_at(row, 4)?,
         })
     }
 

@@ -1,21 +1,18 @@
 //! Where the keyings of a batch differ, read from the tables.
 
-ghost use Rattle.std.specs.Prelude.{◌≡◌, ◌∷◌, [], false, ◌&&◌, map, filter, option_map, IfOk, IfErr};
-ghost use Rattle.sqlite.specs.Held.{state};
+ghost use Rattle.std.specs.Prelude.{◌≡◌, ◌∷◌, [], ◌&&◌, map, filter, option_map, IfOk, IfErr};
 ghost use Rattle.register.specs.Offices.{batch_entry, keyed_entry};
-ghost use Rattle.register.specs.Papers.{is_keyed, of_three, differ};
+ghost use Rattle.register.specs.Papers.{is_keyed, differ};
 ghost use Rattle.tables.specs.declared.fault.Fault.{Fault};
 ghost use Rattle.store.specs.Keyings.{keyings_by};
 ghost use Rattle.store.specs.Overviews.{has_alike, is_apart, apart_among, papers_apart, differences_view, differences_by, differences_of, differences_at};
 ghost use Rattle.store.specs.Loads.{Loads};
-ghost use Rattle.store.specs.Reads.{Reads};
 
 use crate::storage::Store;
-use crate::views::batches::find_batch;
-use crate::views::papers::{Keyings, keyings_of};
-use register::papers::{differ, is_keyed};
+use crate::views::papers::Keyings;
+use register::papers::is_keyed;
 use register::{Batch, KeyedPaper};
-use sqlite::{Alter, Connection};
+use sqlite::Alter;
 use std::alloc::{AllocError, Global};
 use tables::Fault;
 
@@ -66,16 +63,17 @@ fn apart_among(
 }
 
 #[tactic(auto, using(crate::proofs::OverviewLemmas::apart_three))]
-/// The numbers of the papers on which keyings of a round differ: those of the first one that is there which
+/// The numbers of the papers on which these keyings differ: those of the first one that is there which
 /// another one has with other marks.
-fn papers_apart(
-    alloc: Global,
-    first: &[KeyedPaper],
-    second: &[KeyedPaper],
-    third: &[KeyedPaper],
-) -> Result<Vec<u32>, AllocError>
-    ensures { IfOk result (λ papers. papers.items ≡ papers_apart (of_three (map keyed_entry first.now) (map keyed_entry second.now) (map keyed_entry third.now))) }
+fn papers_apart(alloc: Global, keyings: &Keyings) -> Result<Vec<u32>, AllocError>
+    ensures { IfOk result (λ papers. papers.items ≡ papers_apart (keyings_by keyings.now)) }
 {
+    let Keyings {
+        first,
+        second,
+        third,
+        ..
+    } = keyings;
     if is_keyed(first) {
         apart_among(alloc, first, second, third)
     } else {
@@ -88,56 +86,26 @@ fn differences_by(alloc: Global, batch: Batch, keyings: &Keyings) -> Result<Diff
     ensures is { IfOk result (λ found. differences_view found ≡ differences_by (batch_entry batch) (keyings_by keyings.now)) }
     ensures cause { IfErr result (λ f. f ≡ Fault.Memory) }
 {
-    let Keyings {
-        first,
-        second,
-        third,
-        ..
-    } = keyings;
-    let Ok(papers) = papers_apart(alloc, first, second, third) else {
+    let Ok(papers) = papers_apart(alloc, keyings) else {
         return Err(Fault::Memory);
     };
     Ok(Differences {
         batch,
-        differs: differ(first, second, third),
+        differs: keyings.differ(),
         papers,
     })
 }
 
-/// Where the keyings of a batch differ.
-fn batch_differences<S: Alter>(
-    alloc: Global,
-    conn: &mut Connection<S>,
-    batch: Batch,
-) -> Result<Differences, Fault>
-    requires { conn.old.in_transaction ≡ false }
-    ensures { Reads (state S.Store conn.old) (state S.Store conn.new) result (λ s found. differences_view found ≡ differences_of s (batch_entry batch)) }
-{
-    let keyings = keyings_of(alloc, conn, &batch)?;
-    let found = differences_by(alloc, batch, &keyings)?;
-    Ok(found)
-}
-
-/// Where the keyings of the batch with this number differ, if there is one.
-fn find_differences<S: Alter>(
-    alloc: Global,
-    conn: &mut Connection<S>,
-    batch: u32,
-) -> Result<Option<Differences>, Fault>
-    requires { conn.old.in_transaction ≡ false }
-    ensures { Reads (state S.Store conn.old) (state S.Store conn.new) result (λ s found. option_map differences_view found ≡ differences_at s batch) }
-{
-    let found = find_batch(conn, batch)?;
-    match found {
-        Some(batch) => {
-            let differences = batch_differences(alloc, conn, batch)?;
-            Ok(Some(differences))
-        }
-        None => Ok(None),
-    }
-}
-
 impl<S: Alter> Store<S> {
+    /// Where the keyings of a batch differ.
+    fn batch_differences(&mut self, batch: Batch) -> Result<Differences, Fault>
+        ensures { Loads S.Store self.old self.new result (λ s found. differences_view found ≡ differences_of s (batch_entry batch)) }
+    {
+        let keyings = self.keyings_of(&batch)?;
+        let found = differences_by(self.allocator(), batch, &keyings)?;
+        Ok(found)
+    }
+
     /// The batch with this number, if there is one, whether it differs, and the numbers of the papers on which
     /// keyings of its current round differ, in the order of the papers; those are told too where two keyings
     /// of three are equal. It changes nothing, and adds nothing to what a stop may leave. `Memory` or `Store`
@@ -145,6 +113,13 @@ impl<S: Alter> Store<S> {
     pub fn load_differences(&mut self, batch: u32) -> Result<Option<Differences>, Fault>
         ensures { Loads S.Store self.old self.new result (λ s found. option_map differences_view found ≡ differences_at s batch) }
     {
-        find_differences(self.alloc, &mut self.conn, batch)
+        let found = self.find_batch(batch)?;
+        match found {
+            Some(batch) => {
+                let differences = self.batch_differences(batch)?;
+                Ok(Some(differences))
+            }
+            None => Ok(None),
+        }
     }
 }

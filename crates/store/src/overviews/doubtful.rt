@@ -1,24 +1,18 @@
 //! The doubtful papers of a ward, read from the tables.
 
-ghost use Rattle.std.specs.Prelude.{◌≡◌, ◌==◌, ◌++◌, false, map, option_map, IfOk, IsTrue};
+ghost use Rattle.std.specs.Prelude.{◌≡◌, ◌==◌, ◌++◌, map, option_map, IfOk};
 ghost use Rattle.std.specs.List.{flat_map};
-ghost use Rattle.sqlite.specs.State.{HasCleanDisk};
-ghost use Rattle.sqlite.specs.Held.{state};
 ghost use Rattle.register.specs.Offices.{batch_entry, keyed_entry, judged_entry};
 ghost use Rattle.register.specs.Papers.{is_doubtful};
 ghost use Rattle.tables.specs.declared.fault.Fault.{Fault};
 ghost use Rattle.store.specs.Overviews.{verdict_on, doubtful_view, doubtful_view_of, doubtful_among, doubtful_in, doubtful_views, doubtful_at};
-ghost use Rattle.store.specs.Loads.{Loads};
-ghost use Rattle.store.specs.Reads.{Reads};
+ghost use Rattle.store.specs.Loads.{Loads, IsOpen};
 
 use crate::storage::Store;
-use crate::views::batches::list_batches;
-use crate::views::papers::{Keyings, keyings_of, list_verdicts};
-use crate::views::wards::find_ward;
-use register::papers::{agreed, is_doubtful};
+use register::papers::is_doubtful;
 use register::{Batch, JudgedPaper, KeyedPaper};
-use sqlite::{Alter, Connection};
-use std::alloc::{AllocError, Global};
+use sqlite::Alter;
+use std::alloc::AllocError;
 use tables::Fault;
 
 /// A doubtful paper (1 to 500) of a batch (1 to 9999) that is taken, and the verdict on it, if there is one.
@@ -80,82 +74,44 @@ fn put_doubtful(
     Ok(())
 }
 
-/// The doubtful papers of a batch, if it is taken, behind others.
-fn batch_doubtful<S: Alter>(
-    alloc: Global,
-    conn: &mut Connection<S>,
-    before: Vec<DoubtfulPaper>,
-    batch: &Batch,
-) -> Result<Vec<DoubtfulPaper>, Fault>
-    requires { conn.old.in_transaction ≡ false }
-    ensures { Reads (state S.Store conn.old) (state S.Store conn.new) result (λ s found. map doubtful_view found.items ≡ map doubtful_view before.items ++ doubtful_in s (batch_entry batch.now)) }
-{
-    let mut found = before;
-    let Keyings {
-        first,
-        second,
-        third,
-        ..
-    } = keyings_of(alloc, conn, batch)?;
-    let verdicts = list_verdicts(alloc, conn, batch.number)?;
-    let papers = agreed(&first, &second, &third);
-    if put_doubtful(&mut found, papers, &verdicts).is_err() {
-        return Err(Fault::Memory);
-    }
-    Ok(found)
-}
-
-/// The doubtful papers of batches, read one after the other.
-fn all_doubtful<S: Alter>(
-    alloc: Global,
-    conn: &mut Connection<S>,
-    batches: &[Batch],
-) -> Result<Vec<DoubtfulPaper>, Fault>
-    requires outside { conn.old.in_transaction ≡ false }
-    requires is_open { HasCleanDisk (state S.Store conn.old) → IsTrue (state S.Store conn.old).is_open }
-    ensures { Reads (state S.Store conn.old) (state S.Store conn.new) result (λ s found. map doubtful_view found.items ≡ flat_map (doubtful_in s) (map batch_entry batches.now)) }
-{
-    let mut found = Vec::new(alloc);
-    for batch in batches {
-        found = batch_doubtful(alloc, conn, found, batch)?;
-    }
-    Ok(found)
-}
-
-/// The doubtful papers of the batches of a ward.
-fn ward_doubtful<S: Alter>(
-    alloc: Global,
-    conn: &mut Connection<S>,
-    ward: u32,
-) -> Result<Vec<DoubtfulPaper>, Fault>
-    requires { conn.old.in_transaction ≡ false }
-    ensures { Reads (state S.Store conn.old) (state S.Store conn.new) result (λ s found. map doubtful_view found.items ≡ doubtful_views s ward) }
-{
-    let batches = list_batches(alloc, conn, ward)?;
-    let found = all_doubtful(alloc, conn, &batches)?;
-    Ok(found)
-}
-
-/// The same of the ward of this number, if there is one.
-fn find_doubtful<S: Alter>(
-    alloc: Global,
-    conn: &mut Connection<S>,
-    ward: u32,
-) -> Result<Option<Vec<DoubtfulPaper>>, Fault>
-    requires { conn.old.in_transaction ≡ false }
-    ensures { Reads (state S.Store conn.old) (state S.Store conn.new) result (λ s found. option_map (λ papers. map doubtful_view papers.items) found ≡ doubtful_at s ward) }
-{
-    let found = find_ward(conn, ward)?;
-    match found {
-        Some(ward) => {
-            let papers = ward_doubtful(alloc, conn, ward.number)?;
-            Ok(Some(papers))
-        }
-        None => Ok(None),
-    }
-}
-
 impl<S: Alter> Store<S> {
+    /// The doubtful papers of a batch, if it is taken, behind others.
+    fn batch_doubtful(
+        &mut self,
+        before: Vec<DoubtfulPaper>,
+        batch: &Batch,
+    ) -> Result<Vec<DoubtfulPaper>, Fault>
+        ensures { Loads S.Store self.old self.new result (λ s found. map doubtful_view found.items ≡ map doubtful_view before.items ++ doubtful_in s (batch_entry batch.now)) }
+    {
+        let mut found = before;
+        let papers = self.papers_of(batch)?;
+        if put_doubtful(&mut found, papers.keyings.agreed(), &papers.verdicts).is_err() {
+            return Err(Fault::Memory);
+        }
+        Ok(found)
+    }
+
+    /// The doubtful papers of batches, read one after the other.
+    fn all_doubtful(&mut self, batches: &[Batch]) -> Result<Vec<DoubtfulPaper>, Fault>
+        requires { IsOpen S.Store self.old }
+        ensures { Loads S.Store self.old self.new result (λ s found. map doubtful_view found.items ≡ flat_map (doubtful_in s) (map batch_entry batches.now)) }
+    {
+        let mut found = Vec::new(self.allocator());
+        for batch in batches {
+            found = self.batch_doubtful(found, batch)?;
+        }
+        Ok(found)
+    }
+
+    /// The doubtful papers of the batches of a ward.
+    fn ward_doubtful(&mut self, ward: u32) -> Result<Vec<DoubtfulPaper>, Fault>
+        ensures { Loads S.Store self.old self.new result (λ s found. map doubtful_view found.items ≡ doubtful_views s ward) }
+    {
+        let batches = self.list_batches(ward)?;
+        let found = self.all_doubtful(&batches)?;
+        Ok(found)
+    }
+
     /// The doubtful papers of the taken batches of the ward of this number, by batch and paper, each with the
     /// verdict on it, if there is one; none at all where there is no such ward. Its batches are read one after
     /// the other, each with its keyings of the current round and the verdicts on its papers. It changes
@@ -163,6 +119,13 @@ impl<S: Alter> Store<S> {
     pub fn load_doubtful(&mut self, ward: u32) -> Result<Option<Vec<DoubtfulPaper>>, Fault>
         ensures { Loads S.Store self.old self.new result (λ s found. option_map (λ papers. map doubtful_view papers.items) found ≡ doubtful_at s ward) }
     {
-        find_doubtful(self.alloc, &mut self.conn, ward)
+        let found = self.find_ward(ward)?;
+        match found {
+            Some(ward) => {
+                let papers = self.ward_doubtful(ward.number)?;
+                Ok(Some(papers))
+            }
+            None => Ok(None),
+        }
     }
 }

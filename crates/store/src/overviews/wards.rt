@@ -1,24 +1,17 @@
 //! How all wards stand, read from the tables.
 
-ghost use Rattle.std.specs.Prelude.{◌≡◌, true, false, map, Some, IsTrue};
-ghost use Rattle.sqlite.specs.State.{HasCleanDisk};
-ghost use Rattle.sqlite.specs.Held.{state};
+ghost use Rattle.std.specs.Prelude.{◌≡◌, true, map, Some};
 ghost use Rattle.register.specs.Offices.{ward_entry, ward_at};
 ghost use Rattle.register.specs.Elections.{ElectionEntry, elected_of, is_counted, is_declared};
 ghost use Rattle.register.specs.Tabulated.{IsCountedWard};
 ghost use Rattle.store.specs.Overviews.{declared_in, ward_view, ward_view_of, ward_views};
-ghost use Rattle.store.specs.Loads.{Loads};
-ghost use Rattle.store.specs.Reads.{Reads};
+ghost use Rattle.store.specs.Loads.{Loads, IsOpen};
 
-use crate::standings::ward_status;
 use crate::storage::Store;
-use crate::views::sheets::find_counted;
-use crate::views::wards::all_wards;
 use paper::Columns;
 use register::marks::columns_of;
 use register::{CountedWard, Phase, Status, Ward};
-use sqlite::{Alter, Connection};
-use std::alloc::Global;
+use sqlite::Alter;
 use tables::Fault;
 
 /// A ward, how it stands, and who is elected where that is declared.
@@ -46,83 +39,58 @@ fn is_declared(phase: Phase) -> bool
     phase.number() == Phase::Declared.number()
 }
 
-/// Who is elected in a ward, where that is declared.
-fn declared_in<S: Alter>(
-    alloc: Global,
-    conn: &mut Connection<S>,
-    ward: &Ward,
-) -> Result<Option<Columns>, Fault>
-    requires outside { conn.old.in_transaction ≡ false }
-    requires is_open { HasCleanDisk (state S.Store conn.old) → IsTrue (state S.Store conn.old).is_open }
-    ensures { Reads (state S.Store conn.old) (state S.Store conn.new) result
-        (λ s elected. ward_at s ward.now.number ≡ Some (ward_entry ward.now) → elected ≡ declared_in s (ward_entry ward.now)) }
-{
-    if !is_declared(ward.phase) {
-        return Ok(None);
-    }
-    let found = find_counted(alloc, conn, ward.number)?;
-    match found {
-        Some(counted) => Ok(Some(elected_in(&counted))),
-        None => Ok(None),
-    }
-}
-
-/// How a ward stands, and who is elected where that is declared.
-fn ward_overview<S: Alter>(
-    alloc: Global,
-    conn: &mut Connection<S>,
-    ward: Ward,
-) -> Result<WardOverview, Fault>
-    requires { conn.old.in_transaction ≡ false }
-    ensures { Reads (state S.Store conn.old) (state S.Store conn.new) result
-        (λ s found. ward_at s ward.number ≡ Some (ward_entry ward) → ward_view found ≡ ward_view_of s (ward_entry ward)) }
-{
-    let status = ward_status(alloc, conn, &ward)?;
-    let elected = declared_in(alloc, conn, &ward)?;
-    Ok(WardOverview {
-        ward,
-        status,
-        elected,
-    })
-}
-
-/// How all wards of an office stand, which these are, read one after the other.
-fn ward_overviews<S: Alter>(
-    alloc: Global,
-    conn: &mut Connection<S>,
-    wards: Vec<Ward>,
-) -> Result<Vec<WardOverview>, Fault>
-    requires outside { conn.old.in_transaction ≡ false }
-    requires is_open { HasCleanDisk (state S.Store conn.old) → IsTrue (state S.Store conn.old).is_open }
-    ensures { Reads (state S.Store conn.old) (state S.Store conn.new) result (λ s found. map ward_entry wards.items ≡ s.wards → map ward_view found.items ≡ ward_views s) }
-{
-    let mut found = Vec::new(alloc);
-    for ward in wards {
-        let overview = ward_overview(alloc, conn, ward)?;
-        if found.push(overview).is_err() {
-            return Err(Fault::Memory);
+impl<S: Alter> Store<S> {
+    /// Who is elected in a ward, where that is declared.
+    fn declared_in(&mut self, ward: &Ward) -> Result<Option<Columns>, Fault>
+        requires { IsOpen S.Store self.old }
+        ensures { Loads S.Store self.old self.new result (λ s elected. ward_at s ward.now.number ≡ Some (ward_entry ward.now) → elected ≡ declared_in s (ward_entry ward.now)) }
+    {
+        if !is_declared(ward.phase) {
+            return Ok(None);
+        }
+        let found = self.load_counted(ward.number)?;
+        match found {
+            Some(counted) => Ok(Some(elected_in(&counted))),
+            None => Ok(None),
         }
     }
-    Ok(found)
-}
 
-/// How all wards stand, in the order of their numbers.
-fn find_wards<S: Alter>(alloc: Global, conn: &mut Connection<S>) -> Result<Vec<WardOverview>, Fault>
-    requires { conn.old.in_transaction ≡ false }
-    ensures { Reads (state S.Store conn.old) (state S.Store conn.new) result (λ s found. map ward_view found.items ≡ ward_views s) }
-{
-    let wards = all_wards(alloc, conn)?;
-    let found = ward_overviews(alloc, conn, wards)?;
-    Ok(found)
-}
+    /// How a ward stands, and who is elected where that is declared.
+    fn ward_overview(&mut self, ward: Ward) -> Result<WardOverview, Fault>
+        ensures { Loads S.Store self.old self.new result (λ s found. ward_at s ward.number ≡ Some (ward_entry ward) → ward_view found ≡ ward_view_of s (ward_entry ward)) }
+    {
+        let status = self.ward_status(&ward)?;
+        let elected = self.declared_in(&ward)?;
+        Ok(WardOverview {
+            ward,
+            status,
+            elected,
+        })
+    }
 
-impl<S: Alter> Store<S> {
+    /// How all wards of an office stand, which these are, read one after the other.
+    fn ward_overviews(&mut self, wards: Vec<Ward>) -> Result<Vec<WardOverview>, Fault>
+        requires { IsOpen S.Store self.old }
+        ensures { Loads S.Store self.old self.new result (λ s found. map ward_entry wards.items ≡ s.wards → map ward_view found.items ≡ ward_views s) }
+    {
+        let mut found = Vec::new(self.allocator());
+        for ward in wards {
+            let overview = self.ward_overview(ward)?;
+            if found.push(overview).is_err() {
+                return Err(Fault::Memory);
+            }
+        }
+        Ok(found)
+    }
+
     /// How all wards stand, in the order of their numbers: each with its status, and with who is elected once
     /// that is declared, by its count as it was kept. It changes nothing, and adds nothing to what a stop may
     /// leave. `Memory` or `Store` where a row can't be read.
     pub fn load_wards(&mut self) -> Result<Vec<WardOverview>, Fault>
         ensures { Loads S.Store self.old self.new result (λ s found. map ward_view found.items ≡ ward_views s) }
     {
-        find_wards(self.alloc, &mut self.conn)
+        let wards = self.all_wards()?;
+        let found = self.ward_overviews(wards)?;
+        Ok(found)
     }
 }

@@ -1,60 +1,69 @@
-//! Candidates, read for a request.
+//! Candidates, read for a request, and a ward with its candidates.
 
-ghost use Rattle.std.specs.Prelude.{◌≡◌, false, map, option_map};
-ghost use Rattle.sqlite.specs.Held.{state};
+ghost use Rattle.std.specs.Prelude.{◌≡◌, map, option_map};
 ghost use Rattle.register.specs.Offices.{candidate_entry, ward_at, candidate_at, candidates_of};
 ghost use Rattle.register.specs.Parts.{empty_part, part_entries};
-ghost use Rattle.store.specs.Reads.{Reads};
+ghost use Rattle.store.specs.Elections.{IsContestAt};
+ghost use Rattle.store.specs.Loads.{Loads};
 
 use crate::entries::candidates::Candidates;
-use crate::views::wards::find_ward;
-use register::{Candidate, Part};
-use sqlite::{Alter, Connection};
-use std::alloc::Global;
+use crate::storage::Store;
+use register::{Candidate, CountedWard, Part};
+use sqlite::Alter;
 use tables::Fault;
 use tables::cells::number;
 use tables::finding::{entries_beginning, find_entry};
 
-/// The candidate with this number in this ward, if there is one.
-pub(crate) fn find_candidate<S: Alter>(
-    conn: &mut Connection<S>,
-    ward: u32,
-    candidate: u32,
-) -> Result<Option<Candidate>, Fault>
-    requires { conn.old.in_transaction ≡ false }
-    ensures { Reads (state S.Store conn.old) (state S.Store conn.new) result (λ s found. option_map candidate_entry found ≡ candidate_at s ward candidate) }
-{
-    find_entry::<Candidates, S>(conn, &[number(ward), number(candidate)])
-}
+impl<S: Alter> Store<S> {
+    /// The candidate with this number in this ward, if there is one.
+    pub(crate) fn find_candidate(
+        &mut self,
+        ward: u32,
+        candidate: u32,
+    ) -> Result<Option<Candidate>, Fault>
+        ensures { Loads S.Store self.old self.new result (λ s found. option_map candidate_entry found ≡ candidate_at s ward candidate) }
+    {
+        find_entry::<Candidates, S>(&mut self.conn, &[number(ward), number(candidate)])
+    }
 
-/// The candidates of a ward, in the order of their numbers.
-pub(crate) fn list_candidates<S: Alter>(
-    alloc: Global,
-    conn: &mut Connection<S>,
-    ward: u32,
-) -> Result<Vec<Candidate>, Fault>
-    requires { conn.old.in_transaction ≡ false }
-    ensures { Reads (state S.Store conn.old) (state S.Store conn.new) result (λ s found. map candidate_entry found.items ≡ candidates_of s ward) }
-{
-    entries_beginning::<Candidates, S>(alloc, conn, &[number(ward)])
-}
+    /// The candidates of a ward, in the order of their numbers.
+    pub(crate) fn list_candidates(&mut self, ward: u32) -> Result<Vec<Candidate>, Fault>
+        ensures { Loads S.Store self.old self.new result (λ s found. map candidate_entry found.items ≡ candidates_of s ward) }
+    {
+        entries_beginning::<Candidates, S>(self.alloc, &mut self.conn, &[number(ward)])
+    }
 
-/// The part of a command that needs a ward and one of its candidates.
-pub(crate) fn candidate_part<S: Alter>(
-    alloc: Global,
-    conn: &mut Connection<S>,
-    number: u32,
-    candidate: u32,
-) -> Result<Part, Fault>
-    requires { conn.old.in_transaction ≡ false }
-    ensures { Reads (state S.Store conn.old) (state S.Store conn.new) result
-        (λ s part. part_entries part ≡ record empty_part { ward = ward_at s number; candidate = candidate_at s number candidate }) }
-{
-    let ward = find_ward(conn, number)?;
-    let candidate = find_candidate(conn, number, candidate)?;
-    Ok(Part {
-        ward,
-        candidate,
-        ..Part::empty(alloc)
-    })
+    /// The ward of this number with its candidates, if it is there. Its count isn't read.
+    pub(crate) fn find_contest(&mut self, ward: u32) -> Result<Option<CountedWard>, Fault>
+        ensures { Loads S.Store self.old self.new result (λ s. IsContestAt s ward) }
+    {
+        let found = self.find_ward(ward)?;
+        let Some(ward) = found else {
+            return Ok(None);
+        };
+        let candidates = self.list_candidates(ward.number)?;
+        Ok(Some(CountedWard {
+            ward,
+            candidates,
+            count: None,
+        }))
+    }
+
+    /// The part of a command that needs a ward and its candidates.
+    pub(crate) fn contest_part(&mut self, ward: u32) -> Result<Part, Fault>
+        ensures { Loads S.Store self.old self.new result (λ s part. part_entries part ≡ record empty_part { ward = ward_at s ward; candidates = candidates_of s ward }) }
+    {
+        let part = self.ward_part(ward)?;
+        let candidates = self.list_candidates(ward)?;
+        Ok(Part { candidates, ..part })
+    }
+
+    /// The part of a command that needs a ward and one of its candidates.
+    pub(crate) fn candidate_part(&mut self, ward: u32, candidate: u32) -> Result<Part, Fault>
+        ensures { Loads S.Store self.old self.new result (λ s part. part_entries part ≡ record empty_part { ward = ward_at s ward; candidate = candidate_at s ward candidate }) }
+    {
+        let part = self.ward_part(ward)?;
+        let candidate = self.find_candidate(ward, candidate)?;
+        Ok(Part { candidate, ..part })
+    }
 }

@@ -1,26 +1,22 @@
 //! What the commands about a ward's count need, read for a request.
 
-ghost use Rattle.std.specs.Prelude.{◌≡◌, ◌≤◌, true, false, map, Option, Some, MatchOption, option_map, IfOk, IfErr, IsOk};
-ghost use Rattle.sqlite.specs.Held.{state};
+ghost use Rattle.std.specs.Prelude.{◌≡◌, ◌≤◌, true, Option, MatchOption, option_map, IfOk, IfErr, IsOk};
 ghost use Rattle.votes.specs.Units.{max_seats};
-ghost use Rattle.register.specs.Offices.{ward_entry, candidate_entry, ward_at, candidate_at};
+ghost use Rattle.register.specs.Offices.{ward_at, candidate_at};
 ghost use Rattle.register.specs.Elections.{ElectionEntry, election_of, has_count, due_of, elected_of};
 ghost use Rattle.register.specs.Counts.{poll_for, due_for, elected_for};
 ghost use Rattle.register.specs.Parts.{empty_part, part_entries};
 ghost use Rattle.register.specs.Tabulated.{has_stages};
-ghost use Rattle.store.specs.Elections.{IsFoundFor, polled_part, counted_part, IsThere, IsWardCount, IsBegun, IsCounted, IsCountedFor, IsShown};
-ghost use Rattle.store.specs.Reads.{Reads};
+ghost use Rattle.store.specs.Elections.{IsFoundFor, polled_part, counted_part, election_in, IsThere, IsWardCount, IsBegun, IsCounted, IsCountedFor, IsShown};
+ghost use Rattle.store.specs.Loads.{Loads};
 
-use crate::views::books::kept_count;
-use crate::views::candidates::{find_candidate, list_candidates};
-use crate::views::elections::{find_election, ward_election};
-use crate::views::wards::find_ward;
+use crate::storage::Store;
 use count::Due;
 use register::elections::{Progress, elections_are_fair};
 use register::marks::columns_of;
 use register::wards::is_contested;
-use register::{Candidate, CountedWard, Election, Part, Ward, WardSheet};
-use sqlite::{Alter, Connection};
+use register::{CountedWard, Election, Part, WardSheet};
+use sqlite::Alter;
 use std::alloc::Global;
 use tables::Fault;
 
@@ -45,20 +41,6 @@ fn polled(alloc: Global, found: Option<Election>) -> Result<Part, Fault>
     })
 }
 
-/// The part of the command that seals a ward: the ward, and the poll of its papers.
-pub(crate) fn seal_part<S: Alter>(
-    alloc: Global,
-    conn: &mut Connection<S>,
-    ward: u32,
-) -> Result<Part, Fault>
-    requires { conn.old.in_transaction ≡ false }
-    ensures { Reads (state S.Store conn.old) (state S.Store conn.new) result (λ s part. part_entries part ≡ record empty_part { ward = ward_at s ward; poll = poll_for s (ward_at s ward) }) }
-{
-    let found = find_election(alloc, conn, ward)?;
-    let part = polled(alloc, found)?;
-    Ok(part)
-}
-
 /// Where the count of a ward stands. That of an uncontested ward is finished, and all its candidates are
 /// elected.
 fn progress_of(found: &CountedWard) -> Progress
@@ -71,128 +53,6 @@ fn progress_of(found: &CountedWard) -> Progress
             elected: columns_of(&found.candidates),
         },
     }
-}
-
-/// The count of a contested ward with no stage done, whose candidates these are: begun on its papers; and how
-/// many of them are rejected. None where it has more seats than a ward can have, as none of an office has.
-pub(crate) fn begun_sheet<S: Alter>(
-    alloc: Global,
-    conn: &mut Connection<S>,
-    ward: Ward,
-    candidates: Vec<Candidate>,
-) -> Result<Option<WardSheet>, Fault>
-    requires { conn.old.in_transaction ≡ false }
-    ensures { Reads (state S.Store conn.old) (state S.Store conn.new) result
-        (λ s found. IsThere s (ward_entry ward) (map candidate_entry candidates.items) → has_count (election_of s (ward_entry ward)) ≡ true → ward.done ≡ 0 → IsBegun (election_of s (ward_entry ward)) found) }
-{
-    elections_are_fair();
-    let election = ward_election(alloc, conn, ward, candidates)?;
-    match election.begin(alloc) {
-        Ok(begun) => Ok(begun),
-        Err(_) => Err(Fault::Memory),
-    }
-}
-
-/// The same count alone.
-fn begun_count<S: Alter>(
-    alloc: Global,
-    conn: &mut Connection<S>,
-    ward: Ward,
-    candidates: Vec<Candidate>,
-) -> Result<Option<CountedWard>, Fault>
-    requires { conn.old.in_transaction ≡ false }
-    ensures { Reads (state S.Store conn.old) (state S.Store conn.new) result
-        (λ s found. IsThere s (ward_entry ward) (map candidate_entry candidates.items) → has_count (election_of s (ward_entry ward)) ≡ true → ward.done ≡ 0 → IsCounted (election_of s (ward_entry ward)) found) }
-{
-    let begun = begun_sheet(alloc, conn, ward, candidates)?;
-    match begun {
-        Some(sheet) => Ok(Some(sheet.counted)),
-        None => Ok(None),
-    }
-}
-
-/// The count of a contested ward that has a stage, whose candidates these are: as it was kept, by what is
-/// tabulated alone. None where that is of no count, as in no office.
-pub(crate) fn resumed_count<S: Alter>(
-    alloc: Global,
-    conn: &mut Connection<S>,
-    ward: Ward,
-    candidates: Vec<Candidate>,
-) -> Result<Option<CountedWard>, Fault>
-    requires { conn.old.in_transaction ≡ false }
-    ensures { Reads (state S.Store conn.old) (state S.Store conn.new) result
-        (λ s found. IsThere s (ward_entry ward) (map candidate_entry candidates.items) → has_stages (election_of s (ward_entry ward)) ≡ true → IsCounted (election_of s (ward_entry ward)) found) }
-{
-    let found = kept_count(alloc, conn, &ward, &candidates)?;
-    match found {
-        Some(count) => Ok(Some(CountedWard {
-            ward,
-            candidates,
-            count: Some(count),
-        })),
-        None => Ok(None),
-    }
-}
-
-/// The count of a contested ward, whose candidates these are: begun on its papers where no stage is done, and
-/// else by what is tabulated alone.
-pub(crate) fn contested_count<S: Alter>(
-    alloc: Global,
-    conn: &mut Connection<S>,
-    ward: Ward,
-    candidates: Vec<Candidate>,
-) -> Result<Option<CountedWard>, Fault>
-    requires { conn.old.in_transaction ≡ false }
-    ensures { Reads (state S.Store conn.old) (state S.Store conn.new) result
-        (λ s found. IsThere s (ward_entry ward) (map candidate_entry candidates.items) → has_count (election_of s (ward_entry ward)) ≡ true → IsCounted (election_of s (ward_entry ward)) found) }
-{
-    if ward.done == 0 {
-        begun_count(alloc, conn, ward, candidates)
-    } else {
-        resumed_count(alloc, conn, ward, candidates)
-    }
-}
-
-/// The count of a ward, where it is contested. None where the ward is none of an office.
-fn ward_count<S: Alter>(
-    alloc: Global,
-    conn: &mut Connection<S>,
-    ward: Ward,
-) -> Result<Option<CountedWard>, Fault>
-    requires { conn.old.in_transaction ≡ false }
-    ensures { Reads (state S.Store conn.old) (state S.Store conn.new) result
-        (λ s found. ward_at s ward.number ≡ Some (ward_entry ward) → IsCounted (election_of s (ward_entry ward)) found) }
-{
-    let candidates = list_candidates(alloc, conn, ward.number)?;
-    if !is_contested(&ward, &candidates) {
-        return Ok(Some(CountedWard {
-            ward,
-            candidates,
-            count: None,
-        }));
-    }
-    let count = contested_count(alloc, conn, ward, candidates)?;
-    Ok(count)
-}
-
-/// The count of the ward of this number, if it is there.
-fn find_count<S: Alter>(
-    alloc: Global,
-    conn: &mut Connection<S>,
-    ward: u32,
-) -> Result<Option<CountedWard>, Fault>
-    requires { conn.old.in_transaction ≡ false }
-    ensures { Reads (state S.Store conn.old) (state S.Store conn.new) result (λ s found. IsCountedFor (option_map (election_of s) (ward_at s ward)) found) }
-{
-    let found = find_ward(conn, ward)?;
-    let Some(ward) = found else {
-        return Ok(None);
-    };
-    let count = ward_count(alloc, conn, ward)?;
-    if count.is_none() {
-        return Err(Fault::Store);
-    }
-    Ok(count)
 }
 
 /// The part of a command that needs what is due in the count of a ward, if it is there, who is elected, and
@@ -215,34 +75,104 @@ fn counted(alloc: Global, found: Option<CountedWard>) -> Part
     }
 }
 
-/// The part of a command that needs where the count of a ward stands: the ward, what is due, who is elected,
-/// and the count itself.
-pub(crate) fn count_part<S: Alter>(
-    alloc: Global,
-    conn: &mut Connection<S>,
-    ward: u32,
-) -> Result<Part, Fault>
-    requires { conn.old.in_transaction ≡ false }
-    ensures { Reads (state S.Store conn.old) (state S.Store conn.new) result
-        (λ s part. (part_entries part ≡ record empty_part { ward = ward_at s ward; due = due_for s (ward_at s ward); elected = elected_for s (ward_at s ward) })
-        × IsShown (option_map (election_of s) (ward_at s ward)) part.count) }
-{
-    let found = find_count(alloc, conn, ward)?;
-    Ok(counted(alloc, found))
-}
+impl<S: Alter> Store<S> {
+    /// The part of the command that seals a ward: the ward, and the poll of its papers.
+    pub(crate) fn seal_part(&mut self, ward: u32) -> Result<Part, Fault>
+        ensures { Loads S.Store self.old self.new result (λ s part. part_entries part ≡ record empty_part { ward = ward_at s ward; poll = poll_for s (ward_at s ward) }) }
+    {
+        let found = self.find_election(ward)?;
+        let part = polled(self.allocator(), found)?;
+        Ok(part)
+    }
 
-/// The part of the command about a lot: where the count of the ward stands, and the candidate.
-pub(crate) fn lot_part<S: Alter>(
-    alloc: Global,
-    conn: &mut Connection<S>,
-    ward: u32,
-    candidate: u32,
-) -> Result<Part, Fault>
-    requires { conn.old.in_transaction ≡ false }
-    ensures { Reads (state S.Store conn.old) (state S.Store conn.new) result
-        (λ s part. part_entries part ≡ record empty_part { ward = ward_at s ward; candidate = candidate_at s ward candidate; due = due_for s (ward_at s ward); elected = elected_for s (ward_at s ward) }) }
-{
-    let part = count_part(alloc, conn, ward)?;
-    let candidate = find_candidate(conn, ward, candidate)?;
-    Ok(Part { candidate, ..part })
+    /// The count of a contested ward with no stage done, of which this was found: begun on its papers; and how many
+    /// of them are rejected. None where it has more seats than a ward can have, as none of an office has.
+    pub(crate) fn begun_sheet(&mut self, contest: CountedWard) -> Result<Option<WardSheet>, Fault>
+        ensures { Loads S.Store self.old self.new result
+            (λ s found. IsThere s contest → has_count (election_in s contest) ≡ true → contest.ward.done ≡ 0 → IsBegun (election_in s contest) found) }
+    {
+        elections_are_fair();
+        let election = self.ward_election(contest)?;
+        match election.begin(self.allocator()) {
+            Ok(begun) => Ok(begun),
+            Err(_) => Err(Fault::Memory),
+        }
+    }
+
+    /// The count of a contested ward that has a stage, of which this was found: as it was kept, by what is
+    /// tabulated alone. None where that is of no count, as in no office.
+    pub(crate) fn resumed_count(
+        &mut self,
+        contest: CountedWard,
+    ) -> Result<Option<CountedWard>, Fault>
+        ensures { Loads S.Store self.old self.new result
+            (λ s found. IsThere s contest → has_stages (election_in s contest) ≡ true → IsCounted (election_in s contest) found) }
+    {
+        let found = self.kept_count(&contest)?;
+        match found {
+            Some(count) => Ok(Some(CountedWard {
+                count: Some(count),
+                ..contest
+            })),
+            None => Ok(None),
+        }
+    }
+
+    /// The count of a contested ward, of which this was found: begun on its papers where no stage is done, and
+    /// else by what is tabulated alone.
+    pub(crate) fn contested_count(
+        &mut self,
+        contest: CountedWard,
+    ) -> Result<Option<CountedWard>, Fault>
+        ensures { Loads S.Store self.old self.new result
+            (λ s found. IsThere s contest → has_count (election_in s contest) ≡ true → IsCounted (election_in s contest) found) }
+    {
+        if contest.ward.done != 0 {
+            return self.resumed_count(contest);
+        }
+        let begun = self.begun_sheet(contest)?;
+        match begun {
+            Some(sheet) => Ok(Some(sheet.counted)),
+            None => Ok(None),
+        }
+    }
+
+    /// The ward of this number, if it is there, and its count where it is contested.
+    fn find_count(&mut self, ward: u32) -> Result<Option<CountedWard>, Fault>
+        ensures { Loads S.Store self.old self.new result (λ s found. IsCountedFor (option_map (election_of s) (ward_at s ward)) found) }
+    {
+        let found = self.find_contest(ward)?;
+        let Some(contest) = found else {
+            return Ok(None);
+        };
+        if !is_contested(&contest.ward, &contest.candidates) {
+            return Ok(Some(contest));
+        }
+        let count = self.contested_count(contest)?;
+        if count.is_none() {
+            return Err(Fault::Store);
+        }
+        Ok(count)
+    }
+
+    /// The part of a command that needs where the count of a ward stands: the ward, what is due, who is elected,
+    /// and the count itself.
+    pub(crate) fn count_part(&mut self, ward: u32) -> Result<Part, Fault>
+        ensures { Loads S.Store self.old self.new result
+            (λ s part. (part_entries part ≡ record empty_part { ward = ward_at s ward; due = due_for s (ward_at s ward); elected = elected_for s (ward_at s ward) })
+            × IsShown (option_map (election_of s) (ward_at s ward)) part.count) }
+    {
+        let found = self.find_count(ward)?;
+        Ok(counted(self.allocator(), found))
+    }
+
+    /// The part of the command about a lot: where the count of the ward stands, and the candidate.
+    pub(crate) fn lot_part(&mut self, ward: u32, candidate: u32) -> Result<Part, Fault>
+        ensures { Loads S.Store self.old self.new result
+            (λ s part. part_entries part ≡ record empty_part { ward = ward_at s ward; candidate = candidate_at s ward candidate; due = due_for s (ward_at s ward); elected = elected_for s (ward_at s ward) }) }
+    {
+        let part = self.count_part(ward)?;
+        let candidate = self.find_candidate(ward, candidate)?;
+        Ok(Part { candidate, ..part })
+    }
 }

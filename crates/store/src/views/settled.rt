@@ -1,23 +1,19 @@
 //! The papers of a ward whose batches are all settled, taken in row by row where two clerks keyed a batch.
 
-ghost use Rattle.std.specs.Prelude.{◌≡◌, false, [], map, Some, option_map, IfOk, IfErr, IsTrue};
-ghost use Rattle.sqlite.specs.State.{HasCleanDisk};
-ghost use Rattle.sqlite.specs.Held.{state};
+ghost use Rattle.std.specs.Prelude.{◌≡◌, [], map, Some, IfOk, IfErr};
 ghost use Rattle.tables.specs.declared.fault.Fault.{Fault};
 ghost use Rattle.register.specs.Offices.{batch_entry, third_entry, keyed_entry, judged_entry, third_at, keying_of, verdicts_of};
 ghost use Rattle.register.specs.Papers.{taken_papers};
 ghost use Rattle.register.specs.Polls.{lower_clerk, settled_papers, settled_judgements, ballots_by, StandFor};
-ghost use Rattle.store.specs.Reads.{Reads};
+ghost use Rattle.store.specs.Loads.{Loads, IsOpen};
 ghost use Rattle.store.specs.Settled.{CountAfter};
 
 use crate::entries::keyings::KeyedPapers;
-use crate::views::batches::find_third;
-use crate::views::papers::{Keyings, keyings_with, list_verdicts};
+use crate::storage::Store;
 use paper::Columns;
-use register::papers::{agreed, lower_clerk};
+use register::papers::lower_clerk;
 use register::{Ballots, Batch, JudgedPaper, KeepsPapers, KeyedPaper, ThirdClerk};
-use sqlite::{Alter, Connection};
-use std::alloc::Global;
+use sqlite::Alter;
 use std::marker::{Brand, PhantomData};
 use tables::Fault;
 use tables::cells::number;
@@ -75,51 +71,6 @@ impl<P: KeepsPapers, B: Start> Visitor<KeyedPapers> for SettledPapers<P, B> {
     }
 }
 
-/// Adds the papers of a batch that of its two clerks the one with the lower number keyed in its current round,
-/// row by row, where the walk begins.
-fn walk_papers<S: Alter, P: KeepsPapers + Drop, B: Start>(
-    conn: &mut Connection<S>,
-    ballots: Ballots<P>,
-    columns: Columns,
-    batch: &Batch,
-    verdicts: Vec<JudgedPaper>,
-) -> Result<Ballots<P>, Fault>
-    requires outside { conn.old.in_transaction ≡ false }
-    requires columns { columns ≡ B.columns }
-    requires verdicts { map judged_entry verdicts.items ≡ B.verdicts }
-    requires start { (js : _) → B.were_counted js → StandFor P.holds ballots (ballots_by js) }
-    ensures { Reads (state S.Store conn.old) (state S.Store conn.new) result (λ s counted. CountAfter P.holds B.were_counted columns (map judged_entry verdicts.items) counted (keying_of s batch.now.number batch.now.round (lower_clerk (batch_entry batch.now)))) }
-{
-    let counter = SettledPapers::<P, B> {
-        ballots,
-        columns,
-        verdicts,
-        start: PhantomData,
-    };
-    let key = [
-        number(batch.number),
-        number(batch.round),
-        number(lower_clerk(batch)),
-    ];
-    let counted = walk_beginning::<KeyedPapers, SettledPapers<P, B>, S>(conn, &key, counter)?;
-    Ok(counted.ballots)
-}
-
-/// Adds the papers of a batch that its two clerks alone key, whose verdicts these are.
-fn add_alike<S: Alter, P: KeepsPapers + Drop>(
-    conn: &mut Connection<S>,
-    ballots: Ballots<P>,
-    columns: Columns,
-    batch: &Batch,
-    verdicts: Vec<JudgedPaper>,
-) -> Result<Ballots<P>, Fault>
-    requires { conn.old.in_transaction ≡ false }
-    ensures { Reads (state S.Store conn.old) (state S.Store conn.new) result
-        (λ s counted. CountAfter P.holds (λ js. StandFor P.holds ballots (ballots_by js)) columns (map judged_entry verdicts.items) counted (keying_of s batch.now.number batch.now.round (lower_clerk (batch_entry batch.now)))) }
-{
-    walk_papers::<S, P, Brand>(conn, ballots, columns, batch, verdicts)
-}
-
 /// Adds the papers of a keying of a batch that is settled, one after the other. An error is `Memory`, and the
 /// papers before are spoilt then.
 fn add_each<P: KeepsPapers>(
@@ -139,80 +90,99 @@ fn add_each<P: KeepsPapers>(
     Ok(())
 }
 
-/// Adds the papers of a batch that a third clerk keys too, whose verdicts these are: those of the first of its
-/// keyings that another one equals.
-fn add_agreed<S: Alter, P: KeepsPapers + Drop>(
-    alloc: Global,
-    conn: &mut Connection<S>,
-    ballots: Ballots<P>,
-    columns: Columns,
-    batch: &Batch,
-    third_clerk: ThirdClerk,
-    verdicts: Vec<JudgedPaper>,
-) -> Result<Ballots<P>, Fault>
-    requires { conn.old.in_transaction ≡ false }
-    ensures { Reads (state S.Store conn.old) (state S.Store conn.new) result
-        (λ s counted. Some (third_entry third_clerk) ≡ third_at s batch.now.number → CountAfter P.holds (λ js. StandFor P.holds ballots (ballots_by js)) columns (map judged_entry verdicts.items) counted (taken_papers s (batch_entry batch.now))) }
-{
-    let mut counted = ballots;
-    let Keyings {
-        first,
-        second,
-        third,
-        ..
-    } = keyings_with(alloc, conn, batch, Some(third_clerk))?;
-    add_each(
-        &mut counted,
-        columns,
-        &verdicts,
-        agreed(&first, &second, &third),
-    )?;
-    Ok(counted)
-}
+impl<S: Alter> Store<S> {
+    /// Adds the papers of a batch that of its two clerks the one with the lower number keyed in its current round,
+    /// row by row, where the walk begins.
+    fn walk_papers<P: KeepsPapers + Drop, B: Start>(
+        &mut self,
+        ballots: Ballots<P>,
+        columns: Columns,
+        batch: &Batch,
+        verdicts: Vec<JudgedPaper>,
+    ) -> Result<Ballots<P>, Fault>
+        requires columns { columns ≡ B.columns }
+        requires verdicts { map judged_entry verdicts.items ≡ B.verdicts }
+        requires start { (js : _) → B.were_counted js → StandFor P.holds ballots (ballots_by js) }
+        ensures { Loads S.Store self.old self.new result (λ s counted. CountAfter P.holds B.were_counted columns (map judged_entry verdicts.items) counted (keying_of s batch.now.number batch.now.round (lower_clerk (batch_entry batch.now)))) }
+    {
+        let counter = SettledPapers::<P, B> {
+            ballots,
+            columns,
+            verdicts,
+            start: PhantomData,
+        };
+        let key = [
+            number(batch.number),
+            number(batch.round),
+            number(lower_clerk(batch)),
+        ];
+        let counted = walk_beginning::<KeyedPapers, SettledPapers<P, B>, S>(
+            &mut self.conn,
+            &key,
+            counter,
+        )?;
+        Ok(counted.ballots)
+    }
 
-/// Adds the papers of a batch that is settled, whose verdicts these are.
-fn add_batch<S: Alter, P: KeepsPapers + Drop>(
-    alloc: Global,
-    conn: &mut Connection<S>,
-    ballots: Ballots<P>,
-    columns: Columns,
-    batch: &Batch,
-    verdicts: Vec<JudgedPaper>,
-) -> Result<Ballots<P>, Fault>
-    requires { conn.old.in_transaction ≡ false }
-    ensures { Reads (state S.Store conn.old) (state S.Store conn.new) result
-        (λ s counted. CountAfter P.holds (λ js. StandFor P.holds ballots (ballots_by js)) columns (map judged_entry verdicts.items) counted (settled_papers s (batch_entry batch.now))) }
-{
-    let found = find_third(conn, batch.number)?;
-    match found {
-        Some(third) => {
-            let agreed = add_agreed(alloc, conn, ballots, columns, batch, third, verdicts)?;
-            Ok(agreed)
-        }
-        None => {
-            let alike = add_alike(conn, ballots, columns, batch, verdicts)?;
-            Ok(alike)
+    /// Adds the papers of a batch that a third clerk keys too, whose verdicts these are: those of the first of its
+    /// keyings that another one equals.
+    fn add_agreed<P: KeepsPapers + Drop>(
+        &mut self,
+        ballots: Ballots<P>,
+        columns: Columns,
+        batch: &Batch,
+        third_clerk: ThirdClerk,
+        verdicts: Vec<JudgedPaper>,
+    ) -> Result<Ballots<P>, Fault>
+        ensures { Loads S.Store self.old self.new result
+            (λ s counted. Some (third_entry third_clerk) ≡ third_at s batch.now.number → CountAfter P.holds (λ js. StandFor P.holds ballots (ballots_by js)) columns (map judged_entry verdicts.items) counted (taken_papers s (batch_entry batch.now))) }
+    {
+        let mut counted = ballots;
+        let keyings = self.keyings_with(batch, Some(third_clerk))?;
+        add_each(&mut counted, columns, &verdicts, keyings.agreed())?;
+        Ok(counted)
+    }
+
+    /// Adds the papers of a batch that is settled, whose verdicts these are.
+    fn add_batch<P: KeepsPapers + Drop>(
+        &mut self,
+        ballots: Ballots<P>,
+        columns: Columns,
+        batch: &Batch,
+        verdicts: Vec<JudgedPaper>,
+    ) -> Result<Ballots<P>, Fault>
+        ensures { Loads S.Store self.old self.new result
+            (λ s counted. CountAfter P.holds (λ js. StandFor P.holds ballots (ballots_by js)) columns (map judged_entry verdicts.items) counted (settled_papers s (batch_entry batch.now))) }
+    {
+        let found = self.find_third(batch.number)?;
+        match found {
+            Some(third) => {
+                let agreed = self.add_agreed(ballots, columns, batch, third, verdicts)?;
+                Ok(agreed)
+            }
+            None => {
+                let alike = self.walk_papers::<P, Brand>(ballots, columns, batch, verdicts)?;
+                Ok(alike)
+            }
         }
     }
-}
 
-/// What the papers of batches come to where each is settled, kept in what holds none yet.
-pub(crate) fn settled_ballots<S: Alter, P: KeepsPapers + Drop>(
-    alloc: Global,
-    conn: &mut Connection<S>,
-    kept: P,
-    columns: Columns,
-    batches: &[Batch],
-) -> Result<Ballots<P>, Fault>
-    requires none { P.holds kept [] }
-    requires outside { conn.old.in_transaction ≡ false }
-    requires is_open { HasCleanDisk (state S.Store conn.old) → IsTrue (state S.Store conn.old).is_open }
-    ensures { Reads (state S.Store conn.old) (state S.Store conn.new) result (λ s ballots. StandFor P.holds ballots (ballots_by (settled_judgements s columns (map batch_entry batches.now)))) }
-{
-    let mut ballots = Ballots::new(kept);
-    for batch in batches {
-        let verdicts = list_verdicts(alloc, conn, batch.number)?;
-        ballots = add_batch(alloc, conn, ballots, columns, batch, verdicts)?;
+    /// What the papers of batches come to where each is settled, kept in what holds none yet.
+    pub(crate) fn settled_ballots<P: KeepsPapers + Drop>(
+        &mut self,
+        kept: P,
+        columns: Columns,
+        batches: &[Batch],
+    ) -> Result<Ballots<P>, Fault>
+        requires none { P.holds kept [] }
+        requires is_open { IsOpen S.Store self.old }
+        ensures { Loads S.Store self.old self.new result (λ s ballots. StandFor P.holds ballots (ballots_by (settled_judgements s columns (map batch_entry batches.now)))) }
+    {
+        let mut ballots = Ballots::new(kept);
+        for batch in batches {
+            let verdicts = self.list_verdicts(batch.number)?;
+            ballots = self.add_batch(ballots, columns, batch, verdicts)?;
+        }
+        Ok(ballots)
     }
-    Ok(ballots)
 }

@@ -1,9 +1,13 @@
 -- Of the proof of `elected`: what is shown by hand.
-use Rattle.std.proofs.Common.{◌&&◌, ◌||◌, not, [], reverse, rules}
+use Rattle.std.proofs.Common.{Bool, ◌&&◌, ◌||◌, not, [], reverse, ap, ◌∙◌, rules}
+use Rattle.std.specs.List.{filter}
 use Rattle.count.specs.Books.{contest_of}
 use Rattle.count.specs.Law.Elected.{has_reached, is_excluded}
-use Rattle.count.proofs.ColumnLemmas.{columns-more}
 use Rattle.count.proofs.elected.elected.Goals as goal
 
-pub append-requires : goal.append-requires
-append-requires c = columns-more (λ x. has_reached (contest_of c.args.terms.now []) (reverse c.args.stages.now) x || (c.undecided_fill-fill.result && not (is_excluded (reverse c.args.stages.now) x))) _ _ _ (search rules) c.loop-c.invariant (search rules) (search rules)
+pub returns : goal.returns
+returns c =
+    let contest = contest_of c.args.terms.now [] in
+    let history = reverse c.args.stages.now in
+    c.those.ensures (λ x. has_reached contest history x || (c.undecided_fill-fill.result && not (is_excluded history x))) (λ x passed some few told. search rules)
+    ∙ ap (λ (fill : Bool). filter (λ x. has_reached contest history x || (fill && not (is_excluded history x))) c.args.terms.now.candidates) c.undecided_fill-fill.ensures

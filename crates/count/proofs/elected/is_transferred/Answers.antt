@@ -1,14 +1,13 @@
 -- Of the proof of `is_transferred`: what is shown by hand.
-use Rattle.std.proofs.Common.{◌≡◌, ◌∙◌, sym, ap, true, rules}
+use Rattle.std.proofs.Common.{◌∙◌, sym, rules, tests}
 use Rattle.count.specs.Law.Elected.{transfers}
-use Rattle.count.proofs.ColumnLemmas.{found-reverse, none-reverse}
+use Rattle.count.specs.declared.stages.Stage.{Stage}
+use Rattle.std.proofs.lemmas.Iterator.{YieldsList-from_slice}
+use Rattle.std.proofs.lemmas.Iterator.Search.{any_from_yields_List}
+use Rattle.count.proofs.ColumnLemmas.{any-reverse}
 use Rattle.count.proofs.elected.is_transferred.Goals as goal
 
-pub returns-then-transfers : goal.returns-then-transfers
-returns-then-transfers c =
-    let here : transfers c.stage-item.result.action c.args.c ≡ true = search rules in
-    found-reverse (λ s. transfers s.action c.args.c) c.args.stages.now c.loop-stage.stage-index c.stage-item.result (search rules)
-    (ap (λ s. transfers s.action c.args.c) (sym c.stage-item.is) ∙ here)
-
 pub returns : goal.returns
-returns c = none-reverse (λ s. transfers s.action c.args.c) c.args.stages.now c.loop-stage.stage-index c.loop-stage.invariant (search rules)
+returns c =
+    any_from_yields_List (λ (s : Stage). transfers s.action c.args.c) _ _ _ c.any.ensures.ran (YieldsList-from_slice c.args.stages.now cc) (λ x b q k. search (rules, tests))
+    ∙ sym (any-reverse (λ (s : Stage). transfers s.action c.args.c) c.args.stages.now)

@@ -2,8 +2,7 @@
 use Rattle.std.proofs.Common.{not, reverse, rules}
 use Rattle.std.specs.List.{list_any}
 use Rattle.count.specs.Law.Due.{is_above}
-use Rattle.count.proofs.ColumnLemmas.{columns-more}
 use Rattle.count.proofs.ties.highest.Goals as goal
 
-pub append-requires : goal.append-requires
-append-requires c = columns-more (λ x. not (list_any (λ d. is_above (reverse c.args.stages.now) d x) c.args.group.now)) _ _ _ (search rules) c.loop-c.invariant (search rules) (search rules)
+pub returns : goal.returns
+returns c = c.those.ensures (λ x. not (list_any (λ d. is_above (reverse c.args.stages.now) d x) c.args.group.now)) (λ x passed some few told. search rules)

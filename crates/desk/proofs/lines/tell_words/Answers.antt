@@ -9,4 +9,5 @@ pub returns-in-Verdict : goal.returns-in-Verdict
 returns-in-Verdict g c = rw c.in-Verdict.is (error_shown g.O.Sink.taken g.O.Sink.failed g.E.Sink.taken g.E.Sink.failed _ _ _ (words_page Verdict) c.tell_error.result refl c.tell_error.ensures)
 
 pub returns-in-Origin : goal.returns-in-Origin
-returns-in-Origin g c = rw c.in-Origin.is (error_shown g.O.Sink.taken g.O.Sink.failed g.E.Sink.taken g.E.Sink.failed _ _ _ (words_page Origin) c.tell_error-in-Origin.result refl c.tell_error-in-Origin.ensures)
+returns-in-Origin g c =
+    rw c.in-Origin.is (error_shown g.O.Sink.taken g.O.Sink.failed g.E.Sink.taken g.E.Sink.failed _ _ _ (words_page Origin) c.tell_error-in-Origin.result refl c.tell_error-in-Origin.ensures)

@@ -16,7 +16,7 @@ use Rattle.store.specs.Migrations.{FailsToMigrate, HoldsNoOlder, LeavesOldOrNew,
 use Rattle.store.specs.Offices.{IsAt, tables_of}
 use Rattle.store.specs.Openings.{HoldsNoState}
 use Rattle.store.proofs.ReopenLemmas.{left_holds, left_ours}
-use Rattle.desk.specs.Headline.{IsPlain}
+use Rattle.office.specs.Answers.{IsMemoryOrStore}
 use Rattle.desk.specs.Pages.{failed, migrated_text, page_of, replied}
 use Rattle.desk.specs.declared.lines.Failure.TheVariants.{Office}
 use Rattle.desk.specs.declared.lines.Outcome.TheVariants as outcome
@@ -42,7 +42,7 @@ only_listed db old new fault none (inl listed) = listed
 only_listed db old new fault none (inr held) = absurd (none held.0 held.1 held.2)
 
 -- a fault that leaves something is want of memory or a failing store
-plain_or : {P : Type 0} (fault : Fault) → (fault ≡ Memory) ⊎ ((fault ≡ Store) ⊎ P) → IsPlain fault ⊎ P
+plain_or : {P : Type 0} (fault : Fault) → (fault ≡ Memory) ⊎ ((fault ≡ Store) ⊎ P) → IsMemoryOrStore fault ⊎ P
 plain_or fault (inl memory) = inl (inl memory)
 plain_or fault (inr (inl store)) = inl (inr store)
 plain_or fault (inr (inr same)) = inr same

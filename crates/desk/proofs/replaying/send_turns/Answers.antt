@@ -74,7 +74,8 @@ returns-then-status-ne0-clause-sent g c =
     }
 
 pub returns-then-status-ne0-clause-wears : goal.returns-then-status-ne0-clause-wears
-returns-then-status-ne0-clause-wears g c = wears_then (state g.S.Store c.args.office.now.held) (state g.S.Store c.loop-turn.office.held) (state g.S.Store c.run-status.new.office.held) c.run-status.ensures.clean c.loop-turn.invariant.wears
+returns-then-status-ne0-clause-wears g c =
+    wears_then (state g.S.Store c.args.office.now.held) (state g.S.Store c.loop-turn.office.held) (state g.S.Store c.run-status.new.office.held) c.run-status.ensures.clean c.loop-turn.invariant.wears
     c.run-status.ensures.wears
 
 pub returns-clause-sent : goal.returns-clause-sent

@@ -1,6 +1,7 @@
 use Rattle.std.proofs.Common.{◌≡◌, ◌+◌, ◌++◌, map, drop}
 use Rattle.keyfile.specs.Candidates.{candidate_entry}
-use Rattle.desk.specs.Requests.{requests_from, sent_as}
+use Rattle.desk.specs.Orders.{sent_as}
+use Rattle.desk.specs.Requests.{requests_from}
 use Rattle.desk.proofs.requests.requests_for.Given as goal
 
 -- the requests so far, followed by those for the rows that are left, are those for all rows

@@ -61,10 +61,12 @@ returns-clause-err c = λ taken.
     absurd (false≢true (sym (c.in-Err-Unknown.ensures.unknown (ap Err c.in-Err-Unknown.field-0-is)) ∙ known))
 
 pub returns-in-Err-BadVerdict-clause-version : goal.returns-in-Err-BadVerdict-clause-version
-returns-in-Err-BadVerdict-clause-version c = λ asked. absurd (none_asked _ (taken_is_right c.in-Ok.command (map (λ s. s.now) c.args.words.now) c.in-Ok.ensures.app c.in-Ok-try_get_matches_from.ensures.kinds) asked)
+returns-in-Err-BadVerdict-clause-version c =
+    λ asked. absurd (none_asked _ (taken_is_right c.in-Ok.command (map (λ s. s.now) c.args.words.now) c.in-Ok.ensures.app c.in-Ok-try_get_matches_from.ensures.kinds) asked)
 
 pub returns-in-Err-BadOrigin-clause-version : goal.returns-in-Err-BadOrigin-clause-version
-returns-in-Err-BadOrigin-clause-version c = λ asked. absurd (none_asked _ (taken_is_right c.in-Ok.command (map (λ s. s.now) c.args.words.now) c.in-Ok.ensures.app c.in-Ok-try_get_matches_from.ensures.kinds) asked)
+returns-in-Err-BadOrigin-clause-version c =
+    λ asked. absurd (none_asked _ (taken_is_right c.in-Ok.command (map (λ s. s.now) c.args.words.now) c.in-Ok.ensures.app c.in-Ok-try_get_matches_from.ensures.kinds) asked)
 
 pub returns-clause-version : goal.returns-clause-version
 returns-clause-version c = λ asked. absurd (none_asked _ (taken_is_right c.in-Ok.command (map (λ s. s.now) c.args.words.now) c.in-Ok.ensures.app c.in-Ok-try_get_matches_from.ensures.kinds) asked)

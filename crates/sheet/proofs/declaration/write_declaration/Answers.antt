@@ -15,4 +15,4 @@ returns-in_err-write_line g c =
     Writes-front _ r failure (Writes-failed r failure (Writes-then _ c.in_ok-write_ward_line.ensures c.in_err-write_line.ensures))
 
 pub returns : goal.returns
-returns g c = Writes-then _ (Writes-then _ c.in_ok-write_ward_line.ensures c.in_ok-write_line.ensures) c.write_elected_lines.ensures
+returns g c = Writes-then _ (Writes-then _ c.in_ok-write_ward_line.ensures c.in_ok-write_line.ensures) c.write_each.ensures

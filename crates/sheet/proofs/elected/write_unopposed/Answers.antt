@@ -9,11 +9,11 @@ returns-in_err-write_line g c =
     let failure = c.from_residual.ensures.0 in
     Writes-front _ r failure (Writes-front _ r failure (Writes-failed r failure (rw c.from.ensures at c.in_err-write_line.ensures)))
 
-pub returns-in_err-write_unopposed_items : goal.returns-in_err-write_unopposed_items
-returns-in_err-write_unopposed_items g c =
-    let r = c.from_residual-in_err-write_unopposed_items.result in
-    let failure = c.from_residual-in_err-write_unopposed_items.ensures.0 in
-    Writes-front _ r failure (Writes-failed r failure (Writes-then _ (rw c.from.ensures at c.in_ok-write_line.ensures) c.in_err-write_unopposed_items.ensures))
+pub returns-in_err-write_each : goal.returns-in_err-write_each
+returns-in_err-write_each g c =
+    let r = c.from_residual-in_err-write_each.result in
+    let failure = c.from_residual-in_err-write_each.ensures.0 in
+    Writes-front _ r failure (Writes-failed r failure (Writes-then _ (rw c.from.ensures at c.in_ok-write_line.ensures) c.in_err-write_each.ensures))
 
 pub returns : goal.returns
-returns g c = rw length-map (Writes-then _ (Writes-then _ (rw c.from.ensures at c.in_ok-write_line.ensures) c.in_ok-write_unopposed_items.ensures) (rw (c.saturating_sub-left.ensures, c.from-2.ensures) at c.write_elected_end.ensures))
+returns g c = rw length-map (Writes-then _ (Writes-then _ (rw c.from.ensures at c.in_ok-write_line.ensures) c.in_ok-write_each.ensures) (rw (c.saturating_sub-left.ensures, c.from-2.ensures) at c.write_elected_end.ensures))

@@ -2,4 +2,4 @@
 use Rattle.sheet.proofs.page.write_lot_item.Goals as goal
 
 pub returns : goal.returns
-returns g c = rw (c.from.ensures, c.from-2.ensures, c.name_or_withdrawn.ensures) at c.write_line.ensures
+returns g c = rw (c.from.ensures, c.name_or_withdrawn.ensures) at c.write_line.ensures

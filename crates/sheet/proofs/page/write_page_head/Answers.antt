@@ -2,4 +2,4 @@
 use Rattle.sheet.proofs.page.write_page_head.Goals as goal
 
 pub returns : goal.returns
-returns g c = rw (c.from.ensures, c.from-2.ensures, c.style.ensures, c.note.ensures) at c.write_line.ensures
+returns g c = rw (c.from.ensures, c.style.ensures, c.note.ensures) at c.write_line.ensures

@@ -22,18 +22,18 @@ returns-in-Ok-commit_copy g c =
         x,
         (read.holds clean db ours rests).0,
         c.holdings_of.ensures,
-        λ honest new. copy_is_at x t full read.judged (λ trees is_open may. g.met.T.Store.settled c.commit_copy.new.copy.store trees is_open may) (made.done honest new),
+        λ honest new. copy_is_at x t full read.judged (λ trees is_open may. g.met.T.Store.settled c.commit_copy.new.copy.store trees is_open may) (made.done honest tt new),
       );
       same = λ clean db rests s left.
           let is : x ≡ s = read_left s x db left (read.holds clean db (left_ours s db left) rests).0 in (
             c.holdings_of.ensures ∙ ap holdings_of is,
-            λ honest new. subst (λ (y : OfficeState). IsAt y full) is (copy_is_at x t full read.judged (λ trees is_open may. g.met.T.Store.settled c.commit_copy.new.copy.store trees is_open may) (made.done honest new)),
+            λ honest new. subst (λ (y : OfficeState). IsAt y full) is (copy_is_at x t full read.judged (λ trees is_open may. g.met.T.Store.settled c.commit_copy.new.copy.store trees is_open may) (made.done honest tt new)),
           );
       stops = λ clean honest db rests s left new.
           let found = read.holds clean db (left_ours s db left) rests in
-          subst (λ (y : OfficeState). LeavesNoneOrAll y blank full) (read_left s x db left found.0) (copy_stops x t blank full found.1 honest (c.commit_copy.ensures.survives new));
-      made = λ honest new. (x, c.holdings_of.ensures, copy_is_at x t full read.judged (λ trees is_open may. g.met.T.Store.settled c.commit_copy.new.copy.store trees is_open may) (made.done honest new));
-      whole = λ honest new. copy_whole x t blank full read.judged honest (c.commit_copy.ensures.survives new);
+          subst (λ (y : OfficeState). LeavesNoneOrAll y blank full) (read_left s x db left found.0) (copy_stops x t blank full found.1 honest (c.commit_copy.ensures.survives tt new));
+      made = λ honest new. (x, c.holdings_of.ensures, copy_is_at x t full read.judged (λ trees is_open may. g.met.T.Store.settled c.commit_copy.new.copy.store trees is_open may) (made.done honest tt new));
+      whole = λ honest new. copy_whole x t blank full read.judged honest (c.commit_copy.ensures.survives tt new);
       told = λ clean db ours rests new. tt;
       cause = λ clean db rests s left new. tt;
       reads = c.checked_rows.ensures.reads;
@@ -59,9 +59,9 @@ returns-in-Ok g c =
       same = λ clean db rests s left. tt;
       stops = λ clean honest db rests s left new.
           let found = read.holds clean db (left_ours s db left) rests in
-          subst (λ (y : OfficeState). LeavesNoneOrAll y blank full) (read_left s x db left found.0) (copy_stops x t blank full found.1 honest (c.commit_copy.ensures.survives new));
+          subst (λ (y : OfficeState). LeavesNoneOrAll y blank full) (read_left s x db left found.0) (copy_stops x t blank full found.1 honest (c.commit_copy.ensures.survives tt new));
       made = λ honest new. tt;
-      whole = λ honest new. copy_whole x t blank full read.judged honest (c.commit_copy.ensures.survives new);
+      whole = λ honest new. copy_whole x t blank full read.judged honest (c.commit_copy.ensures.survives tt new);
       told = λ clean db ours rests new. (search rules, (x, (read.holds clean db ours rests).0));
       cause = search rules;
       reads = c.checked_rows.ensures.reads;

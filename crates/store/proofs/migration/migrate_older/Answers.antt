@@ -13,7 +13,7 @@ returns-clause-opened g c clean db is office rests =
     let found = c.in_ok-older.ensures.found before db is office rests in
     let form = c.in_ok-older.older.form in
     let new = state g.S.Store c.commit_migration.new.conn in
-    (found.0, (form, found.1), rests_is_at found.0 new (λ trees is_open may. g.met.S.Store.settled c.commit_migration.new.conn.store trees is_open may) found.1.is.is (c.in_ok-commit_migration.ensures.done clean found.0 (rests_older form db found.0 (state g.S.Store c.read_older.new.conn) mid found.1) found.2))
+    (found.0, (form, found.1), rests_is_at found.0 new (λ trees is_open may. g.met.S.Store.settled c.commit_migration.new.conn.store trees is_open may) found.1.is.is (c.in_ok-commit_migration.ensures.done clean found.0 (rests_older form db found.0 (state g.S.Store c.read_older.new.conn) mid found.1, found.2)))
 
 pub returns-clause-leaves : goal.returns-clause-leaves
 returns-clause-leaves g c clean db is office rests =
@@ -22,7 +22,7 @@ returns-clause-leaves g c clean db is office rests =
     let found = c.in_ok-older.ensures.found before db is office rests in
     let form = c.in_ok-older.older.form in
     older_leaves form db found.0 _ (state g.S.Store c.read_older.new.conn) _ found.1 c.read_older.ensures.reads before clean
-    (c.commit_migration.ensures.survives found.0 (rests_older form db found.0 (state g.S.Store c.read_older.new.conn) mid found.1) found.2)
+    (c.commit_migration.ensures.survives found.0 (rests_older form db found.0 (state g.S.Store c.read_older.new.conn) mid found.1, found.2))
 
 pub returns-in_err-commit_migration-clause-leaves : goal.returns-in_err-commit_migration-clause-leaves
 returns-in_err-commit_migration-clause-leaves g c clean db is office rests =
@@ -31,7 +31,7 @@ returns-in_err-commit_migration-clause-leaves g c clean db is office rests =
     let found = c.in_ok-older.ensures.found before db is office rests in
     let form = c.in_ok-older.older.form in
     older_leaves form db found.0 _ (state g.S.Store c.read_older.new.conn) _ found.1 c.read_older.ensures.reads before clean
-    (c.commit_migration.ensures.survives found.0 (rests_older form db found.0 (state g.S.Store c.read_older.new.conn) mid found.1) found.2)
+    (c.commit_migration.ensures.survives found.0 (rests_older form db found.0 (state g.S.Store c.read_older.new.conn) mid found.1, found.2))
 
 pub returns-in_err-older-clause-leaves : goal.returns-in_err-older-clause-leaves
 returns-in_err-older-clause-leaves g c clean db is office rests trees may = inl (c.read_older.ensures.reads.leaves clean trees may)

@@ -13,7 +13,7 @@ returns-in_err-commit-clause-survives g c was now change rests =
     let before : HasCleanDisk (state g.S.Store c.commit.new.self.0) → HasCleanDisk (state g.S.Store c.write_change.new.tx.conn.now) = λ clean. let low = c.commit.ensures.survives.clean in omega (arith, low, clean) in
     let it : Survives (state g.S.Store c.args.conn.now) (state g.S.Store c.commit.new.self.0) (Stores now) =
     survives_storing now (state g.S.Store c.args.conn.now) (state g.S.Store c.write_change.new.tx.conn.now) (state g.S.Store c.commit.new.self.0) both
-    (λ clean. c.in_ok-write_change.ensures.writes (before clean) was now change begun) in
+    (λ clean. c.in_ok-write_change.ensures.writes (before clean) (was, now) (change, begun)) in
     search (rules, it)
 
 pub returns-clause-survives : goal.returns-clause-survives
@@ -23,7 +23,7 @@ returns-clause-survives g c was now change rests =
     let before : HasCleanDisk (state g.S.Store c.commit.new.self.0) → HasCleanDisk (state g.S.Store c.write_change.new.tx.conn.now) = λ clean. let low = c.commit.ensures.survives.clean in omega (arith, low, clean) in
     let it : Survives (state g.S.Store c.args.conn.now) (state g.S.Store c.commit.new.self.0) (Stores now) =
     survives_storing now (state g.S.Store c.args.conn.now) (state g.S.Store c.write_change.new.tx.conn.now) (state g.S.Store c.commit.new.self.0) both
-    (λ clean. c.in_ok-write_change.ensures.writes (before clean) was now change begun) in
+    (λ clean. c.in_ok-write_change.ensures.writes (before clean) (was, now) (change, begun)) in
     search (rules, it)
 
 pub returns-clause-done : goal.returns-clause-done
@@ -31,6 +31,6 @@ returns-clause-done g c clean was now change rests =
     let ended : HasCleanDisk (state g.S.Store c.commit.new.self.0) = search rules in
     let begun : Sees was (state g.S.Store c.transaction-tx.result.conn.now) = search rules in
     let before : HasCleanDisk (state g.S.Store c.write_change.new.tx.conn.now) = let low = c.commit.ensures.survives.clean in omega (arith, low, ended) in
-    let mid : Sees now (state g.S.Store c.write_change.new.tx.conn.now) = c.in_ok-write_change.ensures.writes before was now change begun in
+    let mid : Sees now (state g.S.Store c.write_change.new.tx.conn.now) = c.in_ok-write_change.ensures.writes before (was, now) (change, begun) in
     let it : Rests now (state g.S.Store c.commit.new.self.0) = rests_committed now (state g.S.Store c.write_change.new.tx.conn.now) (state g.S.Store c.commit.new.self.0) mid (c.in_ok-commit.ensures.ok ended).1 in
     search (rules, it)

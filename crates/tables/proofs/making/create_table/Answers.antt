@@ -1,16 +1,17 @@
 -- Why `create_table` keeps its promise.
-use Rattle.std.proofs.Common.{Ok, Err, ap}
+use Rattle.std.proofs.Common.{Ok}
 use Rattle.sqlite.specs.Held.{state}
-use Rattle.tables.proofs.ContentsLemmas.{keeps}
 use Rattle.tables.proofs.MakeLemmas.{table_made}
+use Rattle.tables.proofs.AlterLemmas.{executed}
 use Rattle.tables.proofs.making.create_table.Goals as goal
 
-pub returns-in-Ok-clause-makes : goal.returns-in-Ok-clause-makes
-returns-in-Ok-clause-makes g c clean rows none =
-    table_made c.args.table rows none (state g.S.Store c.args.tx.now.conn.now) (state g.S.Store c.execute.new.self.conn.now) (Ok c.in-Ok.field-0)
-    (rw c.create_text.ensures at (c.in-Ok.ensures.runs clean))
+pub returns-clause-makes : goal.returns-clause-makes
+returns-clause-makes g c =
+    executed (rw c.create_text.ensures at c.execute.ensures)
+    (λ contents had. (
+      had.1.inside,
+      λ count ran. table_made c.args.table contents had.0 (state g.S.Store c.args.tx.now.conn.now) (state g.S.Store c.execute.new.tx.conn.now) (Ok count) (λ inside. ran) had.1,
+    ))
 
-pub returns-in-Err-clause-keeps : goal.returns-in-Err-clause-keeps
-returns-in-Err-clause-keeps g c clean =
-    keeps _ _ (state g.S.Store c.args.tx.now.conn.now) (state g.S.Store c.execute.new.self.conn.now) (Err c.in-Err.e) (c.in-Err.ensures.runs clean)
-    (λ h. ap (state g.S.Store) (c.in-Err.ensures.ended h).1)
+pub returns-clause-told : goal.returns-clause-told
+returns-clause-told g c = (rw c.create_text.ensures at c.execute.ensures).told

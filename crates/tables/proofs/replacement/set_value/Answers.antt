@@ -1,16 +1,18 @@
-use Rattle.std.proofs.Common.{Ok, Err, ap}
+-- Why `set_value` keeps its promise.
+use Rattle.std.proofs.Common.{Ok}
 use Rattle.sqlite.specs.Values.{bound}
 use Rattle.sqlite.specs.Held.{state}
-use Rattle.tables.proofs.ContentsLemmas.{keeps}
 use Rattle.tables.proofs.ChangeLemmas.{value_set_there}
+use Rattle.tables.proofs.AlterLemmas.{executed}
 use Rattle.tables.proofs.replacement.set_value.Goals as goal
 
-pub returns-in-Ok-clause-sets : goal.returns-in-Ok-clause-sets
-returns-in-Ok-clause-sets g c clean =
-    value_set_there c.args.setting (bound c.args.values.now) c.requires.kind (state g.S.Store c.args.tx.now.conn.now) (state g.S.Store c.execute.new.self.conn.now) (Ok c.in-Ok.field-0)
-    (rw c.set_text.ensures at (c.in-Ok.ensures.runs clean))
+pub returns-clause-sets : goal.returns-clause-sets
+returns-clause-sets g c =
+    executed (rw c.set_text.ensures at c.execute.ensures)
+    (λ contents sees. (
+      sees.inside,
+      λ count ran. value_set_there c.args.setting (bound c.args.values.now) c.requires.kind (state g.S.Store c.args.tx.now.conn.now) (state g.S.Store c.execute.new.tx.conn.now) (Ok count) (λ inside. ran) contents sees,
+    ))
 
-pub returns-in-Err-clause-keeps : goal.returns-in-Err-clause-keeps
-returns-in-Err-clause-keeps g c clean =
-    keeps _ _ (state g.S.Store c.args.tx.now.conn.now) (state g.S.Store c.execute.new.self.conn.now) (Err c.in-Err.e) (c.in-Err.ensures.runs clean)
-    (λ h. ap (state g.S.Store) (c.in-Err.ensures.ended h).1)
+pub returns-clause-told : goal.returns-clause-told
+returns-clause-told g c = (rw c.set_text.ensures at c.execute.ensures).told

@@ -1,15 +1,8 @@
 -- What the loop of `add_entries` keeps.
-use Rattle.std.proofs.Common.{◌≡◌, map, take}
-use Rattle.sqlite.specs.State.{HasCleanDisk, KeepsCommit, Survives}
-use Rattle.sqlite.specs.Held.{state}
-use Rattle.tables.specs.Contents.{Contents, Sees, added_all}
+use Rattle.std.proofs.Common.{Ok, map, take}
+use Rattle.tables.specs.Contents.{Sees, added_all}
+use Rattle.tables.specs.Writing.{Alters}
 use Rattle.tables.proofs.writing.add_entries.Given as goal
 
 abbrev pub invariant-loop-entry : goal.invariant-loop-entry
-invariant-loop-entry g l = record {
-  same_reference : l.tx.conn.ghost_name ≡ l.initial.tx.conn.ghost_name;
-  adds : HasCleanDisk (state g.S.Store l.tx.conn.now) → (c : Contents) → Sees c (state g.S.Store l.initial.tx.conn.now)
-      → Sees (added_all g.E.Entries.TABLE (take l.entry-index (map g.E.Entries.row_of l.entries)) c) (state g.S.Store l.tx.conn.now);
-  keeps : HasCleanDisk (state g.S.Store l.tx.conn.now) → KeepsCommit (state g.S.Store l.initial.tx.conn.now) (state g.S.Store l.tx.conn.now);
-  survives : Survives (state g.S.Store l.initial.tx.conn.now) (state g.S.Store l.tx.conn.now) (λ _. ⊥);
-}
+invariant-loop-entry g l = Alters g.S.Store l.initial.tx.conn l.tx.conn (Ok (tt {0})) Sees (λ c. Sees (added_all g.E.Entries.TABLE (take l.entry-index (map g.E.Entries.row_of l.entries)) c))

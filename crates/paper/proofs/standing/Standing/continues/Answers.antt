@@ -1,6 +1,6 @@
 -- Of the proof of `continues`: what is shown by hand.
 use Rattle.std.proofs.Common.{◌≡◌, ◌∙◌, sym, inl, inr}
-use Rattle.paper.specs.declared.standing.Status.TheVariants.{Continuing, Absent}
+use Rattle.paper.specs.declared.standing.CandidateStatus.TheVariants.{Continuing, Absent}
 use Rattle.paper.proofs.Standings.{column_or_not}
 use Rattle.paper.proofs.standing.Standing.continues.Goals as goal
 

@@ -3,7 +3,7 @@ use Rattle.std.proofs.Common.{◌++◌, ◌∷◌, [], ℕ, List, map, take, sym
 use Rattle.store.specs.declared.overviews.piles.ReadBatch.{ReadBatch}
 use Rattle.store.specs.Piles.{ReadView, read_view, numbers_with}
 use Rattle.store.proofs.PileLemmas.{numbers_more}
-use Rattle.store.proofs.ReadsLemmas.{entries_more, entries_all}
+use Rattle.store.proofs.LoadsLemmas.{entries_more, entries_all}
 use Rattle.store.proofs.overviews.piles.numbers_by_pile.Goals as goal
 
 pub loop-batch-preserved : goal.loop-batch-preserved

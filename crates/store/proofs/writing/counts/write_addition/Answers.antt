@@ -1,16 +1,25 @@
 -- Why `write_addition` keeps its promise.
-use Rattle.std.proofs.Common.{arith}
 use Rattle.sqlite.specs.Held.{state}
+use Rattle.register.specs.Offices.{OfficeState}
+use Rattle.register.specs.Tabulated.{TabulationEntries}
+use Rattle.tables.specs.Contents.{Contents}
 use Rattle.tables.proofs.SameLemmas.{sees_same}
+use Rattle.tables.proofs.AlterLemmas.{alters_same, alters_both, alters_failed}
 use Rattle.store.specs.Offices.{tables_with}
-use Rattle.store.proofs.WriteLemmas.{bundles_moved, bundles_put, figures_put}
+use Rattle.store.proofs.WriteLemmas.{with_moved, bundles_moved, both_put}
 use Rattle.store.proofs.writing.counts.write_addition.Goals as goal
 
-pub returns-clause-writes : goal.returns-clause-writes
-returns-clause-writes g c clean s t sees =
+pub returns-in_err-replace_entries : goal.returns-in_err-replace_entries
+returns-in_err-replace_entries g c = alters_failed c.from_residual.ensures.1 c.in_err-replace_entries.ensures
+
+pub returns : goal.returns
+returns g c =
     let a = c.args.addition.now in
-    let late = c.add_entries-2.ensures.survives.clean in
-    let mid = c.add_entries.ensures.survives.clean in
-    let first = sees_same _ _ (state g.S.Store c.replace_entries.new.tx.conn.now) (bundles_moved s t a.moved.items) ((rw c.deref.ensures.value at c.in_ok-replace_entries.ensures.replaces) (omega (arith, mid, late, clean)) (tables_with s t) sees) in
-    let second = sees_same _ _ (state g.S.Store c.add_entries.new.tx.conn.now) (bundles_put s _ a.placed.items) ((rw c.deref-2.ensures.value at c.in_ok-add_entries.ensures.adds) (omega (arith, late, clean)) _ first) in
-    sees_same _ _ (state g.S.Store c.add_entries-2.new.tx.conn.now) (figures_put s _ a.figures.items) ((rw c.deref-3.ensures.value at c.in_ok-add_entries-2.ensures.adds) clean _ second)
+    let moved = alters_same {from = λ (x : OfficeState × TabulationEntries). tables_with x.0 x.1} {to = λ x. tables_with x.0 (with_moved a.moved.items x.1)} (rw c.deref.ensures.value at c.in_ok-replace_entries.ensures)
+    (λ x. bundles_moved x.0 x.1 a.moved.items) in
+    alters_both moved (rw (c.deref-2.ensures.value, c.deref-3.ensures.value) at c.add_both.ensures)
+    (λ x was sees. (
+      tables_with x.0 (with_moved a.moved.items x.1),
+      sees,
+      λ given. sees_same _ _ (state g.S.Store c.add_both.new.tx.conn.now) (both_put x.0 (with_moved a.moved.items x.1) a.placed.items a.figures.items) given,
+    ))

@@ -1,0 +1,28 @@
+//! Numbers that are written plainly.
+
+ghost use Rattle.std.specs.Prelude.{◌≡◌};
+ghost use Rattle.std.specs.Char.{is_ascii_digit};
+ghost use Rattle.std.specs.List.{list_all};
+ghost use Rattle.paper.specs.Digits.{plain_number_in};
+
+/// The most digits of a number.
+const MOST_DIGITS: usize = 5;
+
+/// Whether bytes are digits alone.
+pub fn are_digits(text: &[u8]) -> bool
+    ensures { result ≡ list_all is_ascii_digit text.now }
+{
+    text.iter().all(|b| b.is_ascii_digit())
+}
+
+/// The number that a text writes in 1 to 5 digits, the first not 0.
+pub fn plain_number_in(text: &str) -> Option<u32>
+    ensures { result ≡ plain_number_in text.now }
+{
+    let digits = text.as_bytes();
+    let first = digits.first().copied().unwrap_or(b'0');
+    if first == b'0' || digits.len() > MOST_DIGITS || !are_digits(digits) {
+        return None;
+    }
+    text.parse().ok()
+}

@@ -1,5 +1,0 @@
-use Rattle.rowcheck.proofs.CandidateWalkLemmas.{walked}
-use Rattle.rowcheck.proofs.nominations.item2.Goals as goal
-
-pub returns : goal.returns
-returns c = rw (c.are_nominated.ensures, c.deref.ensures.value, c.deref-2.ensures.value) (walked c.args.rows.now c.requires)

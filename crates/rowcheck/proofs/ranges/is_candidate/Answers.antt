@@ -1,6 +1,0 @@
-use Rattle.register.specs.Items.{is_candidate}
-use Rattle.rowcheck.proofs.ranges.is_candidate.Goals as goal
-
-pub returns : goal.returns
-unfolding is_candidate
-returns c = rw (c.is_ward_number-ward.ensures, c.is_candidate_number-number.ensures, c.is_name.ensures, c.as_str.ensures.value)

@@ -1,6 +1,0 @@
-use Rattle.register.specs.Items.{is_lot}
-use Rattle.rowcheck.proofs.ranges.is_lot.Goals as goal
-
-pub returns : goal.returns
-unfolding is_lot
-returns c = rw (c.is_ward_number-ward.ensures, c.is_lot_stage-stage.ensures, c.is_candidate_number.ensures)

@@ -1,6 +1,0 @@
-use Rattle.register.specs.Items.{is_third}
-use Rattle.rowcheck.proofs.ranges.is_third.Goals as goal
-
-pub returns : goal.returns
-unfolding is_third
-returns c = rw (c.is_batch_number-batch.ensures, c.is_clerk.ensures)

@@ -1,0 +1,9 @@
+-- Why `write_acted_on` keeps its promise.
+use Rattle.sheet.proofs.Writing.{Writes-then, Writes-failed, Writes-front}
+use Rattle.sheet.proofs.line.write_acted_on.Goals as goal
+
+pub returns-in_err-write_text : goal.returns-in_err-write_text
+returns-in_err-write_text g c = Writes-front _ c.from_residual.result c.from_residual.ensures.0 (Writes-failed c.from_residual.result c.from_residual.ensures.0 c.in_err-write_text.ensures)
+
+pub returns : goal.returns
+returns g c = Writes-then _ c.in_ok-write_text.ensures c.write_number.ensures

@@ -1,5 +1,0 @@
--- Why `write_candidate_row` keeps its promise.
-use Rattle.sheet.proofs.table.write_candidate_row.Goals as goal
-
-pub returns : goal.returns
-returns g c = rw (c.from.ensures, c.as_str.ensures.value) at c.write_row.ensures

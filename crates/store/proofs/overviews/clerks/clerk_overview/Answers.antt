@@ -1,7 +1,0 @@
--- Why `clerk_overview` keeps its promise.
-use Rattle.std.proofs.Common.{Bool, ap}
-use Rattle.store.proofs.ReadsLemmas.{reads_as}
-use Rattle.store.proofs.overviews.clerks.clerk_overview.Goals as goal
-
-pub returns : goal.returns
-returns g c = reads_as c.in_ok-keyed.ensures (λ s is told. ap (λ (q : Bool). (c.args.clerk, q)) told)

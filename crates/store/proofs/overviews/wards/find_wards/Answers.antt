@@ -1,9 +1,0 @@
--- Why `find_wards` keeps its promise.
-use Rattle.store.proofs.ReadsLemmas.{reads_as, reads_both, reads_cut}
-use Rattle.store.proofs.overviews.wards.find_wards.Goals as goal
-
-pub returns : goal.returns
-returns g c = reads_as (reads_both c.in_ok-wards.ensures c.in_ok-found.ensures) (λ s is told. told.1 told.0)
-
-pub returns-in_err-found : goal.returns-in_err-found
-returns-in_err-found g c = reads_cut c.from_residual-in_err-found.ensures.1 c.in_ok-wards.ensures c.in_err-found.ensures

@@ -1,0 +1,14 @@
+-- Why `all_batches` keeps its promise.
+use Rattle.std.proofs.Common.{refl}
+use Rattle.register.specs.Offices.{batch_entry}
+use Rattle.store.specs.EntryRows.{row_of_batch}
+use Rattle.store.proofs.StateLemmas.{batch_in, batch_back}
+use Rattle.store.proofs.FindLemmas.{all_batches_listed}
+use Rattle.store.proofs.FitLemmas.{batches_fit}
+use Rattle.store.proofs.LoadsLemmas.{loads_entries}
+use Rattle.store.proofs.storage.Store.all_batches.Goals as goal
+
+pub returns : goal.returns
+returns g c =
+    let e = c.entries_beginning.ensures in
+    rw (← c.self.view_is) (loads_entries (λ found. found.items) batch_entry row_of_batch batch_in batch_back (λ s. s.batches) all_batches_listed batches_fit e.finds e.cause refl e.opens e.reads)

@@ -1,0 +1,41 @@
+-- Why `find_count` keeps its promise.
+use Rattle.std.proofs.Common.{rules, ◌≡◌, ◌∙◌, Option, Some, true, false, not, is_some, option_map, ap, sym, subst, refl, true≢false}
+use Rattle.register.specs.Offices.{WardEntry}
+use Rattle.register.specs.Elections.{election_of}
+use Rattle.tables.specs.declared.fault.Fault.TheVariants.{Store}
+use Rattle.store.specs.Elections.{IsContestAt, IsCountedFor}
+use Rattle.store.proofs.ElectionLemmas.{contested_told, bare_counted}
+use Rattle.store.proofs.LoadsLemmas.{loads_as, loads_both, loads_cut, loads_stopped}
+use Rattle.store.proofs.storage.Store.find_count.Goals as goal
+
+pub returns-then-not-is_contested : goal.returns-then-not-is_contested
+returns-then-not-is_contested g c =
+    loads_as c.in_ok-found.ensures
+    (λ s is told.
+    let contest = c.in-Some.contest in
+    let it : IsContestAt s c.args.ward (Some contest) = rw c.in-Some.is at told in
+    let no : c.is_contested.result ≡ false = search rules in
+    bare_counted s c.args.ward contest it (contested_told s contest _ _ c.deref.ensures.value it.1 c.is_contested.ensures ∙ no))
+
+pub returns : goal.returns
+returns g c =
+    loads_as (loads_both c.in_ok-found.ensures c.in_ok-count.ensures)
+    (λ s is told.
+    let contest = c.in-Some.contest in
+    let it : IsContestAt s c.args.ward (Some contest) = rw c.in-Some.is at told.0 in
+    let yes : c.is_contested.result ≡ true = search rules in
+    subst (λ (o : Option WardEntry). IsCountedFor (option_map (election_of s) o) c.in_ok-count.count) (sym it.0) (told.1 it.1 (contested_told s contest _ _ c.deref.ensures.value it.1 c.is_contested.ensures ∙ yes)))
+
+pub returns-then-is_none : goal.returns-then-is_none
+returns-then-is_none g c =
+    loads_stopped {f = Store} refl (loads_both c.in_ok-found.ensures c.in_ok-count.ensures)
+    (λ s is told.
+    let contest = c.in-Some.contest in
+    let it : IsContestAt s c.args.ward (Some contest) = rw c.in-Some.is at told.0 in
+    let yes : c.is_contested.result ≡ true = search rules in
+    let found = told.1 it.1 (contested_told s contest _ _ c.deref.ensures.value it.1 c.is_contested.ensures ∙ yes) in
+    let none : c.is_none.result ≡ true = search rules in
+    absurd (true≢false (sym (ap is_some found.1) ∙ c.is_none.ensures ∙ ap not none)))
+
+pub returns-in_err-count : goal.returns-in_err-count
+returns-in_err-count g c = loads_cut c.from_residual-in_err-count.ensures.1 c.in_ok-found.ensures c.in_err-count.ensures

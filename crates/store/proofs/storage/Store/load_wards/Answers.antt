@@ -1,0 +1,9 @@
+-- Why `load_wards` keeps its promise.
+use Rattle.store.proofs.LoadsLemmas.{loads_as, loads_both, loads_cut}
+use Rattle.store.proofs.storage.Store.load_wards.Goals as goal
+
+pub returns : goal.returns
+returns g c = loads_as (loads_both c.in_ok-wards.ensures c.in_ok-found.ensures) (λ s is told. told.1 told.0)
+
+pub returns-in_err-found : goal.returns-in_err-found
+returns-in_err-found g c = loads_cut c.from_residual-in_err-found.ensures.1 c.in_ok-wards.ensures c.in_err-found.ensures
