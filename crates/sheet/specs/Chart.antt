@@ -86,7 +86,7 @@ bar scale first most =
 -- the figures beside it: the votes at the first stage, how his way ends, and the most that he had
 abbrev pub figures : ℕ → ℕ → Ending → List (List ℕ)
 figures first most ending =
-    codes "<span class=\"had\">" ∷ votes_text first ∷ codes "</span><span class=\"end\">" ∷ ending_words ending ∷ decimal (ending_stage ending) ∷
+    codes "<span class=\"had\">" ∷ votes_text first ∷ codes " at stage 1</span><span class=\"end\">" ∷ ending_words ending ∷ decimal (ending_stage ending) ∷
     codes ", with " ∷ votes_text most ∷ codes "</span></li>" ∷ []
 
 -- a row: the candidate, his bar, and its figures

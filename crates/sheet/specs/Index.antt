@@ -1,7 +1,7 @@
 -- The page of all wards, to hang at the door: how each stands, and who is elected where that is declared.
-use Rattle.std.specs.Prelude.{ℕ, List, [], ◌∷◌, ◌++◌, map, string_bytes, codes, decimal}
+use Rattle.std.specs.Prelude.{ℕ, List, [], ◌∷◌, ◌++◌, map, string_bytes, String, codes, decimal}
 use Rattle.std.specs.List.{flat_map}
-use Rattle.sheet.specs.Entries.{candidates_shown}
+use Rattle.std.specs.declared.alloc.Global.{Global}
 use Rattle.sheet.specs.Lines.{line, named}
 use Rattle.sheet.specs.Look.{style}
 use Rattle.sheet.specs.Page.{title_line}
@@ -17,9 +17,13 @@ pub record ListedEntry : Type 0 where
   pub standing : Standing
   pub elected : List (ℕ × List ℕ)
 
+-- an elected candidate, with his plain name
+abbrev pub elected_shown : (ℕ × String Global) → ℕ × List ℕ
+elected_shown candidate = (candidate.0, string_bytes candidate.1)
+
 -- what is listed of a ward
 abbrev pub listed : ListedWard → ListedEntry
-listed ward = record { number = ward.number; name = string_bytes ward.name; seats = ward.seats; standing = ward.standing; elected = candidates_shown ward.elected.items }
+listed ward = record { number = ward.number; name = string_bytes ward.name; seats = ward.seats; standing = ward.standing; elected = map elected_shown ward.elected.items }
 
 -- how a ward stands
 abbrev pub standing_words : Standing → List ℕ
@@ -29,8 +33,8 @@ standing_words Sealed = codes "sealed, not declared yet"
 standing_words Declared = codes "<b>declared</b>"
 
 -- a candidate who is elected
-abbrev pub elected_name : ℕ → List ℕ → List ℕ
-elected_name c name = line (codes "<li>" ∷ named c name ∷ codes "</li>" ∷ [])
+abbrev pub elected_name : (ℕ × List ℕ) → List ℕ
+elected_name candidate = line (codes "<li>" ∷ named candidate.0 candidate.1 ∷ codes "</li>" ∷ [])
 
 -- the row of a ward, as far as those elected
 abbrev pub row_opening : ListedEntry → List ℕ
@@ -40,7 +44,7 @@ row_opening ward = line (
 
 -- the row of a ward
 abbrev pub index_row : ListedEntry → List ℕ
-index_row ward = row_opening ward ++ flat_map (λ candidate. elected_name candidate.0 candidate.1) ward.elected ++ line (codes "</ul>\n</td></tr>" ∷ [])
+index_row ward = row_opening ward ++ flat_map elected_name ward.elected ++ line (codes "</ul>\n</td></tr>" ∷ [])
 
 -- the document's head
 abbrev pub index_opening : List ℕ

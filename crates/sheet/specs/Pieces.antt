@@ -4,7 +4,7 @@ use Rattle.votes.specs.Text.{votes_text}
 use Rattle.count.specs.Actions.{action_text}
 use Rattle.sheet.specs.Lines.{number_column, value_column, span, preferences, quoted, plain, named, action_named}
 use Rattle.sheet.specs.declared.line.Piece.{Piece}
-use Rattle.sheet.specs.declared.line.Piece.TheVariants.{Text, Number, Value, NumberColumn, ValueColumn, Span, Done, DoneWith, Preferences, Quoted, Escaped, Named}
+use Rattle.sheet.specs.declared.line.Piece.TheVariants.{Text, Number, Value, NumberColumn, ValueColumn, Span, Done, DoneWith, Preferences, Quoted, Escaped, Named, Listed}
 
 -- the text of a piece of a line
 abbrev pub piece_text : Piece → List ℕ
@@ -20,3 +20,4 @@ piece_text (Preferences list) = preferences list.now
 piece_text (Quoted text) = quoted text.now
 piece_text (Escaped text) = plain text.now
 piece_text (Named number name) = named number name.now
+piece_text (Listed number name) = named number name.now

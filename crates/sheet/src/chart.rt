@@ -201,7 +201,7 @@ fn write_chart_line<W: Sink>(sink: &mut W, told: &Told, c: u8, name: &str) -> Re
         Piece::Text("%\" width=\"3\" height=\"100%\"/></svg>"),
         Piece::Text("<span class=\"had\">"),
         Piece::Value(told.first),
-        Piece::Text("</span><span class=\"end\">"),
+        Piece::Text(" at stage 1</span><span class=\"end\">"),
         Piece::Text(ending_words(told.ending)),
         Piece::Number(ending_stage(told.ending)),
         Piece::Text(", with "),
@@ -259,6 +259,6 @@ pub fn write_chart<W: Sink>(
     ensures { Writes W.taken W.failed sink.old sink.new (chart (shown ward.now) scale stages.now) result }
 {
     write_chart_head(sink, Votes::from_units(scale.quota))?;
-    write_each(sink, ward.candidates, &ChartRow { scale, stages })?;
+    write_each(sink, ward, &ChartRow { scale, stages })?;
     write_line(sink, &[Piece::Text("</ul>")])
 }

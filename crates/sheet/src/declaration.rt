@@ -48,5 +48,5 @@ pub fn write_declaration<W: Sink>(sink: &mut W, ward: &Ward, elected: Columns) -
 {
     write_ward_line(sink, ward)?;
     write_line(sink, &[Piece::Text("Elected")])?;
-    write_each(sink, ward.candidates, &ElectedLine { elected: &elected })
+    write_each(sink, ward, &ElectedLine { elected: &elected })
 }

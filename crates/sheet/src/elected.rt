@@ -52,7 +52,7 @@ fn write_elected_at<W: Sink>(
     ensures { Writes W.taken W.failed sink.old sink.new (elected_at (shown ward.now) earlier.now stage.now) result }
 {
     let k = earlier.len() as u64 + 1;
-    write_each(sink, ward.candidates, &ItemAt { k, stage })
+    write_each(sink, ward, &ItemAt { k, stage })
 }
 
 /// Writes those elected, stage by stage.
@@ -94,7 +94,7 @@ pub fn write_elected_items<W: Sink>(
     ensures { Writes W.taken W.failed sink.old sink.new (elected_items (shown ward.now) ward.now.poll stages.now) result }
 {
     match ward.poll {
-        None => write_each(sink, ward.candidates, &Unopposed),
+        None => write_each(sink, ward, &Unopposed),
         Some(_) => write_elected_stages(sink, ward, stages),
     }
 }

@@ -2,13 +2,12 @@
 
 ghost use Rattle.std.specs.Prelude.{◌≡◌, ◌-◌, ◌^◌, ◌<◌, map};
 ghost use Rattle.std.specs.List.{flat_map};
-ghost use Rattle.sheet.specs.Index.{elected_name, index, index_heads, index_opening, index_row, listed, row_opening, standing_words as words_of};
+ghost use Rattle.sheet.specs.Index.{elected_name, elected_shown, index, index_heads, index_opening, index_row, listed, row_opening, standing_words as words_of};
 ghost use Rattle.sheet.specs.Writing.{Writes};
 
 use crate::line::{Piece, write_line, write_text};
 use crate::look::style;
 use crate::page::write_title;
-use crate::told::{OfCandidate, write_each};
 use votes::{Broken, Sink};
 
 /// How a ward stands, for everyone.
@@ -28,11 +27,11 @@ pub enum Standing {
 /// who is elected, once that is declared.
 #[derive(Drop)]
 pub struct ListedWard {
-    pub number: u8,
+    pub number: u32,
     pub name: String,
-    pub seats: u8,
+    pub seats: u32,
     pub standing: Standing,
-    pub elected: Vec<(u8, String)>,
+    pub elected: Vec<(u32, String)>,
 }
 
 /// How a ward stands, in words.
@@ -47,18 +46,25 @@ fn standing_words(standing: Standing) -> &'static str
     }
 }
 
-/// A candidate who is elected.
-#[derive(Clone, Copy)]
-struct ElectedName;
+/// Writes a candidate who is elected.
+fn write_elected_name<W: Sink>(sink: &mut W, candidate: &(u32, String)) -> Result<(), Broken>
+    requires { W.failed sink.old < 2 ^ 64 - 1 }
+    ensures { Writes W.taken W.failed sink.old sink.new (elected_name (elected_shown candidate.now)) result }
+{
+    let (c, name) = candidate;
+    let named = Piece::Listed(*c, name.as_str());
+    write_line(sink, &[Piece::Text("<li>"), named, Piece::Text("</li>")])
+}
 
-impl OfCandidate for ElectedName {
-    ghost text = { λ e. elected_name };
-
-    fn write<W: Sink>(&self, sink: &mut W, candidate: &(u8, String)) -> Result<(), Broken> {
-        let (c, name) = candidate;
-        let named = Piece::Named(*c, name.as_str());
-        write_line(sink, &[Piece::Text("<li>"), named, Piece::Text("</li>")])
+/// Writes those who are elected.
+fn write_elected_names<W: Sink>(sink: &mut W, elected: &[(u32, String)]) -> Result<(), Broken>
+    requires { W.failed sink.old < 2 ^ 64 - 1 }
+    ensures { Writes W.taken W.failed sink.old sink.new (flat_map elected_name (map elected_shown elected.now)) result }
+{
+    for candidate in elected {
+        write_elected_name(sink, candidate)?;
     }
+    Ok(())
 }
 
 /// Writes the row of a ward, as far as those elected.
@@ -68,7 +74,7 @@ fn write_row_opening<W: Sink>(sink: &mut W, ward: &ListedWard) -> Result<(), Bro
 {
     let pieces = [
         Piece::Text("<tr><th scope=\"row\">"),
-        Piece::Named(ward.number, ward.name.as_str()),
+        Piece::Listed(ward.number, ward.name.as_str()),
         Piece::Text("</th><td>"),
         Piece::Number(u64::from(ward.seats)),
         Piece::Text("</td><td>"),
@@ -84,7 +90,7 @@ fn write_index_row<W: Sink>(sink: &mut W, ward: &ListedWard) -> Result<(), Broke
     ensures { Writes W.taken W.failed sink.old sink.new (index_row (listed ward.now)) result }
 {
     write_row_opening(sink, ward)?;
-    write_each(sink, &ward.elected, &ElectedName)?;
+    write_elected_names(sink, &ward.elected)?;
     write_line(sink, &[Piece::Text("</ul>\n</td></tr>")])
 }
 

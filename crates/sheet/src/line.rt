@@ -37,8 +37,10 @@ pub enum Piece<'a> {
     Quoted(&'a str),
     /// A text on a page, never markup.
     Escaped(&'a str),
-    /// A number and a name on a page.
+    /// A candidate's or a ward's number and name, on a page.
     Named(u8, &'a str),
+    /// The same, whatever number it is.
+    Listed(u32, &'a str),
 }
 
 /// Writes a text.
@@ -188,12 +190,20 @@ fn write_quoted<W: Sink>(sink: &mut W, text: &str) -> Result<(), Broken>
     write_text(sink, "\"")
 }
 
+/// Writes a number, whatever it is of.
+fn write_any_number<W: Sink>(sink: &mut W, number: u64) -> Result<(), Broken>
+    requires { W.failed sink.old < 2 ^ 64 - 1 }
+    ensures { Writes W.taken W.failed sink.old sink.new (decimal number) result }
+{
+    write_text(sink, Buffer::new().format(number))
+}
+
 /// Writes a number and a name on a page.
-fn write_named<W: Sink>(sink: &mut W, number: u8, name: &str) -> Result<(), Broken>
+fn write_named<W: Sink>(sink: &mut W, number: u64, name: &str) -> Result<(), Broken>
     requires { W.failed sink.old < 2 ^ 64 - 1 }
     ensures { Writes W.taken W.failed sink.old sink.new (named number name.now) result }
 {
-    write_number(sink, number)?;
+    write_any_number(sink, number)?;
     write_text(sink, " <bdi>")?;
     write_plain(sink, name)?;
     write_text(sink, "</bdi>")
@@ -210,7 +220,7 @@ fn write_acted_on_named<W: Sink>(
     ensures { Writes W.taken W.failed sink.old sink.new (what.now ++ named c name.now) result }
 {
     write_text(sink, what)?;
-    write_named(sink, c, name)
+    write_named(sink, u64::from(c), name)
 }
 
 /// Writes what is done at a stage, on a page, with the name of the candidate with whom it is done.
@@ -246,7 +256,8 @@ fn write_piece<W: Sink>(sink: &mut W, piece: &Piece) -> Result<(), Broken>
         Piece::Preferences(list) => write_preferences(sink, list),
         Piece::Quoted(text) => write_quoted(sink, text),
         Piece::Escaped(text) => write_plain(sink, text),
-        Piece::Named(number, name) => write_named(sink, *number, name),
+        Piece::Named(number, name) => write_named(sink, u64::from(*number), name),
+        Piece::Listed(number, name) => write_named(sink, u64::from(*number), name),
     }
 }
 

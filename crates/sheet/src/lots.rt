@@ -138,7 +138,7 @@ fn write_lot_item<W: Sink>(
         earlier: stages_before(stages, k),
         named,
     };
-    write_each(sink, ward.candidates, &tied)?;
+    write_each(sink, ward, &tied)?;
     let end = [
         Piece::Text(settled_at(stages, k)),
         Piece::Named(named, name_or_withdrawn(ward, named)),

@@ -157,6 +157,6 @@ pub fn write_stage<W: Sink>(
     ensures { Writes W.taken W.failed sink.old sink.new (stage_text (shown ward.now) earlier.now stage.now) result }
 {
     write_heading(sink, earlier.len() as u64 + 1, stage.action)?;
-    write_each(sink, ward.candidates, &CandidateLine { earlier, stage })?;
+    write_each(sink, ward, &CandidateLine { earlier, stage })?;
     write_sum_lines(sink, stage)
 }

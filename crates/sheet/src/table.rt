@@ -85,7 +85,7 @@ fn write_table<W: Sink>(sink: &mut W, block: &Block) -> Result<(), Broken>
     ensures { Writes W.taken W.failed sink.old sink.new (table (shown block.now.ward.now) block.now.place block.now.stages.now) result }
 {
     write_head_row(sink, block)?;
-    write_each(sink, block.ward.candidates, &CandidateRow { block })?;
+    write_each(sink, block.ward, &CandidateRow { block })?;
     write_sum_rows(sink, block)
 }
 

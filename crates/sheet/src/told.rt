@@ -1,10 +1,11 @@
-//! What is told of each of some candidates.
+//! What is told of each candidate of a ward.
 
 ghost use Rattle.std.specs.Prelude.{ℕ, List, ◌-◌, ◌^◌, ◌<◌, string_bytes};
 ghost use Rattle.std.specs.List.{flat_map};
-ghost use Rattle.sheet.specs.Entries.{candidates_shown};
+ghost use Rattle.sheet.specs.Entries.{shown};
 ghost use Rattle.sheet.specs.Writing.{Writes};
 
+use crate::ward::Ward;
 use votes::{Broken, Sink};
 
 /// Something that is told of a candidate, in the same way of each.
@@ -18,16 +19,16 @@ pub trait OfCandidate {
         ensures { Writes W.taken W.failed sink.old sink.new (text self.now candidate.now.0 (string_bytes candidate.now.1)) result };
 }
 
-/// Writes it of all candidates, one after the other.
+/// Writes it of all candidates of a ward, one after the other.
 pub fn write_each<W: Sink, T: OfCandidate>(
     sink: &mut W,
-    candidates: &[(u8, String)],
+    ward: &Ward,
     told: &T,
 ) -> Result<(), Broken>
     requires { W.failed sink.old < 2 ^ 64 - 1 }
-    ensures { Writes W.taken W.failed sink.old sink.new (flat_map (λ candidate. T.text told.now candidate.0 candidate.1) (candidates_shown candidates.now)) result }
+    ensures { Writes W.taken W.failed sink.old sink.new (flat_map (λ candidate. T.text told.now candidate.0 candidate.1) (shown ward.now).candidates) result }
 {
-    for candidate in candidates {
+    for candidate in ward.candidates {
         told.write(sink, candidate)?;
     }
     Ok(())

@@ -8,11 +8,11 @@ returns-in_err-write_row_opening g c =
     let failure = c.from_residual.ensures.0 in
     Writes-front _ r failure (Writes-front _ r failure (Writes-failed r failure c.in_err-write_row_opening.ensures))
 
-pub returns-in_err-write_each : goal.returns-in_err-write_each
-returns-in_err-write_each g c =
-    let r = c.from_residual-in_err-write_each.result in
-    let failure = c.from_residual-in_err-write_each.ensures.0 in
-    Writes-front _ r failure (Writes-failed r failure (Writes-then _ c.in_ok-write_row_opening.ensures c.in_err-write_each.ensures))
+pub returns-in_err-write_elected_names : goal.returns-in_err-write_elected_names
+returns-in_err-write_elected_names g c =
+    let r = c.from_residual-in_err-write_elected_names.result in
+    let failure = c.from_residual-in_err-write_elected_names.ensures.0 in
+    Writes-front _ r failure (Writes-failed r failure (Writes-then _ c.in_ok-write_row_opening.ensures (rw c.deref.ensures.value at c.in_err-write_elected_names.ensures)))
 
 pub returns : goal.returns
-returns g c = Writes-then _ (Writes-then _ c.in_ok-write_row_opening.ensures c.in_ok-write_each.ensures) c.write_line.ensures
+returns g c = Writes-then _ (Writes-then _ c.in_ok-write_row_opening.ensures (rw c.deref.ensures.value at c.in_ok-write_elected_names.ensures)) c.write_line.ensures
