@@ -1,7 +1,7 @@
 //! The page of all wards, written from how they stand.
 #![tactic(auto, using(crate::proofs::StopLemmas::stops_of_memory))]
 
-ghost use Rattle.std.specs.Prelude.{◌≡◌, true, map, IfOk, IfErr, Err, string_bytes};
+ghost use Rattle.std.specs.Prelude.{◌≡◌, false, true, map, IfOk, IfErr, OnOk, Err, string_bytes};
 ghost use Rattle.std.specs.List.{filter};
 ghost use Rattle.sqlite.specs.Held.{state};
 ghost use Rattle.register.specs.Offices.{candidate_entry};
@@ -101,6 +101,19 @@ fn index_over(
 }
 
 impl<S: Alter> Office<S> {
+    /// The page of all wards that stand so. Only want of memory fails it, which leaves the office open.
+    fn index_of(&mut self, title: &str, overviews: &[WardOverview]) -> Result<String, Stop>
+        ensures told { IfOk result (λ text. string_bytes text ≡ index title.now (map listed_shown (map ward_view overviews.now))) }
+        ensures stopped { IfErr result (λ stop. (stop ≡ Stop.Fault Fault.Memory) × (self.new.closed ≡ false)) }
+        ensures held { self.new.held ≡ self.old.held }
+        ensures open_still { OnOk result (self.new.closed ≡ self.old.closed) }
+    {
+        match index_over(self.alloc, title, overviews) {
+            Ok(text) => Ok(text),
+            Err(AllocError) => Err(self.stopped_by(Fault::Memory)),
+        }
+    }
+
     /// The page of all wards, to hang at the door: how each stands, and who is elected where that is declared. An empty
     /// title is left out.
     ///
@@ -117,9 +130,6 @@ impl<S: Alter> Office<S> {
             Ok(overviews) => overviews,
             Err(stop) => return Err(stop),
         };
-        match index_over(self.alloc, title, &overviews) {
-            Ok(text) => Ok(text),
-            Err(AllocError) => Err(self.stopped_by(Fault::Memory)),
-        }
+        self.index_of(title, &overviews)
     }
 }

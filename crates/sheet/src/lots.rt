@@ -3,7 +3,7 @@
 ghost use Rattle.std.specs.Prelude.{◌≡◌, ◌-◌, ◌^◌, ◌<◌, slice_get, take};
 ghost use Rattle.std.specs.List.{flat_map};
 ghost use Rattle.sheet.specs.Entries.{candidates_shown, shown};
-ghost use Rattle.sheet.specs.Lots.{are_equal_at as are_equal_over, has_tied_above as has_above, has_tied_below as has_below, is_tied as is_tied_with, lot_item, lots_text};
+ghost use Rattle.sheet.specs.Lots.{are_equal_at as are_equal_over, has_tied_above as tied_above_of, has_tied_below as tied_below_of, is_tied as is_tied_with, lot_item, lots_text};
 ghost use Rattle.sheet.specs.Lots.{settled_at as settled_in, settled_by as settled_with, tie_mark as mark_of, tied_name};
 ghost use Rattle.sheet.specs.Writing.{Writes};
 
@@ -33,7 +33,7 @@ fn is_tied(earlier: &[Stage], c: u8, d: u8) -> bool
 
 /// Whether one of the tied has a lower number than a candidate.
 fn has_tied_below(candidates: &[(u8, String)], earlier: &[Stage], c: u8, d: u8) -> bool
-    ensures { result ≡ has_below candidates.now earlier.now c d }
+    ensures { result ≡ tied_below_of candidates.now earlier.now c d }
 {
     candidates
         .iter()
@@ -42,7 +42,7 @@ fn has_tied_below(candidates: &[(u8, String)], earlier: &[Stage], c: u8, d: u8) 
 
 /// Whether one of the tied has a higher number than a candidate.
 fn has_tied_above(candidates: &[(u8, String)], earlier: &[Stage], c: u8, d: u8) -> bool
-    ensures { result ≡ has_above candidates.now earlier.now c d }
+    ensures { result ≡ tied_above_of candidates.now earlier.now c d }
 {
     candidates
         .iter()
