@@ -9,4 +9,4 @@ returns-in_err-write_text g c =
     Writes-front _ r failure (Writes-failed r failure c.in_err-write_text.ensures)
 
 pub returns : goal.returns
-returns g c = Writes-then _ c.in_ok-write_text.ensures c.write_named.ensures
+returns g c = Writes-then _ c.in_ok-write_text.ensures (rw c.from.ensures at c.write_named.ensures)
