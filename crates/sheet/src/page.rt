@@ -3,7 +3,7 @@
 ghost use Rattle.std.specs.Prelude.{◌≡◌, ◌-◌, ◌^◌, ◌<◌, ◌≤◌};
 ghost use Rattle.votes.specs.Units.{max_papers, max_seats};
 ghost use Rattle.sheet.specs.Entries.{shown};
-ghost use Rattle.sheet.specs.Page.{foot, grounds, note as note_of, opening, page, page_head, papers_table, rejected_in_all as in_all, signatures, stages_part, title_line, uncontested_text, ward_heading};
+ghost use Rattle.sheet.specs.Page.{foot, grounds, note as note_of, opening as opening_of, page, page_head, papers_table, rejected_in_all as in_all, signatures, stages_part, title_line, uncontested_text, ward_heading};
 ghost use Rattle.sheet.specs.Wards.{CanBePrinted};
 ghost use Rattle.sheet.specs.Writing.{Writes};
 
@@ -49,7 +49,7 @@ fn note(is_declared: bool) -> &'static str
 /// Writes the document's head, and the line that stands on each printed sheet.
 fn write_opening<W: Sink>(sink: &mut W, ward: &Ward) -> Result<(), Broken>
     requires { W.failed sink.old < 2 ^ 64 - 1 }
-    ensures { Writes W.taken W.failed sink.old sink.new (opening (shown ward.now)) result }
+    ensures { Writes W.taken W.failed sink.old sink.new (opening_of (shown ward.now)) result }
 {
     let pieces = [
         Piece::Text(
