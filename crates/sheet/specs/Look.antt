@@ -8,11 +8,11 @@ style =
     codes "h1 { font-size: 2.2rem; line-height: 1.2; margin: .2rem 0 .4rem; }\n" ++ (
     codes "h2 { font-size: 1.2rem; margin: 1.4rem 0 .4rem; }\n" ++ (
     codes "h1, h2, caption, .key { break-after: avoid; }\n" ++ (
-    codes "h1, p, li, th { overflow: hidden; overflow-wrap: anywhere; }\n" ++ (
+    codes "h1, p, li, th[scope=row], .stages th { overflow: hidden; overflow-wrap: anywhere; }\n" ++ (
     codes "ul { list-style: none; margin: 0; padding: 0; }\n" ++ (
-    codes "table { border-collapse: separate; border-spacing: 0; border: solid #888; border-width: 1px 0 0 1px; }\n" ++ (
+    codes "table { border-collapse: separate; border-spacing: 0; border: solid #888; border-width: 0 1px 1px 0; }\n" ++ (
     codes "caption { text-align: left; font-weight: bold; padding: .6rem 0 .2rem; }\n" ++ (
-    codes "th, td { border: solid #888; border-width: 0 1px 1px 0; padding: .15rem .35rem; vertical-align: top; text-align: right; font-variant-numeric: tabular-nums; }\n" ++ (
+    codes "th, td { border: solid #888; border-width: 1px 0 0 1px; padding: .15rem .35rem; vertical-align: top; text-align: right; font-variant-numeric: tabular-nums; }\n" ++ (
     codes "th { font-weight: normal; background: #fff; }\n" ++ (
     codes "th[scope=row], th:first-child { text-align: left; }\n" ++ (
     codes ".title { font-size: 1.2rem; margin: 0; }\n" ++ (
@@ -21,6 +21,8 @@ style =
     codes ".open { border: 2px dashed #000; padding: .4rem .6rem; }\n" ++ (
     codes ".names li { margin: .3rem 0; }\n" ++ (
     codes ".names b { font-size: 1.7rem; line-height: 1.2; }\n" ++ (
+    codes ".names span { margin-left: .5rem; }\n" ++ (
+    codes ".top { display: grid; grid-template-columns: 3fr 2fr; gap: 0 2rem; }\n" ++ (
     codes ".top table { width: 100%; }\n" ++ (
     codes ".patterns { position: absolute; }\n" ++ (
     codes ".bar { display: block; width: 100%; height: 1rem; overflow: visible; forced-color-adjust: none; }\n" ++ (
@@ -30,7 +32,7 @@ style =
     codes ".excluded .first { fill: #fff; stroke: #000; }\n" ++ (
     codes ".bar .later { fill: url(#later); stroke: #000; }\n" ++ (
     codes ".bar .quota { fill: #000; stroke: #fff; }\n" ++ (
-    codes ".chart li { display: grid; grid-template-columns: 13rem 1fr 7rem 18rem; gap: 0 .8rem; align-items: center; }\n" ++ (
+    codes ".chart li { display: grid; grid-template-columns: 13rem 1fr 9rem 17rem; gap: 0 .8rem; align-items: center; }\n" ++ (
     codes ".chart li { border-bottom: 1px solid #bbb; padding: .2rem 0; font-size: .9rem; break-inside: avoid; }\n" ++ (
     codes ".who { display: flex; gap: .3em; min-width: 0; }\n" ++ (
     codes ".who bdi { min-width: 0; overflow: hidden; text-overflow: ellipsis; white-space: nowrap; }\n" ++ (
@@ -39,8 +41,8 @@ style =
     codes ".stages { font-size: .8rem; }\n" ++ (
     codes ".stages th[scope=row] { min-width: 7rem; }\n" ++ (
     codes ".stages th[scope=col] { min-width: 6.2rem; }\n" ++ (
-    codes ".stages th:first-child { position: sticky; left: 0; border-right-width: 2px; }\n" ++ (
-    codes ".sum th, .sum td { border-top: 1px dashed #888; }\n" ++ (
+    codes ".stages th:first-child { position: sticky; left: 0; border-right-width: 1px; }\n" ++ (
+    codes ".sum th, .sum td { border-top-style: dashed; }\n" ++ (
     codes "td i, td b, td small { display: block; font-size: inherit; white-space: nowrap; }\n" ++ (
     codes "td small { color: #444; }\n" ++ (
     codes ".wide { overflow-x: auto; background: linear-gradient(270deg, #fff 40%, #fff0) local, linear-gradient(270deg, #000a, #0000) scroll; }\n" ++ (
@@ -48,30 +50,29 @@ style =
     codes ".index { width: 100%; font-size: 1.2rem; }\n" ++ (
     codes ".index th, .index td { text-align: left; padding: .4rem .6rem; }\n" ++ (
     codes ".sign p { border-bottom: 1px solid #000; max-width: 34rem; margin: 0; padding: 2.2rem 0 .1rem; }\n" ++ (
-    codes "@media (min-width: 50rem) {\n" ++ (
-    codes ".top { display: grid; grid-template-columns: 3fr 2fr; gap: 0 2rem; }\n" ++ (
-    codes "}\n" ++ (
-    codes "@media (max-width: 50rem) {\n" ++ (
+    codes "@media screen and (max-width: 50rem) {\n" ++ (
+    codes ".top { display: block; }\n" ++ (
     codes ".chart li { grid-template-columns: 1fr auto; }\n" ++ (
     codes ".chart .bar { order: 1; grid-column: 1 / -1; }\n" ++ (
     codes ".chart .end { order: 2; grid-column: 1 / -1; }\n" ++ (
     codes ".stages th:first-child { max-width: 38vw; }\n" ++ (
     codes ".index { font-size: 1rem; }\n" ++ (
     codes "}\n" ++ (
-    codes "@page { size: A4 landscape; margin: 16mm 12mm 12mm; }\n" ++ (
+    codes "@page { size: A4 landscape; margin: 10mm 12mm; }\n" ++ (
     codes "@media print {\n" ++ (
     codes "html { font-size: 10pt; }\n" ++ (
-    codes "body { max-width: none; margin: 0; padding: 0; }\n" ++ (
-    codes ".running { display: block; position: fixed; top: -9mm; left: 0; margin: 0; }\n" ++ (
+    codes "body { display: table; table-layout: fixed; width: 100%; max-width: none; margin: 0; padding: 0; }\n" ++ (
+    codes ".running { display: table-header-group; break-inside: avoid; }\n" ++ (
     codes ".wide { overflow: visible; background: none; break-inside: avoid; }\n" ++ (
     codes ".stages { width: 100%; line-height: 1.2; table-layout: fixed; }\n" ++ (
     codes ".stages th[scope] { min-width: 0; position: static; padding: 1pt 2pt; }\n" ++ (
     codes ".stages td { padding: 1pt 2pt; overflow-wrap: anywhere; }\n" ++ (
     codes ".stages th:first-child { width: 20%; }\n" ++ (
     codes "tr, .sign { break-inside: avoid; }\n" ++ (
-    codes ".sign .names li { margin: 0; }\n" ++ (
+    codes ".chart li { padding: 0; line-height: 1.25; }\n" ++ (
+    codes ".bar { height: .8rem; }\n" ++ (
     codes "* { -webkit-print-color-adjust: exact; print-color-adjust: exact; }\n" ++ (
-    codes "}\n")))))))))))))))))))))))))))))))))))))))))))))))))))))))))))))))))))
+    codes "}\n"))))))))))))))))))))))))))))))))))))))))))))))))))))))))))))))))))))
 
 -- once for all bars of a page: the pattern of what was gained after the first stage
 unfoldable pub patterns : List ℕ

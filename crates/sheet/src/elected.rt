@@ -164,8 +164,7 @@ pub fn write_elected<W: Sink>(
     requires { W.failed sink.old < 2 ^ 64 - 1 }
     ensures { Writes W.taken W.failed sink.old sink.new (elected_text (shown ward.now) is_declared stages.now) result }
 {
-    let opening =
-        Piece::Text("<div class=\"top\">\n<div>\n<h2>Elected</h2>\n<ul class=\"names\">");
+    let opening = Piece::Text("<div class=\"top\">\n<div>\n<h2>Elected</h2>\n<ul class=\"names\">");
     write_line(sink, &[opening])?;
     write_elected_items(sink, ward, stages)?;
     let is_final = stay_empty(ward.poll, is_declared);

@@ -210,12 +210,7 @@ fn write_named<W: Sink>(sink: &mut W, number: u64, name: &str) -> Result<(), Bro
 }
 
 /// Writes what is done with a candidate, with his number and name, on a page.
-fn write_acted_on_named<W: Sink>(
-    sink: &mut W,
-    what: &str,
-    c: u8,
-    name: &str,
-) -> Result<(), Broken>
+fn write_acted_on_named<W: Sink>(sink: &mut W, what: &str, c: u8, name: &str) -> Result<(), Broken>
     requires { W.failed sink.old < 2 ^ 64 - 1 }
     ensures { Writes W.taken W.failed sink.old sink.new (what.now ++ named c name.now) result }
 {

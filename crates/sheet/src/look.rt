@@ -12,11 +12,11 @@ body { color: #000; background: #fff; font: 1rem/1.4 sans-serif; max-width: 68re
 h1 { font-size: 2.2rem; line-height: 1.2; margin: .2rem 0 .4rem; }
 h2 { font-size: 1.2rem; margin: 1.4rem 0 .4rem; }
 h1, h2, caption, .key { break-after: avoid; }
-h1, p, li, th { overflow: hidden; overflow-wrap: anywhere; }
+h1, p, li, th[scope=row], .stages th { overflow: hidden; overflow-wrap: anywhere; }
 ul { list-style: none; margin: 0; padding: 0; }
-table { border-collapse: separate; border-spacing: 0; border: solid #888; border-width: 1px 0 0 1px; }
+table { border-collapse: separate; border-spacing: 0; border: solid #888; border-width: 0 1px 1px 0; }
 caption { text-align: left; font-weight: bold; padding: .6rem 0 .2rem; }
-th, td { border: solid #888; border-width: 0 1px 1px 0; padding: .15rem .35rem; vertical-align: top; text-align: right; font-variant-numeric: tabular-nums; }
+th, td { border: solid #888; border-width: 1px 0 0 1px; padding: .15rem .35rem; vertical-align: top; text-align: right; font-variant-numeric: tabular-nums; }
 th { font-weight: normal; background: #fff; }
 th[scope=row], th:first-child { text-align: left; }
 .title { font-size: 1.2rem; margin: 0; }
@@ -25,6 +25,8 @@ th[scope=row], th:first-child { text-align: left; }
 .open { border: 2px dashed #000; padding: .4rem .6rem; }
 .names li { margin: .3rem 0; }
 .names b { font-size: 1.7rem; line-height: 1.2; }
+.names span { margin-left: .5rem; }
+.top { display: grid; grid-template-columns: 3fr 2fr; gap: 0 2rem; }
 .top table { width: 100%; }
 .patterns { position: absolute; }
 .bar { display: block; width: 100%; height: 1rem; overflow: visible; forced-color-adjust: none; }
@@ -34,7 +36,7 @@ th[scope=row], th:first-child { text-align: left; }
 .excluded .first { fill: #fff; stroke: #000; }
 .bar .later { fill: url(#later); stroke: #000; }
 .bar .quota { fill: #000; stroke: #fff; }
-.chart li { display: grid; grid-template-columns: 13rem 1fr 7rem 18rem; gap: 0 .8rem; align-items: center; }
+.chart li { display: grid; grid-template-columns: 13rem 1fr 9rem 17rem; gap: 0 .8rem; align-items: center; }
 .chart li { border-bottom: 1px solid #bbb; padding: .2rem 0; font-size: .9rem; break-inside: avoid; }
 .who { display: flex; gap: .3em; min-width: 0; }
 .who bdi { min-width: 0; overflow: hidden; text-overflow: ellipsis; white-space: nowrap; }
@@ -43,8 +45,8 @@ th[scope=row], th:first-child { text-align: left; }
 .stages { font-size: .8rem; }
 .stages th[scope=row] { min-width: 7rem; }
 .stages th[scope=col] { min-width: 6.2rem; }
-.stages th:first-child { position: sticky; left: 0; border-right-width: 2px; }
-.sum th, .sum td { border-top: 1px dashed #888; }
+.stages th:first-child { position: sticky; left: 0; border-right-width: 1px; }
+.sum th, .sum td { border-top-style: dashed; }
 td i, td b, td small { display: block; font-size: inherit; white-space: nowrap; }
 td small { color: #444; }
 .wide { overflow-x: auto; background: linear-gradient(270deg, #fff 40%, #fff0) local, linear-gradient(270deg, #000a, #0000) scroll; }
@@ -52,28 +54,27 @@ td small { color: #444; }
 .index { width: 100%; font-size: 1.2rem; }
 .index th, .index td { text-align: left; padding: .4rem .6rem; }
 .sign p { border-bottom: 1px solid #000; max-width: 34rem; margin: 0; padding: 2.2rem 0 .1rem; }
-@media (min-width: 50rem) {
-.top { display: grid; grid-template-columns: 3fr 2fr; gap: 0 2rem; }
-}
-@media (max-width: 50rem) {
+@media screen and (max-width: 50rem) {
+.top { display: block; }
 .chart li { grid-template-columns: 1fr auto; }
 .chart .bar { order: 1; grid-column: 1 / -1; }
 .chart .end { order: 2; grid-column: 1 / -1; }
 .stages th:first-child { max-width: 38vw; }
 .index { font-size: 1rem; }
 }
-@page { size: A4 landscape; margin: 16mm 12mm 12mm; }
+@page { size: A4 landscape; margin: 10mm 12mm; }
 @media print {
 html { font-size: 10pt; }
-body { max-width: none; margin: 0; padding: 0; }
-.running { display: block; position: fixed; top: -9mm; left: 0; margin: 0; }
+body { display: table; table-layout: fixed; width: 100%; max-width: none; margin: 0; padding: 0; }
+.running { display: table-header-group; break-inside: avoid; }
 .wide { overflow: visible; background: none; break-inside: avoid; }
 .stages { width: 100%; line-height: 1.2; table-layout: fixed; }
 .stages th[scope] { min-width: 0; position: static; padding: 1pt 2pt; }
 .stages td { padding: 1pt 2pt; overflow-wrap: anywhere; }
 .stages th:first-child { width: 20%; }
 tr, .sign { break-inside: avoid; }
-.sign .names li { margin: 0; }
+.chart li { padding: 0; line-height: 1.25; }
+.bar { height: .8rem; }
 * { -webkit-print-color-adjust: exact; print-color-adjust: exact; }
 }
 "

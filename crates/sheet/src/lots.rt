@@ -19,9 +19,7 @@ use votes::{Broken, Sink};
 fn are_equal_at(stages: &[Stage], c: u8, d: u8) -> bool
     ensures { result ≡ are_equal_over stages.now c d }
 {
-    stages
-        .iter()
-        .all(|stage| votes_of(stage, c).units() == votes_of(stage, d).units())
+    stages.iter().all(|stage| votes_of(stage, c).units() == votes_of(stage, d).units())
 }
 
 /// Whether a candidate was tied with the one whom a lot named.
@@ -35,18 +33,14 @@ fn is_tied(earlier: &[Stage], c: u8, d: u8) -> bool
 fn has_tied_below(candidates: &[(u8, String)], earlier: &[Stage], c: u8, d: u8) -> bool
     ensures { result ≡ tied_below_of candidates.now earlier.now c d }
 {
-    candidates
-        .iter()
-        .any(|candidate| candidate.0 < d && is_tied(earlier, c, candidate.0))
+    candidates.iter().any(|candidate| candidate.0 < d && is_tied(earlier, c, candidate.0))
 }
 
 /// Whether one of the tied has a higher number than a candidate.
 fn has_tied_above(candidates: &[(u8, String)], earlier: &[Stage], c: u8, d: u8) -> bool
     ensures { result ≡ tied_above_of candidates.now earlier.now c d }
 {
-    candidates
-        .iter()
-        .any(|candidate| d < candidate.0 && is_tied(earlier, c, candidate.0))
+    candidates.iter().any(|candidate| d < candidate.0 && is_tied(earlier, c, candidate.0))
 }
 
 /// What stands before one of the tied.

@@ -60,9 +60,7 @@ fn write_opening<W: Sink>(sink: &mut W, ward: &Ward) -> Result<(), Broken>
         Piece::Escaped(ward.name),
         Piece::Text("</title>\n<style>\n"),
         Piece::Text(style()),
-        Piece::Text(
-            "</style>\n</head>\n<body>\n<p class=\"running\" aria-hidden=\"true\">Ward ",
-        ),
+        Piece::Text("</style>\n</head>\n<body>\n<p class=\"running\" aria-hidden=\"true\">Ward "),
         Piece::Named(ward.number, ward.name),
         Piece::Text("</p>"),
     ];
