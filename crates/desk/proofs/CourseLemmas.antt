@@ -224,6 +224,7 @@ told_ends s (errand.ImportCandidates path id) file page sends told zero = refuse
 told_ends s (errand.ImportKeying keying) file page sends told zero = refused_keying (columns_told s keying.batch) file page told zero
 told_ends s (errand.TellStatus ward) file page sends told zero = absurd (cc sends)
 told_ends s (errand.Print ward text) file page sends told zero = absurd (cc sends)
+told_ends s (errand.PrintIndex title) file page sends told zero = absurd (cc sends)
 told_ends s (errand.Ask question) file page sends told zero = absurd (cc sends)
 
 unsent_ends : (old : State) (closed : Bool) (st : State) (line : Option ℕ) (s : OfficeState) (e : Errand) (file : File) (c : Course) → sends_requests e ≡ true

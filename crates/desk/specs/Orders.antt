@@ -76,6 +76,10 @@ id = record { name = codes "id"; kind = kind.Id }
 abbrev pub origin : WordEntry
 origin = record { name = codes "origin"; kind = kind.Origin }
 
+-- a title, after `--` and its name, which may be left out
+abbrev pub title : WordEntry
+title = record { name = codes "title"; kind = kind.Title }
+
 -- ---- what a command asks
 
 -- what a command asks, its names as text
@@ -135,6 +139,8 @@ pub data Meant : Type 0 where
   import_keying : ℕ → ℕ → ℕ → Text → Text → Meant
   tell_status : ℕ → Meant
   print : ℕ → WardText → Meant
+  print_page : ℕ → Text → Meant
+  print_index : Text → Meant
   ask : Question → Meant
   replay : Text → Meant
   copy : Text → Meant
@@ -142,13 +148,19 @@ pub data Meant : Type 0 where
   no_verdict : Meant
   no_origin : Meant
 
+-- what the printing of a text of a ward is, the title of a page as such
+abbrev pub told_text : ℕ → WardText → Meant
+told_text ward (ward_text.Page title) = print_page ward title.now
+told_text ward text = print ward text
+
 -- what an errand is, its request and its texts as such
 abbrev pub told_errand : Errand → Meant
 told_errand (errand.Send r) = send (sent_as r)
 told_errand (errand.ImportCandidates file id) = import_candidates file.now id.now
 told_errand (errand.ImportKeying k) = import_keying k.clerk k.batch k.round k.file.now k.id.now
 told_errand (errand.TellStatus ward) = tell_status ward
-told_errand (errand.Print ward text) = print ward text
+told_errand (errand.Print ward text) = told_text ward text
+told_errand (errand.PrintIndex title) = print_index title.now
 told_errand (errand.Ask question) = ask question
 
 -- what an order is
@@ -172,6 +184,7 @@ WordValue kind.Text = Text
 WordValue kind.Verdict = Judgement
 WordValue kind.Id = Text
 WordValue kind.Origin = Option Text
+WordValue kind.Title = Text
 
 -- what comes of the values of some words, in their sequence
 abbrev pub OfWords : List WordEntry → Type 0 → Type 0
@@ -228,6 +241,7 @@ orders =
     ∷ takes (codes "replay") (text (codes "FILE") ∷ []) replay
     ∷ takes (codes "copy") (text (codes "NEW") ∷ []) copy
     ∷ takes (codes "ballots") (number (codes "WARD") ∷ []) (λ ward. print ward ward_text.Ballots)
-    ∷ takes (codes "page") (number (codes "WARD") ∷ []) (λ ward. print ward ward_text.Page)
+    ∷ takes (codes "page") (number (codes "WARD") ∷ title ∷ []) print_page
     ∷ takes (codes "table") (number (codes "WARD") ∷ []) (λ ward. print ward ward_text.Table)
+    ∷ takes (codes "index") (title ∷ []) print_index
     ∷ []

@@ -3,6 +3,7 @@ use Rattle.std.specs.Prelude.{◌≡◌, ◌⊎◌, ℕ, List, Option, Some, Non
 use Rattle.register.specs.Offices.{OfficeState}
 use Rattle.register.specs.declared.refusal.Reason.{Reason}
 use Rattle.office.specs.Reads.{columns_told, status_told}
+use Rattle.office.specs.Index.{index_told}
 use Rattle.office.specs.Sheets.{text_told}
 use Rattle.keyfile.specs.Candidates.{candidates}
 use Rattle.keyfile.specs.Files.{Format, IsFaultOf}
@@ -44,6 +45,7 @@ IsTold s (errand.ImportCandidates path id) file page = IsRefusedFile candidates 
 IsTold s (errand.ImportKeying k) file page = IsRefusedKeying (columns_told s k.batch) file page
 IsTold s (errand.TellStatus ward) file page = page ≡ page_found (λ status. replied (status_text status)) (status_told s ward)
 IsTold s (errand.Print ward text) file page = page ≡ page_found printed (text_told text s ward)
+IsTold s (errand.PrintIndex title) file page = page ≡ page_found printed (index_told title.now s)
 IsTold s (errand.Ask question) file page = page ≡ page_asked s question
 
 -- why a file isn't taken for a script: it can't be opened or read, or this is wrong with the first line that isn't understood

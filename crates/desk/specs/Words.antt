@@ -59,6 +59,7 @@ rule_of_kind kind.Text = text_rule
 rule_of_kind kind.Verdict = text_rule
 rule_of_kind kind.Id = id_rule
 rule_of_kind kind.Origin = option_rule
+rule_of_kind kind.Title = option_rule
 
 -- a command, and these words more
 abbrev pub with_words : App → List WordEntry → App
@@ -122,6 +123,7 @@ with_value kind.Text rows name means = means (text_at name rows)
 with_value kind.Verdict rows name means = judged (judgement_in (text_at name rows)) means
 with_value kind.Id rows name means = means (text_at name rows)
 with_value kind.Origin rows name means = served_to (origin_at name rows) means
+with_value kind.Title rows name means = means (text_at name rows)
 
 -- what comes of the values that the matches give some words
 abbrev pub with_values : List Row → (words : List WordEntry) → OfWords words Meant → Meant

@@ -7,7 +7,7 @@
 
 ghost use Rattle.std.specs.Prelude.{◌≡◌, ◌⊎◌, false, Err, None, Some, codes, map, IfErr, IfOk, option_map, string_bytes};
 ghost use Rattle.clap.specs.Words.{first_of, found_of, rows_of, subcommand_rows_of};
-ghost use Rattle.desk.specs.Orders.{ask, no_origin, no_verdict, orders, print, told, told_errand, words_of};
+ghost use Rattle.desk.specs.Orders.{ask, no_origin, no_verdict, orders, told, told_errand, told_text, words_of};
 ghost use Rattle.wire.specs.Origins.{origin_text};
 ghost use Rattle.desk.specs.Words.{is_command_name, is_order_name, meaning, meaning_of, names_order, number_at, number_found, origin_at, sent, text_at};
 
@@ -15,7 +15,8 @@ use crate::orders::{Errand, Job, KeyingFile, Order, Question, Task};
 use crate::requests::by_office;
 use crate::table::{
     ACTOR, BATCH, CANDIDATE, CLERK, CONNECTIONS, Entry, FILE, FIRST_CLERK, Heading, ID, NAME, NEW,
-    ORIGIN, PAPER, PORT, ROUND, SCRIPT, SEATS, SECOND_CLERK, SIZE, STAGE, VERDICT, WARD, Word,
+    ORIGIN, PAPER, PORT, ROUND, SCRIPT, SEATS, SECOND_CLERK, SIZE, STAGE, TITLE, VERDICT, WARD,
+    Word,
 };
 use crate::verdicts::verdict_in;
 use clap::ArgMatches;
@@ -43,7 +44,7 @@ macro_rules! order {
 /// All orders, in the sequence of an election; then the one that brings an older office over, those for the office
 /// alone, and those for everyone.
 #[rattlefmt::skip]
-const ORDERS: [Entry; 30] = [
+const ORDERS: [Entry; 31] = [
     order!(Election "init" [], "Makes an office in DB, a new file or an empty one:\ncount-office town.db init"),
     order!(Election "ward" [WARD, SEATS, NAME, ID], "Adds a ward, its nominations open:\ncount-office town.db ward 7 2 Harbour --id w1"),
     order!(Election "candidate" [WARD, CANDIDATE, NAME, ID], "Adds a candidate to a ward:\ncount-office town.db candidate 7 1 Ann --id c1"),
@@ -72,8 +73,9 @@ const ORDERS: [Entry; 30] = [
     order!(Office "replay" [SCRIPT], "Sends the orders of a text file, a line each, up to a refusal:\ncount-office town.db replay evening.txt"),
     order!(Office "copy" [NEW], "Makes a copy of the office, in a file that isn't there yet:\ncount-office town.db copy evening.db"),
     order!(Everyone "ballots" [WARD], "Prints the ballots of a sealed ward, in a form that counting programs read:\ncount-office town.db ballots 7"),
-    order!(Everyone "page" [WARD], "Prints the result of a sealed ward as a page for a browser, to print and sign:\ncount-office town.db page 7"),
+    order!(Everyone "page" [WARD, TITLE], "Prints the result of a sealed ward as a page for a browser, to print and sign:\ncount-office town.db page 7"),
     order!(Everyone "table" [WARD], "Prints the stages of a sealed ward as a table for a spreadsheet:\ncount-office town.db table 7"),
+    order!(Everyone "index" [TITLE], "Prints how all wards stand, and who is elected, as a page to hang at the door:\ncount-office town.db index"),
 ];
 
 /// The table of orders.
@@ -282,12 +284,26 @@ fn serve<'a>(matches: &ArgMatches<'a>) -> Result<Order<'a>, NoOrder>
 }
 
 /// The order that prints a text of the ward that was matched.
-fn printing<'a>(matches: &ArgMatches<'a>, text: Text) -> Order<'a>
-    ensures { told result ≡ print (number_at (codes "WARD") (rows_of (found_of matches.now))) text }
+fn printing<'a>(matches: &ArgMatches<'a>, text: Text<'a>) -> Order<'a>
+    ensures { told result ≡ told_text (number_at (codes "WARD") (rows_of (found_of matches.now))) text.entry }
 {
     in_office(Errand::Print {
         ward: number_in(matches, WARD),
         text,
+    })
+}
+
+fn page<'a>(matches: &ArgMatches<'a>) -> Order<'a>
+    ensures { meaning_of (codes "page") (rows_of (found_of matches.now)) ≡ Some (told result) }
+{
+    printing(matches, Text::Page(text_in(matches, TITLE)))
+}
+
+fn index<'a>(matches: &ArgMatches<'a>) -> Order<'a>
+    ensures { meaning_of (codes "index") (rows_of (found_of matches.now)) ≡ Some (told result) }
+{
+    in_office(Errand::PrintIndex {
+        title: text_in(matches, TITLE),
     })
 }
 
@@ -320,8 +336,9 @@ fn order_named<'a>(
         "sheet" => Ok(printing(matches, Text::Sheet)),
         "result" => Ok(printing(matches, Text::Declaration)),
         "ballots" => Ok(printing(matches, Text::Ballots)),
-        "page" => Ok(printing(matches, Text::Page)),
+        "page" => Ok(page(matches)),
         "table" => Ok(printing(matches, Text::Table)),
+        "index" => Ok(index(matches)),
         "serve" => serve(matches),
         "wards" => Ok(asking(Question::Wards)),
         "batches" => Ok(asking(Question::Batches { ward })),

@@ -46,7 +46,9 @@ pub enum Errand<'a> {
     /// Tell how a ward stands.
     TellStatus { ward: u32 },
     /// Print a text of a ward.
-    Print { ward: u32, text: Text },
+    Print { ward: u32, text: Text<'a> },
+    /// Print the page of all wards, under this title.
+    PrintIndex { title: &'a str },
     /// Tell this of how all stands.
     Ask(Question),
 }

@@ -19,7 +19,7 @@ use crate::import::{UNOPENED, candidate_requests, keying_of};
 use crate::lines::{Outcome, tell, tell_script_fault};
 use crate::orders::{Errand, Job};
 use crate::overviews::answer_to;
-use crate::printing::text_of;
+use crate::printing::{index_of, text_of};
 use crate::scripts::{Line, Said, ScriptFault, Turn, all_said, lines_in, turns_in};
 use crate::sending::send_all;
 use crate::standing::standing_of;
@@ -73,6 +73,7 @@ fn run<S: Alter, F: Folder, O: Sink, E: Sink>(
         },
         Errand::TellStatus { ward } => tell(line, &standing_of(alloc, office, *ward), out, err),
         Errand::Print { ward, text } => tell(line, &text_of(office, *ward, *text), out, err),
+        Errand::PrintIndex { title } => tell(line, &index_of(office, title), out, err),
         Errand::Ask(question) => tell(line, &answer_to(alloc, office, *question), out, err),
     }
 }

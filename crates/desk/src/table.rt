@@ -19,6 +19,8 @@ pub(crate) enum Kind {
     Id,
     /// An origin as a browser writes it, after `--origin`; it may be left out.
     Origin,
+    /// Any text, after `--title`; left out, it is empty.
+    Title,
 }
 
 /// A word that an order takes, and its line of help.
@@ -121,3 +123,6 @@ pub(crate) const CONNECTIONS: Word =
 
 pub(crate) const ORIGIN: Word =
     word!(Origin "origin", "The origin of pages that ask through a proxy, as https://count.example.org;\nleft out, no page of another machine is answered");
+
+pub(crate) const TITLE: Word =
+    word!(Title "title", "What stands above, as the names of the election and of the council;\nin quotes where it has spaces");

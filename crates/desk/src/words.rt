@@ -42,6 +42,8 @@ For everyone who wants to see or check a count, once the ward is sealed:
   ballots WARD       Its ballots, in a form that counting programs read (BLT)
   page WARD          Its result as a page for a browser, to print and sign (HTML)
   table WARD         Its stages as a table for a spreadsheet (CSV)
+  index              How all wards stand, sealed or not, and who is elected, as a page
+                     to hang at the door (HTML)
 
 An example stands under each order. Its words, with their ranges, are shown by
   count-office DB ORDER --help
@@ -93,6 +95,7 @@ fn arg_of<'a>(alloc: Global, word: Word) -> Arg<'a>
         Kind::Text | Kind::Verdict => arg.required(true),
         Kind::Id => arg.long(word.name).value_name("ID").required(true),
         Kind::Origin => arg.long(word.name).value_name("ORIGIN"),
+        Kind::Title => arg.long(word.name).value_name("TEXT"),
     }
 }
 

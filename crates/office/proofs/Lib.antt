@@ -4,3 +4,4 @@ mod ClerkLemmas
 pub mod SheetLemmas
 pub mod StopLemmas
 mod TextLemmas
+mod IndexLemmas

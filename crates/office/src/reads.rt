@@ -160,7 +160,7 @@ impl<S: Alter> Office<S> {
     /// the ward is declared, any other before it is sealed. Nothing is changed. `Memory` leaves the office open; any
     /// other fault closes it. A closed office tells `Closed`.
     pub fn text(&mut self, ward: u32, text: Text) -> Result<String, Stop>
-        ensures reads { ReadWhenOpen (state S.Store) self.old self.new string_bytes (λ s. text_told text s ward) result }
+        ensures reads { ReadWhenOpen (state S.Store) self.old self.new string_bytes (λ s. text_told text.entry s ward) result }
         ensures same { OnlyReads (state S.Store self.old.held) (state S.Store self.new.held) }
         ensures closes { IfErr result (ClosesAt self.new.closed) }
         ensures cause { WhenOpenAt (state S.Store) self.old self.new (λ s. IfErr result (StopsBy (state S.Store self.old.held) (state S.Store self.new.held))) }
@@ -205,8 +205,8 @@ impl<S: Alter> Office<S> {
     /// A text of a ward that was read. Only want of memory fails it where the ward's texts can be written, as
     /// those of each ward of an office can.
     fn read_text(&mut self, sheet: &WardSheet, text: Text) -> Result<String, Stop>
-        ensures told { IfOk result (λ told. (is_told_in text sheet.now.counted.ward.phase ≡ true) × ((e : ElectionEntry) → IsSheetOf e sheet.now → string_bytes told ≡ text_shown text e)) }
-        ensures stopped { self.old.closed ≡ false → IfErr result (λ stop. StopsText text sheet.now.counted.ward.phase self.new.closed stop) }
+        ensures told { IfOk result (λ told. (is_told_in text.entry sheet.now.counted.ward.phase ≡ true) × ((e : ElectionEntry) → IsSheetOf e sheet.now → string_bytes told ≡ text_shown text.entry e)) }
+        ensures stopped { self.old.closed ≡ false → IfErr result (λ stop. StopsText text.entry sheet.now.counted.ward.phase self.new.closed stop) }
         ensures closes { IfErr result (ClosesAt self.new.closed) }
         ensures cause { (e : ElectionEntry) → IsSheetOf e sheet.now → IsTextual e → IfErr result IsOfMemory }
         ensures held { self.new.held ≡ self.old.held }

@@ -9,14 +9,14 @@ use Rattle.register.specs.declared.elections.CountedWard.{CountedWard}
 use Rattle.register.specs.declared.phase.Phase.{Phase}
 use Rattle.register.specs.declared.phase.Phase.TheVariants.{Nominations, Keying, Sealed, Declared}
 use Rattle.register.specs.declared.wards.Ward.{Ward}
-use Rattle.register.specs.Offices.{WardEntry, BatchEntry, KeyedEntry, JudgedEntry, OfficeState, ward_entry, ward_at, verdicts_of}
+use Rattle.register.specs.Offices.{WardEntry, BatchEntry, KeyedEntry, JudgedEntry, OfficeState, candidate_entry, candidates_of, ward_entry, ward_at, verdicts_of}
 use Rattle.register.specs.Papers.{is_keyed, of_three, agreed, keyings_now}
 use Rattle.register.specs.Elections.{ElectionEntry, election_of, elected_of, is_counted, is_declared}
 use Rattle.register.specs.Items.{IsState}
 use Rattle.register.specs.Tabulated.{IsCountedWard}
 use Rattle.tables.proofs.ListLemmas.{get_mapped, mapped_length}
 use Rattle.store.specs.Elections.{IsCountedIn, IsCountedInFor}
-use Rattle.store.specs.Overviews.{WardView, declared_in, DoubtfulView, doubtful_among, doubtful_in, has_alike, is_apart, apart_among, papers_apart}
+use Rattle.store.specs.Overviews.{WardView, candidates_told, declared_in, DoubtfulView, doubtful_among, doubtful_in, has_alike, is_apart, apart_among, papers_apart}
 use Rattle.store.proofs.DoneLemmas.{wards_there}
 
 -- ---- lists
@@ -34,8 +34,12 @@ each_there P entry xs k x all within is =
 -- ---- wards
 
 -- wards with the same fields are the same
-pub same_ward_view : (x y : WardView) → x.ward ≡ y.ward → x.status ≡ y.status → x.elected ≡ y.elected → x ≡ y
-same_ward_view x y ward status elected = ap (λ v. record x { ward = v }) ward ∙ ap (λ v. record x { ward = y.ward; status = v }) status ∙ ap (λ v. record y { elected = v }) elected
+pub same_ward_view : (x y : WardView) → x.ward ≡ y.ward → x.status ≡ y.status → x.elected ≡ y.elected → x.candidates ≡ y.candidates → x ≡ y
+same_ward_view x y ward status elected candidates =
+    ap (λ v. record x { ward = v }) ward
+    ∙ ap (λ v. record x { ward = y.ward; status = v }) status
+    ∙ ap (λ v. record x { ward = y.ward; status = y.status; elected = v }) elected
+    ∙ ap (λ v. record y { candidates = v }) candidates
 
 -- a ward of a state is the one of its number
 pub ward_there : (s : OfficeState) → IsState s → (ws : List Ward) → map ward_entry ws ≡ s.wards → (k : ℕ) (w : Ward) → k < length ws → w ≡ get_or ws k w → ward_at s w.number ≡ Some (ward_entry w)
@@ -57,6 +61,17 @@ declared_told s w found counted elected is told law declared there =
     let same : here.0 ≡ counted = some_same (sym here.1 ∙ is) in
     ap (λ (cs : List ℕ). Some cs) (law (election_of s w) (subst (IsCountedWard (election_of s w)) same here.2) (declared_counted w.phase declared))
     ∙ sym (cond-true (is_declared w.phase) (Some (elected_of (election_of s w))) None declared)
+  where
+    some_same : {a b : CountedWard} → ◌≡◌ {A = Option CountedWard} (Some a) (Some b) → a ≡ b
+    some_same e = cc
+
+-- the candidates that were found of a declared ward
+pub candidates_found : (s : OfficeState) (w : WardEntry) (found : Option CountedWard) (counted : CountedWard) → found ≡ Some counted → IsCountedInFor (option_map (election_of s) (ward_at s w.number)) found
+    → is_declared w.phase ≡ true → ward_at s w.number ≡ Some w → map candidate_entry counted.candidates.items ≡ candidates_told s w
+candidates_found s w found counted is told declared there =
+    let here : IsCountedIn (election_of s w) found = subst (λ (o : Option WardEntry). IsCountedInFor (option_map (election_of s) o) found) there told in
+    let same : here.0 ≡ counted = some_same (sym here.1 ∙ is) in
+    (subst (IsCountedWard (election_of s w)) same here.2).candidates_are ∙ sym (cond-true (is_declared w.phase) (candidates_of s w.number) [] declared)
   where
     some_same : {a b : CountedWard} → ◌≡◌ {A = Option CountedWard} (Some a) (Some b) → a ≡ b
     some_same e = cc

@@ -3,7 +3,8 @@ use Rattle.std.specs.Prelude.{ℕ, Bool, not, ◌==◌, ◌&&◌, ◌++◌, if�
 use Rattle.std.specs.List.{filter, flat_map, list_any}
 use Rattle.std.specs.Fmt.{decimal}
 use Rattle.std.specs.Str.{bytes_eq}
-use Rattle.register.specs.Offices.{WardEntry, BatchEntry, KeyedEntry, JudgedEntry, ReceiptEntry, OfficeState, ward_entry, batch_entry, judged_entry, ward_at, batch_at, candidates_of, keying_of, verdicts_of}
+use Rattle.register.specs.Offices.{WardEntry, CandidateEntry, BatchEntry, KeyedEntry, JudgedEntry, ReceiptEntry, OfficeState, ward_entry, candidate_entry, batch_entry, judged_entry}
+use Rattle.register.specs.Offices.{ward_at, batch_at, candidates_of, keying_of, verdicts_of}
 use Rattle.register.specs.Marks.{columns_of}
 use Rattle.register.specs.Papers.{is_keyed, is_doubtful, clerks_of, keyings_now, taken_papers, are_taken, differ, is_taken, batches_of, open_in}
 use Rattle.register.specs.Elections.{election_of, elected_of, is_declared}
@@ -18,18 +19,23 @@ use Rattle.store.specs.declared.overviews.differences.Differences.{Differences}
 
 -- ---- the wards
 
--- a ward, how it stands, and who is elected where that is declared
+-- a ward, how it stands, and, where it is declared, who is elected, and all its candidates
 pub record WardView : Type 0 where
   pub ward : WardEntry
   pub status : StatusEntry
   pub elected : Option (List ℕ)
+  pub candidates : List CandidateEntry
 
 -- who is elected in a ward, once it is declared
 abbrev pub declared_in : OfficeState → WardEntry → Option (List ℕ)
 declared_in s w = if is_declared w.phase then Some (elected_of (election_of s w)) else None
 
+-- the candidates of a ward, once it is declared
+abbrev pub candidates_told : OfficeState → WardEntry → List CandidateEntry
+candidates_told s w = if is_declared w.phase then candidates_of s w.number else []
+
 abbrev pub ward_view_of : OfficeState → WardEntry → WardView
-ward_view_of s w = record { ward = w; status = status_of s w; elected = declared_in s w }
+ward_view_of s w = record { ward = w; status = status_of s w; elected = declared_in s w; candidates = candidates_told s w }
 
 -- all wards, in the order of their numbers
 abbrev pub ward_views : OfficeState → List WardView
@@ -177,7 +183,7 @@ receipts_of s (Some actor) = filter (λ (r : ReceiptEntry). r.actor == actor) s.
 -- ---- what values stand for
 
 abbrev pub ward_view : WardOverview → WardView
-ward_view o = record { ward = ward_entry o.ward; status = status_entry o.status; elected = o.elected }
+ward_view o = record { ward = ward_entry o.ward; status = status_entry o.status; elected = o.elected; candidates = map candidate_entry o.candidates.items }
 
 abbrev pub clerk_view : ClerkOverview → ℕ × Bool
 clerk_view c = (c.clerk, c.keyed)

@@ -120,6 +120,16 @@ returns-in-Print-clause-ran g c =
       is = (silent_front c.args.line c.text_of.result, λ clean is_open s at. ([], 0, (_, c.opened-file.ensures, rw c.in-Print.is (inr (page_of c.text_of.result, told.0, refl, c.text_of.ensures.found clean is_open s at)))));
     }
 
+pub returns-in-PrintIndex-clause-ran : goal.returns-in-PrintIndex-clause-ran
+returns-in-PrintIndex-clause-ran g c =
+    let told = c.tell-in-PrintIndex.ensures in
+    record {
+      page = fronted c.args.line (page_of c.index_of.result);
+      cut = told.0;
+      shown = told.1;
+      is = (silent_front c.args.line c.index_of.result, λ clean is_open s at. ([], 0, (_, c.opened-file.ensures, rw c.in-PrintIndex.is (inr (page_of c.index_of.result, told.0, refl, c.index_of.ensures.found clean is_open s at)))));
+    }
+
 pub returns-in-Ask-clause-ran : goal.returns-in-Ask-clause-ran
 returns-in-Ask-clause-ran g c =
     let told = c.tell-in-Ask.ensures in
