@@ -7,4 +7,5 @@ pub mod RecordLemmas
 pub mod ReadLemmas
 pub mod FileLemmas
 pub mod StandLemmas
+pub mod DigestLemmas
 pub mod Rows
