@@ -2,11 +2,12 @@
 
 ghost use Rattle.std.specs.Prelude.{◌≡◌, ◌⊎◌, ◌-◌, ◌^◌, ◌<◌, ◌++◌};
 ghost use Rattle.std.specs.List.{flat_map};
+ghost use Rattle.keyfile.specs.Faults.{flaw_numbers};
 ghost use Rattle.desk.specs.Pages.{IsErrorTold, IsPut, Shows, fronted, line_front, migrated_text, numbered_line, outputs_of, printed, status_of_file};
 ghost use Rattle.desk.specs.Pages.{failed, failure_number, failure_of, failure_text, page_of, refused, script_page, unread, words_page};
 
 use crate::scripts::ScriptFault;
-use crate::words::{BAD_ORIGIN, WordsFault};
+use crate::words::{BAD_DIGEST, BAD_ORIGIN, WordsFault};
 use itoa::Buffer;
 use keyfile::{FileFault, Flaw};
 use register::{Refusal, Reply};
@@ -162,6 +163,22 @@ fn status_of_file(fault: FileFault) -> u8
     }
 }
 
+/// The numbers that a flaw carries, in pieces of text, which are empty where it carries none.
+fn numbers_of<'a>(
+    flaw: Flaw,
+    first: &'a mut Buffer,
+    second: &'a mut Buffer,
+) -> (&'a str, &'a str, &'a str)
+    ensures { result.0.now ++ (result.1.now ++ result.2.now) ≡ flaw_numbers flaw }
+{
+    match flaw {
+        Flaw::OtherKeying { batch, clerk } => {
+            (first.format(batch), ", clerk ", second.format(clerk))
+        }
+        _ => ("", "", ""),
+    }
+}
+
 /// Tells why a file isn't taken, and gives the status: 1, or 3 where its reading was stopped or the error
 /// output fails.
 fn tell_file_fault<E: Sink>(line: Option<usize>, fault: FileFault, err: &mut E) -> u8
@@ -169,13 +186,18 @@ fn tell_file_fault<E: Sink>(line: Option<usize>, fault: FileFault, err: &mut E) 
     ensures { IsErrorTold E.taken E.failed err.old err.new (line_front line ++ (unread fault).err) (status_of_file fault) result }
 {
     let (mut number, mut record) = (Buffer::new(), Buffer::new());
+    let (mut first, mut second) = (Buffer::new(), Buffer::new());
+    let (batch, between, clerk) = numbers_of(fault.flaw, &mut first, &mut second);
     let pieces = [
         "file fault ",
         number.format(fault.number()),
         " at record ",
         record.format(fault.record_number),
         ": ",
-        fault.flaw.text(),
+        fault.flaw.words(),
+        batch,
+        between,
+        clerk,
         "\n",
     ];
     tell_error(line, &pieces, status_of_file(fault), err)
@@ -270,6 +292,7 @@ pub fn tell_words<O: Sink, E: Sink>(fault: &WordsFault, out: &mut O, err: &mut E
         WordsFault::Memory => tell_failure(Failure::Office(Fault::Memory), err),
         WordsFault::Verdict => tell_error(None, &["bad verdict word\n"], 2, err),
         WordsFault::Origin => tell_error(None, &[BAD_ORIGIN], 2, err),
+        WordsFault::Digest => tell_error(None, &[BAD_DIGEST], 2, err),
         WordsFault::Words { text, status: 0 } => tell_text(&[text.as_str()], out, err),
         WordsFault::Words { text, status } => tell_error(None, &[text.as_str()], *status, err),
     }

@@ -19,6 +19,8 @@ pub(crate) enum Kind {
     Id,
     /// An origin as a browser writes it, after `--origin`; it may be left out.
     Origin,
+    /// A digest in 64 hexadecimal digits, after `--sha256`; it may be left out.
+    Digest,
 }
 
 /// A word that an order takes, and its line of help.
@@ -121,3 +123,6 @@ pub(crate) const CONNECTIONS: Word =
 
 pub(crate) const ORIGIN: Word =
     word!(Origin "origin", "The origin of pages that ask through a proxy, as https://count.example.org;\nleft out, no page of another machine is answered");
+
+pub(crate) const DIGEST: Word =
+    word!(Digest "sha256", "The SHA-256 of FILE, 64 hexadecimal digits, as sha256sum prints it;\nwhere FILE has another, nothing of it is sent");
