@@ -35,10 +35,6 @@ a_word_too_few : wrong_with (codes "DB" ∷ codes "close" ∷ codes "7" ∷ []) 
 unfolding office_words orders clap_on_literals
 a_word_too_few = refl
 
-a_digest : wrong_with (codes "DB" ∷ codes "import-candidates" ∷ codes "names.csv" ∷ codes "--id" ∷ codes "c" ∷ codes "--sha256" ∷ codes "00" ∷ []) ≡ []
-unfolding office_words orders clap_on_literals
-a_digest = refl
-
 a_number_past_its_range : wrong_with (codes "DB" ∷ codes "serve" ∷ codes "65536" ∷ codes "1" ∷ []) ≡ ValueValidation ∷ []
 unfolding office_words orders clap_on_literals
 a_number_past_its_range = refl
