@@ -29,11 +29,13 @@ fn parted(text: &str, mark: char) -> (&str, &str)
 fn in_range(batch: Option<u32>, clerk: Option<u32>) -> Option<(u32, u32)>
     ensures { result ≡ in_range batch clerk }
 {
-    match (batch, clerk) {
-        (Some(batch), Some(clerk)) if batch <= HIGHEST_BATCH && clerk <= HIGHEST_CLERK => {
-            Some((batch, clerk))
-        }
-        _ => None,
+    let (Some(batch), Some(clerk)) = (batch, clerk) else {
+        return None;
+    };
+    if batch <= HIGHEST_BATCH && clerk <= HIGHEST_CLERK {
+        Some((batch, clerk))
+    } else {
+        None
     }
 }
 
@@ -56,9 +58,14 @@ pub(crate) fn first_field_flaw(field: &str, batch: u32, clerk: u32) -> Option<Fl
     if field == "paper" {
         return None;
     }
-    match named_in(field) {
-        None => Some(Flaw::Header),
-        Some(named) if named == (batch, clerk) => None,
-        Some((batch, clerk)) => Some(Flaw::OtherKeying { batch, clerk }),
+    let Some((its_batch, its_clerk)) = named_in(field) else {
+        return Some(Flaw::Header);
+    };
+    if its_batch == batch && its_clerk == clerk {
+        return None;
     }
+    Some(Flaw::OtherKeying {
+        batch: its_batch,
+        clerk: its_clerk,
+    })
 }
