@@ -20,7 +20,7 @@ fn parted(text: &str, mark: char) -> (&str, &str)
     ensures behind { result.1.now ≡ after_first (λ b. b == mark) text.now }
 {
     match text.split_once(mark) {
-        Some(parts) => parts,
+        Some((before, behind)) => (before, behind),
         None => (text, ""),
     }
 }
