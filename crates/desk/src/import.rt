@@ -62,8 +62,10 @@ fn keying_in<R: Read + Drop>(
     columns: Columns,
     file: Option<R>,
 ) -> Result<Request, Outcome>
-    ensures papers { IfOk result (λ request. HoldsRequests (keying columns keyed.entry.batch keyed.entry.clerk) (keyings_for keyed.entry) (asked_digest keyed.entry.digest) (option_map R.remaining file) (request ∷ [])) }
-    ensures refused { IfErr result (λ outcome. IsUnread (keying columns keyed.entry.batch keyed.entry.clerk) (asked_digest keyed.entry.digest) (option_map R.remaining file) (page_of outcome)) }
+    ensures papers { let format = keying columns keyed.entry.batch keyed.entry.clerk in
+        IfOk result (λ request. HoldsRequests format (keyings_for keyed.entry) (asked_digest keyed.entry.digest) (option_map R.remaining file) (request ∷ [])) }
+    ensures refused { let format = keying columns keyed.entry.batch keyed.entry.clerk in
+        IfErr result (λ outcome. IsUnread format (asked_digest keyed.entry.digest) (option_map R.remaining file) (page_of outcome)) }
 {
     let Some(file) = file else {
         return Err(Outcome::Unread(UNOPENED));

@@ -4,6 +4,7 @@ ghost use Rattle.std.specs.Prelude.{◌≡◌, ◌≢◌, ◌↔◌, ◌⊎◌, 
 ghost use Rattle.sha2.specs.Sha256.{sha256};
 ghost use Rattle.keyfile.specs.Digests.{digest_bytes, digest_in};
 ghost use Rattle.keyfile.specs.Faults.{is_stop};
+ghost use Rattle.keyfile.specs.Files.{fault_at};
 ghost use Rattle.keyfile.specs.Reading.{Known};
 
 use crate::fault::{FileFault, Flaw};
@@ -40,8 +41,7 @@ impl FileDigest {
 
 /// A flaw of a whole file, told at its header.
 fn at_start(flaw: Flaw) -> FileFault
-    ensures flaw { result.flaw ≡ flaw }
-    ensures start { result.record_number ≡ 0 }
+    ensures { result ≡ fault_at 0 flaw }
 {
     FileFault {
         flaw,
