@@ -3,9 +3,9 @@ pub mod KeyedLemmas
 pub mod MarkLemmas
 pub mod FieldLemmas
 pub mod MapLemmas
+pub mod HeaderLemmas
 pub mod RecordLemmas
 pub mod ReadLemmas
 pub mod FileLemmas
 pub mod StandLemmas
-pub mod DigestLemmas
 pub mod Rows

@@ -15,14 +15,14 @@ use Rattle.keyfile.proofs.FileLemmas.{file_rows-late, file_rows-more, file_rows-
 use Rattle.keyfile.proofs.ReadLemmas.{after-begins}
 
 -- a fault at the header, by its flaw
-pub at_header : (fault : FileFault) → fault.record_number ≡ 0 → fault ≡ fault_at 0 fault.flaw
+at_header : (fault : FileFault) → fault.record_number ≡ 0 → fault ≡ fault_at 0 fault.flaw
 at_header fault at = rw (← at) refl
 
 -- what is told of a file whose bytes are known
 abbrev pub Told : {Row : Type 0} → Format Row → Option (List ℕ) → FileFault → Type 0
 Told format bytes fault = Known bytes (λ xs. IsFaultOf format (file_records xs) fault)
 
-pub known-map : {P Q : List ℕ → Type 0} → (bytes : Option (List ℕ)) → ((xs : List ℕ) → P xs → Q xs) → Known bytes P → Known bytes Q
+known-map : {P Q : List ℕ → Type 0} → (bytes : Option (List ℕ)) → ((xs : List ℕ) → P xs → Q xs) → Known bytes P → Known bytes Q
 known-map None f h = tt
 known-map (Some xs) f h = f xs h
 
