@@ -70,14 +70,7 @@ fn keying_in<R: Read + Drop>(
     let Some(file) = file else {
         return Err(Outcome::Unread(UNOPENED));
     };
-    let read = read_keying(
-        alloc,
-        file,
-        columns,
-        keyed.batch,
-        keyed.clerk,
-        keyed.digest,
-    );
+    let read = read_keying(alloc, file, columns, keyed.batch, keyed.clerk, keyed.digest);
     let papers = match read {
         Ok(papers) => papers,
         Err(fault) => return Err(Outcome::Unread(fault)),

@@ -52,9 +52,14 @@ pub enum Errand<'a> {
     /// Keep a clerk's keying.
     ImportKeying(KeyingFile<'a>),
     /// Tell how a ward stands.
-    TellStatus { ward: u32 },
+    TellStatus {
+        ward: u32,
+    },
     /// Print a text of a ward.
-    Print { ward: u32, text: Text },
+    Print {
+        ward: u32,
+        text: Text,
+    },
     /// Tell this of how all stands.
     Ask(Question),
 }
