@@ -2,7 +2,7 @@
 
 ghost use Rattle.std.specs.Prelude.{◌≡◌, ◌⊎◌, ◌-◌, ◌^◌, ◌<◌, ◌++◌};
 ghost use Rattle.std.specs.List.{flat_map};
-ghost use Rattle.keyfile.specs.Faults.{flaw_numbers};
+ghost use Rattle.keyfile.specs.Faults.{flaw_batch, flaw_between, flaw_clerk};
 ghost use Rattle.desk.specs.Pages.{IsErrorTold, IsPut, Shows, fronted, line_front, migrated_text, numbered_line, outputs_of, printed, status_of_file};
 ghost use Rattle.desk.specs.Pages.{failed, failure_number, failure_of, failure_text, page_of, refused, script_page, unread, words_page};
 
@@ -163,19 +163,33 @@ fn status_of_file(fault: FileFault) -> u8
     }
 }
 
-/// The numbers that a flaw carries, in pieces of text, which are empty where it carries none.
-fn numbers_of<'a>(
-    flaw: Flaw,
-    first: &'a mut Buffer,
-    second: &'a mut Buffer,
-) -> (&'a str, &'a str, &'a str)
-    ensures { result.0.now ++ (result.1.now ++ result.2.now) ≡ flaw_numbers flaw }
+/// The batch that a flaw names, in digits; nothing, where it names none.
+fn batch_of(flaw: Flaw, digits: &mut Buffer) -> &str
+    ensures { result.now ≡ flaw_batch flaw }
 {
     match flaw {
-        Flaw::OtherKeying { batch, clerk } => {
-            (first.format(batch), ", clerk ", second.format(clerk))
-        }
-        _ => ("", "", ""),
+        Flaw::OtherKeying { batch, .. } => digits.format(batch),
+        _ => "",
+    }
+}
+
+/// What stands between the batch and the clerk that a flaw names.
+fn between_of(flaw: Flaw) -> &'static str
+    ensures { result.now ≡ flaw_between flaw }
+{
+    match flaw {
+        Flaw::OtherKeying { .. } => ", clerk ",
+        _ => "",
+    }
+}
+
+/// The clerk whom a flaw names, in digits; nothing, where it names none.
+fn clerk_of(flaw: Flaw, digits: &mut Buffer) -> &str
+    ensures { result.now ≡ flaw_clerk flaw }
+{
+    match flaw {
+        Flaw::OtherKeying { clerk, .. } => digits.format(clerk),
+        _ => "",
     }
 }
 
@@ -186,8 +200,7 @@ fn tell_file_fault<E: Sink>(line: Option<usize>, fault: FileFault, err: &mut E) 
     ensures { IsErrorTold E.taken E.failed err.old err.new (line_front line ++ (unread fault).err) (status_of_file fault) result }
 {
     let (mut number, mut record) = (Buffer::new(), Buffer::new());
-    let (mut first, mut second) = (Buffer::new(), Buffer::new());
-    let (batch, between, clerk) = numbers_of(fault.flaw, &mut first, &mut second);
+    let (mut batch, mut clerk) = (Buffer::new(), Buffer::new());
     let pieces = [
         "file fault ",
         number.format(fault.number()),
@@ -195,9 +208,9 @@ fn tell_file_fault<E: Sink>(line: Option<usize>, fault: FileFault, err: &mut E) 
         record.format(fault.record_number),
         ": ",
         fault.flaw.words(),
-        batch,
-        between,
-        clerk,
+        batch_of(fault.flaw, &mut batch),
+        between_of(fault.flaw),
+        clerk_of(fault.flaw, &mut clerk),
         "\n",
     ];
     tell_error(line, &pieces, status_of_file(fault), err)

@@ -20,7 +20,7 @@ flaw_number Memory = 9
 flaw_number (OtherKeying batch clerk) = 10
 flaw_number OtherFile = 11
 
--- the flaw in words, before any number that it carries
+-- the flaw in words, before the batch and the clerk that it names, if it names any
 abbrev pub flaw_words : Flaw → List ℕ
 flaw_words Header = codes "header"
 flaw_words RecordLength = codes "record length"
@@ -34,14 +34,22 @@ flaw_words Memory = codes "memory"
 flaw_words (OtherKeying batch clerk) = codes "the file is of batch "
 flaw_words OtherFile = codes "not the file of this digest"
 
--- the numbers that a flaw carries
-abbrev pub flaw_numbers : Flaw → List ℕ
-flaw_numbers (OtherKeying batch clerk) = decimal batch ++ (codes ", clerk " ++ decimal clerk)
-flaw_numbers _ = []
+-- the batch that it names, what stands behind that, and the clerk; nothing, where it names none
+abbrev pub flaw_batch : Flaw → List ℕ
+flaw_batch (OtherKeying batch clerk) = decimal batch
+flaw_batch _ = []
 
--- the flaw in words, with the numbers that it carries
+abbrev pub flaw_between : Flaw → List ℕ
+flaw_between (OtherKeying batch clerk) = codes ", clerk "
+flaw_between _ = []
+
+abbrev pub flaw_clerk : Flaw → List ℕ
+flaw_clerk (OtherKeying batch clerk) = decimal clerk
+flaw_clerk _ = []
+
+-- the flaw in words, with the batch and the clerk that it names
 abbrev pub flaw_text : Flaw → List ℕ
-flaw_text flaw = flaw_words flaw ++ flaw_numbers flaw
+flaw_text flaw = flaw_words flaw ++ (flaw_batch flaw ++ (flaw_between flaw ++ flaw_clerk flaw))
 
 -- whether a flaw is none of the file, but stopped its reading
 abbrev pub is_stop : Flaw → Bool

@@ -66,7 +66,7 @@ impl Flaw {
         }
     }
 
-    /// The flaw in words, before any number that it carries.
+    /// The flaw in words, before the batch and the clerk that it names, if it names any.
     pub fn words(&self) -> &'static str
         ensures { result.now ≡ flaw_words self.now }
     {
