@@ -25,6 +25,7 @@ use Rattle.desk.specs.Told.{IsRefusedFile, IsRefusedKeying, IsTold}
 use Rattle.desk.specs.declared.orders.Errand.{Errand}
 use Rattle.desk.specs.declared.orders.Errand.TheVariants as errand
 use Rattle.desk.specs.declared.orders.Job.{Job}
+use Rattle.desk.specs.declared.orders.KeyingFile.{KeyingFile}
 use Rattle.desk.specs.declared.scripts.Turn.{Turn}
 use Rattle.desk.proofs.CauseLemmas.{TellsSince}
 use Rattle.desk.proofs.PageLemmas.{fronted_out, fronted_status}
@@ -210,18 +211,18 @@ done_since a b closed st folder tells s job c (inr unsent) = inr (unsent_since a
 -- ---- turns of a script
 
 -- a file that isn't taken is told with another status
-refused_file : {Row : Type 0} (format : Format Row) (file : File) (page : Page) → IsRefusedFile format file page → page.status ≢ 0
-refused_file format None page is zero = let three : page.status ≡ 3 = ap (λ (p : Page). p.status) is in absurd (omega arith)
-refused_file format (Some told) page is zero = file_ends (is_stop is.0.flaw) page.status (ap (λ (p : Page). p.status) is.1) zero
+refused_file : {Row : Type 0} (format : Format Row) (digest : Option (List ℕ)) (file : File) (page : Page) → IsRefusedFile format digest file page → page.status ≢ 0
+refused_file format digest None page is zero = let three : page.status ≡ 3 = ap (λ (p : Page). p.status) is in absurd (omega arith)
+refused_file format digest (Some told) page is zero = file_ends (is_stop is.0.flaw) page.status (ap (λ (p : Page). p.status) is.1) zero
 
-refused_keying : (columns : Result (List ℕ) Reason) (file : File) (page : Page) → IsRefusedKeying columns file page → page.status ≢ 0
-refused_keying (Ok columns) file page is zero = refused_file _ file page is zero
-refused_keying (Err why) file page is zero = let one : page.status ≡ 1 = ap (λ (p : Page). p.status) is in absurd (omega arith)
+refused_keying : (columns : Result (List ℕ) Reason) (k : KeyingFile) (file : File) (page : Page) → IsRefusedKeying columns k file page → page.status ≢ 0
+refused_keying (Ok columns) k file page is zero = refused_file _ _ file page is zero
+refused_keying (Err why) k file page is zero = let one : page.status ≡ 1 = ap (λ (p : Page). p.status) is in absurd (omega arith)
 
 told_ends : (s : OfficeState) (e : Errand) (file : File) (page : Page) → sends_requests e ≡ true → IsTold s e file page → page.status ≢ 0
 told_ends s (errand.Send request) file page sends told zero = absurd told
-told_ends s (errand.ImportCandidates path id) file page sends told zero = refused_file _ file page told zero
-told_ends s (errand.ImportKeying keying) file page sends told zero = refused_keying (columns_told s keying.batch) file page told zero
+told_ends s (errand.ImportCandidates path id digest) file page sends told zero = refused_file _ _ file page told zero
+told_ends s (errand.ImportKeying keying) file page sends told zero = refused_keying (columns_told s keying.batch) keying file page told zero
 told_ends s (errand.TellStatus ward) file page sends told zero = absurd (cc sends)
 told_ends s (errand.Print ward text) file page sends told zero = absurd (cc sends)
 told_ends s (errand.PrintIndex title) file page sends told zero = absurd (cc sends)

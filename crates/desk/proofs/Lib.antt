@@ -8,6 +8,7 @@ pub mod CourseLemmas
 pub mod KeptLemmas
 pub mod ScriptLemmas
 pub mod ScriptEnds
+pub mod ImportLemmas
 pub mod CopyingLemmas
 pub mod ServedLemmas
 pub mod WordsRefused

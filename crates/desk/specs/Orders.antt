@@ -11,6 +11,7 @@ use Rattle.register.specs.declared.counts.CountCommand.TheVariants as count_comm
 use Rattle.office.specs.declared.sheets.Text.{Text as WardText}
 use Rattle.office.specs.declared.sheets.Text.TheVariants as ward_text
 use Rattle.wire.specs.Origins.{origin_text}
+use Rattle.keyfile.specs.Digests.{asked_digest}
 use Rattle.desk.specs.Verdicts.{Judgement, judgement_given}
 use Rattle.desk.specs.declared.table.Kind.{Kind}
 use Rattle.desk.specs.declared.table.Kind.TheVariants as kind
@@ -80,6 +81,10 @@ origin = record { name = codes "origin"; kind = kind.Origin }
 abbrev pub title : WordEntry
 title = record { name = codes "title"; kind = kind.Title }
 
+-- the digest of a file, after `--` and its name, which may be left out
+abbrev pub digest : WordEntry
+digest = record { name = codes "sha256"; kind = kind.Digest }
+
 -- ---- what a command asks
 
 -- what a command asks, its names as text
@@ -130,13 +135,13 @@ by_office id asked = record { actor = 0; id = id; asked = asked }
 
 -- ---- what an order means
 
--- what is to be done; or nothing, since the word of a verdict says none, or the one of an origin is none
+-- what is to be done; or nothing, since the word of a verdict says none, or the one of an origin or of a digest is none
 pub data Meant : Type 0 where
   make : Meant
   migrate : Meant
   send : Sent → Meant
-  import_candidates : Text → Text → Meant
-  import_keying : ℕ → ℕ → ℕ → Text → Text → Meant
+  import_candidates : Text → Text → Option (List ℕ) → Meant
+  import_keying : ℕ → ℕ → ℕ → Text → Text → Option (List ℕ) → Meant
   tell_status : ℕ → Meant
   print : ℕ → WardText → Meant
   print_page : ℕ → Text → Meant
@@ -147,6 +152,7 @@ pub data Meant : Type 0 where
   serve : ℕ → ℕ → Option Text → Meant
   no_verdict : Meant
   no_origin : Meant
+  no_digest : Meant
 
 -- what the printing of a text of a ward is, the title of a page as such
 abbrev pub told_text : ℕ → WardText → Meant
@@ -156,8 +162,8 @@ told_text ward text = print ward text
 -- what an errand is, its request and its texts as such
 abbrev pub told_errand : Errand → Meant
 told_errand (errand.Send r) = send (sent_as r)
-told_errand (errand.ImportCandidates file id) = import_candidates file.now id.now
-told_errand (errand.ImportKeying k) = import_keying k.clerk k.batch k.round k.file.now k.id.now
+told_errand (errand.ImportCandidates file id digest) = import_candidates file.now id.now (asked_digest digest)
+told_errand (errand.ImportKeying k) = import_keying k.clerk k.batch k.round k.file.now k.id.now (asked_digest k.digest)
 told_errand (errand.TellStatus ward) = tell_status ward
 told_errand (errand.Print ward text) = told_text ward text
 told_errand (errand.PrintIndex title) = print_index title.now
@@ -185,6 +191,7 @@ WordValue kind.Verdict = Judgement
 WordValue kind.Id = Text
 WordValue kind.Origin = Option Text
 WordValue kind.Title = Text
+WordValue kind.Digest = Option (List ℕ)
 
 -- what comes of the values of some words, in their sequence
 abbrev pub OfWords : List WordEntry → Type 0 → Type 0
@@ -216,11 +223,11 @@ orders =
     takes (codes "init") [] make
     ∷ sends (codes "ward") (number (codes "WARD") ∷ number (codes "SEATS") ∷ text (codes "NAME") ∷ []) ward_to_add
     ∷ sends (codes "candidate") (number (codes "WARD") ∷ number (codes "CANDIDATE") ∷ text (codes "NAME") ∷ []) candidate_to_add
-    ∷ takes (codes "import-candidates") (text (codes "FILE") ∷ id ∷ []) import_candidates
+    ∷ takes (codes "import-candidates") (text (codes "FILE") ∷ id ∷ digest ∷ []) import_candidates
     ∷ sends (codes "withdraw") (number (codes "WARD") ∷ number (codes "CANDIDATE") ∷ []) candidate_to_withdraw
     ∷ sends (codes "close") (number (codes "WARD") ∷ []) ward_to_close
     ∷ sends (codes "batch") (number (codes "BATCH") ∷ number (codes "WARD") ∷ number (codes "SIZE") ∷ number (codes "FIRST_CLERK") ∷ number (codes "SECOND_CLERK") ∷ []) batch_to_add
-    ∷ takes (codes "import-keying") (number (codes "CLERK") ∷ number (codes "BATCH") ∷ number (codes "ROUND") ∷ text (codes "FILE") ∷ id ∷ []) import_keying
+    ∷ takes (codes "import-keying") (number (codes "CLERK") ∷ number (codes "BATCH") ∷ number (codes "ROUND") ∷ text (codes "FILE") ∷ id ∷ digest ∷ []) import_keying
     ∷ sends (codes "again") (number (codes "BATCH") ∷ []) batch_to_key_again
     ∷ sends (codes "third") (number (codes "BATCH") ∷ number (codes "CLERK") ∷ []) batch_for_third_clerk
     ∷ sends (codes "judge") (number (codes "BATCH") ∷ number (codes "PAPER") ∷ verdict (codes "VERDICT") ∷ []) paper_to_judge

@@ -1,5 +1,5 @@
 -- What the parts of an order answer.
-use Rattle.std.specs.Prelude.{◌≡◌, ◌⊎◌, ℕ, Bool, List, [], ◌∷◌, None, Result, Ok, Err}
+use Rattle.std.specs.Prelude.{◌≡◌, ◌⊎◌, ℕ, Bool, List, [], ◌∷◌, Option, None, Result, Ok, Err}
 use Rattle.sqlite.specs.State.{State}
 use Rattle.register.specs.Offices.{OfficeState}
 use Rattle.register.specs.declared.command.Request.{Request}
@@ -12,7 +12,7 @@ use Rattle.desk.specs.Folders.{File}
 use Rattle.desk.specs.Headline.{Course, IsStopped, ended}
 use Rattle.desk.specs.Overviews.{page_asked}
 use Rattle.desk.specs.Pages.{Cut, Page, uncut, empty_page, failed, page_found}
-use Rattle.desk.specs.Requests.{HoldsKeying, keyings_for}
+use Rattle.desk.specs.Requests.{HoldsKeying}
 use Rattle.desk.specs.Told.{IsRefusedFile, IsRefusedKeying, unopened}
 use Rattle.desk.specs.declared.lines.Failure.TheVariants.{Office}
 use Rattle.desk.specs.declared.orders.KeyingFile.{KeyingFile}
@@ -35,8 +35,8 @@ abbrev pub IsAskedOf : OfficeState → Question → Page → Bool → State → 
 IsAskedOf s question page closed old st = ((page ≡ page_asked s question) × IsOpenAt s closed st) ⊎ IsStopped old closed st s page
 
 -- why a file that was read isn't taken, or want of memory
-abbrev pub IsUnread : {Row : Type 0} → Format Row → File → Page → Type 0
-IsUnread format file page = IsRefusedFile format file page ⊎ (page ≡ failed (Office Memory))
+abbrev pub IsUnread : {Row : Type 0} → Format Row → Option (List ℕ) → File → Page → Type 0
+IsUnread format digest file page = IsRefusedFile format digest file page ⊎ (page ≡ failed (Office Memory))
 
 -- why no text is read of a script's file
 abbrev pub IsUnreadScript : Page → Type 0
@@ -44,5 +44,5 @@ IsUnreadScript page = (page ≡ unopened) ⊎ (page ≡ failed (Office Memory))
 
 -- the keying that a file holds, of a batch at a state; or why there is none
 abbrev pub IsKeyingRead : {O : Type 0} → OfficeState → KeyingFile → File → (O → Page) → Result Request O → Bool → State → State → Type 0
-IsKeyingRead s k file page_of (Ok request) closed old st = HoldsKeying (columns_told s k.batch) (keyings_for k) file (request ∷ []) × IsOpenAt s closed st
-IsKeyingRead s k file page_of (Err outcome) closed old st = (IsRefusedKeying (columns_told s k.batch) file (page_of outcome) × IsOpenAt s closed st) ⊎ IsStopped old closed st s (page_of outcome)
+IsKeyingRead s k file page_of (Ok request) closed old st = HoldsKeying (columns_told s k.batch) k file (request ∷ []) × IsOpenAt s closed st
+IsKeyingRead s k file page_of (Err outcome) closed old st = (IsRefusedKeying (columns_told s k.batch) k file (page_of outcome) × IsOpenAt s closed st) ⊎ IsStopped old closed st s (page_of outcome)

@@ -7,11 +7,12 @@ use Rattle.register.specs.declared.command.Request.{Request}
 use Rattle.register.specs.declared.refusal.Reason.{Reason}
 use Rattle.office.specs.Reads.{columns_told}
 use Rattle.keyfile.specs.Candidates.{CandidateEntry, candidates}
+use Rattle.keyfile.specs.Digests.{asked_digest}
 use Rattle.keyfile.specs.Files.{Format, file_rows}
 use Rattle.keyfile.specs.Keying.{keying}
 use Rattle.keyfile.specs.Records.{file_records}
 use Rattle.keyfile.specs.declared.fault.FileFault.{FileFault}
-use Rattle.desk.specs.Folders.{File, HoldsText}
+use Rattle.desk.specs.Folders.{File, IsReadFrom}
 use Rattle.desk.specs.Orders.{Sent, by_office, candidate_to_add, keying_to_keep, sent_as}
 use Rattle.desk.specs.declared.orders.KeyingFile.{KeyingFile}
 use Rattle.desk.specs.declared.orders.Errand.{Errand}
@@ -22,7 +23,7 @@ use Rattle.desk.specs.declared.orders.Task.TheVariants as task
 
 -- the file that an errand names
 abbrev pub file_of : Errand → Option Text
-file_of (errand.ImportCandidates file id) = Some file.now
+file_of (errand.ImportCandidates file id digest) = Some file.now
 file_of (errand.ImportKeying keying) = Some keying.file.now
 file_of other = None
 
@@ -60,18 +61,18 @@ abbrev pub keyings_for : KeyingFile → Result (List Text) FileFault → Result 
 keyings_for k (Ok papers) = Ok (keying_by k papers ∷ [])
 keyings_for k (Err fault) = Err fault
 
--- the file holds these requests
-abbrev pub HoldsRequests : {Row : Type 0} → Format Row → (Result (List Row) FileFault → Result (List Sent) FileFault) → File → List Request → Type 0
-HoldsRequests format sent file requests = HoldsText file (λ bytes. sent (file_rows format (file_records bytes)) ≡ Ok (map sent_as requests))
+-- the file is read as bytes that hold these requests, and have the digest that is asked for, if one is
+abbrev pub HoldsRequests : {Row : Type 0} → Format Row → (Result (List Row) FileFault → Result (List Sent) FileFault) → Option (List ℕ) → File → List Request → Type 0
+HoldsRequests format sent digest file requests = IsReadFrom digest file (λ bytes. sent (file_rows format (file_records bytes)) ≡ Ok (map sent_as requests))
 
--- the file of a keying of a batch whose columns are told so
-abbrev pub HoldsKeying : Result (List ℕ) Reason → (Result (List (List ℕ)) FileFault → Result (List Sent) FileFault) → File → List Request → Type 0
-HoldsKeying (Ok columns) sent file requests = HoldsRequests (keying columns) sent file requests
-HoldsKeying (Err why) sent file requests = ⊥
+-- the file of a clerk's keying of a batch whose columns are told so
+abbrev pub HoldsKeying : Result (List ℕ) Reason → KeyingFile → File → List Request → Type 0
+HoldsKeying (Ok columns) k file requests = HoldsRequests (keying columns k.batch k.clerk) (keyings_for k) (asked_digest k.digest) file requests
+HoldsKeying (Err why) k file requests = ⊥
 
 -- the requests that an errand sends at a state: its own one, or those that its file holds; an errand that asks something sends none
 abbrev pub Sends : OfficeState → Errand → File → List Request → Type 0
 Sends s (errand.Send request) file requests = map sent_as requests ≡ sent_as request ∷ []
-Sends s (errand.ImportCandidates path id) file requests = HoldsRequests candidates (requests_for id.now) file requests
-Sends s (errand.ImportKeying keying) file requests = HoldsKeying (columns_told s keying.batch) (keyings_for keying) file requests
+Sends s (errand.ImportCandidates path id digest) file requests = HoldsRequests candidates (requests_for id.now) (asked_digest digest) file requests
+Sends s (errand.ImportKeying keying) file requests = HoldsKeying (columns_told s keying.batch) keying file requests
 Sends s other file requests = ⊥

@@ -6,10 +6,10 @@ use Rattle.office.specs.Reads.{columns_told, status_told}
 use Rattle.office.specs.Index.{index_told}
 use Rattle.office.specs.Sheets.{text_told}
 use Rattle.keyfile.specs.Candidates.{candidates}
-use Rattle.keyfile.specs.Files.{Format, IsFaultOf}
+use Rattle.keyfile.specs.Digests.{IsFaultBy, asked_digest}
+use Rattle.keyfile.specs.Files.{Format}
 use Rattle.keyfile.specs.Keying.{keying}
 use Rattle.keyfile.specs.Reading.{Known}
-use Rattle.keyfile.specs.Records.{file_records}
 use Rattle.keyfile.specs.declared.fault.FileFault.{FileFault}
 use Rattle.keyfile.specs.declared.fault.Flaw.TheVariants.{ReadFailed}
 use Rattle.desk.specs.Folders.{File, Folder, IsFileAt}
@@ -21,6 +21,7 @@ use Rattle.desk.specs.declared.orders.Errand.{Errand}
 use Rattle.desk.specs.declared.orders.Errand.TheVariants as errand
 use Rattle.desk.specs.declared.orders.Job.{Job}
 use Rattle.desk.specs.declared.orders.Job.TheVariants as job
+use Rattle.desk.specs.declared.orders.KeyingFile.{KeyingFile}
 use Rattle.desk.specs.declared.scripts.LineFlaw.{LineFlaw}
 use Rattle.desk.specs.declared.scripts.ScriptFault.TheVariants as script
 
@@ -28,21 +29,21 @@ use Rattle.desk.specs.declared.scripts.ScriptFault.TheVariants as script
 abbrev pub unopened : Page
 unopened = unread (record { flaw = ReadFailed; record_number = 0 })
 
--- why the file isn't taken
-abbrev pub IsRefusedFile : {Row : Type 0} → Format Row → File → Page → Type 0
-IsRefusedFile format None page = page ≡ unopened
-IsRefusedFile format (Some told) page = (fault : FileFault) × (page ≡ unread fault) × Known told (λ bytes. IsFaultOf format (file_records bytes) fault)
+-- why the file isn't taken, where a digest is asked for or none
+abbrev pub IsRefusedFile : {Row : Type 0} → Format Row → Option (List ℕ) → File → Page → Type 0
+IsRefusedFile format digest None page = page ≡ unopened
+IsRefusedFile format digest (Some told) page = (fault : FileFault) × (page ≡ unread fault) × Known told (λ bytes. IsFaultBy digest format bytes fault)
 
--- the same of the keying of a batch, which may not be there
-abbrev pub IsRefusedKeying : Result (List ℕ) Reason → File → Page → Type 0
-IsRefusedKeying (Ok columns) file page = IsRefusedFile (keying columns) file page
-IsRefusedKeying (Err why) file page = page ≡ refused why
+-- the same of a clerk's keying of a batch, which may not be there
+abbrev pub IsRefusedKeying : Result (List ℕ) Reason → KeyingFile → File → Page → Type 0
+IsRefusedKeying (Ok columns) k file page = IsRefusedFile (keying columns k.batch k.clerk) (asked_digest k.digest) file page
+IsRefusedKeying (Err why) k file page = page ≡ refused why
 
 -- what is told of a state, or why nothing is sent
 abbrev pub IsTold : OfficeState → Errand → File → Page → Type 0
 IsTold s (errand.Send request) file page = ⊥
-IsTold s (errand.ImportCandidates path id) file page = IsRefusedFile candidates file page
-IsTold s (errand.ImportKeying k) file page = IsRefusedKeying (columns_told s k.batch) file page
+IsTold s (errand.ImportCandidates path id digest) file page = IsRefusedFile candidates (asked_digest digest) file page
+IsTold s (errand.ImportKeying k) file page = IsRefusedKeying (columns_told s k.batch) k file page
 IsTold s (errand.TellStatus ward) file page = page ≡ page_found (λ status. replied (status_text status)) (status_told s ward)
 IsTold s (errand.Print ward text) file page = page ≡ page_found printed (text_told text s ward)
 IsTold s (errand.PrintIndex title) file page = page ≡ page_found printed (index_told title.now s)

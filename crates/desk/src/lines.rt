@@ -2,11 +2,12 @@
 
 ghost use Rattle.std.specs.Prelude.{◌≡◌, ◌⊎◌, ◌-◌, ◌^◌, ◌<◌, ◌++◌};
 ghost use Rattle.std.specs.List.{flat_map};
+ghost use Rattle.keyfile.specs.Faults.{flaw_batch, flaw_between, flaw_clerk};
 ghost use Rattle.desk.specs.Pages.{IsErrorTold, IsPut, Shows, fronted, line_front, migrated_text, numbered_line, outputs_of, printed, status_of_file};
 ghost use Rattle.desk.specs.Pages.{failed, failure_number, failure_of, failure_text, page_of, refused, script_page, unread, words_page};
 
 use crate::scripts::ScriptFault;
-use crate::words::{BAD_ORIGIN, WordsFault};
+use crate::words::{BAD_DIGEST, BAD_ORIGIN, WordsFault};
 use itoa::Buffer;
 use keyfile::{FileFault, Flaw};
 use register::{Refusal, Reply};
@@ -162,6 +163,36 @@ fn status_of_file(fault: FileFault) -> u8
     }
 }
 
+/// The batch that a flaw names, in digits; nothing, where it names none.
+fn batch_of(flaw: Flaw, digits: &mut Buffer) -> &str
+    ensures { result.now ≡ flaw_batch flaw }
+{
+    match flaw {
+        Flaw::OtherKeying { batch, .. } => digits.format(batch),
+        _ => "",
+    }
+}
+
+/// What stands between the batch and the clerk that a flaw names.
+fn between_of(flaw: Flaw) -> &'static str
+    ensures { result.now ≡ flaw_between flaw }
+{
+    match flaw {
+        Flaw::OtherKeying { .. } => ", clerk ",
+        _ => "",
+    }
+}
+
+/// The clerk whom a flaw names, in digits; nothing, where it names none.
+fn clerk_of(flaw: Flaw, digits: &mut Buffer) -> &str
+    ensures { result.now ≡ flaw_clerk flaw }
+{
+    match flaw {
+        Flaw::OtherKeying { clerk, .. } => digits.format(clerk),
+        _ => "",
+    }
+}
+
 /// Tells why a file isn't taken, and gives the status: 1, or 3 where its reading was stopped or the error
 /// output fails.
 fn tell_file_fault<E: Sink>(line: Option<usize>, fault: FileFault, err: &mut E) -> u8
@@ -169,13 +200,17 @@ fn tell_file_fault<E: Sink>(line: Option<usize>, fault: FileFault, err: &mut E) 
     ensures { IsErrorTold E.taken E.failed err.old err.new (line_front line ++ (unread fault).err) (status_of_file fault) result }
 {
     let (mut number, mut record) = (Buffer::new(), Buffer::new());
+    let (mut batch, mut clerk) = (Buffer::new(), Buffer::new());
     let pieces = [
         "file fault ",
         number.format(fault.number()),
         " at record ",
         record.format(fault.record_number),
         ": ",
-        fault.flaw.text(),
+        fault.flaw.words(),
+        batch_of(fault.flaw, &mut batch),
+        between_of(fault.flaw),
+        clerk_of(fault.flaw, &mut clerk),
         "\n",
     ];
     tell_error(line, &pieces, status_of_file(fault), err)
@@ -270,6 +305,7 @@ pub fn tell_words<O: Sink, E: Sink>(fault: &WordsFault, out: &mut O, err: &mut E
         WordsFault::Memory => tell_failure(Failure::Office(Fault::Memory), err),
         WordsFault::Verdict => tell_error(None, &["bad verdict word\n"], 2, err),
         WordsFault::Origin => tell_error(None, &[BAD_ORIGIN], 2, err),
+        WordsFault::Digest => tell_error(None, &[BAD_DIGEST], 2, err),
         WordsFault::Words { text, status: 0 } => tell_text(&[text.as_str()], out, err),
         WordsFault::Words { text, status } => tell_error(None, &[text.as_str()], *status, err),
     }

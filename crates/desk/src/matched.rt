@@ -7,19 +7,22 @@
 
 ghost use Rattle.std.specs.Prelude.{◌≡◌, ◌⊎◌, false, Err, None, Some, codes, map, IfErr, IfOk, option_map, string_bytes};
 ghost use Rattle.clap.specs.Words.{first_of, found_of, rows_of, subcommand_rows_of};
-ghost use Rattle.desk.specs.Orders.{ask, no_origin, no_verdict, orders, told, told_errand, told_text, words_of};
+ghost use Rattle.desk.specs.Orders.{ask, no_digest, no_origin, no_verdict, orders, print, told, told_errand, told_text, words_of};
+ghost use Rattle.keyfile.specs.Digests.{digest_bytes};
 ghost use Rattle.wire.specs.Origins.{origin_text};
-ghost use Rattle.desk.specs.Words.{is_command_name, is_order_name, meaning, meaning_of, names_order, number_at, number_found, origin_at, sent, text_at};
+ghost use Rattle.desk.specs.Words.{digest_at, is_command_name, is_order_name, meaning, meaning_of, names_order, number_at, number_found, origin_at, sent, text_at};
 
 use crate::orders::{Errand, Job, KeyingFile, Order, Question, Task};
 use crate::requests::by_office;
 use crate::table::{
-    ACTOR, BATCH, CANDIDATE, CLERK, CONNECTIONS, Entry, FILE, FIRST_CLERK, Heading, ID, NAME, NEW,
-    ORIGIN, PAPER, PORT, ROUND, SCRIPT, SEATS, SECOND_CLERK, SIZE, STAGE, TITLE, VERDICT, WARD,
+    ACTOR, BATCH, CANDIDATE, CLERK, CONNECTIONS, DIGEST, Entry, FILE, FIRST_CLERK, Heading, ID,
+    NAME, NEW, ORIGIN, PAPER, PORT, ROUND, SCRIPT, SEATS, SECOND_CLERK, SIZE, STAGE, TITLE, VERDICT,
+    WARD,
     Word,
 };
 use crate::verdicts::verdict_in;
 use clap::ArgMatches;
+use keyfile::FileDigest;
 use office::Text;
 use register::{
     BatchCommand, CandidateCommand, Command, CountCommand, VerdictCommand, WardCommand,
@@ -48,11 +51,12 @@ const ORDERS: [Entry; 31] = [
     order!(Election "init" [], "Makes an office in DB, a new file or an empty one:\ncount-office town.db init"),
     order!(Election "ward" [WARD, SEATS, NAME, ID], "Adds a ward, its nominations open:\ncount-office town.db ward 7 2 Harbour --id w1"),
     order!(Election "candidate" [WARD, CANDIDATE, NAME, ID], "Adds a candidate to a ward:\ncount-office town.db candidate 7 1 Ann --id c1"),
-    order!(Election "import-candidates" [FILE, ID], "Adds the candidates of a file, the first under ID-1:\ncount-office town.db import-candidates names.csv --id c"),
+    order!(Election "import-candidates" [FILE, ID, DIGEST], "Adds the candidates of a file, the first under ID-1:\ncount-office town.db import-candidates names.csv --id c"),
     order!(Election "withdraw" [WARD, CANDIDATE, ID], "Takes a candidate off a ward, while nominations are open:\ncount-office town.db withdraw 7 5 --id x1"),
     order!(Election "close" [WARD, ID], "Closes the nominations of a ward:\ncount-office town.db close 7 --id n1"),
     order!(Election "batch" [BATCH, WARD, SIZE, FIRST_CLERK, SECOND_CLERK, ID], "Gives out a batch of papers of a ward to two clerks, who key it:\ncount-office town.db batch 12 7 8 4 9 --id b1"),
-    order!(Election "import-keying" [CLERK, BATCH, ROUND, FILE, ID], "Keeps a clerk's keying of a batch, in a round, from a file:\ncount-office town.db import-keying 4 12 1 k4-12.csv --id k1"),
+    order!(Election "import-keying" [CLERK, BATCH, ROUND, FILE, ID, DIGEST],
+        "Keeps a clerk's keying of a batch, in a round, from a file:\ncount-office town.db import-keying 4 12 1 k4-12.csv --id k1"),
     order!(Election "again" [BATCH, ID], "Opens the next round of a batch whose keyings differ:\ncount-office town.db again 13 --id r1"),
     order!(Election "third" [BATCH, CLERK, ID], "Gives a batch whose keyings differ to a third clerk too:\ncount-office town.db third 13 5 --id t1"),
     order!(Election "judge" [BATCH, PAPER, VERDICT, ID], "Keeps the verdict on a doubtful paper of a batch that is taken:\ncount-office town.db judge 12 6 accept:1,,, --id v1"),
@@ -96,6 +100,8 @@ pub(crate) enum NoOrder {
     BadVerdict,
     /// The word of an origin is none.
     BadOrigin,
+    /// The word of a digest is none.
+    BadDigest,
     /// Memory was wanting.
     Memory,
 }
@@ -159,6 +165,20 @@ fn origin_in<'a>(matches: &ArgMatches<'a>) -> Result<Option<Origin<'a>>, NoOrder
     }
 }
 
+/// The digest that was matched, if one was.
+fn digest_in(matches: &ArgMatches<'_>) -> Result<Option<FileDigest>, NoOrder>
+    ensures ok { IfOk result (λ found. digest_at (codes "sha256") (rows_of (found_of matches.now)) ≡ option_map (λ d. Some (digest_bytes d)) found) }
+    ensures err { IfErr result (λ why. (why ≡ NoOrder.BadDigest) × (digest_at (codes "sha256") (rows_of (found_of matches.now)) ≡ Some None)) }
+{
+    let Some(text) = text_found_in(matches, DIGEST) else {
+        return Ok(None);
+    };
+    match FileDigest::parse(text) {
+        Some(digest) => Ok(Some(digest)),
+        None => Err(NoOrder::BadDigest),
+    }
+}
+
 // ---- the commands that orders send
 
 fn batch_command(matches: &ArgMatches<'_>) -> Command
@@ -193,6 +213,7 @@ fn command_named(alloc: Global, name: &str, matches: &ArgMatches<'_>) -> Result<
     ensures unknown { result ≡ Err NoOrder.Unknown → is_command_name name.now ≡ false }
     ensures bad { result ≡ Err NoOrder.BadVerdict → meaning_of name.now (rows_of (found_of matches.now)) ≡ Some no_verdict }
     ensures bad_origin { result ≡ Err NoOrder.BadOrigin → meaning_of name.now (rows_of (found_of matches.now)) ≡ Some no_origin }
+    ensures bad_digest { result ≡ Err NoOrder.BadDigest → meaning_of name.now (rows_of (found_of matches.now)) ≡ Some no_digest }
 {
     let ward = number_in(matches, WARD);
     let candidate = number_in(matches, CANDIDATE);
@@ -251,25 +272,29 @@ fn sending<'a>(
     Ok(in_office(Errand::Send(by_office(id, command))))
 }
 
-fn import_candidates<'a>(matches: &ArgMatches<'a>) -> Order<'a>
-    ensures { meaning_of (codes "import-candidates") (rows_of (found_of matches.now)) ≡ Some (told result) }
+fn import_candidates<'a>(matches: &ArgMatches<'a>) -> Result<Order<'a>, NoOrder>
+    ensures ok { IfOk result (λ o. meaning_of (codes "import-candidates") (rows_of (found_of matches.now)) ≡ Some (told o)) }
+    ensures err { IfErr result (λ why. (why ≡ NoOrder.BadDigest) × (meaning_of (codes "import-candidates") (rows_of (found_of matches.now)) ≡ Some no_digest)) }
 {
-    in_office(Errand::ImportCandidates {
+    Ok(in_office(Errand::ImportCandidates {
         file: text_in(matches, FILE),
         id: text_in(matches, ID),
-    })
+        digest: digest_in(matches)?,
+    }))
 }
 
-fn import_keying<'a>(matches: &ArgMatches<'a>) -> Order<'a>
-    ensures { meaning_of (codes "import-keying") (rows_of (found_of matches.now)) ≡ Some (told result) }
+fn import_keying<'a>(matches: &ArgMatches<'a>) -> Result<Order<'a>, NoOrder>
+    ensures ok { IfOk result (λ o. meaning_of (codes "import-keying") (rows_of (found_of matches.now)) ≡ Some (told o)) }
+    ensures err { IfErr result (λ why. (why ≡ NoOrder.BadDigest) × (meaning_of (codes "import-keying") (rows_of (found_of matches.now)) ≡ Some no_digest)) }
 {
-    in_office(Errand::ImportKeying(KeyingFile {
+    Ok(in_office(Errand::ImportKeying(KeyingFile {
         clerk: number_in(matches, CLERK),
         batch: number_in(matches, BATCH),
         round: number_in(matches, ROUND),
         file: text_in(matches, FILE),
         id: text_in(matches, ID),
-    }))
+        digest: digest_in(matches)?,
+    })))
 }
 
 fn serve<'a>(matches: &ArgMatches<'a>) -> Result<Order<'a>, NoOrder>
@@ -323,6 +348,7 @@ fn order_named<'a>(
     ensures unknown { result ≡ Err NoOrder.Unknown → is_order_name name.now ≡ false }
     ensures bad { result ≡ Err NoOrder.BadVerdict → meaning_of name.now (rows_of (found_of matches.now)) ≡ Some no_verdict }
     ensures bad_origin { result ≡ Err NoOrder.BadOrigin → meaning_of name.now (rows_of (found_of matches.now)) ≡ Some no_origin }
+    ensures bad_digest { result ≡ Err NoOrder.BadDigest → meaning_of name.now (rows_of (found_of matches.now)) ≡ Some no_digest }
 {
     let ward = number_in(matches, WARD);
     let batch = number_in(matches, BATCH);
@@ -330,8 +356,8 @@ fn order_named<'a>(
     match name {
         "init" => Ok(Order::Perform(Task::Init)),
         "migrate" => Ok(Order::Perform(Task::Migrate)),
-        "import-candidates" => Ok(import_candidates(matches)),
-        "import-keying" => Ok(import_keying(matches)),
+        "import-candidates" => import_candidates(matches),
+        "import-keying" => import_keying(matches),
         "status" => Ok(in_office(Errand::TellStatus { ward })),
         "sheet" => Ok(printing(matches, Text::Sheet)),
         "result" => Ok(printing(matches, Text::Declaration)),
@@ -361,6 +387,7 @@ pub(crate) fn order_in<'a>(alloc: Global, matches: &ArgMatches<'a>) -> Result<Or
     ensures unknown { result ≡ Err NoOrder.Unknown → names_order (subcommand_rows_of matches.now) ≡ false }
     ensures bad { result ≡ Err NoOrder.BadVerdict → meaning (subcommand_rows_of matches.now) ≡ Some no_verdict }
     ensures bad_origin { result ≡ Err NoOrder.BadOrigin → meaning (subcommand_rows_of matches.now) ≡ Some no_origin }
+    ensures bad_digest { result ≡ Err NoOrder.BadDigest → meaning (subcommand_rows_of matches.now) ≡ Some no_digest }
 {
     match matches.subcommand() {
         Some((name, inner)) => order_named(alloc, name, inner),

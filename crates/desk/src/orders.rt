@@ -4,6 +4,7 @@ ghost use Rattle.std.specs.Prelude.{◌≡◌, option_map};
 ghost use Rattle.desk.specs.Requests.{file_of, file_of_task};
 ghost use Rattle.desk.specs.Scripts.{sends_requests};
 
+use keyfile::FileDigest;
 use office::Text;
 use register::Request;
 use wire::Origin;
@@ -16,6 +17,8 @@ pub struct KeyingFile<'a> {
     pub round: u32,
     pub file: &'a str,
     pub id: &'a str,
+    /// The digest that the file must have, if one is asked for.
+    pub digest: Option<FileDigest>,
 }
 
 /// What the office alone asks of how all stands.
@@ -39,16 +42,28 @@ pub enum Question {
 pub enum Errand<'a> {
     /// Send it this request, which is the office's own.
     Send(Request),
-    /// Add the candidates of a file, each under this id, a hyphen, and its record's number.
-    ImportCandidates { file: &'a str, id: &'a str },
+    /// Add the candidates of a file, each under this id, a hyphen, and its record's number. The file must have a
+    /// digest, if one is asked for.
+    ImportCandidates {
+        file: &'a str,
+        id: &'a str,
+        digest: Option<FileDigest>,
+    },
     /// Keep a clerk's keying.
     ImportKeying(KeyingFile<'a>),
     /// Tell how a ward stands.
-    TellStatus { ward: u32 },
+    TellStatus {
+        ward: u32,
+    },
     /// Print a text of a ward.
-    Print { ward: u32, text: Text<'a> },
+    Print {
+        ward: u32,
+        text: Text<'a>,
+    },
     /// Print the page of all wards, under this title.
-    PrintIndex { title: &'a str },
+    PrintIndex {
+        title: &'a str,
+    },
     /// Tell this of how all stands.
     Ask(Question),
 }

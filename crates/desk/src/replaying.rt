@@ -63,10 +63,12 @@ fn run<S: Alter, F: Folder, O: Sink, E: Sink>(
     let file = opened(folder, errand);
     match errand {
         Errand::Send(request) => send_all(office, line, slice::from_ref(request), out, err),
-        Errand::ImportCandidates { id, .. } => match candidate_requests(alloc, id, file) {
-            Ok(requests) => send_all(office, line, &requests, out, err),
-            Err(outcome) => tell(line, &outcome, out, err),
-        },
+        Errand::ImportCandidates { id, digest, .. } => {
+            match candidate_requests(alloc, id, file, *digest) {
+                Ok(requests) => send_all(office, line, &requests, out, err),
+                Err(outcome) => tell(line, &outcome, out, err),
+            }
+        }
         Errand::ImportKeying(keyed) => match keying_of(alloc, office, *keyed, file) {
             Ok(request) => send_all(office, line, &[request], out, err),
             Err(outcome) => tell(line, &outcome, out, err),

@@ -21,6 +21,8 @@ pub(crate) enum Kind {
     Origin,
     /// Any text, after `--title`; left out, it is empty.
     Title,
+    /// A digest in 64 hexadecimal digits, after `--sha256`; it may be left out.
+    Digest,
 }
 
 /// A word that an order takes, and its line of help.
@@ -126,3 +128,6 @@ pub(crate) const ORIGIN: Word =
 
 pub(crate) const TITLE: Word =
     word!(Title "title", "What stands above, as the names of the election and of the council;\nin quotes where it has spaces");
+
+pub(crate) const DIGEST: Word =
+    word!(Digest "sha256", "The SHA-256 of FILE, 64 hexadecimal digits, as sha256sum prints it;\nwhere FILE has another, nothing of it is sent");

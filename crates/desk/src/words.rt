@@ -3,7 +3,7 @@
 ghost use Rattle.std.specs.Prelude.{◌≡◌, ◌≢◌, ◌⊎◌, ◌∷◌, true, false, [], Some, map, string_bytes, IfOk, IfErr};
 ghost use Rattle.clap.specs.Words.{app_of, rule_of, subcommand_of, takes, with_rule, with_subcommand};
 ghost use Rattle.clap.specs.declared.builder.command.Command.TheViews.{out-Command as fields_of};
-ghost use Rattle.desk.specs.Orders.{no_origin, no_verdict, told, words_of};
+ghost use Rattle.desk.specs.Orders.{no_digest, no_origin, no_verdict, told, words_of};
 ghost use Rattle.desk.specs.Versions.{version_text};
 ghost use Rattle.desk.specs.Words.{IsOwnText, IsToldOf, TellsOwnText, TellsRefusal, meaning, status_of_kind, wrong_with};
 ghost use Rattle.desk.specs.Words.{office_words, order_words, rule_of_kind, start_words, with_orders};
@@ -61,6 +61,10 @@ const NOT_UNDERSTOOD: &str = "error: the words are not understood\n";
 pub(crate) const BAD_ORIGIN: &str =
     "error: an origin is http:// or https://, a host in small letters, and its port where it isn't the usual one, as https://count.example.org\n";
 
+/// What is told of a word behind `--sha256` that is none.
+pub(crate) const BAD_DIGEST: &str =
+    "error: a digest is 64 hexadecimal digits, as sha256sum prints them\n";
+
 /// Why the words are no order.
 #[derive(Drop)]
 pub enum WordsFault {
@@ -70,6 +74,8 @@ pub enum WordsFault {
     Verdict,
     /// The word behind `--origin` is none.
     Origin,
+    /// The word behind `--sha256` is none.
+    Digest,
     /// The text to print, and the status to end with: 0 where help was asked for, and 2 where the
     /// words are not understood.
     Words { text: String, status: u8 },
@@ -96,6 +102,7 @@ fn arg_of<'a>(alloc: Global, word: Word) -> Arg<'a>
         Kind::Id => arg.long(word.name).value_name("ID").required(true),
         Kind::Origin => arg.long(word.name).value_name("ORIGIN"),
         Kind::Title => arg.long(word.name).value_name("TEXT"),
+        Kind::Digest => arg.long(word.name).value_name("HEX"),
     }
 }
 
@@ -248,7 +255,7 @@ fn denied(alloc: Global, kind: ErrorKind, error: &Error) -> WordsFault
 ///
 /// The order and its values are those that `clap` matches in the words, read by the table of orders.
 /// Words that `clap` takes are refused for want of memory, where the word of a verdict says none, and where the word of
-/// an origin is none, and for nothing else.
+/// an origin or of a digest is none, and for nothing else.
 /// Words that it doesn't take are no order. A text that isn't empty is told of them, with status 0 where what is first
 /// wrong with them is that they ask for help or the version, and else with 2; or want of memory is told.
 pub fn order<'a>(alloc: Global, words: &'a [&'a str]) -> Result<Order<'a>, WordsFault>
@@ -258,7 +265,8 @@ pub fn order<'a>(alloc: Global, words: &'a [&'a str]) -> Result<Order<'a>, Words
     ensures ok { IfOk result (λ o. meaning (subcommand_of office_words (map (λ s. s.now) words.entry.now)) ≡ Some (told o)) }
     ensures err { takes office_words (map (λ s. s.now) words.entry.now) ≡ true → IfErr result (λ e. (e ≡ WordsFault.Memory)
         ⊎ (((e ≡ WordsFault.Verdict) × (meaning (subcommand_of office_words (map (λ s. s.now) words.entry.now)) ≡ Some no_verdict))
-        ⊎ ((e ≡ WordsFault.Origin) × (meaning (subcommand_of office_words (map (λ s. s.now) words.entry.now)) ≡ Some no_origin)))) }
+        ⊎ (((e ≡ WordsFault.Origin) × (meaning (subcommand_of office_words (map (λ s. s.now) words.entry.now)) ≡ Some no_origin))
+        ⊎ ((e ≡ WordsFault.Digest) × (meaning (subcommand_of office_words (map (λ s. s.now) words.entry.now)) ≡ Some no_digest))))) }
 {
     let command = match office_command(alloc) {
         Ok(command) => command,
@@ -273,6 +281,7 @@ pub fn order<'a>(alloc: Global, words: &'a [&'a str]) -> Result<Order<'a>, Words
         Err(NoOrder::Memory) => Err(WordsFault::Memory),
         Err(NoOrder::BadVerdict) => Err(WordsFault::Verdict),
         Err(NoOrder::BadOrigin) => Err(WordsFault::Origin),
+        Err(NoOrder::BadDigest) => Err(WordsFault::Digest),
         Err(NoOrder::Unknown) => Err(WordsFault::Words {
             text: String::new(alloc),
             status: 2,

@@ -1,17 +1,17 @@
--- Why `read_file` keeps its promise.
+-- Why `read_rows` keeps its promise.
 use Rattle.std.proofs.Common.{◌≡◌, ◌+◌, ℕ, map, refl, subst, arith}
 use Rattle.keyfile.specs.Files.{fault_at}
 use Rattle.keyfile.specs.Inside.{StandsAt}
 use Rattle.keyfile.specs.declared.fault.Flaw.TheVariants.{Memory}
-use Rattle.keyfile.proofs.StandLemmas.{fault-known, passed-on, stands-stopped}
-use Rattle.keyfile.proofs.format.read_file.Goals as goal
+use Rattle.keyfile.proofs.StandLemmas.{passed-on, stands-stopped}
+use Rattle.keyfile.proofs.format.read_rows.Goals as goal
 
 pub returns-in_err-row-clause-fault : goal.returns-in_err-row-clause-fault
 returns-in_err-row-clause-fault g c =
     let format = g.F.FileFormat.format c.args.format.now in
     let bytes = g.R.Read.remaining c.args.r in
     let told = c.in_err-row.ensures.err bytes (map g.F.FileFormat.entry c.loop-number.rows.items) c.loop-number.invariant in
-    fault-known format bytes c.from_residual-in_err-row.result (passed-on format bytes c.from_residual-in_err-row.result c.in_err-row.field-0.0 c.from_residual-in_err-row.ensures.1 told)
+    passed-on format bytes c.from_residual-in_err-row.result c.in_err-row.field-0.0 c.from_residual-in_err-row.ensures.1 told
 
 pub returns-in_default-clause-rows : goal.returns-in_default-clause-rows
 returns-in_default-clause-rows g c =
@@ -30,8 +30,7 @@ returns-in_err-check_end-clause-fault g c =
     let past : c.loop-number.number ≡ c.most-most.result + 1 = omega (arith, c.loop-number-test.false, c.loop-number.auto.number-end) in
     let stands = subst (λ (n : ℕ). StandsAt g.R.Read.remaining bytes format n rows c.loop-number.file) past c.loop-number.invariant in
     let told = c.in_err-check_end.ensures.err bytes rows stands in
-    fault-known format bytes c.from_residual-in_err-check_end.result
-    (passed-on format bytes c.from_residual-in_err-check_end.result c.in_err-check_end.field-0.0 c.from_residual-in_err-check_end.ensures.1 told)
+    passed-on format bytes c.from_residual-in_err-check_end.result c.in_err-check_end.field-0.0 c.from_residual-in_err-check_end.ensures.1 told
 
 pub returns-clause-rows : goal.returns-clause-rows
 returns-clause-rows g c =
