@@ -3,20 +3,23 @@ use Rattle.std.proofs.Common.{◌≡◌, ◌<◌, ℕ, true, cond, not, ◌&&◌
 use Rattle.std.proofs.Math.Bool.{or-false}
 use Rattle.std.proofs.lemmas.Bool.{cond-true}
 use Rattle.std.proofs.lemmas.List.{map-append}
-use Rattle.std.specs.List.{AllByRecursion}
+use Rattle.std.specs.List.{AllByRecursion, flat_map}
 use Rattle.sqlite_trees.proofs.ListLemmas.{all-get_or}
 use Rattle.register.specs.declared.elections.CountedWard.{CountedWard}
 use Rattle.register.specs.declared.phase.Phase.{Phase}
 use Rattle.register.specs.declared.phase.Phase.TheVariants.{Nominations, Keying, Sealed, Declared}
 use Rattle.register.specs.declared.wards.Ward.{Ward}
-use Rattle.register.specs.Offices.{WardEntry, BatchEntry, KeyedEntry, JudgedEntry, OfficeState, ward_entry, ward_at, verdicts_of}
-use Rattle.register.specs.Papers.{is_keyed, of_three, agreed, keyings_now}
+use Rattle.register.specs.Offices.{WardEntry, CandidateEntry, BatchEntry, KeyedEntry, JudgedEntry, OfficeState, ward_entry, ward_at, candidates_of, verdicts_of}
+use Rattle.register.specs.Marks.{columns_of}
+use Rattle.register.specs.Papers.{is_keyed, of_three, agreed, keyings_now, batches_of}
+use Rattle.register.specs.Polls.{Pile, pile_of}
 use Rattle.register.specs.Elections.{ElectionEntry, election_of, elected_of, is_counted, is_declared}
 use Rattle.register.specs.Items.{IsState}
 use Rattle.register.specs.Tabulated.{IsCountedWard}
 use Rattle.tables.proofs.ListLemmas.{get_mapped, mapped_length}
 use Rattle.store.specs.Elections.{IsCountedIn, IsCountedInFor}
-use Rattle.store.specs.Overviews.{WardView, declared_in, DoubtfulView, doubtful_among, doubtful_in, has_alike, is_apart, apart_among, papers_apart}
+use Rattle.store.specs.Overviews.{WardView, declared_in, papers_by, papers_of, DoubtfulView, DoubtfulPapersView, doubtful_among, doubtful_in, doubtful_papers}
+use Rattle.store.specs.Overviews.{has_alike, is_apart, apart_among, papers_apart}
 use Rattle.store.proofs.DoneLemmas.{wards_there}
 
 -- ---- lists
@@ -61,13 +64,35 @@ declared_told s w found counted elected is told law declared there =
     some_same : {a b : CountedWard} → ◌≡◌ {A = Option CountedWard} (Some a) (Some b) → a ≡ b
     some_same e = cc
 
+-- ---- papers as they count
+
+-- those of a batch, by the candidates and the pile that were read of it
+pub papers_told : (s : OfficeState) (b : BatchEntry) (candidates : List CandidateEntry) (pile : Pile) → candidates ≡ candidates_of s b.ward → pile ≡ pile_of s b
+    → papers_by candidates pile ≡ papers_of s b
+papers_told s b candidates pile here same = ap (λ (cs : List CandidateEntry). papers_by cs pile) here ∙ ap (papers_by (candidates_of s b.ward)) same
+
 -- ---- doubtful papers
 
 -- those of one batch more
-pub doubtful_put : (s : OfficeState) (b : BatchEntry) (before after : List DoubtfulView) (verdicts : List JudgedEntry) (papers : List KeyedEntry) (keyings : List (List KeyedEntry)) → after ≡ before ++ doubtful_among verdicts papers
-    → verdicts ≡ verdicts_of s b.number → papers ≡ agreed keyings → keyings ≡ keyings_now s b → after ≡ before ++ doubtful_in s b
-doubtful_put s b before after verdicts papers keyings put judged taken are =
-    put ∙ ap (λ (vs : List JudgedEntry). before ++ doubtful_among vs papers) judged ∙ ap (λ (ks : List KeyedEntry). before ++ doubtful_among (verdicts_of s b.number) ks) (taken ∙ ap agreed are)
+pub doubtful_put : (s : OfficeState) (columns : List ℕ) (b : BatchEntry) (before after : List DoubtfulView) (verdicts : List JudgedEntry) (papers : List KeyedEntry) (keyings : List (List KeyedEntry))
+    → after ≡ before ++ doubtful_among columns verdicts papers → verdicts ≡ verdicts_of s b.number → papers ≡ agreed keyings → keyings ≡ keyings_now s b → after ≡ before ++ doubtful_in s columns b
+doubtful_put s columns b before after verdicts papers keyings put judged taken are =
+    put
+    ∙ ap (λ (vs : List JudgedEntry). before ++ doubtful_among columns vs papers) judged
+    ∙ ap (λ (ks : List KeyedEntry). before ++ doubtful_among columns (verdicts_of s b.number) ks) (taken ∙ ap agreed are)
+
+same_doubtful : (x y : DoubtfulPapersView) → x.candidates ≡ y.candidates → x.papers ≡ y.papers → x ≡ y
+same_doubtful x y candidates papers = ap (λ v. record x { candidates = v }) candidates ∙ ap (λ v. record y { papers = v }) papers
+
+-- those of a ward, by what was read of it
+pub doubtful_told : (s : OfficeState) (ward : ℕ) (d : DoubtfulPapersView) (columns : List ℕ) (batches : List BatchEntry) → d.candidates ≡ candidates_of s ward
+    → columns ≡ columns_of d.candidates → batches ≡ batches_of s ward → d.papers ≡ flat_map (doubtful_in s columns) batches → d ≡ doubtful_papers s ward
+doubtful_told s ward d columns batches here read there are =
+    same_doubtful
+    d
+    (doubtful_papers s ward)
+    here
+    (are ∙ ap (λ (cs : List ℕ). flat_map (doubtful_in s cs) batches) (read ∙ ap columns_of here) ∙ ap (flat_map (doubtful_in s (columns_of (candidates_of s ward)))) there)
 
 -- ---- differences
 
