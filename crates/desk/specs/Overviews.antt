@@ -135,10 +135,10 @@ abbrev pub lines_of : {X : Type 0} → (X → Text) → List X → Text
 lines_of text xs = flat_map (λ x. line (text x)) xs
 
 -- the papers of a batch as they count, and the doubtful papers of a ward, each with the names of the ward's candidates
-abbrev pub paper_lines : PapersView → Text
+unfoldable pub paper_lines : PapersView → Text
 paper_lines v = lines_of (paper_line (names_of v.candidates)) v.papers
 
-abbrev pub doubtful_lines : DoubtfulPapersView → Text
+unfoldable pub doubtful_lines : DoubtfulPapersView → Text
 doubtful_lines v = lines_of (doubtful_line (names_of v.candidates)) v.papers
 
 -- what is told of how all stands, or why there is nothing

@@ -125,6 +125,7 @@ fn lines_of_papers(
     Ok(text)
 }
 
+#[tactic(auto, unfolding(crate::specs::Overviews::paper_lines))]
 /// The papers of a batch as they count, with the names of the candidates.
 pub(crate) fn paper_lines(alloc: Global, found: &CountedPapers) -> Result<String, AllocError>
     ensures { IfOk result (λ text. string_bytes text ≡ paper_lines (papers_view found.now)) }
@@ -195,6 +196,7 @@ fn lines_of_doubtful(
     Ok(text)
 }
 
+#[tactic(auto, unfolding(crate::specs::Overviews::doubtful_lines))]
 /// The doubtful papers of a ward, with the names of the candidates.
 pub(crate) fn doubtful_lines(alloc: Global, found: &DoubtfulPapers) -> Result<String, AllocError>
     ensures { IfOk result (λ text. string_bytes text ≡ doubtful_lines (doubtful_papers_view found.now)) }

@@ -2,7 +2,7 @@
 
 ghost use Rattle.std.specs.Prelude.{◌≡◌, ◌==◌, ◌++◌, map, option_map, IfOk};
 ghost use Rattle.std.specs.List.{flat_map};
-ghost use Rattle.register.specs.Offices.{batch_entry, candidate_entry, keyed_entry, judged_entry};
+ghost use Rattle.register.specs.Offices.{batch_entry, keyed_entry, judged_entry};
 ghost use Rattle.register.specs.Papers.{is_doubtful};
 ghost use Rattle.tables.specs.declared.fault.Fault.{Fault};
 ghost use Rattle.store.specs.Overviews.{verdict_on, doubtful_view, doubtful_view_of, doubtful_among, doubtful_in, doubtful_papers, doubtful_papers_view, doubtful_at};
