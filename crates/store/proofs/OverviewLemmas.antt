@@ -1,7 +1,7 @@
 -- Why what was read of how all stands is so.
-use Rattle.std.proofs.Common.{◌≡◌, ◌<◌, ℕ, true, cond, not, ◌&&◌, ◌||◌, List, [], ◌∷◌, ◌++◌, map, filter, length, get_or, Option, Some, None, option_map, refl, sym, ap, subst, ◌∙◌}
+use Rattle.std.proofs.Common.{◌≡◌, ◌<◌, ◌==◌, ℕ, Bool, true, false, cond, not, ◌&&◌, ◌||◌, List, [], ◌∷◌, ◌++◌, map, filter, length, get_or, Option, Some, None, option_map, refl, sym, ap, subst, ◌∙◌}
 use Rattle.std.proofs.Math.Bool.{or-false}
-use Rattle.std.proofs.lemmas.Bool.{cond-true}
+use Rattle.std.proofs.lemmas.Bool.{cond-true, eqb-true}
 use Rattle.std.proofs.lemmas.List.{map-append}
 use Rattle.std.specs.List.{AllByRecursion, flat_map}
 use Rattle.sqlite_trees.proofs.ListLemmas.{all-get_or}
@@ -12,13 +12,14 @@ use Rattle.register.specs.declared.wards.Ward.{Ward}
 use Rattle.register.specs.Offices.{WardEntry, CandidateEntry, BatchEntry, KeyedEntry, JudgedEntry, OfficeState, ward_entry, ward_at, candidates_of, verdicts_of}
 use Rattle.register.specs.Marks.{columns_of}
 use Rattle.register.specs.Papers.{is_keyed, of_three, agreed, keyings_now, batches_of}
-use Rattle.register.specs.Polls.{Pile, pile_of}
+use Rattle.register.specs.Polls.{Pile, pile_of, judgements_in, judgements}
+use Rattle.register.specs.declared.polls.Judgement.{Judgement}
 use Rattle.register.specs.Elections.{ElectionEntry, election_of, elected_of, is_counted, is_declared}
 use Rattle.register.specs.Items.{IsState}
 use Rattle.register.specs.Tabulated.{IsCountedWard}
-use Rattle.tables.proofs.ListLemmas.{get_mapped, mapped_length}
+use Rattle.tables.proofs.ListLemmas.{get_mapped, mapped_length, mapped_twice}
 use Rattle.store.specs.Elections.{IsCountedIn, IsCountedInFor}
-use Rattle.store.specs.Overviews.{WardView, declared_in, papers_by, papers_of, DoubtfulView, DoubtfulPapersView, doubtful_among, doubtful_in, doubtful_papers}
+use Rattle.store.specs.Overviews.{WardView, declared_in, PaperView, paper_view_of, papers_by, papers_of, judgements_told, DoubtfulView, DoubtfulPapersView, doubtful_among, doubtful_in, doubtful_papers}
 use Rattle.store.specs.Overviews.{has_alike, is_apart, apart_among, papers_apart}
 use Rattle.store.proofs.DoneLemmas.{wards_there}
 
@@ -70,6 +71,25 @@ declared_told s w found counted elected is told law declared there =
 pub papers_told : (s : OfficeState) (b : BatchEntry) (candidates : List CandidateEntry) (pile : Pile) → candidates ≡ candidates_of s b.ward → pile ≡ pile_of s b
     → papers_by candidates pile ≡ papers_of s b
 papers_told s b candidates pile here same = ap (λ (cs : List CandidateEntry). papers_by cs pile) here ∙ ap (papers_by (candidates_of s b.ward)) same
+
+-- those of a batch of a ward are told by the judgements by which they are counted there
+judged_alike : (s : OfficeState) (ward : ℕ) (b : BatchEntry) → b.ward ≡ ward → judgements_told s b ≡ judgements_in (columns_of (candidates_of s ward)) (pile_of s b)
+judged_alike s ward b is =
+    mapped_twice (paper_view_of (columns_of (candidates_of s b.ward)) (verdicts_of s b.number)) (λ (p : PaperView). p.judgement) (agreed (keyings_now s b))
+    ∙ ap (λ (w : ℕ). judgements_in (columns_of (candidates_of s w)) (pile_of s b)) is
+
+-- so are those of all its batches, one after the other
+pub told_counted : (s : OfficeState) (ward : ℕ) (bs : List BatchEntry)
+    → flat_map (judgements_told s) (filter (λ (b : BatchEntry). b.ward == ward) bs) ≡ judgements (columns_of (candidates_of s ward)) (map (pile_of s) (filter (λ (b : BatchEntry). b.ward == ward) bs))
+told_counted s ward [] = refl
+told_counted s ward (b ∷ bs) = go (b.ward == ward) refl (filter (λ (c : BatchEntry). c.ward == ward) bs) (told_counted s ward bs)
+  where
+    go : (q : Bool) → (b.ward == ward) ≡ q → (rest : List BatchEntry) → flat_map (judgements_told s) rest ≡ judgements (columns_of (candidates_of s ward)) (map (pile_of s) rest)
+        → flat_map (judgements_told s) (cond q (b ∷ rest) rest) ≡ judgements (columns_of (candidates_of s ward)) (map (pile_of s) (cond q (b ∷ rest) rest))
+    go true is rest later =
+        ap (λ (js : List Judgement). js ++ flat_map (judgements_told s) rest) (judged_alike s ward b (eqb-true b.ward ward is))
+        ∙ ap (λ (js : List Judgement). judgements_in (columns_of (candidates_of s ward)) (pile_of s b) ++ js) later
+    go false is rest later = later
 
 -- ---- doubtful papers
 

@@ -135,6 +135,10 @@ papers_by candidates pile = record { taken = are_taken pile.keyings; candidates 
 abbrev pub papers_of : OfficeState → BatchEntry → PapersView
 papers_of s b = papers_by (candidates_of s b.ward) (pile_of s b)
 
+-- the judgements by which they are counted
+abbrev pub judgements_told : OfficeState → BatchEntry → List Judgement
+judgements_told s b = map (λ (p : PaperView). p.judgement) (papers_of s b).papers
+
 -- the same of the batch with a number, if there is one
 abbrev pub papers_at : OfficeState → ℕ → Option PapersView
 papers_at s batch = option_map (papers_of s) (batch_at s batch)

@@ -37,7 +37,7 @@ pub use overviews::batches::{BatchOverview, Standing};
 pub use overviews::clerks::ClerkOverview;
 pub use overviews::differences::Differences;
 pub use overviews::doubtful::{DoubtfulPaper, DoubtfulPapers};
-pub use overviews::papers::{CountedPaper, CountedPapers};
+pub use overviews::papers::{CountedPaper, CountedPapers, papers_told_are_counted};
 pub use overviews::wards::{WardOverview, elected_in};
 pub use storage::Store;
 pub use tables::fault;

@@ -1,10 +1,14 @@
 //! The papers of a batch as they count, read from the tables.
 
-ghost use Rattle.std.specs.Prelude.{◌≡◌, map, option_map, IfOk, IfErr};
-ghost use Rattle.register.specs.Offices.{batch_entry, candidate_entry, keyed_entry, judged_entry};
+ghost use Rattle.std.specs.Prelude.{◌≡◌, ℕ, map, option_map, IfOk, IfErr};
+ghost use Rattle.std.specs.List.{flat_map};
+ghost use Rattle.register.specs.Offices.{OfficeState, batch_entry, candidate_entry, keyed_entry, judged_entry, candidates_of};
+ghost use Rattle.register.specs.Marks.{columns_of};
+ghost use Rattle.register.specs.Papers.{batches_of};
+ghost use Rattle.register.specs.Polls.{judgements, piles_of};
 ghost use Rattle.tables.specs.declared.fault.Fault.{Fault};
 ghost use Rattle.store.specs.Elections.{pile_by};
-ghost use Rattle.store.specs.Overviews.{paper_view, paper_view_of, papers_view, papers_by, papers_of, papers_at};
+ghost use Rattle.store.specs.Overviews.{paper_view, paper_view_of, papers_view, papers_by, papers_of, papers_at, judgements_told};
 ghost use Rattle.store.specs.Loads.{Loads};
 
 use crate::storage::Store;
@@ -34,6 +38,12 @@ pub struct CountedPapers {
     pub candidates: Vec<Candidate>,
     pub papers: Vec<CountedPaper>,
 }
+
+/// The law of papers that are told as they count, for their readers: told of a ward's batches, one after the other, they
+/// have the judgements on which the ward's count rests.
+pub fn papers_told_are_counted()
+    ensures { (s : OfficeState) (ward : ℕ) → flat_map (judgements_told s) (batches_of s ward) ≡ judgements (columns_of (candidates_of s ward)) (piles_of s ward) }
+{}
 
 /// A keyed paper as it counts by the columns of its ward and the verdicts on the papers of its batch.
 pub(crate) fn counted_paper(
