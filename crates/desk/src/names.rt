@@ -47,7 +47,7 @@ impl<'a> Names<'a> {
         ensures { result.now ≡ name_in (names_told self.now) number }
     {
         match self.places.get(usize::from(number)) {
-            Some(name) => name,
+            Some(name) => *name,
             None => "",
         }
     }

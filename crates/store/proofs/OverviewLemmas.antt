@@ -1,5 +1,5 @@
 -- Why what was read of how all stands is so.
-use Rattle.std.proofs.Common.{◌≡◌, ◌<◌, ◌==◌, ℕ, Bool, true, false, cond, not, ◌&&◌, ◌||◌, List, [], ◌∷◌, ◌++◌, map, filter, length, get_or, Option, Some, None, option_map, refl, sym, ap, subst, ◌∙◌}
+use Rattle.std.proofs.Common.{◌≡◌, ◌<◌, ◌==◌, ℕ, Bool, true, false, cond, not, ◌&&◌, ◌||◌, List, [], ◌∷◌, ◌++◌, map, filter, length, get_or, drop, suc, ◌+◌, Option, Some, None, option_map, refl, sym, ap, subst, ◌∙◌, append_assoc, add-one, drop-cons}
 use Rattle.std.proofs.Math.Bool.{or-false}
 use Rattle.std.proofs.lemmas.Bool.{cond-true, eqb-true}
 use Rattle.std.proofs.lemmas.List.{map-append}
@@ -66,6 +66,18 @@ declared_told s w found counted elected is told law declared there =
     some_same e = cc
 
 -- ---- papers as they count
+
+-- what is told of the items so far and of those that are left, where one more is told
+pub told_more : {A B C D : Type 0} (view : A → D) (told : B → D) (entry : C → B) (found new : List A) (one : A) (xs : List C) (k : ℕ) (x : C) → k < length xs → x ≡ get_or xs k x → new ≡ found ++ one ∷ [] → view one ≡ told (entry x)
+    → map view found ++ map told (map entry (drop k xs)) ≡ map told (map entry xs) → map view new ++ map told (map entry (drop (k + 1) xs)) ≡ map told (map entry xs)
+told_more {C = C} {D = D} view told entry found new one xs k x within is put same so_far =
+    let left : List D = map told (map entry (drop (k + 1) xs)) in
+    let next : drop k xs ≡ x ∷ drop (k + 1) xs = rw add-one (drop-cons xs k x within ∙ ap (λ (y : C). y ∷ drop (suc k) xs) (sym is)) in
+    ap (λ (vs : List D). vs ++ left) (ap (map view) put ∙ map-append view found (one ∷ []))
+    ∙ append_assoc (map view found) (view one ∷ []) left
+    ∙ ap (λ (v : D). map view found ++ v ∷ left) same
+    ∙ ap (λ (ys : List C). map view found ++ map told (map entry ys)) (sym next)
+    ∙ so_far
 
 -- those of a batch, by the candidates and the pile that were read of it
 pub papers_told : (s : OfficeState) (b : BatchEntry) (candidates : List CandidateEntry) (pile : Pile) → candidates ≡ candidates_of s b.ward → pile ≡ pile_of s b

@@ -8,11 +8,12 @@ ghost use Rattle.tables.specs.declared.fault.Fault.{Fault};
 ghost use Rattle.store.specs.Overviews.{verdict_on, doubtful_view, doubtful_view_of, doubtful_among, doubtful_in, doubtful_papers, doubtful_papers_view, doubtful_at};
 ghost use Rattle.store.specs.Loads.{Loads, IsOpen};
 
-use crate::overviews::papers::{CountedPaper, counted_paper};
+use crate::overviews::papers::CountedPaper;
 use crate::storage::Store;
 use paper::Columns;
 use register::marks::columns_of;
 use register::papers::is_doubtful;
+use register::polls::judgement_on;
 use register::{Batch, Candidate, JudgedPaper, KeyedPaper};
 use sqlite::Alter;
 use std::alloc::AllocError;
@@ -64,8 +65,13 @@ fn doubtful_paper(
 ) -> Result<DoubtfulPaper, AllocError>
     ensures { IfOk result (λ found. doubtful_view found ≡ doubtful_view_of columns (map judged_entry verdicts.now) (keyed_entry keyed.now)) }
 {
+    let counted = CountedPaper {
+        batch: keyed.batch,
+        paper: keyed.paper,
+        judgement: judgement_on(columns, verdicts, keyed),
+    };
     Ok(DoubtfulPaper {
-        counted: counted_paper(columns, verdicts, keyed),
+        counted,
         verdict: verdict_on(verdicts, keyed.paper)?,
     })
 }
@@ -99,7 +105,14 @@ impl<S: Alter> Store<S> {
     {
         let mut found = before;
         let papers = self.papers_of(batch)?;
-        if put_doubtful(&mut found, columns, &papers.verdicts, papers.keyings.agreed()).is_err() {
+        if put_doubtful(
+            &mut found,
+            columns,
+            &papers.verdicts,
+            papers.keyings.agreed(),
+        )
+        .is_err()
+        {
             return Err(Fault::Memory);
         }
         Ok(found)

@@ -45,22 +45,7 @@ pub fn papers_told_are_counted()
     ensures { (s : OfficeState) (ward : ℕ) → flat_map (judgements_told s) (batches_of s ward) ≡ judgements (columns_of (candidates_of s ward)) (piles_of s ward) }
 {}
 
-/// A keyed paper as it counts by the columns of its ward and the verdicts on the papers of its batch.
-pub(crate) fn counted_paper(
-    columns: Columns,
-    verdicts: &[JudgedPaper],
-    keyed: &KeyedPaper,
-) -> CountedPaper
-    ensures { paper_view result ≡ paper_view_of columns (map judged_entry verdicts.now) (keyed_entry keyed.now) }
-{
-    CountedPaper {
-        batch: keyed.batch,
-        paper: keyed.paper,
-        judgement: judgement_on(columns, verdicts, keyed),
-    }
-}
-
-/// The papers of a keying, each as it counts.
+/// The papers of a keying, each as it counts by the columns of its ward and the verdicts on the papers of its batch.
 fn counted_among(
     alloc: Global,
     columns: Columns,
@@ -71,7 +56,12 @@ fn counted_among(
 {
     let mut found = Vec::new(alloc);
     for keyed in papers {
-        found.push(counted_paper(columns, verdicts, keyed))?;
+        let judgement = judgement_on(columns, verdicts, keyed);
+        found.push(CountedPaper {
+            batch: keyed.batch,
+            paper: keyed.paper,
+            judgement,
+        })?;
     }
     Ok(found)
 }
