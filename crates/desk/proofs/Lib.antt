@@ -13,5 +13,6 @@ pub mod CopyingLemmas
 pub mod ServedLemmas
 pub mod WordsRefused
 pub mod FaultsRead
+pub mod PaperLemmas
 mod LinesRead
 mod OverviewLemmas

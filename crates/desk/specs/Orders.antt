@@ -244,6 +244,7 @@ orders =
     ∷ takes (codes "batches") (number (codes "WARD") ∷ []) (λ ward. ask (question.Batches ward))
     ∷ takes (codes "doubtful") (number (codes "WARD") ∷ []) (λ ward. ask (question.Doubtful ward))
     ∷ takes (codes "differences") (number (codes "BATCH") ∷ []) (λ batch. ask (question.Differences batch))
+    ∷ takes (codes "papers") (number (codes "BATCH") ∷ []) (λ batch. ask (question.Papers batch))
     ∷ takes (codes "receipts") (number_or_none (codes "ACTOR") ∷ []) (λ actor. ask (question.Receipts actor))
     ∷ takes (codes "replay") (text (codes "FILE") ∷ []) replay
     ∷ takes (codes "copy") (text (codes "NEW") ∷ []) copy

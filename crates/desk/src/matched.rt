@@ -73,6 +73,7 @@ const ORDERS: [Entry; 31] = [
     order!(Office "batches" [WARD], "Tells of each batch of a ward who has keyed it, and how it stands:\ncount-office town.db batches 7"),
     order!(Office "doubtful" [WARD], "Tells the doubtful papers of a ward, each open or with its verdict:\ncount-office town.db doubtful 7"),
     order!(Office "differences" [BATCH], "Tells on which papers a batch differs, which no clerk is to see:\ncount-office town.db differences 13"),
+    order!(Office "papers" [BATCH], "Tells how each paper of a taken batch counts, with the candidates' names:\ncount-office town.db papers 12"),
     order!(Office "receipts" [ACTOR], "Tells what was kept, under which id, of an actor or of all:\ncount-office town.db receipts 0"),
     order!(Office "replay" [SCRIPT], "Sends the orders of a text file, a line each, up to a refusal:\ncount-office town.db replay evening.txt"),
     order!(Office "copy" [NEW], "Makes a copy of the office, in a file that isn't there yet:\ncount-office town.db copy evening.db"),
@@ -370,6 +371,7 @@ fn order_named<'a>(
         "batches" => Ok(asking(Question::Batches { ward })),
         "doubtful" => Ok(asking(Question::Doubtful { ward })),
         "differences" => Ok(asking(Question::Differences { batch })),
+        "papers" => Ok(asking(Question::Papers { batch })),
         "receipts" => Ok(asking(Question::Receipts { actor })),
         "replay" => Ok(Order::Perform(Task::InOffice(Job::Replay {
             file: text_in(matches, SCRIPT),

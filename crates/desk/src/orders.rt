@@ -32,6 +32,8 @@ pub enum Question {
     Doubtful { ward: u32 },
     /// On which papers the keyings of a batch differ.
     Differences { batch: u32 },
+    /// How each paper of a batch counts.
+    Papers { batch: u32 },
     /// What was kept of an actor, or of all.
     Receipts { actor: Option<u32> },
 }

@@ -3,9 +3,9 @@
 //! `Office` stands over any store of `sqlite`. `create` makes an empty office, and `open_from` opens one. `migrate`
 //! brings an office of an earlier program over to this one, and `copy` makes the same office in another database.
 //! `handle` answers one request and `run` a list of them; `status`, `columns`, `work`, `sheet`, `result`, `text` and
-//! `index` tell of the state, and change nothing, as `wards`, `batches`, `doubtful`, `differences` and `receipts`
-//! tell the office alone. A fault inside a transaction closes the office: it answers 104 until it is opened again,
-//! and what is found then is the state before the request or the one after it, whole.
+//! `index` tell of the state, and change nothing, as `wards`, `batches`, `doubtful`, `differences`, `papers` and
+//! `receipts` tell the office alone. A fault inside a transaction closes the office: it answers 104 until it is
+//! opened again, and what is found then is the state before the request or the one after it, whole.
 //!
 //! ```text
 //! let mut office = Office::open_from(alloc, conn)?;

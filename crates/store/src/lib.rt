@@ -5,8 +5,8 @@
 //! that one request needs, `load_status` and `load_columns` how a ward stands and what a batch's papers have
 //! as columns, `load_work` what a clerk has to key, `load_sheet` and `load_counted` what the texts of a ward
 //! are written from, `load_book` its count as it was kept, `load_wards`, `load_batches`, `load_doubtful`,
-//! `load_differences` and `load_receipts` how all stands, and `commit` keeps a change in one transaction,
-//! whole or not at all. `migrate` makes of an office that an earlier program made one that opens, and `copy`
+//! `load_batch_papers`, `load_differences` and `load_receipts` how all stands, and `commit` keeps a change in one
+//! transaction, whole or not at all. `migrate` makes of an office that an earlier program made one that opens, and `copy`
 //! makes the same office in another database. `Fault` says why a call gave up.
 //!
 //! ```text
@@ -36,7 +36,8 @@ pub use migration::{Migrated, migrate};
 pub use overviews::batches::{BatchOverview, Standing};
 pub use overviews::clerks::ClerkOverview;
 pub use overviews::differences::Differences;
-pub use overviews::doubtful::DoubtfulPaper;
+pub use overviews::doubtful::{DoubtfulPaper, DoubtfulPapers};
+pub use overviews::papers::{CountedPaper, CountedPapers, papers_told_are_counted};
 pub use overviews::wards::{WardOverview, elected_in};
 pub use storage::Store;
 pub use tables::fault;
