@@ -25,6 +25,8 @@ pub(crate) enum Outcome {
     Replied(Reply),
     /// This text is told as it is, its lines ended.
     Printed(String),
+    /// A count rests: a request for one stage more was refused, since no seat is left or a lot has to be drawn first.
+    Rested(Refusal),
     /// A request was refused.
     Refused(Refusal),
     /// The file was refused, or couldn't be read.
@@ -240,6 +242,7 @@ pub(crate) fn tell<O: Sink, E: Sink>(
         Outcome::Migrated(migrated) => tell_text(&[migrated_text(*migrated), "\n"], out, err),
         Outcome::Replied(reply) => tell_text(&[reply.as_str(), "\n"], out, err),
         Outcome::Printed(text) => tell_text(&[text.as_str()], out, err),
+        Outcome::Rested(refusal) => tell_text(&[refusal.text(), "\n"], out, err),
         Outcome::Refused(refusal) => tell_refusal(line, refusal, err),
         Outcome::Unread(fault) => tell_file_fault(line, *fault, err),
         Outcome::Failed(fault) => tell_failure_at(line, Failure::Office(*fault), err),

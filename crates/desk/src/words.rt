@@ -13,7 +13,7 @@ use crate::orders::Order;
 use crate::table::{Entry, Heading, Kind, MAX_CONNECTIONS, MAX_PORT, Word};
 use crate::version::{VERSION, version_text};
 use clap::error::ErrorKind;
-use clap::{Arg, Command, Error, value_parser};
+use clap::{Arg, ArgAction, Command, Error, value_parser};
 use std::alloc::{AllocError, Global};
 use std::fmt::Display;
 
@@ -35,7 +35,7 @@ const END_OF_HELP: &str =
   doubtful WARD      Which papers of a ward are doubtful, each open or with its verdict
   differences BATCH  On which papers a batch differs
   receipts [ACTOR]   What was kept, under which id: of an actor, 0 for the office, or of all
-  replay FILE        Sends the orders of a text file, a line each, up to a refusal
+  replay FILE        Sends the orders of a text file, a line each, up to a refusal or past each
   copy NEW           Makes a copy of the office, in a file that isn't there yet
 
 For everyone who wants to see or check a count, once the ward is sealed:
@@ -93,6 +93,8 @@ fn arg_of<'a>(alloc: Global, word: Word) -> Arg<'a>
         Kind::Text | Kind::Verdict => arg.required(true),
         Kind::Id => arg.long(word.name).value_name("ID").required(true),
         Kind::Origin => arg.long(word.name).value_name("ORIGIN"),
+        Kind::Texts => arg.action(ArgAction::Append),
+        Kind::Flag => arg.long(word.name).action(ArgAction::SetTrue),
     }
 }
 
