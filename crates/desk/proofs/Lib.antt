@@ -5,6 +5,7 @@ pub mod PageLemmas
 pub mod CauseLemmas
 pub mod TellingLemmas
 pub mod CourseLemmas
+pub mod StageLemmas
 pub mod KeptLemmas
 pub mod ScriptLemmas
 pub mod ScriptEnds

@@ -73,10 +73,13 @@ pub(crate) fn count_stages<S: Alter, O: Sink, E: Sink>(
     ensures clean { HasCleanDisk (state S.Store office.new.held) → HasCleanDisk (state S.Store office.old.held) }
 {
     for request in requests {
-        let (outcome, goes_on) = stage_of(office, request);
+        let (outcome, more) = stage_of(office, request);
         let status = tell(line, &outcome, out, err);
-        if !goes_on || status != 0 {
+        if status != 0 {
             return status;
+        }
+        if !more {
+            return 0;
         }
     }
     0

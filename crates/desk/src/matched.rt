@@ -327,7 +327,7 @@ fn key<'a>(alloc: Global, matches: &ArgMatches<'a>) -> Result<Order<'a>, NoOrder
     ))))
 }
 
-fn count<'a>(matches: &ArgMatches<'a>) -> Order<'a>
+fn counting<'a>(matches: &ArgMatches<'a>) -> Order<'a>
     ensures { meaning_of (codes "count") (rows_of (found_of matches.now)) ≡ Some (told result) }
 {
     in_office(Errand::Count {
@@ -392,7 +392,7 @@ fn order_named<'a>(
         "import-candidates" => Ok(import_candidates(matches)),
         "import-keying" => Ok(import_keying(matches)),
         "key" => key(alloc, matches),
-        "count" => Ok(count(matches)),
+        "count" => Ok(counting(matches)),
         "next" => Ok(in_office(Errand::TellNext { ward })),
         "status" => Ok(in_office(Errand::TellStatus { ward })),
         "sheet" => Ok(printing(matches, Text::Sheet)),
