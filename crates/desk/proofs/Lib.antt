@@ -14,4 +14,5 @@ pub mod ServedLemmas
 pub mod WordsRefused
 pub mod FaultsRead
 mod LinesRead
+mod KeysRead
 mod OverviewLemmas

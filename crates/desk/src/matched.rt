@@ -61,7 +61,7 @@ const ORDERS: [Entry; 33] = [
     order!(Election "judge" [BATCH, PAPER, VERDICT, ID], "Keeps the verdict on a doubtful paper of a batch that is taken:\ncount-office town.db judge 12 6 accept:1,,, --id v1"),
     order!(Election "seal" [WARD, ID], "Seals a ward whose papers are all agreed and judged:\ncount-office town.db seal 7 --id s1"),
     order!(Election "advance" [WARD, ID], "Counts the one stage that is due in a sealed ward:\ncount-office town.db advance 7 --id a1"),
-    order!(Election "count" [WARD, ID], "Counts all stages of a sealed ward up to a lot or the end, the first under ID-1:\ncount-office town.db count 7 --id a"),
+    order!(Election "count" [WARD, ID], "Counts a sealed ward up to a lot or the end, its first stage under ID-1:\ncount-office town.db count 7 --id a"),
     order!(Election "lot" [WARD, STAGE, CANDIDATE, ID], "Records the candidate whom the lot for a stage named:\ncount-office town.db lot 7 3 4 --id l1"),
     order!(Election "declare" [WARD, ID], "Declares the result of a ward whose count is finished:\ncount-office town.db declare 7 --id d1"),
     order!(Election "status" [WARD], "Tells how a ward stands, at any moment:\ncount-office town.db status 7"),

@@ -35,7 +35,7 @@ const END_OF_HELP: &str =
   doubtful WARD      Which papers of a ward are doubtful, each open or with its verdict
   differences BATCH  On which papers a batch differs
   receipts [ACTOR]   What was kept, under which id: of an actor, 0 for the office, or of all
-  replay FILE        Sends the orders of a text file, a line each, up to a refusal or past each
+  replay FILE        Sends the orders of a text file, a line each, up to a refusal
   copy NEW           Makes a copy of the office, in a file that isn't there yet
 
 For everyone who wants to see or check a count, once the ward is sealed:
