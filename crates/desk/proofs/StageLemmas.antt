@@ -1,7 +1,7 @@
 -- The requests of an order that counts, and what came of them.
-use Rattle.std.proofs.Common.{◌≡◌, ◌≢◌, ◌⊎◌, ◌+◌, ◌≤◌, ◌<◌, ◌∙◌, inl, inr, ℕ, zero, suc, Bool, true, false, true≢false, List, [], ◌∷◌, ◌++◌, map, Option}
+use Rattle.std.proofs.Common.{◌≡◌, ◌≢◌, ◌⊎◌, ◌+◌, ◌≤◌, ◌<◌, ◌∙◌, inl, inr, ℕ, zero, suc, Bool, true, false, true≢false, List, [], ◌∷◌, ◌++◌, map, Option, Some, None, string_bytes}
 use Rattle.std.proofs.Common.{length, drop, get_or, refl, sym, ap, subst, arith, add-one, eq-eqb, eqb-true, ne_eqb}
-use Rattle.std.specs.Prelude.{◌==◌, ◌&&◌, ◌||◌, not}
+use Rattle.std.specs.Prelude.{◌==◌, ◌&&◌, ◌||◌, not, slice_get}
 use Rattle.std.specs.List.{range_with_len}
 use Rattle.std.proofs.lemmas.List.{append-nil, drop_all, length-append}
 use Rattle.std.proofs.lemmas.List.FromFn.{length-map-range_with_len}
@@ -15,8 +15,9 @@ use Rattle.desk.specs.Headline.{Course, IsAnswered, IsSent, answer, ended, told_
 use Rattle.desk.specs.Orders.{Sent, sent_as}
 use Rattle.desk.specs.Pages.{Cut, uncut, cut_behind, cut_error, Page, below, empty_page, fronted, goes_on, page_counted}
 use Rattle.desk.specs.Parts.{IsCounted, IsOver, IsStage}
-use Rattle.desk.specs.Requests.{AreAdvances, EndsOr, advance_at, advances, is_refused, most_advances}
-use Rattle.desk.proofs.CourseLemmas.{Replied, above_nothing, made, next_left, nothing_more, replied_more, replied_then, went_past}
+use Rattle.desk.specs.Requests.{AreAdvances, EndsOr, advance_at, advances, id_at, is_first, is_refused, most_advances}
+use Rattle.desk.proofs.CauseLemmas.{TellsSince}
+use Rattle.desk.proofs.CourseLemmas.{Replied, above_nothing, answered_since, made, next_left, nothing_more, replied_more, replied_then, went_past}
 use Rattle.desk.proofs.PageLemmas.{fronted_status}
 use Rattle.desk.proofs.TellingLemmas.{goes_after_zero, not_after_fault}
 
@@ -34,10 +35,24 @@ no_is_refused (kept reply) = refl
 no_is_refused (refused why) = refl
 
 -- a reply is told with status 0
-reply_status : (o : Outcome) → is_refused o ≡ false → (page_counted (told_of o)).status ≡ 0
-reply_status (accepted next reply) e = refl
-reply_status (kept reply) e = refl
-reply_status (refused why) e = absurd (true≢false e)
+reply_status : (first : Bool) (o : Outcome) → is_refused o ≡ false → (page_counted first (told_of o)).status ≡ 0
+reply_status first (accepted next reply) e = refl
+reply_status first (kept reply) e = refl
+reply_status first (refused why) e = absurd (true≢false e)
+
+-- what is told of the answer to a request of an order that counts under an id
+abbrev pub page_under : Text → Request → Told → Page
+page_under id r = page_counted (is_first id r)
+
+-- the same of a request of which it is known whether it is the first
+pub answered_under : (old : State) (closed : Bool) (st : State) (id : Text) (first : Bool) (s : OfficeState) (r : Request) (answered : ℕ) (page : Page) → first ≡ is_first id r
+    → IsAnswered old closed st (λ q. page_counted first) s r answered page → IsAnswered old closed st (page_under id) s r answered page
+answered_under old closed st id first s r answered page is met = subst (λ b. IsAnswered old closed st (λ q. page_counted b) s r answered page) is met
+
+-- what came of a request, told of an earlier moment
+pub stage_since : (a b : State) (closed : Bool) (st : State) (first : Bool) (s : OfficeState) (r : Request) (page : Page) (goes : Bool) → TellsSince a b st → IsStage b closed st first s r page goes
+    → IsStage a closed st first s r page goes
+stage_since a b closed st first s r page goes since (answered, met, goes_is) = (answered, answered_since a b closed st _ s r answered page since met, goes_is)
 
 -- a test that is met, or isn't, whatever the other is
 or_true : (b : Bool) → (b || true) ≡ true
@@ -65,6 +80,17 @@ module _ (ward : ℕ) (id : Text) where
   -- there is none where no number is left
   numbered_none : (k : ℕ) (r : Request) (rs : List Request) → Numbered k 0 (r ∷ rs) → ⊥
   numbered_none k r rs are = let bad : suc (length (map sent_as rs)) ≡ 0 = ap (λ (xs : List Sent). length xs) are in absurd (omega arith)
+
+  -- one of them is the first, and this is its id
+  pub first_named : (rs : List Request) (r : Request) → Some r ≡ slice_get rs 0 → map sent_as rs ≡ advances ward id most_advances → string_bytes r.id ≡ id_at id 1
+  first_named [] r is are = absurd (cc is)
+  first_named (q ∷ rs) r is are =
+      let same : r ≡ q = cc in
+      ap (λ (x : Request). string_bytes x.id) same ∙ ap (λ (x : Sent). x.id) (ap (λ (xs : List Sent). get_or xs 0 (sent_as q)) are)
+
+  pub none_numbered : (rs : List Request) → None ≡ slice_get rs 0 → map sent_as rs ≡ advances ward id most_advances → ⊥
+  none_numbered [] is are = let bad : 0 ≡ suc (length (map (advance_at ward id) (range_with_len 2 31))) = ap (λ (xs : List Sent). length xs) are in absurd (omega arith)
+  none_numbered (q ∷ rs) is are = absurd (cc is)
 
   -- they end somewhere, the first of them among them
   pub ended_somewhere : (n k : ℕ) (s : OfficeState) (r : Request) (rs : List Request) → Numbered k (suc n) (r ∷ rs) → k + n ≡ most_advances → (tail : List Request) × AreAdvances s ward id k (r ∷ tail)
@@ -134,7 +160,7 @@ pub record CountedSo (keep : Bool) (line : Option ℕ) (s : OfficeState) (ward :
   pub open_at : IsOpenAt end closed st
   pub front : List Request
   pub many : length front ≡ i
-  pub replied : Replied keep line page_counted s front said end
+  pub replied : Replied keep line (page_under id) s front said end
   pub going : Going ward id s 1 front end
   pub left : ℕ
   pub few : (i + 1) + left ≡ most_advances + 1
@@ -160,13 +186,14 @@ module _ (old : State) (keep : Bool) (line : Option ℕ) (s : OfficeState) (ward
 
   -- the next stage was counted
   pub stage_more : (mid : State) (i : ℕ) (r : Request) (said : Page) (was : Bool) (before : State) (page : Page) (closed : Bool) (st : State) → i < length rs → r ≡ get_or rs i r
-      → (so : CountedSo keep line s ward id rs i said was before) → IsStage mid closed st so.end r page true → page.status ≡ 0
+      → (so : CountedSo keep line s ward id rs i said was before) → (known : Bool) → known ≡ is_first id r → IsStage mid closed st known so.end r page true → page.status ≡ 0
       → CountedSo keep line s ward id rs (i + 1) (below said (fronted line page)) closed st
-  stage_more mid i r said was before page closed st within is so (answered, it, more) zero =
+  stage_more mid i r said was before page closed st within is so known known_is (answered, met, more) zero =
+      let it = answered_under mid closed st id known so.end r answered page known_is met in
       let (n, left_is, numbered) = next_numbered i r said was before within is so in
       let goes : goes_on keep page.status ≡ true = goes_after_zero keep page.status zero in
-      let told = went_past mid closed st keep page_counted so.end r answered page it goes in
-      let fine : goes_on keep (answer page_counted so.end r).status ≡ true = ap (λ (p : Page). goes_on keep p.status) (sym told.0) ∙ goes in
+      let told = went_past mid closed st keep (page_under id) so.end r answered page it goes in
+      let fine : goes_on keep (answer (page_under id) so.end r).status ≡ true = ap (λ (p : Page). goes_on keep p.status) (sym told.0) ∙ goes in
       let number : 1 + length so.front ≡ i + 1 = let many = so.many in omega (arith, many) in
       let first = numbered_first ward id (i + 1) n r (drop (i + 1) rs) numbered in
       record {
@@ -174,8 +201,8 @@ module _ (old : State) (keep : Bool) (line : Option ℕ) (s : OfficeState) (ward
         open_at = told.1;
         front = so.front ++ r ∷ [];
         many = let many = so.many in omega (arith, many, length-append so.front (r ∷ []));
-        replied = subst (λ p. Replied keep line page_counted s (so.front ++ r ∷ []) (below said p) (after_one so.end r)) (ap (fronted line) (sym told.0))
-            (replied_more keep line page_counted s so.front said so.end r so.replied fine);
+        replied = subst (λ p. Replied keep line (page_under id) s (so.front ++ r ∷ []) (below said p) (after_one so.end r)) (ap (fronted line) (sym told.0))
+            (replied_more keep line (page_under id) s so.front said so.end r so.replied fine);
         going = going_more ward id s 1 so.front so.end r so.going (first ∙ ap (advance_at ward id) (sym number)) (not_refused answered (is_refused (step_of so.end r)) more);
         left = n;
         few = let few = so.few in omega (arith, few, left_is);
@@ -188,9 +215,9 @@ module _ (old : State) (keep : Bool) (line : Option ℕ) (s : OfficeState) (ward
 
   -- or it was the last that was told
   pub stage_last : (i : ℕ) (r : Request) (said : Page) (was : Bool) (before : State) (page : Page) (cut : Cut) (goes : Bool) (closed : Bool) (st : State) → i < length rs → r ≡ get_or rs i r
-      → (so : CountedSo keep line s ward id rs i said was before) → IsStage old closed st so.end r page goes → (goes ≡ true → page.status ≡ 0 → cut ≢ uncut)
+      → (so : CountedSo keep line s ward id rs i said was before) → (known : Bool) → known ≡ is_first id r → IsStage old closed st known so.end r page goes → (goes ≡ true → page.status ≡ 0 → cut ≢ uncut)
       → (answered : ℕ) × (tail : List Request) × IsCounted old closed st keep line s ward id (told_above so.front said (ended line (r ∷ tail) answered page cut))
-  stage_last i r said was before page cut goes closed st within is so (answered, it, goes_is) stops =
+  stage_last i r said was before page cut goes closed st within is so known known_is (answered, met, goes_is) stops =
       let (n, left_is, numbered) = next_numbered i r said was before within is so in
       let few = so.few in
       let many = so.many in
@@ -200,38 +227,41 @@ module _ (old : State) (keep : Bool) (line : Option ℕ) (s : OfficeState) (ward
         tail,
         so.front ++ r ∷ tail,
         going_then ward id s 1 so.front so.end (r ∷ tail) so.going (omega (arith, few, left_is, many)) (subst (λ k. AreAdvances so.end ward id k (r ∷ tail)) number are),
-        replied_then keep line page_counted (IsOver closed st) old closed st s so.front said so.end (r ∷ tail) (ended line (r ∷ tail) answered page cut) so.replied (last_sent cut tail are stops),
+        replied_then keep line (page_under id) (IsOver closed st) old closed st s so.front said so.end (r ∷ tail) (ended line (r ∷ tail) answered page cut) so.replied (last_sent cut tail are stops),
       )
     where
+      it : IsAnswered old closed st (page_under id) so.end r answered page
+      it = answered_under old closed st id known so.end r answered page known_is met
+
       -- a refused request is the last
       none_behind : (tail : List Request) → AreAdvances so.end ward id (i + 1) (r ∷ tail) → is_refused (step_of so.end r) ≡ true → tail ≡ []
       none_behind tail (first, ends) e = let test : (is_refused (step_of so.end r) || i + 1 == most_advances) ≡ true = rw e refl in rw test at ends
 
       -- where all was told and it goes on, the request was answered; it was refused, for else the count would have gone on
-      was_refused : (page ≡ answer page_counted so.end r) → answered ≡ 1 → (goes ≡ true → page.status ≡ 0 → ⊥) → is_refused (step_of so.end r) ≡ true
+      was_refused : (page ≡ answer (page_under id) so.end r) → answered ≡ 1 → (goes ≡ true → page.status ≡ 0 → ⊥) → is_refused (step_of so.end r) ≡ true
       was_refused told one never = by (is_refused (step_of so.end r)) refl
         where
           by : (b : Bool) → is_refused (step_of so.end r) ≡ b → is_refused (step_of so.end r) ≡ true
           by true e = e
           by false e =
               let yes : (answered == 1 && not (is_refused (step_of so.end r))) ≡ true = rw (e, eq-eqb answered 1 one) refl in
-              absurd (never (goes_is ∙ yes) (ap (λ (p : Page). p.status) told ∙ reply_status (step_of so.end r) e))
+              absurd (never (goes_is ∙ yes) (ap (λ (p : Page). p.status) told ∙ reply_status (is_first id r) (step_of so.end r) e))
 
       last_sent : (k : Cut) (tail : List Request) → AreAdvances so.end ward id (i + 1) (r ∷ tail) → (goes ≡ true → page.status ≡ 0 → k ≢ uncut)
-          → IsSent old closed st keep line page_counted (IsOver closed st) so.end (r ∷ tail) (ended line (r ∷ tail) answered page k)
+          → IsSent old closed st keep line (page_under id) (IsOver closed st) so.end (r ∷ tail) (ended line (r ∷ tail) answered page k)
       last_sent (cut_behind took) tail are never = inr (answered, page, cut_behind took, refl, (λ on is. absurd (cc is)), it)
       last_sent cut_error tail are never = inr (answered, page, cut_error, refl, (λ on is. absurd (cc is)), it)
       last_sent uncut tail are never = by (goes_on keep page.status) refl it
         where
-          by : (b : Bool) → goes_on keep page.status ≡ b → IsAnswered old closed st page_counted so.end r answered page
-              → IsSent old closed st keep line page_counted (IsOver closed st) so.end (r ∷ tail) (ended line (r ∷ tail) answered page uncut)
+          by : (b : Bool) → goes_on keep page.status ≡ b → IsAnswered old closed st (page_under id) so.end r answered page
+              → IsSent old closed st keep line (page_under id) (IsOver closed st) so.end (r ∷ tail) (ended line (r ∷ tail) answered page uncut)
           by false e met = inr (answered, page, uncut, refl, (λ on. absurd (true≢false (sym on ∙ e))), met)
           by true e (inr met) = absurd (true≢false (sym e ∙ not_after_fault keep page.status (ap (λ (p : Page). p.status) met.1.1)))
           by true e (inl told) =
               let none : tail ≡ [] = none_behind tail are (was_refused told.1 told.0 (λ yes zero. never yes zero refl)) in
-              let fine : goes_on keep (answer page_counted so.end r).status ≡ true = ap (λ (p : Page). goes_on keep p.status) (sym told.1) ∙ e in
-              let same = ap (λ n. made (r ∷ []) n (fronted line page) uncut) told.0 ∙ (ap (λ p. made (r ∷ []) 1 (fronted line p) uncut) told.1 ∙ above_nothing (r ∷ []) (fronted line (answer page_counted so.end r))) in
-              subst (λ t. IsSent old closed st keep line page_counted (IsOver closed st) so.end (r ∷ t) (ended line (r ∷ t) answered page uncut)) (sym none)
+              let fine : goes_on keep (answer (page_under id) so.end r).status ≡ true = ap (λ (p : Page). goes_on keep p.status) (sym told.1) ∙ e in
+              let same = ap (λ n. made (r ∷ []) n (fronted line page) uncut) told.0 ∙ (ap (λ p. made (r ∷ []) 1 (fronted line p) uncut) told.1 ∙ above_nothing (r ∷ []) (fronted line (answer (page_under id) so.end r))) in
+              subst (λ t. IsSent old closed st keep line (page_under id) (IsOver closed st) so.end (r ∷ t) (ended line (r ∷ t) answered page uncut)) (sym none)
               (inl (nothing_more, fine, same, (refl, told.2)))
 
   -- all numbers were used, and none of the requests was refused
@@ -252,6 +282,6 @@ module _ (old : State) (keep : Bool) (line : Option ℕ) (s : OfficeState) (ward
       by (r ∷ front) e = (
         so.front,
         subst (AreAdvances s ward id 1) (sym e) (going_all ward id s 1 r front so.end (subst (λ xs. Going ward id s 1 xs so.end) e so.going) (let long = sym (ap (λ (xs : List Request). length xs) e) ∙ many in omega (arith, long))),
-        subst (λ xs. IsSent old closed st keep line page_counted (IsOver closed st) s xs (told_above so.front said nothing_more)) (append-nil so.front)
-            (replied_then keep line page_counted (IsOver closed st) old closed st s so.front said so.end [] nothing_more so.replied (refl, so.open_at)),
+        subst (λ xs. IsSent old closed st keep line (page_under id) (IsOver closed st) s xs (told_above so.front said nothing_more)) (append-nil so.front)
+            (replied_then keep line (page_under id) (IsOver closed st) old closed st s so.front said so.end [] nothing_more so.replied (refl, so.open_at)),
       )

@@ -7,7 +7,8 @@ use Rattle.clap.specs.Words.{Text}
 use Rattle.votes.specs.Streams.{AppendsBeginning}
 use Rattle.register.specs.Reasons.{reason_number, reason_text}
 use Rattle.register.specs.declared.refusal.Reason.{Reason}
-use Rattle.desk.specs.Requests.{rests_by}
+use Rattle.register.specs.declared.refusal.Reason.TheVariants.{CountFinished, LotNeeded, WrongPhase}
+use Rattle.register.specs.declared.command.Request.{Request}
 use Rattle.tables.specs.Faults.{fault_number, fault_text}
 use Rattle.tables.specs.declared.fault.Fault.TheVariants as fault
 use Rattle.keyfile.specs.Faults.{flaw_number, flaw_text, is_stop}
@@ -111,11 +112,22 @@ page_told (done reply) = replied reply
 page_told (again reply) = replied reply
 page_told (no why) = refused why
 
--- the same as a count tells it: where the count rests, that is told too, in a line
-abbrev pub page_counted : Told → Page
-page_counted (done reply) = replied reply
-page_counted (again reply) = replied reply
-page_counted (no why) = if rests_by why then replied (reason_text why) else refused why
+-- the same, whichever request it answers
+abbrev pub page_for : Request → Told → Page
+page_for r told = page_told told
+
+-- why a count goes no further: that no seat is left, and that a lot is needed, are replies; so it is behind the first request that the ward was declared since
+abbrev pub page_at_rest : Bool → Reason → Page
+page_at_rest is_first CountFinished = replied (codes "count finished")
+page_at_rest is_first (LotNeeded stage tied) = replied (reason_text (LotNeeded stage tied))
+page_at_rest is_first WrongPhase = if is_first then refused WrongPhase else replied (codes "count finished")
+page_at_rest is_first why = refused why
+
+-- what the machine tells of a request for one stage more
+abbrev pub page_counted : Bool → Told → Page
+page_counted is_first (done reply) = replied reply
+page_counted is_first (again reply) = replied reply
+page_counted is_first (no why) = page_at_rest is_first why
 
 -- what was found of a state, or why there is nothing
 abbrev pub page_found : {X : Type 0} → (X → Page) → Result X Reason → Page
@@ -138,7 +150,8 @@ page_of outcome.Ready = replied (codes "office ready")
 page_of (outcome.Migrated migrated) = replied (migrated_text migrated)
 page_of (outcome.Replied reply) = replied (string_bytes reply)
 page_of (outcome.Printed text) = printed (string_bytes text)
-page_of (outcome.Rested why) = replied (reason_text why)
+page_of outcome.CountFinished = replied (codes "count finished")
+page_of (outcome.LotNeeded why) = replied (reason_text why)
 page_of (outcome.Refused why) = refused why
 page_of (outcome.Unread fault) = unread fault
 page_of (outcome.Failed fault) = failed (Office fault)

@@ -1,13 +1,13 @@
 -- The requests that orders send to the office.
-use Rattle.std.specs.Prelude.{◌≡◌, ◌==◌, ◌||◌, ℕ, suc, Bool, true, false, List, [], ◌∷◌, ◌++◌, codes, map, Option, Some, None, Result, Ok, Err}
+use Rattle.std.specs.Prelude.{◌≡◌, ◌==◌, ◌||◌, ℕ, suc, Bool, true, false, List, [], ◌∷◌, ◌++◌, codes, map, string_bytes, Option, Some, None, Result, Ok, Err}
 use Rattle.std.specs.Fmt.{decimal}
 use Rattle.std.specs.List.{range_with_len}
+use Rattle.std.specs.Str.{bytes_eq}
 use Rattle.clap.specs.Words.{Text}
 use Rattle.register.specs.Machine.{Outcome, accepted, kept, refused, after_one, step_of}
 use Rattle.register.specs.Offices.{OfficeState}
 use Rattle.register.specs.declared.command.Request.{Request}
 use Rattle.register.specs.declared.refusal.Reason.{Reason}
-use Rattle.register.specs.declared.refusal.Reason.TheVariants.{CountFinished, LotNeeded}
 use Rattle.office.specs.Reads.{columns_told}
 use Rattle.keyfile.specs.Candidates.{CandidateEntry, candidates}
 use Rattle.keyfile.specs.Files.{Format, file_rows}
@@ -78,6 +78,10 @@ HoldsKeying (Err why) sent file requests = ⊥
 abbrev pub advance_at : ℕ → Text → ℕ → Sent
 advance_at ward id k = by_office (id_at id k) (stage_to_count ward)
 
+-- a request has the id of the first of an order that counts
+abbrev pub is_first : Text → Request → Bool
+is_first id r = bytes_eq (string_bytes r.id) (id_at id 1)
+
 -- the first requests of an order that counts, so many
 abbrev pub advances : ℕ → Text → ℕ → List Sent
 advances ward id n = map (advance_at ward id) (range_with_len 1 n)
@@ -91,12 +95,6 @@ abbrev pub is_refused : Outcome → Bool
 is_refused (accepted next reply) = false
 is_refused (kept reply) = false
 is_refused (refused why) = true
-
--- a count rests for this reason: no seat is left, or a lot has to be drawn first
-abbrev pub rests_by : Reason → Bool
-rests_by CountFinished = true
-rests_by (LotNeeded stage tied) = true
-rests_by _ = false
 
 -- the last request of some is the one before these; or it isn't, and these follow it
 abbrev pub EndsOr : Bool → List Request → Type 0 → Type 0

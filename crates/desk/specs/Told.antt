@@ -1,6 +1,7 @@
 -- What is told where nothing is sent: what was asked, or why a file isn't taken.
 use Rattle.std.specs.Prelude.{◌≡◌, ◌⊎◌, ℕ, List, Option, Some, None, Result, Ok, Err}
 use Rattle.register.specs.Offices.{OfficeState}
+use Rattle.register.specs.declared.command.Request.{Request}
 use Rattle.register.specs.declared.refusal.Reason.{Reason}
 use Rattle.office.specs.Answers.{Told}
 use Rattle.office.specs.Reads.{columns_told, next_told, status_told}
@@ -14,7 +15,8 @@ use Rattle.keyfile.specs.declared.fault.FileFault.{FileFault}
 use Rattle.keyfile.specs.declared.fault.Flaw.TheVariants.{ReadFailed}
 use Rattle.desk.specs.Folders.{File, Folder, IsFileAt}
 use Rattle.desk.specs.Overviews.{page_asked}
-use Rattle.desk.specs.Pages.{Page, page_counted, page_found, page_told, printed, refused, replied, script_page, unread}
+use Rattle.desk.specs.Pages.{Page, page_counted, page_for, page_found, printed, refused, replied, script_page, unread}
+use Rattle.desk.specs.Requests.{is_first}
 use Rattle.desk.specs.Scripts.{IsFirstFlaw, script_lines}
 use Rattle.desk.specs.Standings.{status_text}
 use Rattle.desk.specs.Steps.{step_text}
@@ -26,9 +28,9 @@ use Rattle.desk.specs.declared.scripts.LineFlaw.{LineFlaw}
 use Rattle.desk.specs.declared.scripts.ScriptFault.TheVariants as script
 
 -- what an errand tells of the answer to a request that it sends: one that counts tells why the count rests
-abbrev pub page_answered : Errand → Told → Page
-page_answered (errand.Count ward id) = page_counted
-page_answered other = page_told
+abbrev pub page_answered : Errand → Request → Told → Page
+page_answered (errand.Count ward id) = λ r. page_counted (is_first id.now r)
+page_answered other = page_for
 
 -- that a file can't be opened or read
 abbrev pub unopened : Page

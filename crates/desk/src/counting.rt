@@ -5,11 +5,11 @@ ghost use Rattle.sqlite.specs.State.{HasCleanDisk};
 ghost use Rattle.sqlite.specs.Held.{state};
 ghost use Rattle.clap.specs.Words.{Text};
 ghost use Rattle.store.specs.Offices.{Wears};
-ghost use Rattle.office.specs.Answers.{WhenOpenAt, no};
+ghost use Rattle.office.specs.Answers.{WhenOpenAt};
 ghost use Rattle.desk.specs.Orders.{sent_as};
-ghost use Rattle.desk.specs.Pages.{Tells, outputs_of, page_counted, page_of};
+ghost use Rattle.desk.specs.Pages.{Tells, outputs_of, page_at_rest, page_of};
 ghost use Rattle.desk.specs.Parts.{ComesTo, IsCounted, IsStage};
-ghost use Rattle.desk.specs.Requests.{advances, most_advances, rests_by};
+ghost use Rattle.desk.specs.Requests.{advances, id_at, most_advances};
 
 use crate::lines::{Outcome, tell};
 use office::{Answer, Office};
@@ -17,40 +17,46 @@ use register::{Reason, Refusal, Request};
 use sqlite::Alter;
 use votes::Sink;
 
-/// Whether a count rests for the reason of a refusal: no seat is left, or a lot has to be drawn first.
-fn rests_by(refusal: &Refusal) -> bool
-    ensures { result ≡ rests_by refusal.now }
+/// What is told of a refusal of one stage more: that the count rests is a reply. Behind the first request a ward in
+/// another phase is one that was declared since.
+fn at_rest(is_first: bool, refusal: Refusal) -> Outcome
+    ensures { page_of result ≡ page_at_rest is_first refusal }
 {
-    matches!(
-        refusal.reason(),
-        Reason::CountFinished | Reason::LotNeeded { .. }
-    )
-}
-
-/// What is told of a refusal of one stage more.
-fn refused(refusal: Refusal) -> Outcome
-    ensures { page_of result ≡ page_counted (no refusal) }
-{
-    if rests_by(&refusal) {
-        Outcome::Rested(refusal)
-    } else {
-        Outcome::Refused(refusal)
+    match refusal.reason() {
+        Reason::CountFinished => Outcome::CountFinished,
+        Reason::LotNeeded { .. } => Outcome::LotNeeded(refusal),
+        Reason::WrongPhase if !is_first => Outcome::CountFinished,
+        _ => Outcome::Refused(refusal),
     }
 }
 
-/// What comes of a request for one stage more; and whether the count goes on behind it, as it does where the request was
-/// accepted, now or before.
-fn stage_of<S: Alter>(office: &mut Office<S>, request: &Request) -> (Outcome, bool)
+/// What comes of a request for one stage more, the first of an order or another; and whether the count goes on behind
+/// it, as it does where the request was accepted, now or before.
+fn stage_of<S: Alter>(
+    office: &mut Office<S>,
+    is_first: bool,
+    request: &Request,
+) -> (Outcome, bool)
     ensures told { WhenOpenAt (state S.Store) office.old office.new
-        (λ s. IsStage (state S.Store office.old.held) office.new.closed (state S.Store office.new.held) s request.now (page_of result.0) result.1) }
+        (λ s. IsStage (state S.Store office.old.held) office.new.closed (state S.Store office.new.held) is_first s request.now (page_of result.0) result.1) }
     ensures wears { Wears (state S.Store office.old.held) (state S.Store office.new.held) }
     ensures clean { HasCleanDisk (state S.Store office.new.held) → HasCleanDisk (state S.Store office.old.held) }
 {
     match office.handle(request.actor, request.id.as_str(), &request.command) {
         Ok(Answer::Done(reply)) => (Outcome::Replied(reply), true),
         Ok(Answer::Kept(reply)) => (Outcome::Replied(reply), true),
-        Ok(Answer::Refused(refusal)) => (refused(refusal), false),
+        Ok(Answer::Refused(refusal)) => (at_rest(is_first, refusal), false),
         Err(fault) => (Outcome::Failed(fault), false),
+    }
+}
+
+/// The id of the first of some requests.
+fn first_id(requests: &[Request]) -> &str
+    ensures { (ward : ℕ) (id : Text) → map sent_as requests.now ≡ advances ward id most_advances → result.now ≡ id_at id 1 }
+{
+    match requests.first() {
+        Some(request) => request.id.as_str(),
+        None => "",
     }
 }
 
@@ -72,8 +78,10 @@ pub(crate) fn count_stages<S: Alter, O: Sink, E: Sink>(
     ensures wears { Wears (state S.Store office.old.held) (state S.Store office.new.held) }
     ensures clean { HasCleanDisk (state S.Store office.new.held) → HasCleanDisk (state S.Store office.old.held) }
 {
+    let first = first_id(requests);
     for request in requests {
-        let (outcome, more) = stage_of(office, request);
+        let is_first = request.id.as_str() == first;
+        let (outcome, more) = stage_of(office, is_first, request);
         let status = tell(line, &outcome, out, err);
         if status != 0 {
             return status;

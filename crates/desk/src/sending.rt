@@ -6,7 +6,7 @@ ghost use Rattle.sqlite.specs.Held.{state};
 ghost use Rattle.store.specs.Offices.{Wears};
 ghost use Rattle.office.specs.Answers.{WhenOpenAt};
 ghost use Rattle.desk.specs.Headline.{IsAnswered, IsSent};
-ghost use Rattle.desk.specs.Pages.{Tells, goes_on, outputs_of, page_of, page_told, status_behind};
+ghost use Rattle.desk.specs.Pages.{Tells, goes_on, outputs_of, page_for, page_of, status_behind};
 ghost use Rattle.desk.specs.Parts.{ComesTo, IsOver};
 
 use crate::lines::{Outcome, tell};
@@ -33,7 +33,7 @@ pub(crate) fn status_behind(before: u8, status: u8) -> u8
 /// What comes of one request to an office.
 fn outcome_of<S: Alter>(office: &mut Office<S>, request: &Request) -> Outcome
     ensures told { WhenOpenAt (state S.Store) office.old office.new
-        (λ s. (answered : ℕ) × IsAnswered (state S.Store office.old.held) office.new.closed (state S.Store office.new.held) page_told s request.now answered (page_of result)) }
+        (λ s. (answered : ℕ) × IsAnswered (state S.Store office.old.held) office.new.closed (state S.Store office.new.held) page_for s request.now answered (page_of result)) }
     ensures wears { Wears (state S.Store office.old.held) (state S.Store office.new.held) }
     ensures clean { HasCleanDisk (state S.Store office.new.held) → HasCleanDisk (state S.Store office.old.held) }
 {
@@ -61,7 +61,7 @@ pub(crate) fn send_all<S: Alter, O: Sink, E: Sink>(
     requires err { E.failed err.old < 2 ^ 64 - 1 }
     ensures sent { let outputs = outputs_of O.taken O.failed E.taken E.failed in Tells (outputs out.old err.old) (outputs out.new err.new) result
         (λ cut page. WhenOpenAt (state S.Store) office.old office.new (λ s. ComesTo cut page (λ course.
-        IsSent (state S.Store office.old.held) office.new.closed (state S.Store office.new.held) keep_going line page_told (IsOver office.new.closed (state S.Store office.new.held)) s requests.now course))) }
+        IsSent (state S.Store office.old.held) office.new.closed (state S.Store office.new.held) keep_going line page_for (IsOver office.new.closed (state S.Store office.new.held)) s requests.now course))) }
     ensures wears { Wears (state S.Store office.old.held) (state S.Store office.new.held) }
     ensures clean { HasCleanDisk (state S.Store office.new.held) → HasCleanDisk (state S.Store office.old.held) }
 {

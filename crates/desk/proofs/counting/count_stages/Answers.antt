@@ -1,13 +1,12 @@
--- Why `count_stages` keeps its promise.
+-- Why `count_stages` keeps its promise. (Names of steps as `c.eq-is_first` are those that a check is expected to give.)
 use Rattle.std.proofs.Common.{◌≡◌, ◌≢◌, ◌∙◌, ◌<◌, true, false, true≢false, length, ap, refl, sym, subst, arith}
 use Rattle.sqlite.specs.Held.{state}
 use Rattle.store.proofs.KeepLemmas.{wears_itself, wears_then}
 use Rattle.desk.specs.Pages.{below, cut_below, uncut, empty_page, fronted, page_of}
 use Rattle.desk.specs.Parts.{IsStage}
 use Rattle.desk.proofs.CauseLemmas.{since}
-use Rattle.desk.proofs.CourseLemmas.{answered_since}
 use Rattle.desk.proofs.PageLemmas.{fronted_status, shown_last, whole_more}
-use Rattle.desk.proofs.StageLemmas.{none_counted, stage_last, stage_more, stages_all}
+use Rattle.desk.proofs.StageLemmas.{none_counted, stage_last, stage_more, stage_since, stages_all}
 use Rattle.desk.proofs.TellingLemmas.{goes_after_zero, nothing_told, shown_else, shown_whole, shown_zero, told_all}
 use Rattle.desk.proofs.counting.count_stages.Goals as goal
 
@@ -43,8 +42,9 @@ loop-request-preserved g c =
         is = λ clean is_open s at keep ward id are.
             let so = so_far.is (c.stage_of.ensures.clean clean) is_open s at keep ward id are in
             let it = c.stage_of.ensures.told clean so.open_at.is_open so.end so.open_at.at in
-            stage_more first keep line s ward id rs mid i c.request-item.result so_far.said c.loop-request.office.closed mid page closed next within c.request-item.is so
-            (subst (IsStage mid closed next so.end c.request-item.result page) c.if-more.false it) (sym (fronted_status line page) ∙ fine.1);
+            let known_is = rw (c.as_str.ensures.value, c.first_id-first.ensures ward id are) at c.eq-is_first.ensures in
+            stage_more first keep line s ward id rs mid i c.request-item.result so_far.said c.loop-request.office.closed mid page closed next within c.request-item.is so c.eq-is_first.result known_is
+            (subst (IsStage mid closed next c.eq-is_first.result so.end c.request-item.result page) c.if-more.false it) (sym (fronted_status line page) ∙ fine.1);
       };
     }
 
@@ -71,9 +71,9 @@ returns-then-status-ne0-clause-counted g c =
           let honest = c.stage_of.ensures.clean clean in
           let so = so_far.is honest is_open s at keep ward id are in
           let tells = since first mid next honest c.loop-request.invariant.wears c.stage_of.ensures.wears in
-          let (answered, met, goes) = c.stage_of.ensures.told clean so.open_at.is_open so.end so.open_at.at in
-          let it = (answered, answered_since first mid closed next _ so.end c.request-item.result answered page tells met, goes) in
-          let counted = stage_last first keep line s ward id rs i c.request-item.result so_far.said c.loop-request.office.closed mid page told.0 c.stage_of.result.1 closed next within c.request-item.is so it
+          let known_is = rw (c.as_str.ensures.value, c.first_id-first.ensures ward id are) at c.eq-is_first.ensures in
+          let it = stage_since first mid closed next c.eq-is_first.result so.end c.request-item.result page c.stage_of.result.1 tells (c.stage_of.ensures.told clean so.open_at.is_open so.end so.open_at.at) in
+          let counted = stage_last first keep line s ward id rs i c.request-item.result so_far.said c.loop-request.office.closed mid page told.0 c.stage_of.result.1 closed next within c.request-item.is so c.eq-is_first.result known_is it
               (λ yes zero. shown_else told.0 _ _ (fronted line page) c.tell-status.result told.1 other (fronted_status line page ∙ zero)) in
           (_, _, counted.2);
     }
@@ -107,9 +107,9 @@ returns-then-more-clause-counted g c =
           let honest = c.stage_of.ensures.clean clean in
           let so = so_far.is honest is_open s at keep ward id are in
           let tells = since first mid next honest c.loop-request.invariant.wears c.stage_of.ensures.wears in
-          let (answered, met, goes) = c.stage_of.ensures.told clean so.open_at.is_open so.end so.open_at.at in
-          let it = (answered, answered_since first mid closed next _ so.end c.request-item.result answered page tells met, goes) in
-          let counted = stage_last first keep line s ward id rs i c.request-item.result so_far.said c.loop-request.office.closed mid page told.0 c.stage_of.result.1 closed next within c.request-item.is so it
+          let known_is = rw (c.as_str.ensures.value, c.first_id-first.ensures ward id are) at c.eq-is_first.ensures in
+          let it = stage_since first mid closed next c.eq-is_first.result so.end c.request-item.result page c.stage_of.result.1 tells (c.stage_of.ensures.told clean so.open_at.is_open so.end so.open_at.at) in
+          let counted = stage_last first keep line s ward id rs i c.request-item.result so_far.said c.loop-request.office.closed mid page told.0 c.stage_of.result.1 closed next within c.request-item.is so c.eq-is_first.result known_is it
               (λ yes none. absurd (true≢false (sym yes ∙ c.if-more.true))) in
           (_, _, counted.2);
     }

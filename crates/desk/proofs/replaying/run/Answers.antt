@@ -4,7 +4,7 @@ use Rattle.sqlite.specs.Held.{state}
 use Rattle.store.proofs.KeepLemmas.{reads_wear}
 use Rattle.office.specs.Answers.{IsOpenAt}
 use Rattle.tables.specs.declared.fault.Fault.TheVariants.{Memory}
-use Rattle.desk.specs.Pages.{failed, fronted, page_of, page_told}
+use Rattle.desk.specs.Pages.{failed, fronted, page_of, page_for}
 use Rattle.desk.specs.Parts.{IsOver}
 use Rattle.desk.specs.Told.{IsTold}
 use Rattle.desk.specs.declared.lines.Failure.TheVariants.{Office}
@@ -74,7 +74,7 @@ returns-in-Ok-keying_of-clause-ran g c =
           let closed = c.send_all-in-Ok-keying_of.new.office.closed in
           let tells = since first mid next honest (reads_wear first mid c.keying_of.ensures.same) c.send_all-in-Ok-keying_of.ensures.wears in
           let it = told.is clean read.1.is_open s read.1.at in
-          let sent = sent_turned {Then = IsOver closed next} {Else = IsOver closed next} {Q = Unit {0}} first mid closed next c.args.keep_going c.args.line page_told tells (λ x e over gone. over) s (c.in-Ok-keying_of.request ∷ []) _ (λ gone. tt) it.2 in
+          let sent = sent_turned {Then = IsOver closed next} {Else = IsOver closed next} {Q = Unit {0}} first mid closed next c.args.keep_going c.args.line page_for tells (λ x e over gone. over) s (c.in-Ok-keying_of.request ∷ []) _ (λ gone. tt) it.2 in
           (it.0, it.1, (_, c.opened-file.ensures, rw c.in-ImportKeying.is (inl (c.in-Ok-keying_of.request ∷ [], read.0, sent))));
     }
 

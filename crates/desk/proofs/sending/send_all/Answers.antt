@@ -3,7 +3,7 @@ use Rattle.std.proofs.Common.{◌≡◌, ◌∙◌, ◌<◌, ◌+◌, ◌∷◌,
 use Rattle.sqlite.specs.Held.{state}
 use Rattle.store.proofs.KeepLemmas.{wears_itself, wears_then}
 use Rattle.desk.specs.Headline.{ended, told_above}
-use Rattle.desk.specs.Pages.{below, cut_below, uncut, empty_page, fronted, goes_on, page_of, page_told}
+use Rattle.desk.specs.Pages.{below, cut_below, uncut, empty_page, fronted, goes_on, page_of, page_for}
 use Rattle.desk.proofs.CauseLemmas.{since}
 use Rattle.desk.proofs.CourseLemmas.{answered_since, none_sent, nothing_more, sent_all, sent_last, sent_more}
 use Rattle.desk.proofs.PageLemmas.{shown_last, whole_more}
@@ -42,7 +42,7 @@ loop-request-preserved g c =
         is = λ clean is_open s at.
             let so = so_far.is (c.outcome_of.ensures.clean clean) is_open s at in
             let it = c.outcome_of.ensures.told clean so.open_at.is_open so.end so.open_at.at in
-            sent_more first keep line page_told s rs mid i c.request-item.result so_far.said c.loop-request.office.closed mid page it.0 c.outcome_of.new.office.closed next within c.request-item.is so it.1
+            sent_more first keep line page_for s rs mid i c.request-item.result so_far.said c.loop-request.office.closed mid page it.0 c.outcome_of.new.office.closed next within c.request-item.is so it.1
             (ap (goes_on keep) fine.1 ∙ goes);
       };
     }
@@ -72,11 +72,11 @@ returns-then-goes_on-clause-sent g c =
           let so = so_far.is honest is_open s at in
           let tells = since first mid next honest c.loop-request.invariant.wears c.outcome_of.ensures.wears in
           let it = c.outcome_of.ensures.told clean so.open_at.is_open so.end so.open_at.at in
-          let here = answered_since first mid closed next page_told so.end r it.0 page tells it.1 in
+          let here = answered_since first mid closed next page_for so.end r it.0 page tells it.1 in
           let course = told_above (take i rs) so_far.said (ended line (r ∷ drop (i + 1) rs) it.0 page told.0) in (
             course.requests,
             course.answered,
-            sent_last first keep line page_told s rs i r so_far.said c.loop-request.office.closed mid page told.0 it.0 closed next within c.request-item.is so here
+            sent_last first keep line page_for s rs i r so_far.said c.loop-request.office.closed mid page told.0 it.0 closed next within c.request-item.is so here
                 (shown_stops keep told.0 _ _ (fronted line page) c.tell-status.result told.1 stops),
           );
     }
@@ -99,6 +99,6 @@ returns-clause-sent g c =
           let course = told_above (take i rs) so_far.said nothing_more in (
             course.requests,
             course.answered,
-            sent_all (state g.S.Store c.args.office.now.held) c.args.keep_going c.args.line page_told s rs i so_far.said c.loop-request.office.closed (state g.S.Store c.loop-request.office.held) c.loop-request-test.false so,
+            sent_all (state g.S.Store c.args.office.now.held) c.args.keep_going c.args.line page_for s rs i so_far.said c.loop-request.office.closed (state g.S.Store c.loop-request.office.held) c.loop-request-test.false so,
           );
     }

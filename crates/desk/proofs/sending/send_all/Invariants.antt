@@ -3,7 +3,7 @@ use Rattle.sqlite.specs.State.{HasCleanDisk}
 use Rattle.sqlite.specs.Held.{state}
 use Rattle.store.specs.Offices.{Wears}
 use Rattle.office.specs.Answers.{WhenOpenAt}
-use Rattle.desk.specs.Pages.{outputs_of, page_told}
+use Rattle.desk.specs.Pages.{outputs_of, page_for}
 use Rattle.desk.proofs.CourseLemmas.{SentSo}
 use Rattle.desk.proofs.TellingLemmas.{ToldSo}
 use Rattle.desk.proofs.sending.send_all.Given as goal
@@ -14,5 +14,5 @@ invariant-loop-request g l = record {
   clean : HasCleanDisk (state g.S.Store l.office.held) → HasCleanDisk (state g.S.Store l.initial.office.held);
   so_far : ToldSo (outputs_of g.O.Sink.taken g.O.Sink.failed g.E.Sink.taken g.E.Sink.failed l.initial.out l.initial.err) (outputs_of g.O.Sink.taken g.O.Sink.failed g.E.Sink.taken g.E.Sink.failed l.out l.err) l.ends
       (λ said. WhenOpenAt (state g.S.Store) l.initial.office l.office
-      (λ s. SentSo l.keep_going l.line page_told s l.requests l.request-index said l.office.closed (state g.S.Store l.office.held)));
+      (λ s. SentSo l.keep_going l.line page_for s l.requests l.request-index said l.office.closed (state g.S.Store l.office.held)));
 }
