@@ -306,6 +306,10 @@ taken_more keep folder s (t ∷ ts) own said end turn file requests page next (f
   taken_more keep folder mid ts others rest end turn file requests page next more found turned,
 )
 
+same_above : (requests left own : List Request) (page rest said : Page) (c : Course) → own ≡ requests ++ left → said ≡ below page rest → told_above requests page (told_above left rest c) ≡ told_above own said c
+same_above requests left own page rest said c own_is said_is =
+    above_joined requests left page rest c ∙ (ap (λ xs. told_above xs (below page rest) c) (sym own_is) ∙ ap (λ p. told_above own p c) (sym said_is))
+
 -- what comes of the others stands below them
 taken_then : (old : State) (closed : Bool) (st : State) (keep : Bool) (folder : Folder) (s : OfficeState) (front : List Turn) (own : List Request) (said : Page) (end : OfficeState) (others : List Turn) (c : Course)
     → Taken keep folder s front own said end → IsPlayed old closed st keep folder end others c → IsPlayed old closed st keep folder s (front ++ others) (told_above own said c)
@@ -313,30 +317,16 @@ taken_then old closed st keep folder s [] own said end others c (no_own, no_said
     subst (λ x. IsPlayed old closed st keep folder x others (told_above own said c)) same
     (subst (λ xs. IsPlayed old closed st keep folder end others (told_above xs said c)) (sym no_own)
     (subst (λ p. IsPlayed old closed st keep folder end others (told_above [] p c)) (sym no_said) (subst (IsPlayed old closed st keep folder end others) (above_none c) played)))
-taken_then old closed st keep folder s (turn ∷ ts) own said end others c (file, requests, left, page, rest, mid, found, turned, own_is, said_is, more) played = elim turned [
-  | inl (sends, replied) ↦
-      let sent = replied_then keep turn.line (page_answered turn.errand) Others old closed st s requests page mid [] (told_above left rest c) replied later in
-      let whole = subst (λ xs. IsSent old closed st keep turn.line (page_answered turn.errand) Others s xs (told_above requests page (told_above left rest c))) (append-nil requests) sent in
-      subst (IsPlayed old closed st keep folder s (turn ∷ (ts ++ others))) same (file, found, inl (requests, sends, whole))
-  | inr (told, is, goes, none, page_is, stays) ↦
-      (file, found, inr (inl (
-        told,
-        told_above left rest c,
-        is,
-        goes,
-        sym same ∙ (ap (λ xs. told_above xs page (told_above left rest c)) none ∙ ap (λ p. told_above [] p (told_above left rest c)) page_is),
-        subst (λ x. IsPlayed old closed st keep folder x (ts ++ others) (told_above left rest c)) stays later,
-      )))
-]
-  where
-    abbrev Others : OfficeState → Course → Type 0
-    Others next e = IsPlayed old closed st keep folder next (ts ++ others) e
-
-    later : IsPlayed old closed st keep folder mid (ts ++ others) (told_above left rest c)
-    later = taken_then old closed st keep folder mid ts left rest end others c more played
-
-    same : told_above requests page (told_above left rest c) ≡ told_above own said c
-    same = above_joined requests left page rest c ∙ (ap (λ xs. told_above xs (below page rest) c) (sym own_is) ∙ ap (λ p. told_above own p c) (sym said_is))
+taken_then old closed st keep folder s (turn ∷ ts) own said end others c (file, requests, left, page, rest, mid, found, inl (sends, replied), own_is, said_is, more) played =
+    let later = taken_then old closed st keep folder mid ts left rest end others c more played in
+    let sent = replied_then keep turn.line (page_answered turn.errand) (λ next e. IsPlayed old closed st keep folder next (ts ++ others) e) old closed st s requests page mid [] (told_above left rest c) replied later in
+    let whole = subst (λ xs. IsSent old closed st keep turn.line (page_answered turn.errand) (λ next e. IsPlayed old closed st keep folder next (ts ++ others) e) s xs (told_above requests page (told_above left rest c))) (append-nil requests) sent in
+    subst (IsPlayed old closed st keep folder s (turn ∷ (ts ++ others))) (same_above requests left own page rest said c own_is said_is) (file, found, inl (requests, sends, whole))
+taken_then old closed st keep folder s (turn ∷ ts) own said end others c (file, requests, left, page, rest, mid, found, inr (told, is, goes, none, page_is, stays), own_is, said_is, more) played =
+    let later = taken_then old closed st keep folder mid ts left rest end others c more played in
+    let here = subst (λ x. IsPlayed old closed st keep folder x (ts ++ others) (told_above left rest c)) stays later in
+    let without = ap (λ xs. told_above xs page (told_above left rest c)) none ∙ ap (λ p. told_above [] p (told_above left rest c)) page_is in
+    (file, found, inr (inl (told, told_above left rest c, is, goes, sym (same_above requests left own page rest said c own_is said_is) ∙ without, here)))
 
 -- The first of some turns were gone past, and this was told of them: the office is open where they led.
 pub record TakenSo (keep : Bool) (folder : Folder) (s : OfficeState) (turns : List Turn) (i : ℕ) (said : Page) (closed : Bool) (st : State) : Type 0 where

@@ -1,6 +1,7 @@
 -- Texts that are put one behind the other, and what was told of a page.
 use Rattle.std.proofs.Common.{◌≡◌, ◌≢◌, ◌∙◌, ◌+◌, ◌<◌, inl, inr, ℕ, Bool, true, false, List, [], ◌∷◌, ◌++◌, length, take, drop, get_or, Option, Some, None, Result, Ok, Err, refl, sym, ap, subst, eqb-true, ne_eqb}
 use Rattle.std.specs.Prelude.{◌==◌, IsErr}
+use Rattle.std.specs.Io.KnownBytes.{Appends}
 use Rattle.std.specs.List.{flat_map}
 use Rattle.std.proofs.KnownBytes.{Appends-nil, Appends-trans}
 use Rattle.std.proofs.lemmas.Grind.{flat_map-append}
@@ -129,6 +130,12 @@ whole_more old mid new above page before status first next = record {
   ends = ap (λ n. status_behind n status) first.ends ∙ ap (status_behind above.status) next.ends;
 }
 
+-- a text on the error output, behind one that was told whole
+error_behind : (old mid new : Outputs) (before text : Text) (status : ℕ) → Appends old.err mid.err before → mid.err_failed ≡ old.err_failed
+    → IsErrorTold (λ (o : Outputs). o.err) (λ (o : Outputs). o.err_failed) mid new text 3 status → IsErrorTold (λ (o : Outputs). o.err) (λ (o : Outputs). o.err_failed) old new (before ++ text) 3 status
+error_behind old mid new before text status one same (inl whole) = inl (Appends-trans _ _ _ _ _ one whole.0, whole.1 ∙ same, whole.2)
+error_behind old mid new before text status one same (inr part) = inr (AppendsBeginning-behind _ _ _ _ _ one part.0, part.1 ∙ ap (λ n. n + 1) same, part.2)
+
 -- a page with another status than 0, below one that was told whole
 pub shown_last : (cut : Cut) (old mid new : Outputs) (above page : Page) (before status : ℕ) → IsWhole old mid above before → IsShown cut mid new page status → status ≢ 0
     → IsShown (cut_below above.out cut) old new (below above page) status
@@ -143,10 +150,8 @@ shown_last (cut_behind took) old mid new above page before status first next oth
   out = Appends-trans _ _ _ _ _ first.out next.out;
   begins = (next.begins.0, append_assoc above.out took next.begins.0 ∙ ap (λ all. above.out ++ all) next.begins.1);
   out_failed = next.out_failed ∙ ap (λ n. n + 1) first.out_failed;
-  told = subst (λ text. IsErrorTold (λ (o : Outputs). o.err) (λ (o : Outputs). o.err_failed) old new text 3 status) (sym (append_assoc above.err page.err (failed Output).err)) (elim next.told [
-    | inl whole ↦ inl (Appends-trans _ _ _ _ _ first.err whole.0, whole.1 ∙ first.err_failed, whole.2)
-    | inr part ↦ inr (AppendsBeginning-behind _ _ _ _ _ first.err part.0, part.1 ∙ ap (λ n. n + 1) first.err_failed, part.2)
-  ]);
+  told = subst (λ text. IsErrorTold (λ (o : Outputs). o.err) (λ (o : Outputs). o.err_failed) old new text 3 status) (sym (append_assoc above.err page.err (failed Output).err))
+      (error_behind old mid new above.err (page.err ++ (failed Output).err) status first.err first.err_failed next.told);
 }
 shown_last cut_error old mid new above page before status first next other = record {
   out = Appends-trans _ _ _ _ _ first.out next.out;

@@ -100,17 +100,16 @@ module _ (ward : ℕ) (id : Text) where
       ([], (numbered_first k 0 r rs are, rw test refl))
   ended_somewhere (suc m) k s r [] are most =
       let bad : 0 ≡ suc (length (map (advance_at ward id) (range_with_len (k + 1 + 1) m))) = ap (λ (xs : List Sent). length xs) (numbered_others k (suc m) r [] are) in absurd (omega arith)
-  ended_somewhere (suc m) k s r (q ∷ others) are most = by (is_refused (step_of s r) || k == most_advances) refl
+  ended_somewhere (suc m) k s r (q ∷ others) are most =
+      let next : Numbered (suc k) (suc m) (q ∷ others) = subst (λ j. Numbered j (suc m) (q ∷ others)) (add-one k) (numbered_others k (suc m) r (q ∷ others) are) in
+      by (is_refused (step_of s r) || k == most_advances) refl (ended_somewhere m (suc k) (after_one s r) q others next (omega (arith, most)))
     where
       first : sent_as r ≡ advance_at ward id k
       first = numbered_first k (suc m) r (q ∷ others) are
 
-      by : (b : Bool) → (is_refused (step_of s r) || k == most_advances) ≡ b → (tail : List Request) × AreAdvances s ward id k (r ∷ tail)
-      by true e = ([], (first, rw e refl))
-      by false e =
-          let next : Numbered (suc k) (suc m) (q ∷ others) = subst (λ j. Numbered j (suc m) (q ∷ others)) (add-one k) (numbered_others k (suc m) r (q ∷ others) are) in
-          let (tail, behind) = ended_somewhere m (suc k) (after_one s r) q others next (omega (arith, most)) in
-          (q ∷ tail, (first, rw e behind))
+      by : (b : Bool) → (is_refused (step_of s r) || k == most_advances) ≡ b → (tail : List Request) × AreAdvances (after_one s r) ward id (suc k) (q ∷ tail) → (tail : List Request) × AreAdvances s ward id k (r ∷ tail)
+      by true e behind = ([], (first, rw e refl))
+      by false e (tail, behind) = (q ∷ tail, (first, rw e behind))
 
   -- ---- requests that the machine didn't refuse
 
