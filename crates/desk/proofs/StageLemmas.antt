@@ -52,7 +52,7 @@ answered_under old closed st id first s r answered page is met = subst (λ b. Is
 -- what came of a request, told of an earlier moment
 pub stage_since : (a b : State) (closed : Bool) (st : State) (first : Bool) (s : OfficeState) (r : Request) (page : Page) (goes : Bool) → TellsSince a b st → IsStage b closed st first s r page goes
     → IsStage a closed st first s r page goes
-stage_since a b closed st first s r page goes since (answered, met, goes_is) = (answered, answered_since a b closed st _ s r answered page since met, goes_is)
+stage_since a b closed st first s r page goes since (answered, met, goes_is) = (answered, answered_since a b closed st (λ q. page_counted first) s r answered page since met, goes_is)
 
 -- a test that is met, or isn't, whatever the other is
 or_true : (b : Bool) → (b || true) ≡ true
@@ -187,10 +187,10 @@ module _ (old : State) (keep : Bool) (line : Option ℕ) (s : OfficeState) (ward
   pub stage_more : (mid : State) (i : ℕ) (r : Request) (said : Page) (was : Bool) (before : State) (page : Page) (closed : Bool) (st : State) → i < length rs → r ≡ get_or rs i r
       → (so : CountedSo keep line s ward id rs i said was before) → (known : Bool) → known ≡ is_first id r → IsStage mid closed st known so.end r page true → page.status ≡ 0
       → CountedSo keep line s ward id rs (i + 1) (below said (fronted line page)) closed st
-  stage_more mid i r said was before page closed st within is so known known_is (answered, met, more) zero =
+  stage_more mid i r said was before page closed st within is so known known_is (answered, met, more) done_is =
       let it = answered_under mid closed st id known so.end r answered page known_is met in
       let (n, left_is, numbered) = next_numbered i r said was before within is so in
-      let goes : goes_on keep page.status ≡ true = goes_after_zero keep page.status zero in
+      let goes : goes_on keep page.status ≡ true = goes_after_zero keep page.status done_is in
       let told = went_past mid closed st keep (page_under id) so.end r answered page it goes in
       let fine : goes_on keep (answer (page_under id) so.end r).status ≡ true = ap (λ (p : Page). goes_on keep p.status) (sym told.0) ∙ goes in
       let number : 1 + length so.front ≡ i + 1 = let many = so.many in omega (arith, many) in
@@ -224,9 +224,11 @@ module _ (old : State) (keep : Bool) (line : Option ℕ) (s : OfficeState) (ward
       let (tail, are) = ended_somewhere ward id n (i + 1) so.end r (drop (i + 1) rs) numbered (omega (arith, few, left_is)) in (
         answered,
         tail,
-        so.front ++ r ∷ tail,
-        going_then ward id s 1 so.front so.end (r ∷ tail) so.going (omega (arith, few, left_is, many)) (subst (λ k. AreAdvances so.end ward id k (r ∷ tail)) number are),
-        replied_then keep line (page_under id) (IsOver closed st) old closed st s so.front said so.end (r ∷ tail) (ended line (r ∷ tail) answered page cut) so.replied (last_sent cut tail are stops),
+        (
+          so.front ++ r ∷ tail,
+          going_then ward id s 1 so.front so.end (r ∷ tail) so.going (omega (arith, few, left_is, many)) (subst (λ k. AreAdvances so.end ward id k (r ∷ tail)) number are),
+          replied_then keep line (page_under id) (IsOver closed st) old closed st s so.front said so.end (r ∷ tail) (ended line (r ∷ tail) answered page cut) so.replied (last_sent cut tail are stops),
+        ),
       )
     where
       it : IsAnswered old closed st (page_under id) so.end r answered page
