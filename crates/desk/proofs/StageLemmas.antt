@@ -1,6 +1,6 @@
 -- The requests of an order that counts, and what came of them.
-use Rattle.std.proofs.Common.{◌≡◌, ◌≢◌, ◌⊎◌, ◌+◌, ◌≤◌, ◌<◌, ◌∙◌, inl, inr, ℕ, zero, suc, Bool, true, false, true≢false, List, [], ◌∷◌, ◌++◌, map, Option, Some, None, string_bytes}
-use Rattle.std.proofs.Common.{length, drop, get_or, refl, sym, ap, subst, arith, add-one, eq-eqb, eqb-true, ne_eqb}
+use Rattle.std.proofs.Common.{◌≡◌, ◌≢◌, ◌+◌, ◌≤◌, ◌<◌, ◌∙◌, inl, inr, ℕ, zero, suc, Bool, true, false, true≢false, List, [], ◌∷◌, ◌++◌, map, Option, Some, None, string_bytes}
+use Rattle.std.proofs.Common.{length, drop, get_or, refl, sym, ap, subst, arith, add-one, eq-eqb, ne_eqb}
 use Rattle.std.specs.Prelude.{◌==◌, ◌&&◌, ◌||◌, not, slice_get}
 use Rattle.std.specs.List.{range_with_len}
 use Rattle.std.proofs.lemmas.List.{append-nil, drop_all, length-append}
@@ -11,14 +11,13 @@ use Rattle.register.specs.Offices.{OfficeState}
 use Rattle.register.specs.Machine.{Outcome, accepted, kept, refused, after_one, step_of}
 use Rattle.register.specs.declared.command.Request.{Request}
 use Rattle.office.specs.Answers.{IsOpenAt, Told, again, done, no, told_of}
-use Rattle.desk.specs.Headline.{Course, IsAnswered, IsSent, answer, ended, told_above}
+use Rattle.desk.specs.Headline.{IsAnswered, IsSent, answer, ended, told_above}
 use Rattle.desk.specs.Orders.{Sent, sent_as}
 use Rattle.desk.specs.Pages.{Cut, uncut, cut_behind, cut_error, Page, below, empty_page, fronted, goes_on, page_counted}
 use Rattle.desk.specs.Parts.{IsCounted, IsOver, IsStage}
-use Rattle.desk.specs.Requests.{AreAdvances, EndsOr, advance_at, advances, id_at, is_first, is_refused, most_advances}
+use Rattle.desk.specs.Requests.{AreAdvances, advance_at, advances, id_at, is_first, is_refused, most_advances}
 use Rattle.desk.proofs.CauseLemmas.{TellsSince}
 use Rattle.desk.proofs.CourseLemmas.{Replied, above_nothing, answered_since, made, next_left, nothing_more, replied_more, replied_then, went_past}
-use Rattle.desk.proofs.PageLemmas.{fronted_status}
 use Rattle.desk.proofs.TellingLemmas.{goes_after_zero, not_after_fault}
 
 -- ---- what the machine answers

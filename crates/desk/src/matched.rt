@@ -320,11 +320,7 @@ fn key<'a>(alloc: Global, matches: &ArgMatches<'a>) -> Result<Order<'a>, NoOrder
         papers: texts_copied(alloc, matches, MARKS)?,
     };
     let clerk = number_in(matches, CLERK);
-    Ok(in_office(Errand::Send(by_clerk(
-        clerk,
-        id,
-        Command::Keying(command),
-    ))))
+    Ok(in_office(Errand::Send(by_clerk(clerk, id, Command::Keying(command)))))
 }
 
 fn counting<'a>(matches: &ArgMatches<'a>) -> Order<'a>

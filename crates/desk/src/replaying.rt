@@ -112,7 +112,14 @@ fn send_turns<S: Alter, F: Folder, O: Sink, E: Sink>(
     let mut ends = 0;
     for turn in turns {
         let status = run(
-            alloc, office, keep_going, turn.line, &turn.errand, folder, out, err,
+            alloc,
+            office,
+            keep_going,
+            turn.line,
+            &turn.errand,
+            folder,
+            out,
+            err,
         );
         if !goes_on(keep_going, status) {
             return status;

@@ -98,10 +98,7 @@ fn advance_at(alloc: Global, ward: u32, id: &str, number: usize) -> Result<Reque
     ensures { IfOk result (λ request. sent_as request ≡ advance_at ward id.now number) }
 {
     let id = id_at(alloc, id, number)?;
-    Ok(by_office(
-        id,
-        Command::Count(CountCommand::Advance { ward }),
-    ))
+    Ok(by_office(id, Command::Count(CountCommand::Advance { ward })))
 }
 
 /// The most requests of an order that counts: one more than a count can have stages.

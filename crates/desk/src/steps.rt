@@ -135,11 +135,7 @@ fn due_words(
             let action = action_words(alloc, candidates, action)?;
             format!(in alloc; "stage {stage} comes next, {action}")
         }
-        Due::Lot {
-            stage,
-            kind,
-            among,
-        } => {
+        Due::Lot { stage, kind, among } => {
             let (decides, tied) = (lot_words(kind), all_named(alloc, candidates, &among)?);
             format!(in alloc; "stage {stage} waits for a lot that decides {decides}: {tied}")
         }
@@ -158,7 +154,9 @@ fn papers_words(alloc: Global, status: &Status) -> Result<String, AllocError>
 {
     let (taken, batches) = (status.taken, status.batches);
     let (differing, open) = (status.differing, status.doubtful_open);
-    format!(in alloc; "{taken} of {batches} batches taken, {differing} differing, {open} doubtful open")
+    format!(in alloc;
+        "{taken} of {batches} batches taken, {differing} differing, {open} doubtful open"
+    )
 }
 
 #[tactic(auto, unfolding(crate::specs::Steps::step_words))]
@@ -168,7 +166,9 @@ fn step_words(alloc: Global, step: &NextStep) -> Result<String, AllocError>
 {
     match step {
         NextStep::Nominations { candidates, seats } => {
-            format!(in alloc; "{candidates} candidates for {seats} seats so far, the close of nominations comes next")
+            format!(in alloc;
+                "{candidates} candidates for {seats} seats so far, the close of nominations comes next"
+            )
         }
         NextStep::Papers(status) => {
             let papers = papers_words(alloc, status)?;

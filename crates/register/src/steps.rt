@@ -8,7 +8,10 @@ use count::Due;
 #[derive(Drop)]
 pub enum NextStep {
     /// Its nominations are open, and are closed next. It has so many candidates so far, for so many seats.
-    Nominations { candidates: usize, seats: u32 },
+    Nominations {
+        candidates: usize,
+        seats: u32,
+    },
     /// Its papers are keyed and judged, and stand so. It is sealed next.
     Papers(Status),
     /// It is counted. This is due, which is the stage of this number where it is one, and these are the candidates.

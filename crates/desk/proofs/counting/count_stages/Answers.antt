@@ -74,7 +74,7 @@ returns-then-status-ne0-clause-counted g c =
           let known_is = rw (c.as_str.ensures.value, c.first_id-first.ensures ward id are) at c.eq-is_first.ensures in
           let it = stage_since first mid closed next c.eq-is_first.result so.end c.request-item.result page c.stage_of.result.1 tells (c.stage_of.ensures.told clean so.open_at.is_open so.end so.open_at.at) in
           let counted = stage_last first keep line s ward id rs i c.request-item.result so_far.said c.loop-request.office.closed mid page told.0 c.stage_of.result.1 closed next within c.request-item.is so c.eq-is_first.result known_is it
-              (λ yes zero. shown_else told.0 _ _ (fronted line page) c.tell-status.result told.1 other (fronted_status line page ∙ zero)) in
+          (λ yes zero. shown_else told.0 _ _ (fronted line page) c.tell-status.result told.1 other (fronted_status line page ∙ zero)) in
           (_, _, counted.2);
     }
 
@@ -110,7 +110,7 @@ returns-then-more-clause-counted g c =
           let known_is = rw (c.as_str.ensures.value, c.first_id-first.ensures ward id are) at c.eq-is_first.ensures in
           let it = stage_since first mid closed next c.eq-is_first.result so.end c.request-item.result page c.stage_of.result.1 tells (c.stage_of.ensures.told clean so.open_at.is_open so.end so.open_at.at) in
           let counted = stage_last first keep line s ward id rs i c.request-item.result so_far.said c.loop-request.office.closed mid page told.0 c.stage_of.result.1 closed next within c.request-item.is so c.eq-is_first.result known_is it
-              (λ yes none. absurd (true≢false (sym yes ∙ c.if-more.true))) in
+          (λ yes none. absurd (true≢false (sym yes ∙ c.if-more.true))) in
           (_, _, counted.2);
     }
 
