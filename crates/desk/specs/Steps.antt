@@ -58,15 +58,19 @@ due_words stage candidates Finished = codes "the count is finished, the declarat
 
 -- ---- what comes next
 
--- how the papers of a ward stand before its seal
+-- how many candidates there are for how many seats, before the nominations are closed
+unfoldable pub nominations_words : ℕ → ℕ → Text
+nominations_words candidates seats = decimal candidates ++ (codes " candidates for " ++ (decimal seats ++ codes " seats so far, the close of nominations comes next"))
+
+-- how the papers of a ward stand, before its seal
 unfoldable pub papers_words : StatusEntry → Text
 papers_words s =
-    decimal s.taken ++ (codes " of " ++ (decimal s.batches ++ (codes " batches taken, " ++ (decimal s.differing ++ (codes " differing, " ++ (decimal s.doubtful_open ++ codes " doubtful open"))))))
+    decimal s.taken ++ (codes " of " ++ (decimal s.batches ++ (codes " batches taken, " ++ (decimal s.differing ++ (codes " differing, " ++ (decimal s.doubtful_open ++ codes " doubtful open, the seal comes once all are taken and judged"))))))
 
 -- what comes next, by how far the ward has come
 unfoldable pub step_words : StepEntry → Text
-step_words (nominations_end candidates seats) = decimal candidates ++ (codes " candidates for " ++ (decimal seats ++ codes " seats so far, the close of nominations comes next"))
-step_words (papers_stand s) = papers_words s ++ codes ", the seal comes once all are taken and judged"
+step_words (nominations_end candidates seats) = nominations_words candidates seats
+step_words (papers_stand s) = papers_words s
 step_words (count_goes stage due candidates) = due_words stage candidates due
 step_words nothing_comes = codes "declared, nothing is left to do"
 

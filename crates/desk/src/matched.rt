@@ -6,7 +6,7 @@
 #![tactic(auto, unfolding(crate::specs::Orders::orders))]
 
 ghost use Rattle.std.specs.Prelude.{◌≡◌, ◌⊎◌, false, Err, None, Some, codes, map, IfErr, IfOk, option_map, string_bytes};
-ghost use Rattle.clap.specs.Words.{first_of, found_of, rows_of, subcommand_rows_of};
+ghost use Rattle.clap.specs.Words.{all_of, first_of, found_of, rows_of, subcommand_rows_of};
 ghost use Rattle.desk.specs.Orders.{ask, no_origin, no_verdict, orders, print, told, told_errand, words_of};
 ghost use Rattle.wire.specs.Origins.{origin_text};
 ghost use Rattle.desk.specs.Words.{is_command_name, is_order_name, meaning, meaning_of, names_order, number_at, number_found, origin_at, sent, text_at};
@@ -134,6 +134,12 @@ fn text_found_in<'a>(matches: &ArgMatches<'a>, word: Word) -> Option<&'a str>
     matches.get_str(word.name)
 }
 
+fn texts_found_in<'m, 'a>(matches: &'m ArgMatches<'a>, word: Word) -> Option<&'m [&'a str]>
+    ensures { option_map (λ texts. map (λ t. t.now) texts.now) result ≡ all_of word.name.now (rows_of (found_of matches.now)) }
+{
+    matches.get_strs(word.name)
+}
+
 fn text_in<'a>(matches: &ArgMatches<'a>, word: Word) -> &'a str
     ensures { result.now ≡ text_at word.name.now (rows_of (found_of matches.now)) }
 {
@@ -150,15 +156,6 @@ fn text_copied(alloc: Global, matches: &ArgMatches<'_>, word: Word) -> Result<St
 }
 
 /// The texts that were matched, of which there may be none.
-fn texts_in<'m, 'a>(matches: &'m ArgMatches<'a>, word: Word) -> &'m [&'a str]
-    ensures { map (λ t. t.now) result.now ≡ texts_at word.name.now (rows_of (found_of matches.now)) }
-{
-    match matches.get_strs(word.name) {
-        Some(texts) => texts,
-        None => &[],
-    }
-}
-
 fn texts_copied(
     alloc: Global,
     matches: &ArgMatches<'_>,
@@ -166,10 +163,11 @@ fn texts_copied(
 ) -> Result<Vec<String>, AllocError>
     ensures { IfOk result (λ texts. map string_bytes texts.items ≡ texts_at word.name.now (rows_of (found_of matches.now))) }
 {
-    let all = texts_in(matches, word);
     let mut texts = Vec::new(alloc);
-    for text in all {
-        texts.push(String::from_str(alloc, text)?)?;
+    if let Some(all) = texts_found_in(matches, word) {
+        for text in all {
+            texts.push(String::from_str(alloc, text)?)?;
+        }
     }
     Ok(texts)
 }

@@ -10,7 +10,7 @@ ghost use Rattle.office.specs.Reads.{next_told};
 ghost use Rattle.office.specs.Answers.{WhenOpenAt};
 ghost use Rattle.desk.specs.Parts.{IsFound};
 ghost use Rattle.desk.specs.Pages.{page_of, replied};
-ghost use Rattle.desk.specs.Steps.{action_words, all_named, candidate_in, due_words, lot_words, named, named_behind, papers_words, step_text, step_words};
+ghost use Rattle.desk.specs.Steps.{action_words, all_named, candidate_in, due_words, lot_words, named, named_behind, nominations_words, papers_words, step_text, step_words};
 
 use crate::lines::Outcome;
 use count::{Action, Due, TiedFor};
@@ -147,15 +147,25 @@ fn due_words(
 
 // ---- what comes next
 
+#[tactic(auto, unfolding(crate::specs::Steps::nominations_words))]
+/// How many candidates there are for how many seats, before the nominations are closed.
+fn nominations_words(alloc: Global, candidates: usize, seats: u32) -> Result<String, AllocError>
+    ensures { IfOk result (λ text. string_bytes text ≡ nominations_words candidates seats) }
+{
+    format!(in alloc;
+        "{candidates} candidates for {seats} seats so far, the close of nominations comes next"
+    )
+}
+
 #[tactic(auto, unfolding(crate::specs::Steps::papers_words))]
-/// How the papers of a ward stand before its seal.
+/// How the papers of a ward stand, before its seal.
 fn papers_words(alloc: Global, status: &Status) -> Result<String, AllocError>
     ensures { IfOk result (λ text. string_bytes text ≡ papers_words (status_entry status.now)) }
 {
     let (taken, batches) = (status.taken, status.batches);
     let (differing, open) = (status.differing, status.doubtful_open);
     format!(in alloc;
-        "{taken} of {batches} batches taken, {differing} differing, {open} doubtful open"
+        "{taken} of {batches} batches taken, {differing} differing, {open} doubtful open, the seal comes once all are taken and judged"
     )
 }
 
@@ -166,14 +176,9 @@ fn step_words(alloc: Global, step: &NextStep) -> Result<String, AllocError>
 {
     match step {
         NextStep::Nominations { candidates, seats } => {
-            format!(in alloc;
-                "{candidates} candidates for {seats} seats so far, the close of nominations comes next"
-            )
+            nominations_words(alloc, *candidates, *seats)
         }
-        NextStep::Papers(status) => {
-            let papers = papers_words(alloc, status)?;
-            format!(in alloc; "{papers}, the seal comes once all are taken and judged")
-        }
+        NextStep::Papers(status) => papers_words(alloc, status),
         NextStep::Count {
             stage,
             due,

@@ -12,7 +12,7 @@ loop-before-preserved c =
     let id = c.args.id.now in
     let before = c.loop-before.before in
     ap (map sent_as) c.in_ok-push.ensures.items
-    ∙ map-append sent_as c.loop-before.requests.items (c.in_ok-advance_at.request ∷ [])
-    ∙ ap (λ (first : List Sent). first ++ sent_as c.in_ok-advance_at.request ∷ []) c.loop-before.invariant
+    ∙ map-append sent_as c.loop-before.requests.items (c.in_ok-advance_at.field-0 ∷ [])
+    ∙ ap (λ (first : List Sent). first ++ sent_as c.in_ok-advance_at.field-0 ∷ []) c.loop-before.invariant
     ∙ ap (λ (r : Sent). advances ward id before ++ r ∷ []) c.in_ok-advance_at.ensures
     ∙ sym (map-range_with_len_more (advance_at ward id) 1 before (before + 1) (omega arith))
