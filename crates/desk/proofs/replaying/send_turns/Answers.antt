@@ -26,7 +26,7 @@ loop-turn-preserved g c =
     let turn = c.turn-item.result in
     let so_far = c.loop-turn.invariant.so_far in
     let told = c.run-status.ensures.ran in
-    let goes : goes_on keep c.run-status.result ≡ true = sym c.goes_on.ensures ∙ c.if-goes_on.false in
+    let goes : goes_on keep c.run-status.result ≡ true = sym c.goes_on.ensures ∙ c.if-not-goes_on.false in
     let fine = shown_goes keep told.cut _ _ told.page c.run-status.result told.shown goes in
     let first = state g.S.Store c.args.office.now.held in
     let mid = state g.S.Store c.loop-turn.office.held in
@@ -46,8 +46,8 @@ loop-turn-preserved g c =
       };
     }
 
-pub returns-then-goes_on-clause-sent : goal.returns-then-goes_on-clause-sent
-returns-then-goes_on-clause-sent g c =
+pub returns-then-not-goes_on-clause-sent : goal.returns-then-not-goes_on-clause-sent
+returns-then-not-goes_on-clause-sent g c =
     let turns = c.args.turns.now in
     let keep = c.args.keep_going in
     let i = c.loop-turn.turn-index in
@@ -55,7 +55,7 @@ returns-then-goes_on-clause-sent g c =
     let turn = c.turn-item.result in
     let so_far = c.loop-turn.invariant.so_far in
     let told = c.run-status.ensures.ran in
-    let stops : goes_on keep c.run-status.result ≡ false = sym c.goes_on.ensures ∙ c.if-goes_on.true in
+    let stops : goes_on keep c.run-status.result ≡ false = sym c.goes_on.ensures ∙ c.if-not-goes_on.true in
     let first = state g.S.Store c.args.office.now.held in
     let mid = state g.S.Store c.loop-turn.office.held in
     let next = state g.S.Store c.run-status.new.office.held in
@@ -78,8 +78,8 @@ returns-then-goes_on-clause-sent g c =
           );
     }
 
-pub returns-then-goes_on-clause-wears : goal.returns-then-goes_on-clause-wears
-returns-then-goes_on-clause-wears g c =
+pub returns-then-not-goes_on-clause-wears : goal.returns-then-not-goes_on-clause-wears
+returns-then-not-goes_on-clause-wears g c =
     wears_then (state g.S.Store c.args.office.now.held) (state g.S.Store c.loop-turn.office.held) (state g.S.Store c.run-status.new.office.held) c.run-status.ensures.clean c.loop-turn.invariant.wears
     c.run-status.ensures.wears
 

@@ -27,7 +27,7 @@ loop-request-preserved g c =
     let so_far = c.loop-request.invariant.so_far in
     let page = page_of c.outcome_of.result in
     let told = c.tell-status.ensures in
-    let goes : goes_on keep c.tell-status.result ≡ true = sym c.goes_on.ensures ∙ c.if-goes_on.false in
+    let goes : goes_on keep c.tell-status.result ≡ true = sym c.goes_on.ensures ∙ c.if-not-goes_on.false in
     let fine = shown_goes keep told.0 _ _ (fronted line page) c.tell-status.result told.1 goes in
     let first = state g.S.Store c.args.office.now.held in
     let mid = state g.S.Store c.loop-request.office.held in
@@ -47,8 +47,8 @@ loop-request-preserved g c =
       };
     }
 
-pub returns-then-goes_on-clause-sent : goal.returns-then-goes_on-clause-sent
-returns-then-goes_on-clause-sent g c =
+pub returns-then-not-goes_on-clause-sent : goal.returns-then-not-goes_on-clause-sent
+returns-then-not-goes_on-clause-sent g c =
     let rs = c.args.requests.now in
     let keep = c.args.keep_going in
     let line = c.args.line in
@@ -57,7 +57,7 @@ returns-then-goes_on-clause-sent g c =
     let so_far = c.loop-request.invariant.so_far in
     let page = page_of c.outcome_of.result in
     let told = c.tell-status.ensures in
-    let stops : goes_on keep c.tell-status.result ≡ false = sym c.goes_on.ensures ∙ c.if-goes_on.true in
+    let stops : goes_on keep c.tell-status.result ≡ false = sym c.goes_on.ensures ∙ c.if-not-goes_on.true in
     let first = state g.S.Store c.args.office.now.held in
     let mid = state g.S.Store c.loop-request.office.held in
     let next = state g.S.Store c.outcome_of.new.office.held in
@@ -81,8 +81,8 @@ returns-then-goes_on-clause-sent g c =
           );
     }
 
-pub returns-then-goes_on-clause-wears : goal.returns-then-goes_on-clause-wears
-returns-then-goes_on-clause-wears g c = wears_then (state g.S.Store c.args.office.now.held) (state g.S.Store c.loop-request.office.held) (state g.S.Store c.outcome_of.new.office.held) c.outcome_of.ensures.clean c.loop-request.invariant.wears
+pub returns-then-not-goes_on-clause-wears : goal.returns-then-not-goes_on-clause-wears
+returns-then-not-goes_on-clause-wears g c = wears_then (state g.S.Store c.args.office.now.held) (state g.S.Store c.loop-request.office.held) (state g.S.Store c.outcome_of.new.office.held) c.outcome_of.ensures.clean c.loop-request.invariant.wears
     c.outcome_of.ensures.wears
 
 pub returns-clause-sent : goal.returns-clause-sent
