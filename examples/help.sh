@@ -4,8 +4,8 @@ source "$(dirname "$(readlink -f "${BASH_SOURCE[0]}")")/play.bash"
 
 {
     play --help
-    for order in init ward candidate import-candidates withdraw close batch import-keying again third judge seal advance lot declare \
-        status sheet result serve migrate wards batches doubtful differences papers receipts replay copy ballots page table index; do
+    for order in init ward candidate import-candidates withdraw close batch import-keying key again third judge seal advance count lot declare \
+        status next sheet result serve migrate wards batches doubtful differences papers receipts replay copy ballots page table index; do
         play town.db "$order" --help
     done
     # without a database too

@@ -5,6 +5,7 @@ pub mod PageLemmas
 pub mod CauseLemmas
 pub mod TellingLemmas
 pub mod CourseLemmas
+pub mod StageLemmas
 pub mod KeptLemmas
 pub mod ScriptLemmas
 pub mod ScriptEnds
@@ -15,4 +16,5 @@ pub mod WordsRefused
 pub mod FaultsRead
 pub mod PaperLemmas
 mod LinesRead
+mod KeysRead
 mod OverviewLemmas

@@ -85,6 +85,14 @@ title = record { name = codes "title"; kind = kind.Title }
 abbrev pub digest : WordEntry
 digest = record { name = codes "sha256"; kind = kind.Digest }
 
+-- words that are any texts, behind the others; there may be none
+abbrev pub texts : Text → WordEntry
+texts name = record { name = name; kind = kind.Texts }
+
+-- a flag, `--` and its name, which may be left out
+abbrev pub flag : Text → WordEntry
+flag name = record { name = name; kind = kind.Flag }
+
 -- ---- what a command asks
 
 -- what a command asks, its names as text
@@ -133,6 +141,10 @@ sent_as r = record { actor = r.actor; id = string_bytes r.id; asked = asked_by r
 abbrev pub by_office : Text → Asked → Sent
 by_office id asked = record { actor = 0; id = id; asked = asked }
 
+-- a request of a clerk himself
+abbrev pub by_clerk : ℕ → Text → Asked → Sent
+by_clerk clerk id asked = record { actor = clerk; id = id; asked = asked }
+
 -- ---- what an order means
 
 -- what is to be done; or nothing, since the word of a verdict says none, or the one of an origin or of a digest is none
@@ -142,12 +154,14 @@ pub data Meant : Type 0 where
   send : Sent → Meant
   import_candidates : Text → Text → Option (List ℕ) → Meant
   import_keying : ℕ → ℕ → ℕ → Text → Text → Option (List ℕ) → Meant
+  count : ℕ → Text → Meant
   tell_status : ℕ → Meant
+  tell_next : ℕ → Meant
   print : ℕ → WardText → Meant
   print_page : ℕ → Text → Meant
   print_index : Text → Meant
   ask : Question → Meant
-  replay : Text → Meant
+  replay : Text → Bool → Meant
   copy : Text → Meant
   serve : ℕ → ℕ → Option Text → Meant
   no_verdict : Meant
@@ -164,7 +178,9 @@ abbrev pub told_errand : Errand → Meant
 told_errand (errand.Send r) = send (sent_as r)
 told_errand (errand.ImportCandidates file id digest) = import_candidates file.now id.now (asked_digest digest)
 told_errand (errand.ImportKeying k) = import_keying k.clerk k.batch k.round k.file.now k.id.now (asked_digest k.digest)
+told_errand (errand.Count ward id) = count ward id.now
 told_errand (errand.TellStatus ward) = tell_status ward
+told_errand (errand.TellNext ward) = tell_next ward
 told_errand (errand.Print ward text) = told_text ward text
 told_errand (errand.PrintIndex title) = print_index title.now
 told_errand (errand.Ask question) = ask question
@@ -174,7 +190,7 @@ abbrev pub told : Order → Meant
 told (order.Perform task.Init) = make
 told (order.Perform task.Migrate) = migrate
 told (order.Perform (task.InOffice (job.Run errand))) = told_errand errand
-told (order.Perform (task.InOffice (job.Replay file))) = replay file.now
+told (order.Perform (task.InOffice (job.Replay file keep_going))) = replay file.now keep_going
 told (order.Copy path) = copy path.now
 told (order.Serve port connections origin) = serve port connections (option_map origin_text origin)
 
@@ -192,6 +208,8 @@ WordValue kind.Id = Text
 WordValue kind.Origin = Option Text
 WordValue kind.Title = Text
 WordValue kind.Digest = Option (List ℕ)
+WordValue kind.Texts = List Text
+WordValue kind.Flag = Bool
 
 -- what comes of the values of some words, in their sequence
 abbrev pub OfWords : List WordEntry → Type 0 → Type 0
@@ -217,6 +235,10 @@ under_id (w ∷ ws) asked = λ value. under_id ws (asked value)
 abbrev pub sends : Text → (words : List WordEntry) → OfWords words Asked → OrderEntry
 sends name words asked = record { typed = record { name = name; words = words ++ id ∷ [] }; means = under_id words asked; is_command = true }
 
+-- a clerk, and never the office, keeps his keying of a batch in a round: the marks of its papers in turn, under an id
+abbrev pub key : ℕ → ℕ → ℕ → List Text → Text → Meant
+key clerk batch round papers id = send (by_clerk clerk id (keying_to_keep batch round papers))
+
 -- the table of orders, in the sequence of an election
 unfoldable pub orders : List OrderEntry
 orders =
@@ -228,14 +250,17 @@ orders =
     ∷ sends (codes "close") (number (codes "WARD") ∷ []) ward_to_close
     ∷ sends (codes "batch") (number (codes "BATCH") ∷ number (codes "WARD") ∷ number (codes "SIZE") ∷ number (codes "FIRST_CLERK") ∷ number (codes "SECOND_CLERK") ∷ []) batch_to_add
     ∷ takes (codes "import-keying") (number (codes "CLERK") ∷ number (codes "BATCH") ∷ number (codes "ROUND") ∷ text (codes "FILE") ∷ id ∷ digest ∷ []) import_keying
+    ∷ takes (codes "key") (number (codes "CLERK") ∷ number (codes "BATCH") ∷ number (codes "ROUND") ∷ texts (codes "MARKS") ∷ id ∷ []) key
     ∷ sends (codes "again") (number (codes "BATCH") ∷ []) batch_to_key_again
     ∷ sends (codes "third") (number (codes "BATCH") ∷ number (codes "CLERK") ∷ []) batch_for_third_clerk
     ∷ sends (codes "judge") (number (codes "BATCH") ∷ number (codes "PAPER") ∷ verdict (codes "VERDICT") ∷ []) paper_to_judge
     ∷ sends (codes "seal") (number (codes "WARD") ∷ []) ward_to_seal
     ∷ sends (codes "advance") (number (codes "WARD") ∷ []) stage_to_count
+    ∷ takes (codes "count") (number (codes "WARD") ∷ id ∷ []) count
     ∷ sends (codes "lot") (number (codes "WARD") ∷ number (codes "STAGE") ∷ number (codes "CANDIDATE") ∷ []) lot_to_record
     ∷ sends (codes "declare") (number (codes "WARD") ∷ []) ward_to_declare
     ∷ takes (codes "status") (number (codes "WARD") ∷ []) tell_status
+    ∷ takes (codes "next") (number (codes "WARD") ∷ []) tell_next
     ∷ takes (codes "sheet") (number (codes "WARD") ∷ []) (λ ward. print ward ward_text.Sheet)
     ∷ takes (codes "result") (number (codes "WARD") ∷ []) (λ ward. print ward ward_text.Declaration)
     ∷ takes (codes "serve") (port (codes "PORT") ∷ connections (codes "CONNECTIONS") ∷ origin ∷ []) serve
@@ -246,7 +271,7 @@ orders =
     ∷ takes (codes "differences") (number (codes "BATCH") ∷ []) (λ batch. ask (question.Differences batch))
     ∷ takes (codes "papers") (number (codes "BATCH") ∷ []) (λ batch. ask (question.Papers batch))
     ∷ takes (codes "receipts") (number_or_none (codes "ACTOR") ∷ []) (λ actor. ask (question.Receipts actor))
-    ∷ takes (codes "replay") (text (codes "FILE") ∷ []) replay
+    ∷ takes (codes "replay") (text (codes "FILE") ∷ flag (codes "keep-going") ∷ []) replay
     ∷ takes (codes "copy") (text (codes "NEW") ∷ []) copy
     ∷ takes (codes "ballots") (number (codes "WARD") ∷ []) (λ ward. print ward ward_text.Ballots)
     ∷ takes (codes "page") (number (codes "WARD") ∷ title ∷ []) print_page

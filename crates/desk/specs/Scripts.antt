@@ -134,6 +134,7 @@ abbrev pub sends_requests : Errand → Bool
 sends_requests (errand.Send request) = true
 sends_requests (errand.ImportCandidates file id digest) = true
 sends_requests (errand.ImportKeying keying) = true
+sends_requests (errand.Count ward id) = true
 sends_requests other = false
 
 -- an order stands in a script where its errand sends requests
@@ -160,7 +161,12 @@ AreTurns (line ∷ lines) turns = (turn : Turn) × (others : List Turn) × (turn
 -- the turns of a job: an errand alone is one turn, of no line; the turns of a script are the errands that its lines mean
 abbrev pub HasTurns : Folder → Job → List Turn → Type 0
 HasTurns folder (job.Run errand) turns = turns ≡ record { line = None; errand = errand } ∷ []
-HasTurns folder (job.Replay path) turns = (file : File) × IsFileAt folder (Some path.now) file × HoldsText file (λ text. AreTurns (script_lines text) turns)
+HasTurns folder (job.Replay path keep_going) turns = (file : File) × IsFileAt folder (Some path.now) file × HoldsText file (λ text. AreTurns (script_lines text) turns)
+
+-- a job goes past refusals: a script does where it is to keep going
+abbrev pub keeps_going : Job → Bool
+keeps_going (job.Run errand) = false
+keeps_going (job.Replay path keep_going) = keep_going
 
 -- ---- what is wrong with a line
 

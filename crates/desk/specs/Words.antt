@@ -3,10 +3,11 @@ use Rattle.std.specs.Prelude.{◌≡◌, ◌≢◌, ◌==◌, ◌&&◌, ⊤, ℕ
 use Rattle.std.specs.Prelude.{codes, map, find, option_and_then, option_map, string_bytes, unwrap_or}
 use Rattle.std.specs.List.{list_any}
 use Rattle.std.specs.Str.{bytes_eq}
-use Rattle.clap.specs.Words.{App, Kinds, Row, Rule, Text, fault_of, first_of, new_app, new_rule, one_of, with_rule, with_subcommand}
+use Rattle.clap.specs.Words.{App, Kinds, Row, Rule, Text, all_of, fault_of, first_of, new_app, new_rule, one_of, with_rule, with_subcommand}
 use Rattle.clap.specs.Simple.{on_top}
 use Rattle.clap.specs.declared.builder.value_parser.ValueParser.{ValueParser}
 use Rattle.clap.specs.declared.builder.value_parser.ValueParser.TheVariants as parser
+use Rattle.clap.specs.declared.builder.action.ArgAction.TheVariants.{Append, SetTrue}
 use Rattle.clap.specs.declared.error.kind.ErrorKind.{ErrorKind}
 use Rattle.clap.specs.declared.error.kind.ErrorKind.TheVariants.{DisplayHelp, DisplayVersion, OutOfMemory}
 use Rattle.desk.specs.declared.words.WordsFault.{WordsFault}
@@ -50,6 +51,14 @@ id_rule name = record (new_rule name) { long = Some name; value_names = 1; requi
 abbrev pub option_rule : Text → Rule
 option_rule name = record (new_rule name) { long = Some name; value_names = 1 }
 
+-- any values behind the other words, each of them one word more of the same name
+abbrev pub texts_rule : Text → Rule
+texts_rule name = record (new_rule name) { action = Some Append }
+
+-- `--` and the word's name, with no value behind it
+abbrev pub flag_rule : Text → Rule
+flag_rule name = record (new_rule name) { long = Some name; action = Some SetTrue }
+
 -- what `clap` is told of a word
 abbrev pub rule_of_kind : Kind → Text → Rule
 rule_of_kind kind.Number = number_rule any_number
@@ -62,6 +71,8 @@ rule_of_kind kind.Id = id_rule
 rule_of_kind kind.Origin = option_rule
 rule_of_kind kind.Title = option_rule
 rule_of_kind kind.Digest = option_rule
+rule_of_kind kind.Texts = texts_rule
+rule_of_kind kind.Flag = flag_rule
 
 -- a command, and these words more
 abbrev pub with_words : App → List WordEntry → App
@@ -100,6 +111,14 @@ number_at name rows = unwrap_or (number_found name rows) 0
 abbrev pub text_at : Text → List Row → Text
 text_at name rows = unwrap_or (first_of name rows) []
 
+-- the texts that were matched under a name, and none without one
+abbrev pub texts_at : Text → List Row → List Text
+texts_at name rows = unwrap_or (all_of name rows) []
+
+-- whether a flag was given: `clap` matches it as `true`, and as `false` where it was left out
+abbrev pub flag_at : Text → List Row → Bool
+flag_at name rows = bytes_eq (text_at name rows) (codes "true")
+
 -- what was matched under a name, if a text was: the origin that it is, or none
 abbrev pub origin_at : Text → List Row → Option (Option Text)
 origin_at name rows = option_map origin_in (first_of name rows)
@@ -137,6 +156,8 @@ with_value kind.Id rows name means = means (text_at name rows)
 with_value kind.Origin rows name means = served_to (origin_at name rows) means
 with_value kind.Title rows name means = means (text_at name rows)
 with_value kind.Digest rows name means = digested_by (digest_at name rows) means
+with_value kind.Texts rows name means = means (texts_at name rows)
+with_value kind.Flag rows name means = means (flag_at name rows)
 
 -- what comes of the values that the matches give some words
 abbrev pub with_values : List Row → (words : List WordEntry) → OfWords words Meant → Meant

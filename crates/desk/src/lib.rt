@@ -31,6 +31,7 @@ mod scripts;
 mod requests;
 // and those to lines and a status.
 pub mod copying;
+mod counting;
 mod import;
 pub mod lines;
 mod names;
@@ -44,6 +45,7 @@ mod replaying;
 mod sending;
 pub mod serving;
 mod standing;
+mod steps;
 
 pub use copying::{CopyState, copy_office};
 pub use folders::Folder;

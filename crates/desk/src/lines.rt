@@ -26,6 +26,10 @@ pub(crate) enum Outcome {
     Replied(Reply),
     /// This text is told as it is, its lines ended.
     Printed(String),
+    /// No seat is left in a count.
+    CountFinished,
+    /// A count waits for a lot, for which a request for one stage more was refused.
+    LotNeeded(Refusal),
     /// A request was refused.
     Refused(Refusal),
     /// The file was refused, or couldn't be read.
@@ -275,6 +279,8 @@ pub(crate) fn tell<O: Sink, E: Sink>(
         Outcome::Migrated(migrated) => tell_text(&[migrated_text(*migrated), "\n"], out, err),
         Outcome::Replied(reply) => tell_text(&[reply.as_str(), "\n"], out, err),
         Outcome::Printed(text) => tell_text(&[text.as_str()], out, err),
+        Outcome::CountFinished => tell_text(&["count finished", "\n"], out, err),
+        Outcome::LotNeeded(refusal) => tell_text(&[refusal.text(), "\n"], out, err),
         Outcome::Refused(refusal) => tell_refusal(line, refusal, err),
         Outcome::Unread(fault) => tell_file_fault(line, *fault, err),
         Outcome::Failed(fault) => tell_failure_at(line, Failure::Office(*fault), err),

@@ -6,26 +6,27 @@
 #![tactic(auto, unfolding(crate::specs::Orders::orders))]
 
 ghost use Rattle.std.specs.Prelude.{◌≡◌, ◌⊎◌, false, Err, None, Some, codes, map, IfErr, IfOk, option_map, string_bytes};
-ghost use Rattle.clap.specs.Words.{first_of, found_of, rows_of, subcommand_rows_of};
+ghost use Rattle.clap.specs.Words.{all_of, first_of, found_of, rows_of, subcommand_rows_of};
 ghost use Rattle.desk.specs.Orders.{ask, no_digest, no_origin, no_verdict, orders, print, told, told_errand, told_text, words_of};
 ghost use Rattle.keyfile.specs.Digests.{digest_bytes};
 ghost use Rattle.wire.specs.Origins.{origin_text};
 ghost use Rattle.desk.specs.Words.{digest_at, is_command_name, is_order_name, meaning, meaning_of, names_order, number_at, number_found, origin_at, sent, text_at};
+ghost use Rattle.desk.specs.Words.{flag_at, texts_at};
 
 use crate::orders::{Errand, Job, KeyingFile, Order, Question, Task};
-use crate::requests::by_office;
+use crate::requests::{by_clerk, by_office};
 use crate::table::{
     ACTOR, BATCH, CANDIDATE, CLERK, CONNECTIONS, DIGEST, Entry, FILE, FIRST_CLERK, Heading, ID,
-    NAME, NEW, ORIGIN, PAPER, PORT, ROUND, SCRIPT, SEATS, SECOND_CLERK, SIZE, STAGE, TITLE, VERDICT,
-    WARD,
-    Word,
+    KEEP_GOING, MARKS, NAME, NEW, ORIGIN, PAPER, PORT, ROUND, SCRIPT, SEATS, SECOND_CLERK, SIZE,
+    STAGE, TITLE, VERDICT, WARD, Word,
 };
 use crate::verdicts::verdict_in;
 use clap::ArgMatches;
 use keyfile::FileDigest;
 use office::Text;
 use register::{
-    BatchCommand, CandidateCommand, Command, CountCommand, VerdictCommand, WardCommand,
+    BatchCommand, CandidateCommand, Command, CountCommand, KeyingCommand, VerdictCommand,
+    WardCommand,
 };
 use std::alloc::{AllocError, Global};
 use wire::Origin;
@@ -47,7 +48,7 @@ macro_rules! order {
 /// All orders, in the sequence of an election; then the one that brings an older office over, those for the office
 /// alone, and those for everyone.
 #[rattlefmt::skip]
-const ORDERS: [Entry; 31] = [
+const ORDERS: [Entry; 35] = [
     order!(Election "init" [], "Makes an office in DB, a new file or an empty one:\ncount-office town.db init"),
     order!(Election "ward" [WARD, SEATS, NAME, ID], "Adds a ward, its nominations open:\ncount-office town.db ward 7 2 Harbour --id w1"),
     order!(Election "candidate" [WARD, CANDIDATE, NAME, ID], "Adds a candidate to a ward:\ncount-office town.db candidate 7 1 Ann --id c1"),
@@ -57,14 +58,17 @@ const ORDERS: [Entry; 31] = [
     order!(Election "batch" [BATCH, WARD, SIZE, FIRST_CLERK, SECOND_CLERK, ID], "Gives out a batch of papers of a ward to two clerks, who key it:\ncount-office town.db batch 12 7 8 4 9 --id b1"),
     order!(Election "import-keying" [CLERK, BATCH, ROUND, FILE, ID, DIGEST],
         "Keeps a clerk's keying of a batch, in a round, from a file:\ncount-office town.db import-keying 4 12 1 k4-12.csv --id k1"),
+    order!(Election "key" [CLERK, BATCH, ROUND, MARKS, ID], "Keeps a clerk's keying of a batch, in a round, a word a paper:\ncount-office town.db key 4 14 1 1,2,, ,1,,2 D --id k3"),
     order!(Election "again" [BATCH, ID], "Opens the next round of a batch whose keyings differ:\ncount-office town.db again 13 --id r1"),
     order!(Election "third" [BATCH, CLERK, ID], "Gives a batch whose keyings differ to a third clerk too:\ncount-office town.db third 13 5 --id t1"),
     order!(Election "judge" [BATCH, PAPER, VERDICT, ID], "Keeps the verdict on a doubtful paper of a batch that is taken:\ncount-office town.db judge 12 6 accept:1,,, --id v1"),
     order!(Election "seal" [WARD, ID], "Seals a ward whose papers are all agreed and judged:\ncount-office town.db seal 7 --id s1"),
     order!(Election "advance" [WARD, ID], "Counts the one stage that is due in a sealed ward:\ncount-office town.db advance 7 --id a1"),
+    order!(Election "count" [WARD, ID], "Counts a sealed ward up to a lot or the end, its first stage under ID-1:\ncount-office town.db count 7 --id a"),
     order!(Election "lot" [WARD, STAGE, CANDIDATE, ID], "Records the candidate whom the lot for a stage named:\ncount-office town.db lot 7 3 4 --id l1"),
     order!(Election "declare" [WARD, ID], "Declares the result of a ward whose count is finished:\ncount-office town.db declare 7 --id d1"),
     order!(Election "status" [WARD], "Tells how a ward stands, at any moment:\ncount-office town.db status 7"),
+    order!(Election "next" [WARD], "Tells what comes next in a ward, with names:\ncount-office town.db next 7"),
     order!(Election "sheet" [WARD], "Prints the stage sheet of a sealed ward:\ncount-office town.db sheet 7"),
     order!(Election "result" [WARD], "Prints the declaration of a declared ward:\ncount-office town.db result 7"),
     order!(Election "serve" [PORT, CONNECTIONS, ORIGIN], "Answers clerks over HTTP on this machine, so many connections:\ncount-office town.db serve 8080 1000"),
@@ -75,7 +79,7 @@ const ORDERS: [Entry; 31] = [
     order!(Office "differences" [BATCH], "Tells on which papers a batch differs, which no clerk is to see:\ncount-office town.db differences 13"),
     order!(Office "papers" [BATCH], "Tells how each paper of a taken batch counts, with the candidates' names:\ncount-office town.db papers 12"),
     order!(Office "receipts" [ACTOR], "Tells what was kept, under which id, of an actor or of all:\ncount-office town.db receipts 0"),
-    order!(Office "replay" [SCRIPT], "Sends the orders of a text file, a line each, up to a refusal:\ncount-office town.db replay evening.txt"),
+    order!(Office "replay" [SCRIPT, KEEP_GOING], "Sends the orders of a text file, a line each, up to a refusal:\ncount-office town.db replay evening.txt"),
     order!(Office "copy" [NEW], "Makes a copy of the office, in a file that isn't there yet:\ncount-office town.db copy evening.db"),
     order!(Everyone "ballots" [WARD], "Prints the ballots of a sealed ward, in a form that counting programs read:\ncount-office town.db ballots 7"),
     order!(Everyone "page" [WARD, TITLE], "Prints the result of a sealed ward as a page for a browser, to print and sign:\ncount-office town.db page 7"),
@@ -137,6 +141,12 @@ fn text_found_in<'a>(matches: &ArgMatches<'a>, word: Word) -> Option<&'a str>
     matches.get_str(word.name)
 }
 
+fn texts_found_in<'m, 'a>(matches: &'m ArgMatches<'a>, word: Word) -> Option<&'m [&'a str]>
+    ensures { option_map (λ texts. map (λ t. t.now) texts.now) result ≡ all_of word.name.now (rows_of (found_of matches.now)) }
+{
+    matches.get_strs(word.name)
+}
+
 fn text_in<'a>(matches: &ArgMatches<'a>, word: Word) -> &'a str
     ensures { result.now ≡ text_at word.name.now (rows_of (found_of matches.now)) }
 {
@@ -150,6 +160,30 @@ fn text_copied(alloc: Global, matches: &ArgMatches<'_>, word: Word) -> Result<St
     ensures { IfOk result (λ text. string_bytes text ≡ text_at word.name.now (rows_of (found_of matches.now))) }
 {
     String::from_str(alloc, text_in(matches, word))
+}
+
+/// The texts that were matched, of which there may be none.
+fn texts_copied(
+    alloc: Global,
+    matches: &ArgMatches<'_>,
+    word: Word,
+) -> Result<Vec<String>, AllocError>
+    ensures { IfOk result (λ texts. map string_bytes texts.items ≡ texts_at word.name.now (rows_of (found_of matches.now))) }
+{
+    let mut texts = Vec::new(alloc);
+    if let Some(all) = texts_found_in(matches, word) {
+        for text in all {
+            texts.push(String::from_str(alloc, text)?)?;
+        }
+    }
+    Ok(texts)
+}
+
+/// Whether a flag was matched, which reads `true` where it was given.
+fn flag_in(matches: &ArgMatches<'_>, word: Word) -> bool
+    ensures { result ≡ flag_at word.name.now (rows_of (found_of matches.now)) }
+{
+    text_in(matches, word) == "true"
 }
 
 /// The origin that was matched, if one was.
@@ -298,6 +332,39 @@ fn import_keying<'a>(matches: &ArgMatches<'a>) -> Result<Order<'a>, NoOrder>
     })))
 }
 
+/// A clerk's keying of the papers that were matched, sent by the clerk.
+fn key<'a>(alloc: Global, matches: &ArgMatches<'a>) -> Result<Order<'a>, NoOrder>
+    ensures ok { IfOk result (λ o. meaning_of (codes "key") (rows_of (found_of matches.now)) ≡ Some (told o)) }
+    ensures err { IfErr result (λ why. why ≡ NoOrder.Memory) }
+{
+    let id = text_copied(alloc, matches, ID)?;
+    let command = KeyingCommand {
+        batch: number_in(matches, BATCH),
+        round: number_in(matches, ROUND),
+        papers: texts_copied(alloc, matches, MARKS)?,
+    };
+    let clerk = number_in(matches, CLERK);
+    Ok(in_office(Errand::Send(by_clerk(clerk, id, Command::Keying(command)))))
+}
+
+fn counting<'a>(matches: &ArgMatches<'a>) -> Order<'a>
+    ensures { meaning_of (codes "count") (rows_of (found_of matches.now)) ≡ Some (told result) }
+{
+    in_office(Errand::Count {
+        ward: number_in(matches, WARD),
+        id: text_in(matches, ID),
+    })
+}
+
+fn replay<'a>(matches: &ArgMatches<'a>) -> Order<'a>
+    ensures { meaning_of (codes "replay") (rows_of (found_of matches.now)) ≡ Some (told result) }
+{
+    Order::Perform(Task::InOffice(Job::Replay {
+        file: text_in(matches, SCRIPT),
+        keep_going: flag_in(matches, KEEP_GOING),
+    }))
+}
+
 fn serve<'a>(matches: &ArgMatches<'a>) -> Result<Order<'a>, NoOrder>
     ensures ok { IfOk result (λ o. meaning_of (codes "serve") (rows_of (found_of matches.now)) ≡ Some (told o)) }
     ensures err { IfErr result (λ why. (why ≡ NoOrder.BadOrigin) × (meaning_of (codes "serve") (rows_of (found_of matches.now)) ≡ Some no_origin)) }
@@ -359,6 +426,9 @@ fn order_named<'a>(
         "migrate" => Ok(Order::Perform(Task::Migrate)),
         "import-candidates" => import_candidates(matches),
         "import-keying" => import_keying(matches),
+        "key" => key(alloc, matches),
+        "count" => Ok(counting(matches)),
+        "next" => Ok(in_office(Errand::TellNext { ward })),
         "status" => Ok(in_office(Errand::TellStatus { ward })),
         "sheet" => Ok(printing(matches, Text::Sheet)),
         "result" => Ok(printing(matches, Text::Declaration)),
@@ -373,9 +443,7 @@ fn order_named<'a>(
         "differences" => Ok(asking(Question::Differences { batch })),
         "papers" => Ok(asking(Question::Papers { batch })),
         "receipts" => Ok(asking(Question::Receipts { actor })),
-        "replay" => Ok(Order::Perform(Task::InOffice(Job::Replay {
-            file: text_in(matches, SCRIPT),
-        }))),
+        "replay" => Ok(replay(matches)),
         "copy" => Ok(Order::Copy {
             path: text_in(matches, NEW),
         }),

@@ -42,7 +42,7 @@ pub enum Question {
 /// not.
 #[derive(Debug, Drop)]
 pub enum Errand<'a> {
-    /// Send it this request, which is the office's own.
+    /// Send it this request: one of the office's own, or a clerk's keying.
     Send(Request),
     /// Add the candidates of a file, each under this id, a hyphen, and its record's number. The file must have a
     /// digest, if one is asked for.
@@ -53,8 +53,17 @@ pub enum Errand<'a> {
     },
     /// Keep a clerk's keying.
     ImportKeying(KeyingFile<'a>),
+    /// Count the stages of a ward up to a lot or the end, each under this id, a hyphen, and its number in the order.
+    Count {
+        ward: u32,
+        id: &'a str,
+    },
     /// Tell how a ward stands.
     TellStatus {
+        ward: u32,
+    },
+    /// Tell what comes next in a ward.
+    TellNext {
         ward: u32,
     },
     /// Print a text of a ward.
@@ -88,7 +97,10 @@ impl<'a> Errand<'a> {
     {
         matches!(
             self,
-            Errand::Send(_) | Errand::ImportCandidates { .. } | Errand::ImportKeying(_)
+            Errand::Send(_)
+                | Errand::ImportCandidates { .. }
+                | Errand::ImportKeying(_)
+                | Errand::Count { .. }
         )
     }
 }
@@ -98,8 +110,8 @@ impl<'a> Errand<'a> {
 pub enum Job<'a> {
     /// Run this errand.
     Run(Errand<'a>),
-    /// Run the errands of a script in turn.
-    Replay { file: &'a str },
+    /// Run the errands of a script in turn, up to the first that is refused; or past each of these.
+    Replay { file: &'a str, keep_going: bool },
 }
 
 /// What is done over a connection to the office's database, and needs no more than that.
@@ -120,7 +132,7 @@ impl<'a> Task<'a> {
     {
         match self {
             Task::InOffice(Job::Run(errand)) => errand.file(),
-            Task::InOffice(Job::Replay { file }) => Some(file),
+            Task::InOffice(Job::Replay { file, .. }) => Some(file),
             Task::Init | Task::Migrate => None,
         }
     }

@@ -23,6 +23,10 @@ pub(crate) enum Kind {
     Title,
     /// A digest in 64 hexadecimal digits, after `--sha256`; it may be left out.
     Digest,
+    /// Any texts, one or more words behind the others; or none.
+    Texts,
+    /// A flag: `--` and its name, which may be left out.
+    Flag,
 }
 
 /// A word that an order takes, and its line of help.
@@ -92,6 +96,9 @@ pub(crate) const ACTOR: Word =
 pub(crate) const ROUND: Word =
     word!(Number "ROUND", "The round that the batch is in, 1 to 99; it begins with 1");
 
+pub(crate) const MARKS: Word =
+    word!(Texts "MARKS", "The marks of its papers in turn, a word a paper: a field for each candidate,\nparted by commas, or D where the paper is doubtful");
+
 pub(crate) const PAPER: Word = word!(Number "PAPER", "The paper's number in the batch, 1 to 500");
 
 pub(crate) const VERDICT: Word =
@@ -108,6 +115,9 @@ pub(crate) const NEW: Word =
 
 pub(crate) const SCRIPT: Word =
     word!(Text "FILE", "The path of a script; docs/FORMATS.md tells its form");
+
+pub(crate) const KEEP_GOING: Word =
+    word!(Flag "keep-going", "Goes past refusals, each told with its line, and ends with status 1 then");
 
 pub(crate) const ID: Word =
     word!(Id "id", "An id that you choose for this order, 1 to 40 of a-z, 0-9 and -;\nsent again under the same id, it does nothing twice");

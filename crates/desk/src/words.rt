@@ -13,7 +13,7 @@ use crate::orders::Order;
 use crate::table::{Entry, Heading, Kind, MAX_CONNECTIONS, MAX_PORT, Word};
 use crate::version::{VERSION, version_text};
 use clap::error::ErrorKind;
-use clap::{Arg, Command, Error, value_parser};
+use clap::{Arg, ArgAction, Command, Error, value_parser};
 use std::alloc::{AllocError, Global};
 use std::fmt::Display;
 
@@ -104,6 +104,8 @@ fn arg_of<'a>(alloc: Global, word: Word) -> Arg<'a>
         Kind::Origin => arg.long(word.name).value_name("ORIGIN"),
         Kind::Title => arg.long(word.name).value_name("TEXT"),
         Kind::Digest => arg.long(word.name).value_name("HEX"),
+        Kind::Texts => arg.action(ArgAction::Append),
+        Kind::Flag => arg.long(word.name).action(ArgAction::SetTrue),
     }
 }
 

@@ -14,6 +14,12 @@ returns-in-Migrated g c = rw c.in-Migrated.is (printed_shown c.args.line _ _ _ _
 pub returns-in-Replied : goal.returns-in-Replied
 returns-in-Replied g c = rw c.in-Replied.is (printed_shown c.args.line _ _ _ _ (rw c.as_str.ensures.value at c.tell_text-in-Replied.ensures))
 
+pub returns-in-CountFinished : goal.returns-in-CountFinished
+returns-in-CountFinished g c = rw c.in-CountFinished.is (printed_shown c.args.line _ _ _ _ c.tell_text-in-CountFinished.ensures)
+
+pub returns-in-LotNeeded : goal.returns-in-LotNeeded
+returns-in-LotNeeded g c = rw c.in-LotNeeded.is (printed_shown c.args.line _ _ _ _ (rw c.text.ensures at c.tell_text-in-LotNeeded.ensures))
+
 pub returns-in-Refused : goal.returns-in-Refused
 returns-in-Refused g c =
     rw c.in-Refused.is (front_shown g.O.Sink.taken g.O.Sink.failed g.E.Sink.taken g.E.Sink.failed c.args.line _ _ _ (refused c.in-Refused.refusal) c.tell_refusal.result _ _ refl refl c.tell_refusal.ensures)
