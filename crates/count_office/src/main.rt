@@ -23,8 +23,8 @@ mod traces;
 
 use desk::perform::perform;
 use desk::{
-    CopyState, Failure, Folder, Order, Progress, Task, WordsFault, copy_office, order, serve_on,
-    tell_failure, tell_words,
+    CopyState, Failure, Folder, Order, Progress, Task, WordsFault, copy_office, journal_office,
+    order, serve_on, tell_failure, tell_words,
 };
 use fresh::Fresh;
 use office::Office;
@@ -120,6 +120,7 @@ fn perform_on<S: Alter, O: Sink, E: Sink>(
             origin,
         } => serve(rt, conn, *port, *connections, *origin, err),
         Order::Copy { path } => copy(rt, conn, office, path, out, err),
+        Order::Journal => journal(rt, conn, out, err),
     }
 }
 
@@ -184,6 +185,30 @@ fn copy<S: Alter, O: Sink, E: Sink>(
             }
             drop(left);
             (tell_failure(failure_of(error), err), conn)
+        }
+    }
+}
+
+/// Prints the journal of the office, once it was played in an empty one that is kept in memory alone. The office is only
+/// read.
+fn journal<S: Alter, O: Sink, E: Sink>(
+    rt: &HostRuntime,
+    mut conn: Connection<S>,
+    out: &mut O,
+    err: &mut E,
+) -> (u8, Connection<S>)
+    requires out { O.failed out.old < 2 ^ 64 - 1 }
+    requires err { E.failed err.old < 2 ^ 64 - 1 }
+    ensures { OnlyReads (state S.Store conn) (state S.Store result.1) }
+{
+    match Connection::open_in_memory(rt.alloc()) {
+        Ok(blank) => {
+            let (status, _) = journal_office(rt.alloc(), &mut conn, blank, out, err);
+            (status, conn)
+        }
+        Err(_) => {
+            let status = tell_failure(Failure::Office(Fault::Memory), err);
+            (status, conn)
         }
     }
 }

@@ -14,6 +14,9 @@ use store::{CopyFault, Fault, Migrated};
 use thiserror::Error;
 use votes::{Broken, Sink, put_all};
 
+/// What is told of an office whose receipts and other tables don't belong together.
+const NO_JOURNAL: &str = "no journal: the receipts are not those of these tables\n";
+
 /// What an order came to.
 #[derive(Drop)]
 pub(crate) enum Outcome {
@@ -33,6 +36,8 @@ pub(crate) enum Outcome {
     Failed(Fault),
     /// No copy is told.
     Uncopied(CopyFault),
+    /// The office has no journal.
+    Unjournalled,
 }
 
 /// Why the program gives up: a fault of the office, told by its number 101 to 106 or 108; an output that
@@ -222,9 +227,9 @@ fn migrated_text(migrated: Migrated) -> &'static str
 }
 
 /// Tells an outcome, and gives its status. The status is 0 where it is told on the output. On the error output it is 1
-/// for a refusal of a request or a file, and 3 for a fault or a file that couldn't be read. Where one of the two fails
-/// it is 3, and that output has taken a beginning. If the outcome is that of a script's line, what goes to the error
-/// output begins with the number of that line.
+/// for a refusal of a request or a file, and for an office without a journal, and 3 for a fault or a file that couldn't
+/// be read. Where one of the two fails it is 3, and that output has taken a beginning. If the outcome is that of a
+/// script's line, what goes to the error output begins with the number of that line.
 pub(crate) fn tell<O: Sink, E: Sink>(
     line: Option<usize>,
     outcome: &Outcome,
@@ -244,6 +249,7 @@ pub(crate) fn tell<O: Sink, E: Sink>(
         Outcome::Unread(fault) => tell_file_fault(line, *fault, err),
         Outcome::Failed(fault) => tell_failure_at(line, Failure::Office(*fault), err),
         Outcome::Uncopied(fault) => tell_failure_at(line, failure_of(*fault), err),
+        Outcome::Unjournalled => tell_error(line, &[NO_JOURNAL], 1, err),
     }
 }
 

@@ -43,7 +43,7 @@ macro_rules! order {
 /// All orders, in the sequence of an election; then the one that brings an older office over, those for the office
 /// alone, and those for everyone.
 #[rattlefmt::skip]
-const ORDERS: [Entry; 30] = [
+const ORDERS: [Entry; 31] = [
     order!(Election "init" [], "Makes an office in DB, a new file or an empty one:\ncount-office town.db init"),
     order!(Election "ward" [WARD, SEATS, NAME, ID], "Adds a ward, its nominations open:\ncount-office town.db ward 7 2 Harbour --id w1"),
     order!(Election "candidate" [WARD, CANDIDATE, NAME, ID], "Adds a candidate to a ward:\ncount-office town.db candidate 7 1 Ann --id c1"),
@@ -69,6 +69,7 @@ const ORDERS: [Entry; 30] = [
     order!(Office "doubtful" [WARD], "Tells the doubtful papers of a ward, each open or with its verdict:\ncount-office town.db doubtful 7"),
     order!(Office "differences" [BATCH], "Tells on which papers a batch differs, which no clerk is to see:\ncount-office town.db differences 13"),
     order!(Office "receipts" [ACTOR], "Tells what was kept, under which id, of an actor or of all:\ncount-office town.db receipts 0"),
+    order!(Office "journal" [], "Prints the accepted orders of the office as a script, whole:\ncount-office town.db journal"),
     order!(Office "replay" [SCRIPT], "Sends the orders of a text file, a line each, up to a refusal:\ncount-office town.db replay evening.txt"),
     order!(Office "copy" [NEW], "Makes a copy of the office, in a file that isn't there yet:\ncount-office town.db copy evening.db"),
     order!(Everyone "ballots" [WARD], "Prints the ballots of a sealed ward, in a form that counting programs read:\ncount-office town.db ballots 7"),
@@ -331,6 +332,7 @@ fn order_named<'a>(
         "replay" => Ok(Order::Perform(Task::InOffice(Job::Replay {
             file: text_in(matches, SCRIPT),
         }))),
+        "journal" => Ok(Order::Journal),
         "copy" => Ok(Order::Copy {
             path: text_in(matches, NEW),
         }),
