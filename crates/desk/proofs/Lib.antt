@@ -9,6 +9,7 @@ pub mod KeptLemmas
 pub mod ScriptLemmas
 pub mod ScriptEnds
 pub mod CopyingLemmas
+pub mod JournalLemmas
 pub mod ServedLemmas
 pub mod WordsRefused
 pub mod FaultsRead
