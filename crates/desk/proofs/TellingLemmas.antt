@@ -33,6 +33,7 @@ silent (outcome.Refused why) zero = absurd (omega arith)
 silent (outcome.Unread fault) zero = absurd (file_ends (is_stop fault.flaw) (page_of (outcome.Unread fault)).status refl zero)
 silent (outcome.Failed fault) zero = absurd (omega arith)
 silent (outcome.Uncopied why) zero = absurd (omega arith)
+silent outcome.Unjournalled zero = absurd (omega arith)
 
 pub silent_front : (line : Option ℕ) (o : Outcome) → IsQuiet (fronted line (page_of o))
 silent_front line o zero = fronted_quiet line (page_of o) (silent o (sym (fronted_status line (page_of o)) ∙ zero))

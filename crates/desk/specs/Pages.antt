@@ -106,7 +106,7 @@ failed failure = record { out = []; err = numbered_line (codes "fault ") (failur
 
 -- that there is no journal of the office: its receipts and its other tables don't belong together
 abbrev pub unjournalled : Page
-unjournalled = record { out = []; err = codes "no journal: the receipts are not those of these tables\n"; status = 1 }
+unjournalled = record { out = []; err = line (codes "no journal: the receipts are not those of these tables"); status = 1 }
 
 -- what the machine tells
 abbrev pub page_told : Told → Page

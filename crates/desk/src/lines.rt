@@ -3,7 +3,7 @@
 ghost use Rattle.std.specs.Prelude.{◌≡◌, ◌⊎◌, ◌-◌, ◌^◌, ◌<◌, ◌++◌};
 ghost use Rattle.std.specs.List.{flat_map};
 ghost use Rattle.desk.specs.Pages.{IsErrorTold, IsPut, Shows, fronted, line_front, migrated_text, numbered_line, outputs_of, printed, status_of_file};
-ghost use Rattle.desk.specs.Pages.{failed, failure_number, failure_of, failure_text, page_of, refused, script_page, unread, words_page};
+ghost use Rattle.desk.specs.Pages.{failed, failure_number, failure_of, failure_text, page_of, refused, script_page, unjournalled, unread, words_page};
 
 use crate::scripts::ScriptFault;
 use crate::words::{BAD_ORIGIN, WordsFault};
@@ -15,7 +15,7 @@ use thiserror::Error;
 use votes::{Broken, Sink, put_all};
 
 /// What is told of an office whose receipts and other tables don't belong together.
-const NO_JOURNAL: &str = "no journal: the receipts are not those of these tables\n";
+const NO_JOURNAL: &str = "no journal: the receipts are not those of these tables";
 
 /// What an order came to.
 #[derive(Drop)]
@@ -186,6 +186,14 @@ fn tell_file_fault<E: Sink>(line: Option<usize>, fault: FileFault, err: &mut E) 
     tell_error(line, &pieces, status_of_file(fault), err)
 }
 
+/// Tells that an office has no journal, and gives the status: 1, or 3 where the error output fails.
+fn tell_no_journal<E: Sink>(line: Option<usize>, err: &mut E) -> u8
+    requires { E.failed err.old < 2 ^ 64 - 1 }
+    ensures { IsErrorTold E.taken E.failed err.old err.new (line_front line ++ unjournalled.err) 1 result }
+{
+    tell_error(line, &[NO_JOURNAL, "\n"], 1, err)
+}
+
 /// Tells a failure, and gives its status, 3.
 fn tell_failure_at<E: Sink>(line: Option<usize>, failure: Failure, err: &mut E) -> u8
     requires { E.failed err.old < 2 ^ 64 - 1 }
@@ -249,7 +257,7 @@ pub(crate) fn tell<O: Sink, E: Sink>(
         Outcome::Unread(fault) => tell_file_fault(line, *fault, err),
         Outcome::Failed(fault) => tell_failure_at(line, Failure::Office(*fault), err),
         Outcome::Uncopied(fault) => tell_failure_at(line, failure_of(*fault), err),
-        Outcome::Unjournalled => tell_error(line, &[NO_JOURNAL], 1, err),
+        Outcome::Unjournalled => tell_no_journal(line, err),
     }
 }
 
