@@ -5,7 +5,7 @@ source "$(dirname "$(readlink -f "${BASH_SOURCE[0]}")")/play.bash"
 {
     play --help
     for order in init ward candidate import-candidates withdraw close batch import-keying again third judge seal advance lot declare \
-        status sheet result serve migrate wards batches doubtful differences receipts replay copy ballots page table; do
+        status sheet result serve migrate wards batches doubtful differences receipts journal replay copy ballots page table; do
         play town.db "$order" --help
     done
     # without a database too
