@@ -83,7 +83,7 @@ printf '%s\n' ward,candidate,name 7,1,Ann 7,2,Bob 7,3,Cy 7,4,Dee >"$folder/names
     play twice.db replay twice.txt
     keep_journal twice.db same.txt
     tell_changes evening.txt same.txt
-    head -c 640 "$folder/evening.txt" >"$folder/cut.txt"
+    sed '/^key 9 13 /{s/ [^ ]*$//;q}' "$folder/evening.txt" >"$folder/cut.txt"
     play cut.db init
     play cut.db replay cut.txt
     tac "$folder/evening.txt" >"$folder/backwards.txt"
@@ -98,7 +98,6 @@ printf '%s\n' ward,candidate,name 7,1,Ann 7,2,Bob 7,3,Cy 7,4,Dee >"$folder/names
     play odd.db withdraw 1 2 --id=--id
     play odd.db candidate --id=-h -- 1 2 --
     play odd.db candidate --id 7 -- 1 3 -1
-    play odd.db close 1 --id --id
     play odd.db close 1 --id n
     play odd.db batch 1 1 1 1 999 --id b
     play odd.db journal
