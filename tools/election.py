@@ -63,7 +63,7 @@ REPLAY = (["replay", SCRIPT], ["# the last candidate, a batch, and the first key
 # Orders that change nothing: each is tried over the office before the order of this number.
 READS = [
     (len(ELECTION), ["status", "7"]), (len(ELECTION), ["sheet", "7"]), (len(ELECTION), ["result", "7"]),
-    (17, ["advance", "7", "--id", "a3"]), (0, ["status", "7"]), (len(ELECTION), ["wards"]), (len(ELECTION), ["receipts"]),
+    (17, ["advance", "7", "--id", "a3"]), (0, ["status", "7"]), (len(ELECTION), ["wards"]), (len(ELECTION), ["receipts"]), (len(ELECTION), ["journal"]),
     (13, ["batches", "7"]), (13, ["doubtful", "7"]), (9, ["differences", "12"]),
 ]
 
