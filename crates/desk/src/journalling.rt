@@ -23,9 +23,10 @@ use std::alloc::{AllocError, Global};
 use store::Fault;
 use votes::Sink;
 
-/// The text of a journal, and the requests that a script's reader finds in it; None where it finds something else.
+/// The text of a journal that isn't tried yet, and the requests that a script's reader finds in it; None where it finds
+/// something else.
 #[derive(Drop)]
-struct Written {
+struct Draft {
     text: String,
     requests: Option<Vec<Request>>,
 }
@@ -59,13 +60,13 @@ fn requests_in(alloc: Global, text: &str) -> Result<Option<Vec<Request>>, AllocE
 }
 
 /// The text of the journal of the office of these rows, and its requests as they are read back.
-fn written(alloc: Global, rows: &Rows) -> Result<Written, AllocError>
+fn draft_of(alloc: Global, rows: &Rows) -> Result<Draft, AllocError>
     requires { MapsRise (state_of rows.now) }
-    ensures { IfOk result (λ it. IfSome it.requests (λ requests. IsScriptOf (string_bytes it.text) requests.items)) }
+    ensures { IfOk result (λ draft. IfSome draft.requests (λ requests. IsScriptOf (string_bytes draft.text) requests.items)) }
 {
     let text = journal_text(alloc, rows)?;
     let requests = requests_in(alloc, text.as_str())?;
-    Ok(Written { text, requests })
+    Ok(Draft { text, requests })
 }
 
 /// The journal of the office of these rows, or why it isn't told. It is played in the database of a connection, which has
@@ -78,8 +79,8 @@ fn journal_of<T: Alter>(
     requires { MapsRise (state_of rows.now) }
     ensures { HasCleanDisk (state T.Store result.1) → IsBlank (state T.Store blank) → IsJournalTold (state_of rows.now) (page_of result.0) }
 {
-    let Written { text, requests } = match written(alloc, rows) {
-        Ok(written) => written,
+    let Draft { text, requests } = match draft_of(alloc, rows) {
+        Ok(draft) => draft,
         Err(AllocError) => return (Outcome::Failed(Fault::Memory), blank),
     };
     let Some(requests) = requests else {

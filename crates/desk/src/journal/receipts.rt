@@ -39,10 +39,17 @@ fn put_place(
 impl<'a> Kept<'a> {
     /// The places of the receipts about something.
     fn about(&self, subject: &str) -> &'a [usize] {
-        match self.places.get(subject) {
+        let all = self.places;
+        match all.get(subject) {
             Some(places) => places.as_slice(),
             None => &[],
         }
+    }
+
+    /// The receipt at a place.
+    fn at(&self, place: usize) -> Option<&'a Receipt> {
+        let rows = self.rows;
+        rows.receipts.get(place)
     }
 
     /// How many receipts are about something.
@@ -53,7 +60,7 @@ impl<'a> Kept<'a> {
     /// Of the receipts about something the one of a number, from 0 on.
     pub(crate) fn numbered(&self, subject: &str, number: usize) -> Option<&'a Receipt> {
         let place = self.about(subject).get(number)?;
-        self.rows.receipts.get(*place)
+        self.at(*place)
     }
 
     /// The receipt about something, of which there is one at most.
@@ -64,7 +71,7 @@ impl<'a> Kept<'a> {
     /// Of the receipts about something that of an actor.
     pub(crate) fn of_actor(&self, subject: &str, actor: u32) -> Option<&'a Receipt> {
         for place in self.about(subject) {
-            match self.rows.receipts.get(*place) {
+            match self.at(*place) {
                 Some(receipt) if receipt.actor == actor => return Some(receipt),
                 _ => {}
             }
@@ -75,7 +82,7 @@ impl<'a> Kept<'a> {
     /// Of the receipts about something the first whose reply begins so.
     pub(crate) fn replied(&self, subject: &str, front: &str) -> Option<&'a Receipt> {
         for place in self.about(subject) {
-            match self.rows.receipts.get(*place) {
+            match self.at(*place) {
                 Some(receipt) if receipt.reply.as_str().starts_with(front) => return Some(receipt),
                 _ => {}
             }

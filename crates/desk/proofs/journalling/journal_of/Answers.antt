@@ -6,7 +6,7 @@ use Rattle.desk.proofs.journalling.journal_of.Goals as goal
 
 -- it was read back, and its requests lead to the state of the rows
 pub returns-in-true : goal.returns-in-true
-returns-in-true g c clean blank = inl (string_bytes c.in-Ok.written.text, refl, c.in-Some.requests.items, c.in-Ok.ensures, c.leads_to.ensures.leads clean blank refl)
+returns-in-true g c clean blank = inl (string_bytes c.in-Ok.draft.text, refl, c.in-Some.requests.items, c.in-Ok.ensures, c.leads_to.ensures.leads clean blank refl)
 
 pub returns-in-false : goal.returns-in-false
 returns-in-false g c clean blank = inr (inl refl)
