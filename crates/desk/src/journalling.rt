@@ -69,8 +69,8 @@ fn draft_of(alloc: Global, rows: &Rows) -> Result<Draft, AllocError>
     Ok(Draft { text, requests })
 }
 
-/// The journal of the office of these rows, or why it isn't told. It is played in the database of a connection, which has
-/// nothing in it, and which is handed back.
+/// The journal of the office of these rows, or why it isn't told. It is played in the database of a connection, which
+/// has nothing in it. The connection is handed back.
 fn journal_of<T: Alter>(
     alloc: Global,
     rows: &Rows,

@@ -58,8 +58,8 @@ fn has_rows<S: Alter>(
 }
 
 impl<S: Alter> Office<S> {
-    /// All entries of the office that a connection's database holds, each table's in the order of its keys. No office is
-    /// open afterwards.
+    /// All entries of the office that a connection's database holds, each table's in the order of its keys. No office
+    /// is open afterwards.
     ///
     /// What `open_from` would tell is told. Nothing is changed.
     pub fn rows(alloc: Global, conn: &mut Connection<S>) -> Result<Rows, Fault>
@@ -82,9 +82,9 @@ impl<S: Alter> Office<S> {
         }
     }
 
-    /// Plays requests over an empty office, which it makes in a connection's database, and says whether they lead to the
-    /// office of these rows: each is accepted, and the entries are the same in the end, receipts too. The connection is
-    /// handed back.
+    /// Plays requests over an empty office, which it makes in a connection's database, and says whether they lead to
+    /// the office of these rows: each is accepted, and the entries are the same in the end, receipts too. The
+    /// connection is handed back.
     pub fn leads_to(
         alloc: Global,
         blank: Connection<S>,
