@@ -1,18 +1,17 @@
 -- A list of requests, one more at a time.
 use Rattle.std.proofs.Common.{◌≡◌, ◌≤◌, ◌<◌, ◌+◌, inl, inr, ℕ, Bool, List, [], ◌∷◌, ◌++◌, length, map, take, get_or, Err, refl, sym, ap, ◌∙◌, arith}
-use Rattle.std.specs.List.{list_all}
-use Rattle.std.proofs.lemmas.List.{take_more, take_all, map-append}
+use Rattle.std.proofs.lemmas.List.{take_more, map-append}
 use Rattle.std.proofs.lemmas.List.Sums.{fold-append}
 use Rattle.sqlite.specs.State.{State}
 use Rattle.register.specs.declared.command.Request.{Request}
 use Rattle.register.specs.Offices.{OfficeState, empty_office}
-use Rattle.register.specs.Machine.{Outcome, accepted, kept, refused, is_accepted, step_of, after_one, after}
+use Rattle.register.specs.Machine.{step_of, after_one, after}
 use Rattle.register.proofs.ListLaws.{after-more, after-accepted_of}
 use Rattle.tables.specs.declared.fault.Fault.{Fault}
 use Rattle.store.specs.Offices.{IsAt, LeavesState}
 use Rattle.office.specs.declared.answers.Answer.{Answer}
-use Rattle.office.specs.Answers.{told, told_of, is_done, Handled}
-use Rattle.office.specs.Runs.{outcomes, are_accepted, IsAfterBeginning, StopsAfter}
+use Rattle.office.specs.Answers.{told, told_of, Handled}
+use Rattle.office.specs.Runs.{outcomes, IsAfterBeginning, StopsAfter}
 
 outcomes_push : (s : OfficeState) (rs : List Request) (r : Request) → outcomes s (rs ++ r ∷ []) ≡ outcomes s rs ++ step_of (after s rs) r ∷ []
 outcomes_push s [] r = refl
@@ -25,21 +24,6 @@ answers_more s rs i d given a within so_far last =
     map-append told given (a ∷ []) ∙ ap (λ l. l ++ told a ∷ []) so_far ∙ ap (λ t. map told_of (outcomes s (take i rs)) ++ t ∷ []) last
     ∙ sym (map-append told_of (outcomes s (take i rs)) (step_of (after s (take i rs)) (get_or rs i d) ∷ []))
     ∙ sym (ap (map told_of) (ap (outcomes s) (take_more rs i d within) ∙ outcomes_push s (take i rs) (get_or rs i d)))
-
-is_done_of : (o : Outcome) → is_done (told_of o) ≡ is_accepted o
-is_done_of (accepted next reply) = refl
-is_done_of (kept reply) = refl
-is_done_of (refused why) = refl
-
-all_done_of : (os : List Outcome) → list_all is_done (map told_of os) ≡ list_all is_accepted os
-all_done_of [] = refl
-all_done_of (o ∷ os) = rw (is_done_of o, all_done_of os) refl
-
--- where each request was answered, all answers tell of accepted ones just where all are accepted
-pub done_where_accepted : (s : OfficeState) (rs : List Request) (answers : List Answer) → length answers ≡ length rs → map told answers ≡ map told_of (outcomes s (take (length answers) rs))
-    → list_all is_done (map told answers) ≡ are_accepted s rs
-done_where_accepted s rs answers all same =
-    ap (list_all is_done) (same ∙ ap (λ l. map told_of (outcomes s l)) (take_all (length answers) rs (omega (arith, all)))) ∙ all_done_of (outcomes s rs)
 
 -- the state after some requests is that after the accepted ones of the whole list so far
 pub beginning : (earlier rs : List Request) (answered count : ℕ) → answered ≤ count → count ≤ answered + 1 → count ≤ length rs → (s : OfficeState)

@@ -46,8 +46,8 @@ fn has_rows<S: Alter>(
     conn: &mut Connection<S>,
     rows: &Rows,
 ) -> Result<bool, Fault>
-    ensures yes { HasCleanDisk (state S.Store conn.new) → (s : OfficeState) → IsAt s (state S.Store conn.old) → IfOk result (λ has. has ≡ true → s ≡ state_of rows.now) }
-    ensures no { HasCleanDisk (state S.Store conn.new) → (s : OfficeState) → IsAt s (state S.Store conn.old) → IfOk result (λ has. has ≡ false → ¬ (s ≡ state_of rows.now)) }
+    ensures same { HasCleanDisk (state S.Store conn.new) → (s : OfficeState) → IsAt s (state S.Store conn.old) → IfOk result (λ has. has ≡ true → s ≡ state_of rows.now) }
+    ensures other { HasCleanDisk (state S.Store conn.new) → (s : OfficeState) → IsAt s (state S.Store conn.old) → IfOk result (λ has. has ≡ false → ¬ (s ≡ state_of rows.now)) }
     ensures told { IfErr result IsMemoryOrStore }
     ensures clean { HasCleanDisk (state S.Store conn.new) → HasCleanDisk (state S.Store conn.old) }
 {

@@ -8,8 +8,8 @@ use crate::rows::Rows;
 /// Whether the rows of two offices stand for one state. What is tabulated of the counts follows from the state, and
 /// isn't compared.
 pub fn are_same(rows: &Rows, others: &Rows) -> bool
-    ensures yes { result ≡ true → state_of rows.now ≡ state_of others.now }
-    ensures no { state_of rows.now ≡ state_of others.now → result ≡ true }
+    ensures same { result ≡ true → state_of rows.now ≡ state_of others.now }
+    ensures whole { state_of rows.now ≡ state_of others.now → result ≡ true }
 {
     let wards = rows.wards == others.wards;
     let candidates = rows.candidates == others.candidates;

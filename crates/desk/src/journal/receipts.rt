@@ -47,7 +47,7 @@ impl<'a> Kept<'a> {
     }
 
     /// The receipt at a place.
-    fn at(&self, place: usize) -> Option<&'a Receipt> {
+    fn receipt_at(&self, place: usize) -> Option<&'a Receipt> {
         let rows = self.rows;
         rows.receipts.get(place)
     }
@@ -60,7 +60,7 @@ impl<'a> Kept<'a> {
     /// Of the receipts about something the one of a number, from 0 on.
     pub(crate) fn numbered(&self, subject: &str, number: usize) -> Option<&'a Receipt> {
         let place = self.about(subject).get(number)?;
-        self.at(*place)
+        self.receipt_at(*place)
     }
 
     /// The receipt about something, of which there is one at most.
@@ -71,7 +71,7 @@ impl<'a> Kept<'a> {
     /// Of the receipts about something that of an actor.
     pub(crate) fn of_actor(&self, subject: &str, actor: u32) -> Option<&'a Receipt> {
         for place in self.about(subject) {
-            match self.at(*place) {
+            match self.receipt_at(*place) {
                 Some(receipt) if receipt.actor == actor => return Some(receipt),
                 _ => {}
             }
@@ -82,7 +82,7 @@ impl<'a> Kept<'a> {
     /// Of the receipts about something the first whose reply begins so.
     pub(crate) fn replied(&self, subject: &str, front: &str) -> Option<&'a Receipt> {
         for place in self.about(subject) {
-            match self.at(*place) {
+            match self.receipt_at(*place) {
                 Some(receipt) if receipt.reply.as_str().starts_with(front) => return Some(receipt),
                 _ => {}
             }

@@ -11,7 +11,7 @@ use Rattle.desk.proofs.journalling.journalled.Goals as goal
 
 -- the rows that were read are those of a state
 pub journal_of-requires : goal.journal_of-requires
-journal_of-requires g c = c.in-Ok.ensures.state.rise
+journal_of-requires g c = c.in-Ok.ensures.is.rise
 
 pub returns-in-Ok-clause-told : goal.returns-in-Ok-clause-told
 returns-in-Ok-clause-told g c clean also =

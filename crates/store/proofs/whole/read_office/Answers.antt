@@ -12,7 +12,7 @@ returns-in-Ok g c =
     let old = state g.S.Store c.args.conn.now in
     let read = c.in-Ok.ensures in
     record {
-      state = read.judged.0;
+      is = read.judged.0;
       found = λ clean db ours rests. (read.holds clean db ours rests).0;
       left = λ clean db rests s left. read_left s x db left (read.holds clean db (left_ours s db left) rests).0;
       kept = λ clean s at.
@@ -29,7 +29,7 @@ pub returns : goal.returns
 returns g c =
     let read = c.in-Err.ensures in
     record {
-      state = tt;
+      is = tt;
       found = λ clean db ours rests. tt;
       left = λ clean db rests s left. tt;
       kept = λ clean s at. tt;
