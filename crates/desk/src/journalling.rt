@@ -33,7 +33,7 @@ struct Draft {
 
 /// The requests that turns send, None where one of them reads a file or asks something.
 fn requests_of(alloc: Global, turns: Vec<Turn<'_>>) -> Result<Option<Vec<Request>>, AllocError>
-    ensures { IfOk result (λ found. IfSome found (λ requests. AreSent turns.items requests.items)) }
+    ensures { IfOk result (λ found. IfSome found (λ requests. AreSent turns.entry.items requests.items)) }
 {
     let mut requests = Vec::new(alloc);
     for turn in turns {
