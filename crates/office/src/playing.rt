@@ -41,11 +41,7 @@ fn are_done(answers: &[Answer]) -> bool
 }
 
 /// Whether the office that a connection's database holds has these entries.
-fn has_rows<S: Alter>(
-    alloc: Global,
-    conn: &mut Connection<S>,
-    rows: &Rows,
-) -> Result<bool, Fault>
+fn has_rows<S: Alter>(alloc: Global, conn: &mut Connection<S>, rows: &Rows) -> Result<bool, Fault>
     ensures same { HasCleanDisk (state S.Store conn.new) → (s : OfficeState) → IsAt s (state S.Store conn.old) → IfOk result (λ has. has ≡ true → s ≡ state_of rows.now) }
     ensures other { HasCleanDisk (state S.Store conn.new) → (s : OfficeState) → IsAt s (state S.Store conn.old) → IfOk result (λ has. has ≡ false → ¬ (s ≡ state_of rows.now)) }
     ensures told { IfErr result IsMemoryOrStore }

@@ -12,11 +12,7 @@ use rowcheck::finding::lots_of;
 use std::alloc::{AllocError, Global};
 
 /// Puts an order below what it was replied, since its words say nothing of that; nothing where there is no receipt.
-fn put_told(
-    text: &mut String,
-    words: &str,
-    receipt: Option<&Receipt>,
-) -> Result<(), AllocError> {
+fn put_told(text: &mut String, words: &str, receipt: Option<&Receipt>) -> Result<(), AllocError> {
     let Some(receipt) = receipt else {
         return Ok(());
     };
@@ -62,7 +58,11 @@ fn put_stage(
     }
     let words = format!(in alloc; "advance {ward}")?;
     let reply = format!(in alloc; "ward {ward} stage {stage} ")?;
-    put_told(text, words.as_str(), kept.replied(words.as_str(), reply.as_str()))
+    put_told(
+        text,
+        words.as_str(),
+        kept.replied(words.as_str(), reply.as_str()),
+    )
 }
 
 /// Puts all stages of a ward's count.

@@ -76,7 +76,11 @@ fn put_opening(
 ) -> Result<(), AllocError> {
     let words = format!(in alloc; "again {batch}")?;
     let reply = format!(in alloc; "batch {batch} round {round} open")?;
-    put_order(text, words.as_str(), kept.replied(words.as_str(), reply.as_str()))
+    put_order(
+        text,
+        words.as_str(),
+        kept.replied(words.as_str(), reply.as_str()),
+    )
 }
 
 /// Puts the third clerk of a batch.
