@@ -13,5 +13,5 @@ loop-turn-preserved c =
       goes = (tt, tt);
       sent = map-append (λ t. t.errand) done (c.in-Some.turn ∷ [])
           ∙ ap₂ (λ l e. l ++ e ∷ []) c.loop-turn.invariant.sent c.in-Send.is
-          ∙ sym (ap (map (λ r. errand.Send r)) c.in_ok-push.ensures.items ∙ map-append (λ r. errand.Send r) before (c.in-Send.request ∷ []));
+          ∙ sym (ap (map (λ r. errand.Send r)) c.in_ok-push-in-Send.ensures.items ∙ map-append (λ r. errand.Send r) before (c.in-Send.request ∷ []));
     }
