@@ -64,7 +64,7 @@ REPLAY = (["replay", SCRIPT], ["# the last candidate, a batch, and the first key
 READS = [
     (len(ELECTION), ["status", "7"]), (len(ELECTION), ["sheet", "7"]), (len(ELECTION), ["result", "7"]),
     (17, ["advance", "7", "--id", "a3"]), (17, ["next", "7"]), (0, ["status", "7"]), (len(ELECTION), ["wards"]), (len(ELECTION), ["receipts"]),
-    (13, ["batches", "7"]), (13, ["doubtful", "7"]), (9, ["differences", "12"]), (13, ["papers", "12"]),
+    (len(ELECTION), ["journal"]), (13, ["batches", "7"]), (13, ["doubtful", "7"]), (9, ["differences", "12"]), (13, ["papers", "12"]),
 ]
 
 

@@ -11,6 +11,7 @@ pub mod ScriptLemmas
 pub mod ScriptEnds
 pub mod ImportLemmas
 pub mod CopyingLemmas
+pub mod JournalLemmas
 pub mod ServedLemmas
 pub mod WordsRefused
 pub mod FaultsRead

@@ -163,6 +163,7 @@ pub data Meant : Type 0 where
   ask : Question → Meant
   replay : Text → Bool → Meant
   copy : Text → Meant
+  journal : Meant
   serve : ℕ → ℕ → Option Text → Meant
   no_verdict : Meant
   no_origin : Meant
@@ -192,6 +193,7 @@ told (order.Perform task.Migrate) = migrate
 told (order.Perform (task.InOffice (job.Run errand))) = told_errand errand
 told (order.Perform (task.InOffice (job.Replay file keep_going))) = replay file.now keep_going
 told (order.Copy path) = copy path.now
+told order.Journal = journal
 told (order.Serve port connections origin) = serve port connections (option_map origin_text origin)
 
 -- ---- the orders
@@ -271,6 +273,7 @@ orders =
     ∷ takes (codes "differences") (number (codes "BATCH") ∷ []) (λ batch. ask (question.Differences batch))
     ∷ takes (codes "papers") (number (codes "BATCH") ∷ []) (λ batch. ask (question.Papers batch))
     ∷ takes (codes "receipts") (number_or_none (codes "ACTOR") ∷ []) (λ actor. ask (question.Receipts actor))
+    ∷ takes (codes "journal") [] journal
     ∷ takes (codes "replay") (text (codes "FILE") ∷ flag (codes "keep-going") ∷ []) replay
     ∷ takes (codes "copy") (text (codes "NEW") ∷ []) copy
     ∷ takes (codes "ballots") (number (codes "WARD") ∷ []) (λ ward. print ward ward_text.Ballots)

@@ -106,6 +106,10 @@ unread fault = record {
 abbrev pub failed : Failure → Page
 failed failure = record { out = []; err = numbered_line (codes "fault ") (failure_number failure) (failure_text failure); status = 3 }
 
+-- that there is no journal of the office: its receipts and its other tables don't belong together
+abbrev pub unjournalled : Page
+unjournalled = record { out = []; err = line (codes "no journal: the receipts are not those of these tables"); status = 1 }
+
 -- what the machine tells
 abbrev pub page_told : Told → Page
 page_told (done reply) = replied reply
@@ -156,6 +160,7 @@ page_of (outcome.Refused why) = refused why
 page_of (outcome.Unread fault) = unread fault
 page_of (outcome.Failed fault) = failed (Office fault)
 page_of (outcome.Uncopied why) = failed (failure_of why)
+page_of outcome.Unjournalled = unjournalled
 
 -- why words are no order: help goes to the output, and what isn't understood to the error output
 abbrev pub words_page : WordsFault → Page

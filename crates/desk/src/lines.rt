@@ -4,7 +4,7 @@ ghost use Rattle.std.specs.Prelude.{◌≡◌, ◌⊎◌, ◌-◌, ◌^◌, ◌<
 ghost use Rattle.std.specs.List.{flat_map};
 ghost use Rattle.keyfile.specs.Faults.{flaw_batch, flaw_between, flaw_clerk};
 ghost use Rattle.desk.specs.Pages.{IsErrorTold, IsPut, Shows, fronted, line_front, migrated_text, numbered_line, outputs_of, printed, status_of_file};
-ghost use Rattle.desk.specs.Pages.{failed, failure_number, failure_of, failure_text, page_of, refused, script_page, unread, words_page};
+ghost use Rattle.desk.specs.Pages.{failed, failure_number, failure_of, failure_text, page_of, refused, script_page, unjournalled, unread, words_page};
 
 use crate::scripts::ScriptFault;
 use crate::words::{BAD_DIGEST, BAD_ORIGIN, WordsFault};
@@ -14,6 +14,9 @@ use register::{Refusal, Reply};
 use store::{CopyFault, Fault, Migrated};
 use thiserror::Error;
 use votes::{Broken, Sink, put_all};
+
+/// What is told of an office whose receipts and other tables don't belong together.
+const NO_JOURNAL: &str = "no journal: the receipts are not those of these tables";
 
 /// What an order came to.
 #[derive(Drop)]
@@ -38,6 +41,8 @@ pub(crate) enum Outcome {
     Failed(Fault),
     /// No copy is told.
     Uncopied(CopyFault),
+    /// The office has no journal.
+    Unjournalled,
 }
 
 /// Why the program gives up: a fault of the office, told by its number 101 to 106 or 108; an output that
@@ -220,6 +225,14 @@ fn tell_file_fault<E: Sink>(line: Option<usize>, fault: FileFault, err: &mut E) 
     tell_error(line, &pieces, status_of_file(fault), err)
 }
 
+/// Tells that an office has no journal, and gives the status: 1, or 3 where the error output fails.
+fn tell_no_journal<E: Sink>(line: Option<usize>, err: &mut E) -> u8
+    requires { E.failed err.old < 2 ^ 64 - 1 }
+    ensures { IsErrorTold E.taken E.failed err.old err.new (line_front line ++ unjournalled.err) 1 result }
+{
+    tell_error(line, &[NO_JOURNAL, "\n"], 1, err)
+}
+
 /// Tells a failure, and gives its status, 3.
 fn tell_failure_at<E: Sink>(line: Option<usize>, failure: Failure, err: &mut E) -> u8
     requires { E.failed err.old < 2 ^ 64 - 1 }
@@ -261,9 +274,9 @@ fn migrated_text(migrated: Migrated) -> &'static str
 }
 
 /// Tells an outcome, and gives its status. The status is 0 where it is told on the output. On the error output it is 1
-/// for a refusal of a request or a file, and 3 for a fault or a file that couldn't be read. Where one of the two fails
-/// it is 3, and that output has taken a beginning. If the outcome is that of a script's line, what goes to the error
-/// output begins with the number of that line.
+/// for a refusal of a request or a file, and for an office without a journal, and 3 for a fault or a file that couldn't
+/// be read. Where one of the two fails it is 3, and that output has taken a beginning. If the outcome is that of a
+/// script's line, what goes to the error output begins with the number of that line.
 pub(crate) fn tell<O: Sink, E: Sink>(
     line: Option<usize>,
     outcome: &Outcome,
@@ -285,6 +298,7 @@ pub(crate) fn tell<O: Sink, E: Sink>(
         Outcome::Unread(fault) => tell_file_fault(line, *fault, err),
         Outcome::Failed(fault) => tell_failure_at(line, Failure::Office(*fault), err),
         Outcome::Uncopied(fault) => tell_failure_at(line, failure_of(*fault), err),
+        Outcome::Unjournalled => tell_no_journal(line, err),
     }
 }
 

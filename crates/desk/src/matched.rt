@@ -48,7 +48,7 @@ macro_rules! order {
 /// All orders, in the sequence of an election; then the one that brings an older office over, those for the office
 /// alone, and those for everyone.
 #[rattlefmt::skip]
-const ORDERS: [Entry; 35] = [
+const ORDERS: [Entry; 36] = [
     order!(Election "init" [], "Makes an office in DB, a new file or an empty one:\ncount-office town.db init"),
     order!(Election "ward" [WARD, SEATS, NAME, ID], "Adds a ward, its nominations open:\ncount-office town.db ward 7 2 Harbour --id w1"),
     order!(Election "candidate" [WARD, CANDIDATE, NAME, ID], "Adds a candidate to a ward:\ncount-office town.db candidate 7 1 Ann --id c1"),
@@ -79,6 +79,7 @@ const ORDERS: [Entry; 35] = [
     order!(Office "differences" [BATCH], "Tells on which papers a batch differs, which no clerk is to see:\ncount-office town.db differences 13"),
     order!(Office "papers" [BATCH], "Tells how each paper of a taken batch counts, with the candidates' names:\ncount-office town.db papers 12"),
     order!(Office "receipts" [ACTOR], "Tells what was kept, under which id, of an actor or of all:\ncount-office town.db receipts 0"),
+    order!(Office "journal" [], "Prints the accepted orders of the office as a script, whole:\ncount-office town.db journal"),
     order!(Office "replay" [SCRIPT, KEEP_GOING], "Sends the orders of a text file, a line each, up to a refusal:\ncount-office town.db replay evening.txt"),
     order!(Office "copy" [NEW], "Makes a copy of the office, in a file that isn't there yet:\ncount-office town.db copy evening.db"),
     order!(Everyone "ballots" [WARD], "Prints the ballots of a sealed ward, in a form that counting programs read:\ncount-office town.db ballots 7"),
@@ -443,6 +444,7 @@ fn order_named<'a>(
         "differences" => Ok(asking(Question::Differences { batch })),
         "papers" => Ok(asking(Question::Papers { batch })),
         "receipts" => Ok(asking(Question::Receipts { actor })),
+        "journal" => Ok(Order::Journal),
         "replay" => Ok(replay(matches)),
         "copy" => Ok(Order::Copy {
             path: text_in(matches, NEW),

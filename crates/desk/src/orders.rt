@@ -147,6 +147,8 @@ pub enum Order<'a> {
     Copy {
         path: &'a str,
     },
+    /// Print the journal of the office.
+    Journal,
     /// Answer so many connections on a port of this machine, and pages of an origin through a proxy, if one is given.
     Serve {
         port: u32,

@@ -28,7 +28,7 @@ changes nothing.";
 
 /// The end of the help: the orders of [`Heading::Office`] and of [`Heading::Everyone`], and what comes of orders.
 const END_OF_HELP: &str =
-    "For the office alone. The first six change nothing, and no clerk is to see what they tell:
+    "For the office alone. The first seven change nothing, and no clerk is to see what they tell:
   wards              How each ward stands, and what is left to do
   batches WARD       Who has keyed each batch of a ward, how it stands, and which other
                      batch has the very same papers
@@ -36,6 +36,7 @@ const END_OF_HELP: &str =
   differences BATCH  On which papers a batch differs
   papers BATCH       How each paper of a taken batch counts, with the candidates' names
   receipts [ACTOR]   What was kept, under which id: of an actor, 0 for the office, or of all
+  journal            What was kept, as a script of orders that makes the same office anew
   replay FILE        Sends the orders of a text file, a line each, up to a refusal
   copy NEW           Makes a copy of the office, in a file that isn't there yet
 

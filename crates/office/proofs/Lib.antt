@@ -1,5 +1,6 @@
 pub mod HandleLemmas
 pub mod RunLemmas
+pub mod PlayLemmas
 mod ClerkLemmas
 pub mod SheetLemmas
 pub mod StopLemmas

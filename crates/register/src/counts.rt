@@ -27,7 +27,7 @@ use std::alloc::{AllocError, Global};
 
 /// A lot that was drawn: of which ward (1 to 99), for which stage of its count (2 to 31), and the
 /// candidate (1 to 30) whose surplus is transferred or who is excluded.
-#[derive(Drop)]
+#[derive(PartialEq, Drop)]
 pub struct DrawnLot {
     pub ward: u32,
     pub stage: u32,
