@@ -6,6 +6,7 @@ pub mod Wards
 pub mod Entries
 pub mod Stages
 pub mod Sheet
+pub mod Names
 pub mod Ballots
 pub mod Cells
 pub mod Look

@@ -5,7 +5,7 @@ use Rattle.count.specs.Law.Contest.{votes_at}
 use Rattle.count.specs.declared.stages.Stage.{Stage}
 use Rattle.count.specs.declared.stages.Action.{Action}
 use Rattle.count.specs.declared.stages.Action.TheVariants.{First, Surplus, Exclude, ExcludeLast}
-use Rattle.sheet.specs.Ballots.{name_at, name_or_withdrawn}
+use Rattle.sheet.specs.Names.{name_at, name_or_withdrawn}
 use Rattle.sheet.specs.Entries.{SheetEntry}
 use Rattle.sheet.specs.Lines.{joined, line, named}
 use Rattle.sheet.specs.Stages.{is_excluded_at}
