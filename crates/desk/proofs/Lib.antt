@@ -8,7 +8,6 @@ pub mod CourseLemmas
 pub mod KeptLemmas
 pub mod ScriptLemmas
 pub mod ScriptEnds
-pub mod ImportLemmas
 pub mod CopyingLemmas
 pub mod ServedLemmas
 pub mod WordsRefused
