@@ -9,7 +9,6 @@ pub mod StageLemmas
 pub mod KeptLemmas
 pub mod ScriptLemmas
 pub mod ScriptEnds
-pub mod ImportLemmas
 pub mod CopyingLemmas
 pub mod JournalLemmas
 pub mod ServedLemmas
