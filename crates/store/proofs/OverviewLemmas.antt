@@ -1,5 +1,6 @@
 -- Why what was read of how all stands is so.
-use Rattle.std.proofs.Common.{◌≡◌, ◌<◌, ◌==◌, ℕ, Bool, true, false, cond, not, ◌&&◌, ◌||◌, List, [], ◌∷◌, ◌++◌, map, filter, length, get_or, drop, suc, ◌+◌, Option, Some, None, option_map, refl, sym, ap, subst, ◌∙◌, append_assoc, add-one, drop-cons}
+use Rattle.std.proofs.Common.{◌≡◌, ◌<◌, ◌==◌, ℕ, Bool, true, false, cond, not, ◌&&◌, ◌||◌}
+use Rattle.std.proofs.Common.{List, [], ◌∷◌, ◌++◌, map, filter, length, get_or, drop, suc, ◌+◌, Option, Some, None, option_map, refl, sym, ap, subst, ◌∙◌, append_assoc, add-one, drop-cons}
 use Rattle.std.proofs.Math.Bool.{or-false}
 use Rattle.std.proofs.lemmas.Bool.{cond-true, eqb-true}
 use Rattle.std.proofs.lemmas.List.{map-append}
@@ -19,8 +20,8 @@ use Rattle.register.specs.Items.{IsState}
 use Rattle.register.specs.Tabulated.{IsCountedWard}
 use Rattle.tables.proofs.ListLemmas.{get_mapped, mapped_length, mapped_twice}
 use Rattle.store.specs.Elections.{IsCountedIn, IsCountedInFor}
-use Rattle.store.specs.Overviews.{WardView, candidates_told, declared_in, PaperView, paper_view_of, papers_by, papers_of, judgements_told, DoubtfulView, DoubtfulPapersView, doubtful_among, doubtful_in, doubtful_papers}
-use Rattle.store.specs.Overviews.{has_alike, is_apart, apart_among, papers_apart}
+use Rattle.store.specs.Overviews.{WardView, candidates_told, declared_in, PaperView, paper_view_of, papers_by, papers_of, judgements_told}
+use Rattle.store.specs.Overviews.{DoubtfulView, DoubtfulPapersView, doubtful_among, doubtful_in, doubtful_papers, has_alike, is_apart, apart_among, papers_apart}
 use Rattle.store.proofs.DoneLemmas.{wards_there}
 
 -- ---- lists
@@ -83,7 +84,8 @@ candidates_found s w found counted is told declared there =
 -- ---- papers as they count
 
 -- what is told of the items so far and of those that are left, where one more is told
-pub told_more : {A B C D : Type 0} (view : A → D) (told : B → D) (entry : C → B) (found new : List A) (one : A) (xs : List C) (k : ℕ) (x : C) → k < length xs → x ≡ get_or xs k x → new ≡ found ++ one ∷ [] → view one ≡ told (entry x)
+pub told_more : {A B C D : Type 0} (view : A → D) (told : B → D) (entry : C → B) (found new : List A) (one : A) (xs : List C) (k : ℕ) (x : C) → k < length xs → x ≡ get_or xs k x
+    → new ≡ found ++ one ∷ [] → view one ≡ told (entry x)
     → map view found ++ map told (map entry (drop k xs)) ≡ map told (map entry xs) → map view new ++ map told (map entry (drop (k + 1) xs)) ≡ map told (map entry xs)
 told_more {C = C} {D = D} view told entry found new one xs k x within is put same so_far =
     let left : List D = map told (map entry (drop (k + 1) xs)) in

@@ -14,5 +14,6 @@ returns-in-Ok-clause-found g c = λ clean is_open s at. inr (Memory, refl, (inl 
 
 pub returns-clause-found : goal.returns-clause-found
 returns-clause-found g c = λ clean is_open s at.
-    stop_found doubtful_papers_view (λ found. printed (doubtful_lines found)) s (doubtful_told s c.args.ward) c.in-Err.stop (page_of c.stopped.result) c.doubtful.new.self.closed (state g.S.Store c.args.office.now.held) (state g.S.Store c.doubtful.new.self.held)
+    stop_found doubtful_papers_view (λ found. printed (doubtful_lines found)) s (doubtful_told s c.args.ward) c.in-Err.stop (page_of c.stopped.result)
+    c.doubtful.new.self.closed (state g.S.Store c.args.office.now.held) (state g.S.Store c.doubtful.new.self.held)
     (c.in-Err.ensures.reads clean is_open s at) (c.in-Err.ensures.cause clean is_open s at) c.stopped.ensures

@@ -7,4 +7,5 @@ use Rattle.desk.proofs.names.Names.new.Goals as goal
 
 pub loop-number-preserved : goal.loop-number-preserved
 loop-number-preserved c =
-    name_more (name_of (map candidate_entry c.args.candidates.now)) c.loop-number.places.items c.push.new.self.items c.name_of.result c.loop-number.number c.in_ok-push.ensures.items c.name_of.ensures c.loop-number.invariant
+    name_more (name_of (map candidate_entry c.args.candidates.now)) c.loop-number.places.items c.push.new.self.items c.name_of.result c.loop-number.number
+    c.in_ok-push.ensures.items c.name_of.ensures c.loop-number.invariant
