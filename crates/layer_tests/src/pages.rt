@@ -3,7 +3,8 @@
 use count::{Action, Stage};
 use paper::Columns;
 use sheet::{
-    ListedWard, Poll, Standing, Ward, can_be_printed, index_text, page_text, write_index, write_page,
+    ListedWard, Poll, Standing, Ward, can_be_printed, index_text, page_text, write_index,
+    write_page,
 };
 use std::alloc::Global;
 use std::process::Abort;

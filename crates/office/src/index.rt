@@ -89,11 +89,7 @@ fn all_listed(alloc: Global, overviews: &[WardOverview]) -> Result<Vec<ListedWar
 }
 
 /// The page of all wards that stand so.
-fn index_over(
-    alloc: Global,
-    title: &str,
-    overviews: &[WardOverview],
-) -> Result<String, AllocError>
+fn index_over(alloc: Global, title: &str, overviews: &[WardOverview]) -> Result<String, AllocError>
     ensures { IfOk result (λ text. string_bytes text ≡ index title.now (map listed_shown (map ward_view overviews.now))) }
 {
     let wards = all_listed(alloc, overviews)?;
