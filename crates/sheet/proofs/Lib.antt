@@ -11,4 +11,3 @@ pub mod Bundles
 pub mod EachAfter
 pub mod Places
 pub mod Ties
-mod WorkedLots
