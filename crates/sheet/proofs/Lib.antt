@@ -11,3 +11,5 @@ pub mod Bundles
 pub mod EachAfter
 pub mod Places
 pub mod Ties
+mod WorkedLots
+pub mod TieLaw
