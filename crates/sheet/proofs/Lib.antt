@@ -12,3 +12,4 @@ pub mod EachAfter
 pub mod Places
 pub mod Ties
 mod WorkedLots
+pub mod TieLaw

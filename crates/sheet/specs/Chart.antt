@@ -9,7 +9,7 @@ use Rattle.count.specs.Law.Elected.{excludes}
 use Rattle.count.specs.declared.stages.Stage.{Stage}
 use Rattle.sheet.specs.Cells.{votes_or}
 use Rattle.sheet.specs.Entries.{SheetEntry}
-use Rattle.sheet.specs.Lines.{line, named}
+use Rattle.sheet.specs.Lines.{joined, line, named}
 use Rattle.sheet.specs.Look.{legend, patterns}
 use Rattle.sheet.specs.declared.chart.Scale.{Scale}
 use Rattle.sheet.specs.declared.chart.Ending.{Ending}
@@ -89,10 +89,14 @@ figures first most ending =
     codes "<span class=\"had\">" ∷ votes_text first ∷ codes " at stage 1</span><span class=\"end\">" ∷ ending_words ending ∷ decimal (ending_stage ending) ∷
     codes ", with " ∷ votes_text most ∷ codes "</span></li>" ∷ []
 
+-- the candidate, at the beginning of his row
+abbrev pub who : Ending → ℕ → List ℕ → List ℕ
+who ending c name = joined (codes "<li class=\"" ∷ ending_class ending ∷ codes "\"><span class=\"who\">" ∷ named c name ∷ codes "</span>" ∷ [])
+
 -- a row: the candidate, his bar, and its figures
 abbrev pub chart_line : Scale → ℕ → ℕ → Ending → ℕ → List ℕ → List ℕ
 chart_line scale first most ending c name =
-    line (codes "<li class=\"" ∷ ending_class ending ∷ codes "\"><span class=\"who\">" ∷ named c name ∷ codes "</span>" ∷ bar scale first most ++ figures first most ending)
+    who ending c name ++ joined (bar scale first most) ++ line (figures first most ending)
 
 -- the row of a candidate
 abbrev pub chart_row : Scale → List Stage → ℕ → List ℕ → List ℕ

@@ -3,13 +3,14 @@
 ghost use Rattle.std.specs.Prelude.{◌≡◌, ◌-◌, ◌+◌, ◌^◌, ◌<◌, ◌≤◌, IfSome, length};
 ghost use Rattle.votes.specs.Units.{max_papers, max_seats};
 ghost use Rattle.sheet.specs.Cells.{votes_or};
-ghost use Rattle.sheet.specs.Chart.{bar_length as length_of, chart, chart_head, chart_line, chart_row, ending_by, ending_class as class_of, ending_of as ending_at, ending_stage as stage_of, ending_words as words_of};
+ghost use Rattle.sheet.specs.Chart.{bar, bar_length as length_of, figures, who, chart, chart_head, chart_line, chart_row, ending_by, ending_class as class_of, ending_of as ending_at, ending_stage as stage_of, ending_words as words_of};
 ghost use Rattle.sheet.specs.Chart.{elected_place as elected_at_place, excluded_place as excluded_at_place, greatest, greatest_at, most_votes as most_of, scale_of as scale_by};
 ghost use Rattle.sheet.specs.Entries.{shown};
+ghost use Rattle.sheet.specs.Lines.{joined, line};
 ghost use Rattle.sheet.specs.Writing.{Writes};
 ghost use Rattle.std.specs.Prelude.{slice_get};
 
-use crate::line::{Piece, write_line};
+use crate::line::{Piece, write_line, write_pieces};
 use crate::look::{legend, patterns};
 use crate::stage::votes_of;
 use crate::told::{OfCandidate, write_each};
@@ -177,19 +178,29 @@ struct Told {
     ending: Ending,
 }
 
-/// Writes a row: the candidate, his bar, and its figures.
-fn write_chart_line<W: Sink>(sink: &mut W, told: &Told, c: u8, name: &str) -> Result<(), Broken>
+/// Writes the candidate, at the beginning of his row.
+fn write_who<W: Sink>(sink: &mut W, ending: Ending, c: u8, name: &str) -> Result<(), Broken>
     requires { W.failed sink.old < 2 ^ 64 - 1 }
-    ensures { Writes W.taken W.failed sink.old sink.new (chart_line told.now.scale told.now.first told.now.most told.now.ending c name.now) result }
+    ensures { Writes W.taken W.failed sink.old sink.new (who ending c name.now) result }
 {
-    let kept = bar_length(told.scale, told.first.units());
-    let all = bar_length(told.scale, told.most.units());
     let pieces = [
         Piece::Text("<li class=\""),
-        Piece::Text(ending_class(told.ending)),
+        Piece::Text(ending_class(ending)),
         Piece::Text("\"><span class=\"who\">"),
         Piece::Named(c, name),
         Piece::Text("</span>"),
+    ];
+    write_pieces(sink, &pieces)
+}
+
+/// Writes a bar: the votes at the first stage, behind them what was gained later, and the quota.
+fn write_bar<W: Sink>(sink: &mut W, scale: Scale, first: Votes, most: Votes) -> Result<(), Broken>
+    requires { W.failed sink.old < 2 ^ 64 - 1 }
+    ensures { Writes W.taken W.failed sink.old sink.new (joined (bar scale first most)) result }
+{
+    let kept = bar_length(scale, first.units());
+    let all = bar_length(scale, most.units());
+    let pieces = [
         Piece::Text("<svg class=\"bar\" aria-hidden=\"true\"><rect class=\"first\" width=\""),
         Piece::Number(kept),
         Piece::Text("%\" height=\"100%\"/><rect class=\"later\" x=\""),
@@ -197,18 +208,43 @@ fn write_chart_line<W: Sink>(sink: &mut W, told: &Told, c: u8, name: &str) -> Re
         Piece::Text("%\" width=\""),
         Piece::Number(all.saturating_sub(kept)),
         Piece::Text("%\" height=\"100%\"/><rect class=\"quota\" x=\""),
-        Piece::Number(bar_length(told.scale, told.scale.quota)),
+        Piece::Number(bar_length(scale, scale.quota)),
         Piece::Text("%\" width=\"3\" height=\"100%\"/></svg>"),
+    ];
+    write_pieces(sink, &pieces)
+}
+
+/// Writes the figures beside a bar.
+fn write_figures<W: Sink>(
+    sink: &mut W,
+    first: Votes,
+    most: Votes,
+    ending: Ending,
+) -> Result<(), Broken>
+    requires { W.failed sink.old < 2 ^ 64 - 1 }
+    ensures { Writes W.taken W.failed sink.old sink.new (line (figures first most ending)) result }
+{
+    let pieces = [
         Piece::Text("<span class=\"had\">"),
-        Piece::Value(told.first),
+        Piece::Value(first),
         Piece::Text(" at stage 1</span><span class=\"end\">"),
-        Piece::Text(ending_words(told.ending)),
-        Piece::Number(ending_stage(told.ending)),
+        Piece::Text(ending_words(ending)),
+        Piece::Number(ending_stage(ending)),
         Piece::Text(", with "),
-        Piece::Value(told.most),
+        Piece::Value(most),
         Piece::Text("</span></li>"),
     ];
     write_line(sink, &pieces)
+}
+
+/// Writes a row: the candidate, his bar, and its figures.
+fn write_chart_line<W: Sink>(sink: &mut W, told: &Told, c: u8, name: &str) -> Result<(), Broken>
+    requires { W.failed sink.old < 2 ^ 64 - 1 }
+    ensures { Writes W.taken W.failed sink.old sink.new (chart_line told.now.scale told.now.first told.now.most told.now.ending c name.now) result }
+{
+    write_who(sink, told.ending, c, name)?;
+    write_bar(sink, told.scale, told.first, told.most)?;
+    write_figures(sink, told.first, told.most, told.ending)
 }
 
 /// The row of a candidate.

@@ -1,7 +1,14 @@
 //! The lots of a ward, on a page.
 
 ghost use Rattle.std.specs.Prelude.{◌≡◌, ◌-◌, ◌^◌, ◌<◌, slice_get, take};
-ghost use Rattle.std.specs.List.{flat_map};
+ghost use Rattle.std.specs.List.{filter, flat_map};
+ghost use Rattle.std.specs.Prelude.{ℕ, List, Option, reverse};
+ghost use Rattle.count.specs.Books.{AreRankings};
+ghost use Rattle.count.specs.Law.Contest.{Contest, History, In, IsContest};
+ghost use Rattle.count.specs.Law.Due.{due_after};
+ghost use Rattle.count.specs.Law.Right.{IsRightBy};
+ghost use Rattle.count.specs.declared.stages.Due.TheVariants.{Lot};
+ghost use Rattle.count.specs.declared.stages.TiedFor.{TiedFor};
 ghost use Rattle.sheet.specs.Entries.{candidates_shown, shown};
 ghost use Rattle.sheet.specs.Lots.{are_equal_at as are_equal_over, has_tied_above as tied_above_of, has_tied_below as tied_below_of, is_tied as is_tied_with, lot_item, lots_text};
 ghost use Rattle.sheet.specs.Lots.{settled_at as settled_in, settled_by as settled_with, tie_mark as mark_of, tied_name};
@@ -75,6 +82,13 @@ impl<'a> OfCandidate for TiedName<'a> {
         write_pieces(sink, &[mark, Piece::Named(*c, name.as_str())])
     }
 }
+
+/// The law of those whom a page names beside a lot, for its callers: they are the candidates of whom the count says
+/// that they are tied.
+pub fn ties_are_of_the_count()
+    ensures { (contest : Contest) (handed : History → Stage → Option ℕ) (stages : History) (k c : ℕ) (kind : TiedFor) (tied : List ℕ) → IsContest contest → AreRankings contest.papers
+        → IsRightBy contest handed stages → due_after contest stages ≡ Lot k kind tied → In c tied → filter (is_tied_with (reverse stages) c) contest.candidates ≡ tied }
+{}
 
 /// What a lot settled, by what was done at its stage.
 fn settled_by(action: Action) -> &'static str
