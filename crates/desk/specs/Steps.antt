@@ -65,7 +65,8 @@ nominations_words candidates seats = decimal candidates ++ (codes " candidates f
 -- how the papers of a ward stand, before its seal
 unfoldable pub papers_words : StatusEntry → Text
 papers_words s =
-    decimal s.taken ++ (codes " of " ++ (decimal s.batches ++ (codes " batches taken, " ++ (decimal s.differing ++ (codes " differing, " ++ (decimal s.doubtful_open ++ codes " doubtful open, the seal comes once all are taken and judged"))))))
+    decimal s.taken ++ (codes " of " ++ (decimal s.batches ++ (codes " batches taken, " ++ (decimal s.differing ++ (codes " differing, " ++
+    (decimal s.doubtful_open ++ codes " doubtful open, the seal comes once all are taken and judged"))))))
 
 -- what comes next, by how far the ward has come
 unfoldable pub step_words : StepEntry → Text
