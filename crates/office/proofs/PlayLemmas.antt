@@ -24,7 +24,8 @@ all_done_where_accepted (o ∷ os) = rw (done_where_accepted o, all_done_where_a
 pub answers_done : (s : OfficeState) (rs : List Request) (answers : List Answer) → length answers ≡ length rs → map told answers ≡ map told_of (outcomes s (take (length answers) rs))
     → list_all (λ answer. is_done (told answer)) answers ≡ are_accepted s rs
 answers_done s rs answers all same =
-    sym (list_all-map is_done told answers) ∙ ap (list_all is_done) (same ∙ ap (λ l. map told_of (outcomes s l)) (take_all (length answers) rs (omega (arith, all)))) ∙ all_done_where_accepted (outcomes s rs)
+    sym (list_all-map is_done told answers)
+    ∙ ap (list_all is_done) (same ∙ ap (λ l. map told_of (outcomes s l)) (take_all (length answers) rs (omega (arith, all)))) ∙ all_done_where_accepted (outcomes s rs)
 
 -- what holds of a value holds of it with what follows from that
 pub ok_then : {X E : Type 0} {P Q : X → Type 0} (r : Result X E) → ((x : X) → P x → Q x) → IfOk r P → IfOk r Q
