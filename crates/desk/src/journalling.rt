@@ -86,10 +86,11 @@ fn journal_of<T: Alter>(
     let Some(requests) = requests else {
         return (Outcome::Unjournalled, blank);
     };
-    match Office::leads_to(alloc, blank, &requests, rows) {
-        (Ok(true), blank) => (Outcome::Printed(text), blank),
-        (Ok(false), blank) => (Outcome::Unjournalled, blank),
-        (Err(fault), blank) => (Outcome::Failed(fault), blank),
+    let (led, blank) = Office::leads_to(alloc, blank, &requests, rows);
+    match led {
+        Ok(true) => (Outcome::Printed(text), blank),
+        Ok(false) => (Outcome::Unjournalled, blank),
+        Err(fault) => (Outcome::Failed(fault), blank),
     }
 }
 

@@ -1,7 +1,8 @@
 -- Requests that are all accepted.
-use Rattle.std.proofs.Common.{◌≡◌, ◌∙◌, List, [], ◌∷◌, length, map, take, refl, ap, arith}
+use Rattle.std.proofs.Common.{Result, Ok, Err, IfOk, ◌≡◌, ◌∙◌, List, [], ◌∷◌, length, map, take, refl, sym, ap, arith}
 use Rattle.std.specs.List.{list_all}
 use Rattle.std.proofs.lemmas.List.{take_all}
+use Rattle.std.proofs.lemmas.List.Folds.{list_all-map}
 use Rattle.register.specs.declared.command.Request.{Request}
 use Rattle.register.specs.Offices.{OfficeState}
 use Rattle.register.specs.Machine.{Outcome, accepted, kept, refused, is_accepted}
@@ -21,6 +22,12 @@ all_done_where_accepted (o ∷ os) = rw (done_where_accepted o, all_done_where_a
 
 -- where each request was answered as the machine says, all answers tell of accepted ones just where all are accepted
 pub answers_done : (s : OfficeState) (rs : List Request) (answers : List Answer) → length answers ≡ length rs → map told answers ≡ map told_of (outcomes s (take (length answers) rs))
-    → list_all is_done (map told answers) ≡ are_accepted s rs
+    → list_all (λ answer. is_done (told answer)) answers ≡ are_accepted s rs
 answers_done s rs answers all same =
-    ap (list_all is_done) (same ∙ ap (λ l. map told_of (outcomes s l)) (take_all (length answers) rs (omega (arith, all)))) ∙ all_done_where_accepted (outcomes s rs)
+    sym (list_all-map is_done told answers)
+    ∙ ap (list_all is_done) (same ∙ ap (λ l. map told_of (outcomes s l)) (take_all (length answers) rs (omega (arith, all)))) ∙ all_done_where_accepted (outcomes s rs)
+
+-- what holds of a value holds of it with what follows from that
+pub ok_then : {X E : Type 0} {P Q : X → Type 0} (r : Result X E) → ((x : X) → P x → Q x) → IfOk r P → IfOk r Q
+ok_then (Ok x) follows p = follows x p
+ok_then (Err e) follows p = tt

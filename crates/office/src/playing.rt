@@ -1,6 +1,6 @@
 //! An office read whole, and requests played over an empty office, to see whether they lead to it.
 
-ghost use Rattle.std.specs.Prelude.{◌≡◌, true, false, map, IfOk, IfErr};
+ghost use Rattle.std.specs.Prelude.{◌≡◌, true, false, IfOk, IfErr};
 ghost use Rattle.std.specs.List.{list_all};
 ghost use Rattle.sqlite.specs.Held.{state};
 ghost use Rattle.sqlite.specs.State.{HasCleanDisk};
@@ -31,13 +31,18 @@ fn trial_fault(fault: Fault) -> Fault
     }
 }
 
-/// Whether each answer is that of a request that was accepted now.
-fn are_done(answers: &[Answer]) -> bool
-    ensures { result ≡ list_all is_done (map told answers.now) }
+/// Whether an answer is that of a request that was accepted now.
+fn is_done(answer: &Answer) -> bool
+    ensures { result ≡ is_done (told answer.now) }
 {
-    answers
-        .iter()
-        .all(|answer| matches!(answer, Answer::Done(_)))
+    matches!(answer, Answer::Done(_))
+}
+
+/// Whether each answer is.
+fn are_done(answers: &[Answer]) -> bool
+    ensures { result ≡ list_all (λ answer. is_done (told answer)) answers.now }
+{
+    answers.iter().all(|answer| is_done(answer))
 }
 
 /// Whether the office that a connection's database holds has these entries.
