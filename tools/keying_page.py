@@ -35,9 +35,12 @@ def hash_of(text):
 
 
 def policy():
-    """What the page may do: run its own script and style, and ask its own office."""
-    return (f"default-src 'none'; script-src {hash_of(script())}; style-src {hash_of(style())}; connect-src 'self'; base-uri 'none'; "
-            "form-action 'none'; frame-ancestors 'none'; require-trusted-types-for 'script'; trusted-types 'none'")
+    """What the page may do, as page.rt says it, and with the hashes of the texts as they stand."""
+    with open(os.path.join(FOLDER, "page.rt")) as source:
+        found = re.search(r'const POLICY: &str =\s*"(.*?)";', source.read(), re.DOTALL).group(1)
+    text = re.sub(r"\\\n\s*", "", found)
+    text = re.sub(r"script-src '[^']*'", f"script-src {hash_of(script())}", text)
+    return re.sub(r"style-src '[^']*'", f"style-src {hash_of(style())}", text)
 
 
 HEADERS = (

@@ -6,6 +6,7 @@ pub mod Origins
 pub mod Bodies
 pub mod Asking
 pub mod Replies
+pub mod Pages
 pub mod Responses
 pub mod Told
 pub mod Serving

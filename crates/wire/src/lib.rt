@@ -34,6 +34,7 @@ pub mod target;
 mod unread;
 // what is answered
 mod bodies;
+mod page;
 mod response;
 mod work;
 // one connection
