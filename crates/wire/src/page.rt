@@ -26,8 +26,8 @@ use views::VIEWS;
 /// from. `tools/check-page` compares both with the texts, and writes them anew with `--write`.
 pub(crate) const POLICY: &str =
     "default-src 'none'; \
-script-src 'sha256-BS+3sWzaF8dXl0P1HEC6y3ZOFlKS2IqH5x1/L3qXOUM='; \
-style-src 'sha256-CiJG5xMcsqCZK9yBVrssqTX4twsymEquDqsm5OVi+To='; \
+script-src 'sha256-BRSnMhbf6vOnWSUnoSP60so3HnmXphT2yOdt3Alby0k='; \
+style-src 'sha256-sdiFziziw+pyVp6ghVH1jBRN/UM65y7RujNl69Z7Smg='; \
 connect-src 'self'; base-uri 'none'; form-action 'none'; frame-ancestors 'none'; \
 require-trusted-types-for 'script'; trusted-types 'none'";
 

@@ -10,6 +10,8 @@ let candidates = [];
 let pending = null;
 // A key came behind the last candidate. So the paper has to be looked at again.
 let extra = false;
+// The last key was a mark, and the cursor went on by itself.
+let wentOn = false;
 
 const width = () => draft.columns.length;
 const row = () => draft.rows[draft.at];
@@ -18,7 +20,7 @@ const isDoubtful = () => row().text === 'D';
 const isBehind = () => row().column === width();
 
 // Behind each of these nothing is half keyed any more.
-const settle = () => { pending = null; extra = false; };
+const settle = () => { pending = null; extra = false; wentOn = false; };
 
 const write = (column, mark) => {
   const fields = row().text.split(',');
@@ -39,6 +41,7 @@ const mark = (text) => {
   if (isBehind()) return refuseBehind();
   write(row().column, text);
   row().column += 1;
+  wentOn = true;
 };
 
 const beginNumber = (what) => {
@@ -82,10 +85,18 @@ const empty = () => {
   draft.rows[draft.at] = newRow(draft.columns);
 };
 
+// Before the first key of a paper the last one was Enter: the paper before is open again, as it was.
+const reopen = () => {
+  if (draft.at === 0 || draft.rows[draft.at - 1].state !== KEYED) return;
+  draft.at -= 1;
+  row().state = BEGUN;
+};
+
 // Takes back the last key.
 const back = () => {
   if (pending || extra) return settle();
   if (isDoubtful()) return empty();
+  if (row().state === NEW && row().column === 0) return reopen();
   row().column = Math.max(row().column - 1, 0);
   write(row().column, '');
   if (row().column === 0 && !/[0-9]/.test(row().text)) row().state = NEW;
@@ -155,6 +166,7 @@ const isDigitKey = (key) => /^[0-9]$/.test(key);
 
 // Why a key isn't taken, or nothing where it is.
 const press = (key) => {
+  wentOn = false;
   if (pending && isDigitKey(key)) return digit(key);
   if (pending && key.length === 1) return 'A digit is wanted. Backspace takes the key back.';
   if (isMarkKey(key)) return mark(key);

@@ -50,11 +50,6 @@ pub(crate) const BODY: &str = r#"</style>
 <thead id="heads"></thead><tbody id="rows"></tbody></table></div>
 <p id="away" class="warning" role="alert" hidden>Keys don&rsquo;t reach this page now. Click on it.</p>
 <p id="notice" role="alert"></p>
-<p class="tools"><button id="doubt" type="button">Doubtful (D)</button>
-<button id="put-in" type="button">Put a paper in (Insert)</button>
-<button id="take-out" type="button">Take this paper out (Shift+Delete)</button>
-<label>Go to paper (G) <input id="go" type="text" inputmode="numeric" autocomplete="off" size="4"></label>
-<button id="leave-papers" type="button">Your batches</button></p>
 <details id="keys"><summary>The keys</summary>
 <dl>
 <dt><kbd>1</kbd> to <kbd>9</kbd></dt><dd>the number beside the candidate; the cursor goes on</dd>
@@ -64,7 +59,7 @@ pub(crate) const BODY: &str = r#"</style>
 <dt><kbd>D</kbd> or <kbd>*</kbd></dt><dd>the paper is doubtful: no official mark, a number that can&rsquo;t be read or is over 99, a name, a signature, a drawing</dd>
 <dt><kbd>Enter</kbd></dt><dd>the paper is keyed; the next one comes</dd>
 <dt><kbd>0</kbd> and <kbd>Enter</kbd></dt><dd>a paper without any number</dd>
-<dt><kbd>Backspace</kbd></dt><dd>takes the last key back</dd>
+<dt><kbd>Backspace</kbd></dt><dd>takes the last key back, also Enter</dd>
 <dt><kbd>Delete</kbd></dt><dd>empties this paper, to be keyed anew</dd>
 <dt><kbd>&larr;</kbd> <kbd>&rarr;</kbd> <kbd>Home</kbd></dt><dd>to another candidate</dd>
 <dt><kbd>&uarr;</kbd> <kbd>&darr;</kbd></dt><dd>to another paper</dd>
@@ -73,6 +68,11 @@ pub(crate) const BODY: &str = r#"</style>
 <dt><kbd>Insert</kbd></dt><dd>puts in a paper before this one, where you left one out</dd>
 <dt><kbd>Shift</kbd>+<kbd>Delete</kbd></dt><dd>takes this paper out, where you keyed it twice</dd>
 </dl></details>
+<p class="tools"><button id="doubt" type="button">Doubtful (D)</button>
+<button id="put-in" type="button">Put a paper in (Insert)</button>
+<button id="take-out" type="button">Take this paper out (Shift+Delete)</button>
+<label>Go to paper (G) <input id="go" type="text" inputmode="numeric" autocomplete="off" size="4"></label>
+<button id="leave-papers" type="button">Your batches</button></p>
 <dialog id="out" aria-labelledby="out-text"><p id="out-text"></p>
 <p><button id="out-no" type="button">Leave it in</button> <button id="out-yes" type="button">Take it out</button></p></dialog>
 </section>
@@ -82,7 +82,7 @@ pub(crate) const BODY: &str = r#"</style>
 <div id="check"><p>Is your pile at its end? If a paper is left, or one was wanting, don&rsquo;t send. Go back and look for the place where it slipped. There you put a paper in, or take one out.</p>
 <ul id="summary"></ul></div>
 <p id="said" role="status"></p>
-<p><button id="send" type="button" class="main">Send (S)</button> <button id="back" type="button">Back to the papers</button> <button id="leave" type="button">Your batches</button></p>
+<p><button id="send" type="button" class="main">Send (S)</button> <button id="back" type="button">Back to the papers (&uarr;)</button> <button id="leave" type="button">Your batches</button></p>
 </section>
 
 </main>

@@ -30,13 +30,14 @@ li { margin: .25rem 0; }
 #notice.refused { border-color: #8a1500; }
 
 .wide { overflow-x: auto; max-width: 100%; }
-table { border-collapse: separate; border-spacing: 0; table-layout: fixed; width: max-content; }
-th, td { height: 2rem; padding: 0; border: solid #999; border-width: 0 1px 1px 0; text-align: center; background: #fff; font-size: 1.1rem; font-variant-numeric: tabular-nums; }
-.few td, .few th { width: 8rem; }
-.some td, .some th { width: 3.6rem; }
-.many td, .many th { width: 1.75rem; }
-table .number { position: sticky; left: 0; z-index: 1; width: 3.4rem; border-left-width: 1px; font-weight: bold; }
-table .end { width: 4rem; border-color: transparent; }
+table { border-collapse: separate; border-spacing: 0; }
+th, td { width: var(--field); min-width: var(--field); max-width: var(--field); height: 2rem; padding: 0; border: solid #999; border-width: 0 1px 1px 0; text-align: center; background: #fff; font-size: 1.1rem; font-variant-numeric: tabular-nums; }
+.few { --field: 8rem; }
+.some { --field: 3.6rem; }
+.many { --field: 1.75rem; }
+td[colspan] { max-width: none; }
+table .number { --field: 3.4rem; position: sticky; left: 0; z-index: 1; border-left-width: 1px; font-weight: bold; }
+table .end { --field: 4rem; border-color: transparent; }
 thead th { vertical-align: bottom; border-top-width: 1px; font-weight: normal; font-size: .85rem; }
 thead th b { display: block; }
 thead th span { display: block; overflow: hidden; text-overflow: ellipsis; }
@@ -56,6 +57,8 @@ td input::placeholder { color: #595959; opacity: 1; }
 #end-key { display: block; margin: 0 .15rem; padding: .25rem 0; border: 1px solid #767676; border-radius: .3rem; font-size: .9rem; }
 #end-key:focus { outline: 3px solid #1b4f91; background: #ffe9a8; }
 
+#papers:not([hidden]) { display: flex; flex-direction: column; }
+#keys { order: 1; }
 .tools { display: flex; flex-wrap: wrap; gap: .5rem; align-items: center; }
 dl { display: grid; grid-template-columns: max-content 1fr; gap: .15rem .75rem; margin: .5rem 0; }
 dd { margin: 0; }
@@ -63,11 +66,11 @@ kbd { padding: 0 .3rem; border: 1px solid #767676; border-radius: .2rem; font: i
 dialog { max-width: 30rem; border: 3px solid #8a1500; }
 
 @media (max-width: 640px) {
-.few td, .few th { width: 3.2rem; }
-.some td, .some th { width: 2.2rem; }
+.few { --field: 3.2rem; }
+.some { --field: 2.2rem; }
 .few thead th span { writing-mode: vertical-rl; height: 8rem; max-height: none; margin: 0 auto; white-space: nowrap; }
 .where b { font-size: 1.8rem; }
-table .number { width: 2.8rem; }
+table .number { --field: 2.8rem; }
 dl { grid-template-columns: 1fr; gap: 0; }
 dd { margin-bottom: .4rem; }
 }

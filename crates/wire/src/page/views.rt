@@ -47,11 +47,19 @@ const askTakeOut = () => {
 
 const isForPaper = () => view === 'papers' && !at('out').open && (document.activeElement === document.body || at('table').contains(document.activeElement));
 
+// Who comes from a spreadsheet presses Tab behind each number. The cursor went on already, so it goes no further.
+const isSpareTab = ({key, shiftKey}) => key === 'Tab' && !shiftKey && wentOn;
+
 const isNumLockOff = ({code, key}) => code.startsWith('Numpad') && key.length > 1 && key !== 'Enter';
 
 const onPaperKey = (event) => {
   const {key} = event;
   if (event.ctrlKey || event.metaKey || event.altKey || event.isComposing) return;
+  if (isSpareTab(event)) {
+    event.preventDefault();
+    wentOn = false;
+    return;
+  }
   if (key.length > 1 && !Object.hasOwn(STEPS, key)) return;
   event.preventDefault();
   if (event.repeat && !key.startsWith('Arrow')) return;
@@ -69,8 +77,17 @@ const onPaperInput = (event) => {
 };
 
 const onPaperFocus = ({target}) => {
-  const column = inputs().indexOf(target);
+  const column = target.id === 'end-key' ? width() : inputs().indexOf(target);
   if (column >= 0 && column !== row().column) take(() => moveTo(column));
+};
+
+// A key for the paper, while something beside the papers has the cursor.
+const isLost = ({key}) => view === 'papers' && !at('out').open && document.activeElement !== at('go') && /^[0-9.,/*dD]$/.test(key);
+
+const onLostKey = (event) => {
+  event.preventDefault();
+  putCursor();
+  refuse('The cursor wasn\u2019t in the paper, so that key is lost. Now it is there.');
 };
 
 const backToPapers = (text) => {
@@ -241,10 +258,14 @@ at('go').addEventListener('keydown', (event) => {
   if (event.key === 'Escape') showPapers();
 });
 
+const isOffered = (id) => !at(id).disabled && !at(id).hidden;
+
 document.addEventListener('keydown', (event) => {
-  if (isForPaper()) onPaperKey(event);
   const isPlain = !(event.ctrlKey || event.metaKey || event.altKey || event.repeat);
-  if (view === 'end' && isPlain && /^s$/i.test(event.key) && !at('send').disabled && !at('send').hidden) sendNow();
+  if (isForPaper()) onPaperKey(event);
+  else if (isPlain && isLost(event)) onLostKey(event);
+  else if (view === 'end' && isPlain && /^s$/i.test(event.key) && isOffered('send')) sendNow();
+  else if (view === 'end' && isPlain && event.key === 'ArrowUp' && isOffered('back')) backToPapers('');
 });
 at('rows').addEventListener('beforeinput', onPaperInput);
 at('rows').addEventListener('input', () => writeFields());
