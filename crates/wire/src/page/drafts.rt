@@ -54,13 +54,14 @@ const isMark = (text) => /^([1-9][0-9]?)?$/.test(text);
 const isMarksText = (text, columns) =>
   text === 'D' || (typeof text === 'string' && text.split(',').length === columns.length && text.split(',').every(isMark));
 
-const isRow = ({text, state, column}, columns) =>
-  isMarksText(text, columns) && [NEW, BEGUN, KEYED].includes(state) && column >= 0 && column <= columns.length;
+const isRow = (row, columns) =>
+  isMarksText(row?.text, columns) && [NEW, BEGUN, KEYED].includes(row.state) && Number.isInteger(row.column)
+  && row.column >= (row.text === 'D' ? columns.length : 0) && row.column <= columns.length;
 
 // Whether a draft is one of this batch, with these candidates and so many papers.
 const isDraftOf = (draft, {batch, round, size, columns}) =>
-  Boolean(draft) && draft.batch === batch && draft.round === round && draft.size === size
-  && String(draft.columns) === String(columns) && draft.rows.length > 0 && draft.rows.length <= size
+  draft?.batch === batch && draft.round === round && draft.size === size && String(draft.columns) === String(columns)
+  && /^[a-z0-9-]{1,40}$/.test(draft.id) && Array.isArray(draft.rows) && draft.rows.length <= size
   && draft.rows[draft.at] !== undefined && draft.rows.every((row) => isRow(row, columns));
 
 const isWhole = ({rows, size}) => rows.length === size && rows.every((row) => row.state === KEYED);

@@ -39,14 +39,17 @@ const AFTER_STATUS = {
 };
 const TELL = 'Tell the returning officer what stands here.';
 const NOBODY = 'The office doesn\u2019t answer.';
+const LATER = 'Ask again in a moment. What you keyed is kept here.';
 
 const isRefusal = (answer) => answer?.status === 409 && Number.isInteger(answer.says?.refusal);
 const isFault = (answer) => answer?.status === 503 && Number.isInteger(answer.says?.fault);
+// Nobody can tell from it whether the office kept what was sent.
+const isUnknown = (answer) => !answer || answer.status < 400 || answer.status >= 500;
 const isReply = (answer, {batch, round}) => answer?.status === 200 && answer.says?.reply === `batch ${batch} round ${round} keyed`;
 
 // What came of asking, in words, and what to do.
 const explained = (answer) => {
-  if (!answer) return [NOBODY, ''];
+  if (!answer) return [NOBODY, LATER];
   if (isRefusal(answer)) return [`The office refused it: ${answer.says.text} (refused ${answer.says.refusal}).`, AFTER_REFUSAL[answer.says.refusal] ?? TELL];
   if (isFault(answer)) return [`The office couldn\u2019t do it now (fault ${answer.says.fault}).`, TELL];
   return [`The office answered with ${answer.status}.`, AFTER_STATUS[answer.status] ?? TELL];
@@ -84,11 +87,12 @@ const send = async () => {
   save(sent);
   const answer = await ask(`batches/${sent.batch}/keying`, bodyOf(sent));
   if (isReply(answer, sent)) return {kept: answer.says.reply};
-  const isOpen = !isRefusal(answer) && (wasOpen || !answer || isFault(answer) || answer.status === 200);
+  const isOpen = !isRefusal(answer) && (wasOpen || isUnknown(answer));
   sent.sent = isOpen;
   if (isRefusal(answer) && answer.says.refusal === 2) sent.id = newId(sent.batch, sent.round);
   save(sent);
-  return {why: explained(answer), isOpen, refusal: isRefusal(answer) ? answer.says.refusal : 0};
+  const why = answer ? explained(answer) : [NOBODY];
+  return {why, isOpen, waits: isUnknown(answer), refusal: isRefusal(answer) ? answer.says.refusal : 0};
 };
 
 "#;

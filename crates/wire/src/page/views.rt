@@ -60,10 +60,11 @@ const onPaperKey = (event) => {
     wentOn = false;
     return;
   }
-  if (key.length > 1 && !Object.hasOwn(STEPS, key)) return;
+  const isOff = isNumLockOff(event);
+  if (key.length > 1 && !isOff && !Object.hasOwn(STEPS, key)) return;
   event.preventDefault();
   if (event.repeat && !key.startsWith('Arrow')) return;
-  if (isNumLockOff(event)) refuse('Num Lock is off, so this key is no digit. Switch it on.');
+  if (isOff) refuse('Num Lock is off, so this key is no digit. Switch it on.');
   else if (key === 'g' || key === 'G') askPaper();
   else if (key === 'Delete' && event.shiftKey) askTakeOut();
   else take(key);
@@ -127,12 +128,12 @@ const sendNow = async () => {
   clearTimeout(timer);
   const sent = draft;
   showEnd('It is being sent.', {sends: false, goesBack: false});
-  const {kept, why, isOpen, refusal} = await send();
+  const {kept, why, isOpen, waits, refusal} = await send();
   if (draft !== sent) return undefined;
   if (kept) return showKept(kept);
-  if (isOpen) return waitToSend(told(why));
+  if (waits) return waitToSend(told(why));
   if (refusal === 18) return backToPapers(told(why));
-  return showEnd(told(why), {sends: true, goesBack: true});
+  return showEnd(told(why), {sends: true, goesBack: !isOpen});
 };
 
 const showKept = (reply) => {
@@ -156,14 +157,24 @@ const lead = (batch) => {
   if (location.hash === `#${batch}`) route(); else location.hash = batch;
 };
 
+const MISFIT = ' What this browser keeps of it is of a batch with another number of papers, or other candidates. Tell the returning officer. ';
+
+const forgetButton = (name) => {
+  const button = made('button', {type: 'button'}, 'Forget it');
+  button.addEventListener('click', () => { forget(name); route(); });
+  return button;
+};
+
 const entryOf = (work) => {
   const what = `ward ${work.ward}, round ${work.round}, ${work.size} papers`;
   if (work.keyed) return made('li', {}, `Batch ${work.batch}: ${what}. The office has your keying.`);
-  const kept = keptAt(draftName(work.batch, work.round));
+  const name = draftName(work.batch, work.round);
+  const kept = keptAt(name);
   const begun = isDraftOf(kept, work) ? ` ${keyedIn(kept)} keyed here${kept.sent ? ', sent, and not answered yet' : ''}.` : '';
-  const button = made('button', {type: 'button'}, `Batch ${work.batch}`);
+  const misfit = kept && !begun ? [MISFIT, forgetButton(name)] : [];
+  const button = made('button', {type: 'button', className: 'main'}, `Batch ${work.batch}`);
   button.addEventListener('click', () => lead(work.batch));
-  return made('li', {}, button, ` ${what}.${begun}`);
+  return made('li', {}, button, ` ${what}.${begun}`, ...misfit);
 };
 
 // Of a draft the office may want nothing more: its round is keyed or over, or its ward isn't in keying.
@@ -176,18 +187,17 @@ const leftOver = (list) => draftNames().filter((name) => {
 
 const leftEntry = (name) => {
   const [batch, round] = name.slice(FRONT.length).split(' ');
-  const button = made('button', {type: 'button'}, 'Forget it');
-  const entry = made('li', {}, `Batch ${batch}, round ${round} is kept in this browser. The office doesn\u2019t ask for it now. `, button);
-  button.addEventListener('click', () => { forget(name); entry.remove(); });
-  return entry;
+  return made('li', {}, `Batch ${batch}, round ${round} is kept in this browser. The office doesn\u2019t ask for it now. `, forgetButton(name));
 };
 
-const showBatches = (list, text) => {
-  const left = leftOver(list);
-  at('list').replaceChildren(...list.map(entryOf), ...left.map(leftEntry));
-  at('asked').textContent = told([text, list.length ? '' : 'No batch is given to you now.']);
-  (at('list').querySelector('button') ?? at('look')).focus();
+const showList = (entries, text) => {
+  at('list').replaceChildren(...entries);
+  at('asked').textContent = text;
+  (at('list').querySelector('.main') ?? at('look')).focus();
 };
+
+const showBatches = (list, text) =>
+  showList([...list.map(entryOf), ...leftOver(list).map(leftEntry)], told([text, list.length ? '' : 'No batch is given to you now.']));
 
 const showStart = (work, ward) => {
   at('start-title').replaceChildren(`Batch ${work.batch}, round ${work.round}, ward ${work.ward} `, isolated(shownName(ward)));
@@ -200,10 +210,11 @@ const showStart = (work, ward) => {
 const openBatch = async (work, turn) => {
   const names = await askNames(work);
   if (turn !== turns) return undefined;
-  if (names.why) return showBatches([work], `Batch ${work.batch} can\u2019t be opened. ${told(names.why)}`);
+  if (names.why) return showList([entryOf(work)], `Batch ${work.batch} can\u2019t be opened. ${told(names.why)}`);
   const kept = keptAt(draftName(work.batch, work.round));
+  if (kept && !isDraftOf(kept, work)) return showList([entryOf(work)], `Batch ${work.batch} can\u2019t be opened.`);
   candidates = names.candidates;
-  draft = isDraftOf(kept, work) ? kept : newDraft(work);
+  draft = kept ?? newDraft(work);
   draft.window = WINDOW;
   settle();
   save();
@@ -224,7 +235,7 @@ const route = async (text = '') => {
   show('batches', at('batches-title'));
   const {list, why} = await askWork();
   if (turn !== turns) return undefined;
-  if (why) return showBatches([], told(why));
+  if (why) return showList([], told(why));
   const work = list.find((it) => it.batch === wanted && !it.keyed);
   if (work) return openBatch(work, turn);
   return showBatches(list, text);
