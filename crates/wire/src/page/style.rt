@@ -31,7 +31,8 @@ li { margin: .25rem 0; }
 
 .wide { overflow-x: auto; max-width: 100%; }
 table { border-collapse: separate; border-spacing: 0; }
-th, td { width: var(--field); min-width: var(--field); max-width: var(--field); height: 2rem; padding: 0; border: solid #999; border-width: 0 1px 1px 0; text-align: center; background: #fff; font-size: 1.1rem; font-variant-numeric: tabular-nums; }
+th, td { width: var(--field); min-width: var(--field); max-width: var(--field); height: 2rem; padding: 0; border: solid #999; border-width: 0 1px 1px 0; }
+th, td { text-align: center; background: #fff; font-size: 1.1rem; font-variant-numeric: tabular-nums; }
 .few { --field: 8rem; }
 .some { --field: 3.6rem; }
 .many { --field: 1.75rem; }
