@@ -91,39 +91,18 @@ class WebSocket:
                     return text.decode()
 
 
-class Browser:
-    """Chromium with one page."""
+class Window:
+    """A window of a browser, and who logs in there."""
 
-    def __init__(self, folder, name="", code="", width=1024, height=768, words=()):
-        self.home = tempfile.mkdtemp(dir=folder)
-        self.process = subprocess.Popen(
-            ["chromium", "--headless=new", "--no-sandbox", "--disable-gpu", "--no-first-run", "--disable-background-networking",
-             "--remote-debugging-port=0", f"--user-data-dir={self.home}", *words, "about:blank"],
-            stdout=subprocess.DEVNULL, stderr=subprocess.DEVNULL)
-        self.number, self.events, self.said, self.logins = 0, [], [], 0
+    def __init__(self, port, path, name="", code="", width=1024, height=768):
+        self.number, self.said, self.logins, self.tried = 0, [], 0, set()
         self.name, self.code = name, code
-        self.socket = WebSocket(self.port(), self.page_path())
-        for domain in ("Page", "Runtime", "Log", "Network", "DOM", "Accessibility"):
+        self.socket = WebSocket(port, path)
+        for domain in ("Page", "Runtime", "Log"):
             self.call(f"{domain}.enable")
         self.call("Fetch.enable", handleAuthRequests=True, patterns=[{"urlPattern": "*"}])
         self.call("Emulation.setFocusEmulationEnabled", enabled=True)
         self.resize(width, height)
-
-    def port(self):
-        end = time.monotonic() + SECONDS
-        while time.monotonic() < end and self.process.poll() is None:
-            try:
-                with open(os.path.join(self.home, "DevToolsActivePort")) as file:
-                    return int(file.readline())
-            except (FileNotFoundError, ValueError):
-                time.sleep(0.1)
-        raise Wrong("Chromium doesn't start")
-
-    def page_path(self):
-        line = http.client.HTTPConnection(HERE, self.port(), timeout=SECONDS)
-        line.request("GET", "/json/list")
-        pages = [page for page in json.loads(line.getresponse().read()) if page["type"] == "page"]
-        return "/" + pages[0]["webSocketDebuggerUrl"].split("/", 3)[3]
 
     # ---- the protocol
 
@@ -139,7 +118,9 @@ class Browser:
             self.send("Fetch.continueRequest", requestId=said["requestId"])
         elif method == "Fetch.authRequired":
             self.logins += 1
-            answer = {"response": "ProvideCredentials", "username": self.name, "password": self.code} if self.name else {"response": "CancelAuth"}
+            is_new = self.name and said["requestId"] not in self.tried
+            self.tried.add(said["requestId"])
+            answer = {"response": "ProvideCredentials", "username": self.name, "password": self.code} if is_new else {"response": "CancelAuth"}
             self.send("Fetch.continueWithAuth", requestId=said["requestId"], authChallengeResponse=answer)
         elif method == "Page.javascriptDialogOpening":
             self.send("Page.handleJavaScriptDialog", accept=True)
@@ -148,8 +129,6 @@ class Browser:
             self.said.append(said["entry"]["text"])
         elif method in ("Runtime.exceptionThrown", "Runtime.consoleAPICalled"):
             self.said.append(json.dumps(said)[:500])
-        if method:
-            self.events.append(method)
 
     def pump(self, seconds, done):
         end = time.monotonic() + seconds
@@ -199,6 +178,11 @@ class Browser:
         self.wait(0.3)
         self.until("document.readyState === 'complete'")
 
+    def labels(self, role):
+        """The names by which a screen reader tells what has a role."""
+        nodes = self.call("Accessibility.getFullAXTree")["nodes"]
+        return [node["name"]["value"] for node in nodes if not node["ignored"] and node["role"]["value"] == role]
+
     def text(self):
         return self.value("document.body ? document.body.innerText : ''")
 
@@ -223,7 +207,45 @@ class Browser:
         said.pop("text", None)
         self.call("Input.dispatchKeyEvent", type="keyUp", modifiers=modifiers, **said)
 
+
+class Browser(Window):
+    """Chromium with a window."""
+
+    def __init__(self, folder, name="", code="", words=()):
+        self.home = tempfile.mkdtemp(dir=folder)
+        self.process = subprocess.Popen(
+            ["chromium", "--headless=new", "--no-sandbox", "--disable-gpu", "--no-first-run", "--disable-background-networking",
+             "--remote-debugging-port=0", f"--user-data-dir={self.home}", *words, "about:blank"],
+            stdout=subprocess.DEVNULL, stderr=subprocess.DEVNULL)
+        self.port = self.found_port()
+        super().__init__(self.port, path_of(self.told("GET", "/json/list")[0]), name, code)
+
+    def found_port(self):
+        end = time.monotonic() + SECONDS
+        while time.monotonic() < end and self.process.poll() is None:
+            try:
+                with open(os.path.join(self.home, "DevToolsActivePort")) as file:
+                    return int(file.readline())
+            except (FileNotFoundError, ValueError):
+                time.sleep(0.1)
+        raise Wrong("Chromium doesn't start")
+
+    def told(self, method, target):
+        """What the browser tells of its windows."""
+        line = http.client.HTTPConnection(HERE, self.port, timeout=SECONDS)
+        line.request(method, target)
+        said = json.loads(line.getresponse().read())
+        return [window for window in said if window["type"] == "page"] if isinstance(said, list) else said
+
+    def another(self):
+        """One more window of the same browser."""
+        return Window(self.port, path_of(self.told("PUT", "/json/new?about:blank")), self.name, self.code)
+
     def end(self):
         self.process.terminate()
         self.process.wait()
         shutil.rmtree(self.home, ignore_errors=True)
+
+
+def path_of(window):
+    return "/" + window["webSocketDebuggerUrl"].split("/", 3)[3]
