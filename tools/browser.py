@@ -155,7 +155,7 @@ class Window:
     # ---- what a person does and sees
 
     def value(self, expression):
-        answer = self.call("Runtime.evaluate", expression=expression, returnByValue=True, awaitPromise=True)
+        answer = self.call("Runtime.evaluate", expression=expression, returnByValue=True, awaitPromise=True, userGesture=True)
         if "exceptionDetails" in answer:
             raise Wrong(f"{expression}: {answer['exceptionDetails']}")
         return answer["result"].get("value")

@@ -162,8 +162,8 @@ class Answers(http.server.BaseHTTPRequestHandler):
         self.answer(status, "application/json", json.dumps(what, separators=(",", ":"), ensure_ascii=False).encode(), headers)
 
     def is_foreign(self):
-        origin, site = self.headers.get("Origin"), self.headers.get("Sec-Fetch-Site")
-        return (origin is not None and not re.fullmatch(r"http://(127\.0\.0\.1|localhost)(:[0-9]{1,5})?", origin)) or \
+        origin, site, host = (self.headers.get(name) for name in ("Origin", "Sec-Fetch-Site", "Host"))
+        return ("." in (host or "") and not re.fullmatch(r"127\.0\.0\.1(:[0-9]{1,5})?", host)) or (origin is not None and not re.fullmatch(r"http://(127\.0\.0\.1|localhost)(:[0-9]{1,5})?", origin)) or \
             (site is not None and site not in ("same-origin", "none"))
 
     def clerk_at(self, pattern):
