@@ -2,7 +2,7 @@
 //!
 //! `Office` stands over any store of `sqlite`. `create` makes an empty office, and `open_from` opens one. `migrate`
 //! brings an office of an earlier program over to this one, and `copy` makes the same office in another database.
-//! `handle` answers one request and `run` a list of them; `status`, `columns`, `work`, `sheet`, `result` and
+//! `handle` answers one request and `run` a list of them; `status`, `columns`, `work`, `paper`, `sheet`, `result` and
 //! `text` tell of the state, and change nothing, as `wards`, `batches`, `doubtful`, `differences` and `receipts`
 //! tell the office alone. A fault inside a transaction closes the office: it answers 104 until it is opened again,
 //! and what is found then is the state before the request or the one after it, whole.
@@ -29,6 +29,6 @@ mod sheets;
 
 pub use answers::{Answer, Run, Stop};
 pub use offices::Office;
-pub use register::{Receipt, Status, Work};
+pub use register::{BallotPaper, Receipt, Status, Work};
 pub use sheets::{Text, texts_are_there};
 pub use store::{CopyFault, Holdings, Migrated};

@@ -35,6 +35,7 @@ mod unread;
 // what is answered
 mod bodies;
 mod page;
+mod paper;
 mod response;
 mod work;
 // one connection
