@@ -72,9 +72,7 @@ class Office:
 
     def candidates(self, clerk, number):
         batch = self.state["batches"].get(str(number))
-        if batch is None:
-            return 409, {"refusal": 7, "text": "no such batch"}
-        if clerk not in batch["clerks"]:
+        if batch is None or clerk not in batch["clerks"]:
             return 409, {"refusal": 14, "text": "clerk not of this batch"}
         ward = self.ward_of(batch)
         names = [{"candidate": candidate, "name": name} for candidate, name in ward["candidates"]]
