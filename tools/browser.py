@@ -178,6 +178,9 @@ class Window:
         self.wait(0.3)
         self.until("document.readyState === 'complete'")
 
+    def close(self):
+        self.send("Page.close")
+
     def labels(self, role):
         """The names by which a screen reader tells what has a role."""
         nodes = self.call("Accessibility.getFullAXTree")["nodes"]
@@ -190,6 +193,7 @@ class Window:
         self.call("Emulation.setDeviceMetricsOverride", width=width, height=height, deviceScaleFactor=1, mobile=False)
 
     def picture(self, path):
+        self.call("Page.bringToFront")
         with open(path, "wb") as file:
             file.write(base64.b64decode(self.call("Page.captureScreenshot", format="png")["data"]))
 

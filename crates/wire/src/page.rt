@@ -26,8 +26,8 @@ use views::VIEWS;
 /// from. `tools/check-page` compares both with the texts, and writes them anew with `--write`.
 pub(crate) const POLICY: &str =
     "default-src 'none'; \
-script-src 'sha256-Bn08M9ozMTt8cPYdu4apPbMqsZw2TJzjQt7raLPWHkg='; \
-style-src 'sha256-sdiFziziw+pyVp6ghVH1jBRN/UM65y7RujNl69Z7Smg='; \
+script-src 'sha256-Wz2QY3XgQ3MMg0+dVpRIdeF/e9NKmKG8d25VqCgvjRc='; \
+style-src 'sha256-RvoB6CKDOrOjcDNSXnvMhSPcIsQk3RAE0zTdC6KQeHc='; \
 connect-src 'self'; base-uri 'none'; form-action 'none'; frame-ancestors 'none'; \
 require-trusted-types-for 'script'; trusted-types 'none'";
 

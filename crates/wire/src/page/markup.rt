@@ -36,7 +36,7 @@ pub(crate) const BODY: &str = r#"</style>
 <li>Key what stands on a paper. You correct nothing.</li>
 <li id="anew">This is a new round. Key every paper anew, from the paper.</li>
 </ol>
-<p><button id="begin" type="button" class="main">Begin (Enter)</button> <button id="not-now" type="button">Your batches</button></p>
+<p class="acts"><button id="begin" type="button" class="main">Begin (Enter)</button> <button id="not-now" type="button">Your batches</button></p>
 </section>
 
 <section id="papers" aria-labelledby="which" hidden>
@@ -74,7 +74,7 @@ pub(crate) const BODY: &str = r#"</style>
 <label>Go to paper (G) <input id="go" type="text" inputmode="numeric" autocomplete="off" size="4"></label>
 <button id="leave-papers" type="button">Your batches</button></p>
 <dialog id="out" aria-labelledby="out-text"><p id="out-text"></p>
-<p><button id="out-no" type="button">Leave it in</button> <button id="out-yes" type="button">Take it out</button></p></dialog>
+<p class="acts"><button id="out-no" type="button">Leave it in</button> <button id="out-yes" type="button">Take it out</button></p></dialog>
 </section>
 
 <section id="end" aria-labelledby="end-title" hidden>
@@ -82,7 +82,7 @@ pub(crate) const BODY: &str = r#"</style>
 <div id="check"><p>Is your pile at its end? If a paper is left, or one was wanting, don&rsquo;t send. Go back and look for the place where it slipped. There you put a paper in, or take one out.</p>
 <ul id="summary"></ul></div>
 <p id="said" role="status"></p>
-<p><button id="send" type="button" class="main">Send (S)</button> <button id="back" type="button">Back to the papers (&uarr;)</button> <button id="leave" type="button">Your batches</button></p>
+<p class="acts"><button id="send" type="button" class="main">Send (S)</button> <button id="back" type="button">Back to the papers (&uarr;)</button> <button id="leave" type="button">Your batches</button></p>
 </section>
 
 </main>

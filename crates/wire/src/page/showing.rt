@@ -16,6 +16,7 @@ const made = (name, properties, ...inner) => {
 
 // A name stands by itself, whichever way it is read.
 const isolated = (name) => made('bdi', {}, name);
+const papersOf = (count) => `${count} paper${count === 1 ? '' : 's'}`;
 const spoken = ({number, name}) => `${number} \u2068${name}\u2069`;
 
 let sound = null;
@@ -103,6 +104,7 @@ const writeFields = () => {
 };
 
 const cursorText = () => {
+  if (extra) return ['A key too many'];
   if (pending?.what === 'candidate') return [`To candidate ${pending.digits}_`];
   if (!isBehind()) return [`${candidates[row().column].number} `, isolated(candidates[row().column].name)];
   return [paper() < draft.size ? `Enter: on to paper ${paper() + 1}` : 'Enter: the last paper is keyed'];

@@ -39,10 +39,10 @@ th, td { text-align: center; background: #fff; font-size: 1.1rem; font-variant-n
 td[colspan] { max-width: none; }
 table .number { --field: 3.4rem; position: sticky; left: 0; z-index: 1; border-left-width: 1px; font-weight: bold; }
 table .end { --field: 4rem; border-color: transparent; }
-thead th { vertical-align: bottom; border-top-width: 1px; font-weight: normal; font-size: .85rem; }
+thead th { vertical-align: top; border-top-width: 1px; font-weight: normal; font-size: .85rem; }
 thead th b { display: block; }
 thead th span { display: block; overflow: hidden; text-overflow: ellipsis; }
-.few thead th span { max-height: 2.6rem; padding: 0 .2rem; overflow-wrap: anywhere; }
+.few thead th span { display: -webkit-box; -webkit-box-orient: vertical; -webkit-line-clamp: 2; padding: 0 .2rem; overflow-wrap: anywhere; }
 .some thead th span, .many thead th span { writing-mode: vertical-rl; height: 8rem; margin: 0 auto; white-space: nowrap; }
 thead .here { background: #1b4f91; color: #fff; }
 tbody td { color: #444; }
@@ -60,7 +60,7 @@ td input::placeholder { color: #595959; opacity: 1; }
 
 #papers:not([hidden]) { display: flex; flex-direction: column; }
 #keys { order: 1; }
-.tools { display: flex; flex-wrap: wrap; gap: .5rem; align-items: center; }
+.tools, .acts { display: flex; flex-wrap: wrap; gap: .5rem; align-items: center; }
 dl { display: grid; grid-template-columns: max-content 1fr; gap: .15rem .75rem; margin: .5rem 0; }
 dd { margin: 0; }
 kbd { padding: 0 .3rem; border: 1px solid #767676; border-radius: .2rem; font: inherit; }
@@ -69,7 +69,7 @@ dialog { max-width: 30rem; border: 3px solid #8a1500; }
 @media (max-width: 640px) {
 .few { --field: 3.2rem; }
 .some { --field: 2.2rem; }
-.few thead th span { writing-mode: vertical-rl; height: 8rem; max-height: none; margin: 0 auto; white-space: nowrap; }
+.few thead th span { display: block; writing-mode: vertical-rl; height: 8rem; margin: 0 auto; white-space: nowrap; }
 .where b { font-size: 1.8rem; }
 table .number { --field: 2.8rem; }
 dl { grid-template-columns: 1fr; gap: 0; }

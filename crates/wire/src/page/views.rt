@@ -27,6 +27,7 @@ const told = (why) => why.filter(Boolean).join(' ');
 // A key, or another way to act, is taken, and what came of it is kept and shown.
 const take = (act) => {
   const why = typeof act === 'string' ? press(act) : act();
+  at('go').value = '';
   if (!draft) return;
   save();
   if (view !== 'papers') return;
@@ -34,10 +35,7 @@ const take = (act) => {
   if (why) refuse(why); else say('');
 };
 
-const askPaper = () => {
-  at('go').value = '';
-  at('go').focus();
-};
+const askPaper = () => at('go').focus();
 
 const askTakeOut = () => {
   at('out-text').textContent = `Take paper ${paper()} out? Each paper behind it moves up by one.`;
@@ -101,7 +99,11 @@ const backToPapers = (text) => {
 
 const numbersOf = (isMeant) => draft.rows.flatMap((it, index) => (isMeant(it.text) ? [index + 1] : []));
 
-const counted = (what, numbers) => `${what}: ${numbers.length}${numbers.length ? ` (paper ${numbers.slice(0, 20).join(', ')}${numbers.length > 20 ? ', ..' : ''})` : ''}`;
+// How many papers something is so of, and which the first of them are.
+const counted = (what, numbers) => {
+  const first = numbers.slice(0, 20).join(', ') + (numbers.length > 20 ? ', ..' : '');
+  return `${what}: ${papersOf(numbers.length)}${numbers.length ? `, by number ${first}` : ''}`;
+};
 
 const showEnd = (text, {sends, goesBack, isKept = false}) => {
   at('said').textContent = text;
@@ -114,7 +116,7 @@ const showEnd = (text, {sends, goesBack, isKept = false}) => {
 
 const askToSend = () => {
   settle();
-  at('end-title').textContent = `Batch ${draft.batch}, round ${draft.round}: ${draft.size} papers are keyed`;
+  at('end-title').textContent = `Batch ${draft.batch}, round ${draft.round}: ${papersOf(draft.size)} keyed`;
   at('summary').replaceChildren(
     made('li', {}, counted('Doubtful', numbersOf((text) => text === 'D'))),
     made('li', {}, counted('Without any number', numbersOf((text) => !/[0-9D]/.test(text)))));
@@ -166,7 +168,7 @@ const forgetButton = (name) => {
 };
 
 const entryOf = (work) => {
-  const what = `ward ${work.ward}, round ${work.round}, ${work.size} papers`;
+  const what = `ward ${work.ward}, round ${work.round}, ${papersOf(work.size)}`;
   if (work.keyed) return made('li', {}, `Batch ${work.batch}: ${what}. The office has your keying.`);
   const name = draftName(work.batch, work.round);
   const kept = keptAt(name);
@@ -264,8 +266,9 @@ onClick('out-no', () => { at('out').close(); showPapers(); });
 onClick('out-yes', () => { at('out').close(); take(takeOut); });
 
 at('go').addEventListener('keydown', (event) => {
+  const {value} = at('go');
   event.stopPropagation();
-  if (event.key === 'Enter') take(() => (/^[1-9][0-9]*$/.test(at('go').value) ? goTo(Number(at('go').value) - 1) : 'That is no number of a paper.'));
+  if (event.key === 'Enter') take(() => (/^[1-9][0-9]*$/.test(value) && value <= draft.size ? goTo(value - 1) : 'That is no number of a paper.'));
   if (event.key === 'Escape') showPapers();
 });
 
@@ -287,6 +290,7 @@ addEventListener('storage', ({key}) => {
   if (draft && key === draftName(draft.batch, draft.round)) toBatches(`Batch ${draft.batch} was opened in another window of this browser. Key it there, or open it here again.`);
 });
 addEventListener('blur', () => { at('away').hidden = view !== 'papers'; });
+addEventListener('resize', () => { if (isForPaper()) putCursor(); });
 addEventListener('focus', () => {
   at('away').hidden = true;
   if (isForPaper()) putCursor();
