@@ -197,8 +197,8 @@ class Window:
         with open(path, "wb") as file:
             file.write(base64.b64decode(self.call("Page.captureScreenshot", format="png")["data"]))
 
-    def press(self, key, modifiers=0, repeats=False):
-        """A key down and up, as from a keyboard."""
+    def press(self, key, modifiers=0, repeats=False, place=""):
+        """A key down and up, as from a keyboard; of a place on it, where another is meant than the usual one."""
         if key in NAMED:
             code, number = NAMED[key]
             said = {"key": key, "code": code, "windowsVirtualKeyCode": number, **({"text": "\r"} if key == "Enter" else {})}
@@ -206,6 +206,7 @@ class Window:
             said = {"key": key, "code": SIGNS[key][0], "windowsVirtualKeyCode": SIGNS[key][1], "text": key}
         else:
             said = {"key": key, "code": ("Digit" if key.isdigit() else "Key") + key.upper(), "windowsVirtualKeyCode": ord(key.upper()), "text": key}
+        said["code"] = place or said["code"]
         down = "keyDown" if "text" in said else "rawKeyDown"
         self.call("Input.dispatchKeyEvent", type=down, modifiers=modifiers, autoRepeat=repeats, **said)
         said.pop("text", None)

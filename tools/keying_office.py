@@ -181,7 +181,7 @@ class Answers(http.server.BaseHTTPRequestHandler):
         return status != 0
 
     def leave(self, clerk):
-        self.answer(200, "text/plain; charset=utf-8", f"clerk {clerk} has left\n".encode(), [("Clear-Site-Data", '"cookies"'), ("Cache-Control", "no-store")])
+        self.tell(200, {"left": clerk}, [("Clear-Site-Data", '"cookies"'), ("Cache-Control", "no-store")])
 
     def do_GET(self):
         number = "([1-9][0-9]{0,4})"

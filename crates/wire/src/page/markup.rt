@@ -24,7 +24,7 @@ pub(crate) const BODY: &str = r#"</style>
 <h2 id="batches-title" tabindex="-1">Your batches</h2>
 <p id="asked" role="status"></p>
 <ul id="list"></ul>
-<p><button id="look" type="button">Ask for new batches</button></p>
+<p class="acts"><button id="look" type="button">Ask for new batches</button> <button id="go-away" type="button">Leave this place</button></p>
 </section>
 
 <section id="start" aria-labelledby="start-title" hidden>

@@ -248,11 +248,20 @@ const toBatches = (text = '') => {
   route(text);
 };
 
+// Whoever leaves his place has the browser forget his code, as far as it can. What he keyed stays for him.
+const goAway = async () => {
+  const answer = await ask('leave');
+  const code = answer?.status === 200 ? 'This browser was told to forget your code. If it opens your page again without asking for it, close' : 'Close';
+  const kept = draftNames().length ? 'What you keyed and didn\u2019t send is kept here, for you alone. ' : '';
+  document.body.replaceChildren(made('p', {}, `Clerk ${CLERK} has left. ${kept}${code} all windows of the browser.`));
+};
+
 // ---- what leads where
 
 const onClick = (id, act) => at(id).addEventListener('click', act);
 
 onClick('look', () => route());
+onClick('go-away', goAway);
 onClick('begin', () => backToPapers(''));
 onClick('not-now', () => toBatches());
 onClick('leave', () => toBatches());
