@@ -26,8 +26,8 @@ use views::VIEWS;
 /// from. `tools/check-page` compares both with the texts, and writes them anew with `--write`.
 pub(crate) const POLICY: &str =
     "default-src 'none'; \
-script-src 'sha256-6jaeJBu6JCiEdTnDh4KE3c2e+Sa+lfN/3QV4H6dTtfY='; \
-style-src 'sha256-RvoB6CKDOrOjcDNSXnvMhSPcIsQk3RAE0zTdC6KQeHc='; \
+script-src 'sha256-6b6q1Q22+oqEoFkUZdo6sIjg8j3PIOTFe4bjRB/V78s='; \
+style-src 'sha256-2WVjPSyyHV4FbTtmNjbKPMdMBAPpZScWSqsFoclxuis='; \
 connect-src 'self'; base-uri 'none'; form-action 'none'; frame-ancestors 'none'; \
 require-trusted-types-for 'script'; trusted-types 'none'";
 

@@ -82,7 +82,8 @@ pub(crate) const BODY: &str = r#"</style>
 <div id="check"><p>Is your pile at its end? If a paper is left, or one was wanting, don&rsquo;t send. Go back and look for the place where it slipped. There you put a paper in, or take one out.</p>
 <ul id="summary"></ul></div>
 <p id="said" role="status"></p>
-<p class="acts"><button id="send" type="button" class="main">Send (S)</button> <button id="back" type="button">Back to the papers (&uarr;)</button> <button id="leave" type="button">Your batches</button></p>
+<p class="acts"><button id="send" type="button" class="main">Send (S)</button>
+<button id="back" type="button">Back to the papers (&uarr;)</button> <button id="leave" type="button">Your batches</button></p>
 </section>
 
 </main>

@@ -27,6 +27,7 @@ li { margin: .25rem 0; }
 .where span { margin-left: .75rem; }
 #cursor { margin: 0 0 .25rem; min-height: 1.9rem; font-size: 1.35rem; font-weight: bold; overflow-wrap: anywhere; }
 #notice { min-height: 3rem; margin: .25rem 0; padding: .3rem .5rem; border: 3px solid transparent; }
+#said:not(:empty) { padding: .4rem .6rem; border: 3px solid #1b4f91; }
 #notice.refused { border-color: #8a1500; }
 
 .wide { overflow-x: auto; max-width: 100%; }
@@ -39,7 +40,7 @@ th, td { text-align: center; background: #fff; font-size: 1.1rem; font-variant-n
 td[colspan] { max-width: none; }
 table .number { --field: 3.4rem; position: sticky; left: 0; z-index: 1; border-left-width: 1px; font-weight: bold; }
 table .end { --field: 4rem; border-color: transparent; }
-thead th { vertical-align: top; border-top-width: 1px; font-weight: normal; font-size: .85rem; }
+thead th { padding-top: .15rem; vertical-align: top; border-top-width: 1px; font-weight: normal; font-size: .85rem; }
 thead th b { display: block; }
 thead th span { display: block; overflow: hidden; text-overflow: ellipsis; }
 .few thead th span { display: -webkit-box; -webkit-box-orient: vertical; -webkit-line-clamp: 2; padding: 0 .2rem; overflow-wrap: anywhere; }

@@ -109,7 +109,7 @@ const showEnd = (text, {sends, goesBack, isKept = false}) => {
   at('said').textContent = text;
   at('send').hidden = isKept;
   at('back').hidden = isKept;
-  at('check').hidden = isKept || !goesBack;
+  at('check').hidden = text !== '';
   at('send').disabled = !sends;
   at('back').disabled = !goesBack;
 };
