@@ -26,7 +26,7 @@ use views::VIEWS;
 /// from. `tools/check-page` compares both with the texts, and writes them anew with `--write`.
 pub(crate) const POLICY: &str =
     "default-src 'none'; \
-script-src 'sha256-6b6q1Q22+oqEoFkUZdo6sIjg8j3PIOTFe4bjRB/V78s='; \
+script-src 'sha256-ECSBV9PHQX7YgmaRCVlsmrWYGR9wPY0XVH+DtVbzV3Q='; \
 style-src 'sha256-2WVjPSyyHV4FbTtmNjbKPMdMBAPpZScWSqsFoclxuis='; \
 connect-src 'self'; base-uri 'none'; form-action 'none'; frame-ancestors 'none'; \
 require-trusted-types-for 'script'; trusted-types 'none'";
