@@ -26,7 +26,7 @@ use views::VIEWS;
 /// from. `tools/check-page` compares both with the texts, and writes them anew with `--write`.
 pub(crate) const POLICY: &str =
     "default-src 'none'; \
-script-src 'sha256-ECSBV9PHQX7YgmaRCVlsmrWYGR9wPY0XVH+DtVbzV3Q='; \
+script-src 'sha256-TN6Uedd/G4viWbah27umjruGo2YjpFGnexn8CSjroHk='; \
 style-src 'sha256-2WVjPSyyHV4FbTtmNjbKPMdMBAPpZScWSqsFoclxuis='; \
 connect-src 'self'; base-uri 'none'; form-action 'none'; frame-ancestors 'none'; \
 require-trusted-types-for 'script'; trusted-types 'none'";

@@ -112,7 +112,7 @@ const goTo = (index) => {
   settle();
   const {rows, size} = draft;
   if (index < 0 || index >= size) return undefined;
-  if (index > rows.length || (index === rows.length && rows.at(-1).state !== KEYED)) return `Paper ${rows.length} comes first.`;
+  if (index > rows.length || (index === rows.length && rows.at(-1).state !== KEYED)) return `Paper ${firstOpen() + 1} comes first.`;
   if (index === rows.length) rows.push(newRow(draft.columns));
   draft.at = index;
   if (row().state === KEYED) row().column = width();

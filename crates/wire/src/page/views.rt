@@ -272,8 +272,9 @@ onClick('back', () => backToPapers(''));
 onClick('doubt', () => take('D'));
 onClick('put-in', () => take('Insert'));
 onClick('take-out', askTakeOut);
-onClick('out-no', () => { at('out').close(); showPapers(); });
+onClick('out-no', () => at('out').close());
 onClick('out-yes', () => { at('out').close(); take(takeOut); });
+at('out').addEventListener('close', () => { if (view === 'papers') putCursor(); });
 
 at('go').addEventListener('keydown', (event) => {
   const {value} = at('go');
