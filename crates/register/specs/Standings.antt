@@ -1,5 +1,5 @@
 -- How the election of a ward stands, the columns of a batch's papers, the work of a clerk, and what stands on the papers of a batch.
-use Rattle.std.specs.Prelude.{ℕ, Bool, ◌&&◌, if◌then◌else◌, List, map, length, Option, None, option_map, option_and_then, string_bytes}
+use Rattle.std.specs.Prelude.{ℕ, Bool, ◌&&◌, List, map, length, Option, None, option_map, option_and_then, string_bytes, if◌then◌else◌}
 use Rattle.std.specs.List.{filter}
 use Rattle.register.specs.declared.phase.Phase.{Phase}
 use Rattle.register.specs.declared.phase.Phase.TheVariants.{Keying}

@@ -39,7 +39,11 @@ fn paper_value(alloc: Global, batch: u32, paper: &BallotPaper) -> Result<Value, 
 }
 
 /// The body that tells what stands on the papers of a batch.
-pub(crate) fn paper_body(alloc: Global, batch: u32, paper: &BallotPaper) -> Result<String, AllocError>
+pub(crate) fn paper_body(
+    alloc: Global,
+    batch: u32,
+    paper: &BallotPaper,
+) -> Result<String, AllocError>
     ensures { IfOk result (λ body. string_bytes body ≡ paper_body batch (paper_entry paper.now)) }
 {
     paper_value(alloc, batch, paper)?.to_string(alloc)
