@@ -26,6 +26,16 @@ impl<T> Counted<T> {
         Counted { stream, failed: 0 }
     }
 
+    /// The writer or the reader itself.
+    pub fn into_stream(self) -> T
+    where
+        T: Drop,
+        ensures { result ≡ stream_of self }
+    {
+        let Counted { stream, failed: _ } = self;
+        stream
+    }
+
     /// Counts a failure.
     fn broken(&mut self) -> Broken
         requires { failed_calls self.old < 2 ^ 64 - 1 }

@@ -9,3 +9,4 @@ pub mod Replies
 pub mod Responses
 pub mod Told
 pub mod Serving
+pub mod Lacking

@@ -28,6 +28,7 @@ pub mod asked;
 mod body;
 mod digits;
 mod head;
+pub mod lacking;
 mod length;
 pub mod origin;
 pub mod target;
@@ -42,6 +43,7 @@ mod serving;
 
 pub use asked::{Asked, Keying, read_asked};
 pub use denial::{Denial, Verb};
+pub use lacking::{Lacks, lacks};
 pub use origin::Origin;
 pub use serving::{Served, serve_one};
 pub use target::Reading;

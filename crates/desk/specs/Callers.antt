@@ -1,0 +1,129 @@
+-- Clients and orders who have their turns in one office, one after the other, and what is kept of them.
+use Rattle.std.specs.Prelude.{◌≡◌, ◌⊎◌, ⊤, Bool, true, false, List, [], ◌∷◌, ◌++◌, Option, Some, drop, length, take, ℕ}
+use Rattle.std.specs.List.{FoldsTo}
+use Rattle.sqlite.specs.Held.{Held}
+use Rattle.sqlite.specs.State.{HasCleanDisk, State}
+use Rattle.register.specs.Machine.{after}
+use Rattle.register.specs.Offices.{OfficeState, empty_office}
+use Rattle.register.specs.declared.command.Request.{Request}
+use Rattle.tables.specs.declared.fault.Fault.TheVariants.{Closed}
+use Rattle.store.specs.Offices.{IsAt}
+use Rattle.office.specs.Answers.{IsOpenAt, WhenOpenAt}
+use Rattle.office.specs.Runs.{Keeps}
+use Rattle.office.specs.Values.{OfficeValue}
+use Rattle.wire.specs.Bodies.{KeyingEntry}
+use Rattle.wire.specs.Asking.{Asks, keying}
+use Rattle.wire.specs.Serving.{EndsWith, IsHandedOn, ReadiesClosed, Serves, ServesClosed, TellsFault, TellsFor}
+use Rattle.wire.specs.declared.serving.Served.{Served}
+use Rattle.desk.specs.Folders.{Folder}
+use Rattle.desk.specs.Headline.{Course, IsDone}
+use Rattle.desk.specs.Pages.{Cut, IsShown, Outputs, Page, failed}
+use Rattle.desk.specs.Parts.{ComesTo}
+use Rattle.desk.specs.declared.lines.Failure.TheVariants.{Office}
+use Rattle.desk.specs.declared.orders.Job.{Job}
+
+-- ---- who has a turn
+
+-- a client whose request came to its end: what was gathered of him, and the answer that was put for him
+pub record Visit : Type 0 where
+  pub got : List ℕ
+  pub answer : List ℕ
+
+-- an order that was handed over: its job, the files that came with it, what its two outputs took, and the status it ends with
+pub record Handed : Type 0 where
+  pub job : Job
+  pub folder : Folder
+  pub told : Outputs
+  pub status : ℕ
+
+pub data Caller : Type 0 where
+  client : Visit → Caller
+  order : Handed → Caller
+
+-- two outputs that took nothing yet
+abbrev pub untold : Outputs
+untold = record { out = Some []; out_failed = 0; err = Some []; err_failed = 0 }
+
+-- ---- one turn, in an office that was given the origin of a proxy or none
+
+-- a client's connection ended so: his answer was put from its first byte on
+abbrev pub EndsSo : Visit → (Option (List ℕ) → Option (List ℕ) → Served → Type 0) → Type 0
+EndsSo visit IsEnd = (served : Served) × IsEnd (Some []) (Some visit.answer) served
+
+-- a client was served: what he was told and what that left, if the office was open, and that it is closed, if it was
+pub record ServesVisit {S : Type 0} (given : Option (List ℕ)) (state_of : Held S → State) (old : OfficeValue S) (visit : Visit) (new : OfficeValue S) : Type 0 where
+  pub served : Served
+  pub serves : WhenOpenAt state_of old new (λ s. Serves given (Some visit.got) (Some []) (Some visit.answer) s served new.closed (state_of new.held))
+  pub turned_away : old.closed ≡ true → ServesClosed given (Some visit.got) (Some []) (Some visit.answer) served × (new ≡ old)
+  pub clean : HasCleanDisk (state_of new.held) → HasCleanDisk (state_of old.held)
+
+-- an order was followed: its page was told, as far as its outputs took it, with what it left, if the office was open; and that it is closed, if it was
+pub record FollowsOrder {S : Type 0} (state_of : Held S → State) (old : OfficeValue S) (o : Handed) (new : OfficeValue S) : Type 0 where
+  pub page : Page
+  pub cut : Cut
+  pub shown : IsShown cut untold o.told page o.status
+  pub does : WhenOpenAt state_of old new (λ s. ComesTo cut page (λ course. IsDone (state_of old.held) new.closed (state_of new.held) o.folder s o.job course))
+  pub turned_away : old.closed ≡ true → (page ≡ failed (Office Closed)) × (new ≡ old)
+  pub clean : HasCleanDisk (state_of new.held) → HasCleanDisk (state_of old.held)
+
+-- a caller had his turn
+abbrev pub ServesCaller : {S : Type 0} → Option (List ℕ) → (Held S → State) → OfficeValue S → Caller → OfficeValue S → Type 0
+ServesCaller given state_of old (client visit) new = ServesVisit given state_of old visit new
+ServesCaller given state_of old (order o) new = FollowsOrder state_of old o new
+
+-- ---- what is told at a state
+
+-- an order told the page of its course at a state, in which these requests were answered, and this one more was sent, if any
+pub record TellsOrder (s : OfficeState) (o : Handed) (sent last : List Request) : Type 0 where
+  pub old : State
+  pub st : State
+  pub closed : Bool
+  pub course : Course
+  pub done : IsDone old closed st o.folder s o.job course
+  pub shown : IsShown course.cut untold o.told course.page o.status
+  pub answered : sent ≡ take course.answered course.requests
+  pub next : last ≡ take 1 (drop course.answered course.requests)
+
+-- the last request is a clerk's keying, which these bytes ask; or there is none
+abbrev pub IsLastFor : Option (List ℕ) → List ℕ → List Request → Type 0
+IsLastFor given bytes last =
+    (last ≡ [])
+    ⊎ ((clerk batch : ℕ) × (entry : KeyingEntry) × (request : Request) × Asks given bytes (keying clerk batch entry) × IsHandedOn clerk batch entry request × (last ≡ request ∷ []))
+
+-- callers who find the office closed: each is told so, a client where he asks it anything
+abbrev pub AreTurnedAway : Option (List ℕ) → List Caller → Type 0
+AreTurnedAway given [] = ⊤
+AreTurnedAway given (client visit ∷ callers) = EndsSo visit (EndsWith (ReadiesClosed given (Some visit.got)) ⊤) × AreTurnedAway given callers
+AreTurnedAway given (order o ∷ callers) = ((cut : Cut) × IsShown cut untold o.told (failed (Office Closed)) o.status) × AreTurnedAway given callers
+
+-- Callers had their turns, each as the office's machine says where his turn comes, and these requests were answered for them: of a client none or
+-- one keying, and one where he was told what the office says to it; of an order those that its page tells. Or a fault, which is told, closed the office at
+-- one of them (a request more may be kept, or not), and everyone behind him is told that it is closed.
+abbrev pub AnswersInTurn : Option (List ℕ) → OfficeState → List Caller → List Request → List Request → Type 0
+AnswersInTurn given s [] answered last = (answered ≡ []) × (last ≡ [])
+AnswersInTurn given s (client visit ∷ callers) answered last =
+    ((sent : List Request) × (others : List Request) × EndsSo visit (EndsWith (TellsFor given (Some visit.got) s sent) (sent ≡ [])) × (answered ≡ sent ++ others)
+    × AnswersInTurn given (after s sent) callers others last)
+    ⊎ (EndsSo visit (EndsWith TellsFault ⊥) × (answered ≡ []) × IsLastFor given visit.got last × AreTurnedAway given callers)
+AnswersInTurn given s (order o ∷ callers) answered last =
+    ((sent : List Request) × (others : List Request) × (unsent : List Request) × TellsOrder s o sent unsent × (answered ≡ sent ++ others)
+    × AnswersInTurn given (after s sent) callers others last)
+    ⊎ (TellsOrder s o answered last × AreTurnedAway given callers)
+
+-- ---- what is kept of callers who had their turns one after the other
+
+-- What is kept of callers who had their turns, after earlier requests. An open office is at the state after all that were answered. Whatever a stop
+-- leaves is the state after the accepted requests of a beginning, which contains every earlier one, every one that was answered, and at most one more.
+pub record IsKeptOf (given : Option (List ℕ)) (earlier : List Request) (callers : List Caller) (closed : Bool) (st : State) : Type 0 where
+  pub answered : List Request
+  pub last : List Request
+  pub in_turn : AnswersInTurn given (after empty_office earlier) callers answered last
+  pub open_at : closed ≡ false → IsOpenAt (after empty_office (earlier ++ answered)) closed st
+  pub keeps : Keeps earlier (answered ++ last) (length answered) st
+
+-- Callers had their turns: each was served by the office that those before him left, and this is kept of them.
+pub record ServesCallers {S : Type 0} (given : Option (List ℕ)) (state_of : Held S → State) (old new : OfficeValue S) : Type 0 where
+  pub callers : List Caller
+  pub each : FoldsTo (ServesCaller given state_of) old callers new
+  pub keeps : HasCleanDisk (state_of new.held) → old.closed ≡ false → (earlier : List Request) → IsAt (after empty_office earlier) (state_of old.held)
+      → IsKeptOf given earlier callers new.closed (state_of new.held)

@@ -1,0 +1,30 @@
+-- The clients who are in a room at one time.
+use Rattle.std.specs.Prelude.{◌≡◌, ◌<◌, ◌≤◌, ◌+◌, ◌-◌, ℕ, List, Option, Some, None, length, slice_index_or, sum_by}
+use Rattle.std.specs.List.{All}
+use Rattle.gathering.specs.declared.client.Answer.{Answer}
+use Rattle.gathering.specs.declared.client.Client.{Client}
+
+-- the most clients who are in the room at once
+abbrev pub most_clients : ℕ
+most_clients = 512
+
+-- the most bytes that are held of all of them: 64 MiB
+abbrev pub most_bytes : ℕ
+most_bytes = 67108864
+
+-- the bytes of an answer that are still to be told
+abbrev pub untold_bytes : Option Answer → ℕ
+untold_bytes None = 0
+untold_bytes (Some answer) = length answer.bytes.items - answer.sent
+
+-- the bytes that are held of a client: what was gathered of him, and what he is still to be told
+abbrev pub bytes_of : {L : Type 0} → Client L → ℕ
+bytes_of client = length client.got.items + untold_bytes client.answer
+
+-- and of all of them
+abbrev pub bytes_held : {L : Type 0} → List (Client L) → ℕ
+bytes_held clients = sum_by bytes_of clients
+
+-- nobody has waited longer than this client: his half minute began first
+abbrev pub IsLongest : {L : Type 0} → List (Client L) → Client L → Type 0
+IsLongest clients client = All (λ other. client.since ≤ other.since) clients

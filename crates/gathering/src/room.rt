@@ -1,0 +1,77 @@
+//! The clients of one moment.
+
+ghost use Rattle.std.specs.Prelude.{◌≡◌, ◌<◌, ◌^◌, [], IfNone, IfSome, length, slice_index};
+ghost use Rattle.gathering.specs.Rooms.{IsLongest, bytes_held, untold_bytes};
+
+use crate::client::{Answer, Client};
+use crate::line::Line;
+use std::alloc::Global;
+
+/// The most clients who are in a room at once.
+pub const MAX_CLIENTS: usize = 512;
+
+/// The most bytes that are held of them all.
+pub const MAX_BYTES: usize = 64 << 20;
+
+/// How many bytes of an answer are still to be told.
+fn untold(answer: &Option<Answer>) -> usize
+    ensures { result ≡ untold_bytes answer.now }
+{
+    match answer {
+        Some(answer) => answer.bytes.len().saturating_sub(answer.sent),
+        None => 0,
+    }
+}
+
+/// How many bytes are held of all clients; the greatest number there is, where they are more.
+pub fn bytes_held<L>(clients: &[Client<L>]) -> usize
+    ensures { bytes_held clients.now < 2 ^ 64 → result ≡ bytes_held clients.now }
+{
+    let mut held = 0usize;
+    for client in clients {
+        held = held.saturating_add(client.got.len());
+        held = held.saturating_add(untold(&client.answer));
+    }
+    held
+}
+
+/// The place of the client who has waited longest since his half minute began; none where there is nobody.
+pub fn longest<L>(clients: &[Client<L>]) -> Option<usize>
+    ensures some { IfSome result (λ place. (place < length clients.now) × IsLongest clients.now (slice_index clients.now place)) }
+    ensures none { IfNone result (clients.now ≡ []) }
+{
+    let mut found = None;
+    for (place, client) in clients.iter().enumerate() {
+        found = match found {
+            Some((_, since)) if since <= client.since => found,
+            _ => Some((place, client.since)),
+        };
+    }
+    found.map(|(place, _)| place)
+}
+
+/// The place of the client with a number; none where he isn't there.
+pub fn place_of<L>(clients: &[Client<L>], number: u64) -> Option<usize>
+    ensures some { IfSome result (λ place. (place < length clients.now) × ((slice_index clients.now place).number ≡ number)) }
+{
+    clients.iter().position(|client| client.number == number)
+}
+
+/// The clients who are in, in the order of coming, and how many came.
+#[derive(Drop)]
+pub struct Room<L> {
+    pub clients: Vec<Client<L>>,
+    pub came: u64,
+}
+
+impl<L: Line> Room<L> {
+    /// A room with nobody in it.
+    pub fn new(alloc: Global) -> Room<L>
+        ensures { (result.clients.items ≡ []) × (result.came ≡ 0) }
+    {
+        Room {
+            clients: Vec::new(alloc),
+            came: 0,
+        }
+    }
+}
