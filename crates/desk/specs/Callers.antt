@@ -1,6 +1,7 @@
 -- Clients and orders who have their turns in one office, one after the other, and what is kept of them.
 use Rattle.std.specs.Prelude.{◌≡◌, ◌⊎◌, ⊤, Bool, true, false, List, [], ◌∷◌, ◌++◌, Option, Some, drop, length, take, ℕ}
 use Rattle.std.specs.List.{FoldsTo}
+use Rattle.std.specs.Io.KnownBytes.{IsAtEnd}
 use Rattle.sqlite.specs.Held.{Held}
 use Rattle.sqlite.specs.State.{HasCleanDisk, State}
 use Rattle.register.specs.Machine.{after}
@@ -11,8 +12,11 @@ use Rattle.store.specs.Offices.{IsAt}
 use Rattle.office.specs.Answers.{IsOpenAt, WhenOpenAt}
 use Rattle.office.specs.Runs.{Keeps}
 use Rattle.office.specs.Values.{OfficeValue}
+use Rattle.gathering.specs.Lines.{Gathers, Line}
+use Rattle.gathering.specs.declared.client.Answer.{Answer}
+use Rattle.gathering.specs.declared.client.Client.{Client}
 use Rattle.wire.specs.Bodies.{KeyingEntry}
-use Rattle.wire.specs.Asking.{Asks, keying}
+use Rattle.wire.specs.Asking.{Asks, IsWanting, keying}
 use Rattle.wire.specs.Serving.{EndsWith, IsHandedOn, ReadiesClosed, Serves, ServesClosed, TellsFault, TellsFor}
 use Rattle.wire.specs.declared.serving.Served.{Served}
 use Rattle.desk.specs.Folders.{Folder}
@@ -70,6 +74,27 @@ pub record FollowsOrder {S : Type 0} (state_of : Held S → State) (old : Office
 abbrev pub ServesCaller : {S : Type 0} → Option (List ℕ) → (Held S → State) → OfficeValue S → Caller → OfficeValue S → Type 0
 ServesCaller given state_of old (client visit) new = ServesVisit given state_of old visit new
 ServesCaller given state_of old (order o) new = FollowsOrder state_of old o new
+
+-- ---- a client goes on
+
+-- what a client asks has come to its end: the bytes that were gathered say it, or he sends no more
+abbrev pub HasCome : Option (List ℕ) → Option (List ℕ) → List ℕ → Type 0
+HasCome given held got = (¬ IsWanting given got) ⊎ IsAtEnd held
+
+-- A client had his turn as he went on: his own bytes were gathered to their end, he was served by the office, and that answer is now his.
+pub record HasTurn {L S : Type 0} (given : Option (List ℕ)) (line : Line L) (state_of : Held S → State) (old new : Client L) (before then : OfficeValue S) : Type 0 where
+  pub visit : Visit
+  pub heard : L
+  pub own : Gathers line old.line heard old.got.items visit.got
+  pub come : HasCome given (line.held heard) visit.got
+  pub served : ServesVisit given state_of before visit then
+  pub answer : Answer
+  pub his : new.answer ≡ Some answer
+  pub told : answer.bytes.items ≡ visit.answer
+
+-- he had his turn, or the office is as it was
+abbrev pub MayHaveTurn : {L S : Type 0} → Option (List ℕ) → Line L → (Held S → State) → Client L → Client L → OfficeValue S → OfficeValue S → Type 0
+MayHaveTurn given line state_of old new before then = HasTurn given line state_of old new before then ⊎ (then ≡ before)
 
 -- ---- what is told at a state
 

@@ -1,0 +1,191 @@
+//! An office that serves: clients come in, go on side by side, and have their turns one after the other.
+
+ghost use Rattle.std.specs.Prelude.{◌≡◌, IfErr, true};
+ghost use Rattle.sqlite.specs.State.{HasCleanDisk};
+ghost use Rattle.sqlite.specs.Held.{state};
+ghost use Rattle.wire.specs.Origins.{given_by};
+ghost use Rattle.desk.specs.Callers.{ServesCallers};
+
+use crate::attending::{Attended, attend};
+use crate::lines::Failure;
+use gathering::room::{bytes_held, longest, place_of};
+use gathering::{Client, Line, MAX_BYTES, MAX_CLIENTS, Room};
+use office::Office;
+use sqlite::Alter;
+use std::alloc::Global;
+use std::time::{Clock, Duration};
+use votes::Broken;
+use wire::Origin;
+
+/// How long a client may take to send what he asks, and as long to take his answer, in milliseconds.
+const PATIENCE: u64 = 30_000;
+
+/// Nobody is let go to make room before he has waited so long.
+const GRACE: u64 = 1_000;
+
+/// How long the next look at those who wait may be put off, while somebody waits whom no event may tell of.
+const LOOK: u64 = 1_000;
+
+/// The most who come in before those who are in go on.
+const COMERS: usize = 64;
+
+/// Where clients come in, and what tells who may go on. What it tells is no promise: who can't go on is tried in vain.
+pub trait Doors {
+    type Line: Line + Drop;
+
+    /// Waits until somebody may go on or come in, so long at most.
+    fn wait(&mut self, most: Duration) -> Result<(), Broken>;
+
+    /// The number of the next who may go on; none, once all were told.
+    fn next_ready(&mut self) -> Option<u64>;
+
+    /// Lets in the next who waits at the door, and tells of him by this number from then on. None where nobody waits, or he
+    /// can't be let in now.
+    fn admit(&mut self, number: u64) -> Option<Self::Line>;
+
+    /// Somebody waits at the door who wasn't let in, as far as is known.
+    fn is_waited_at(&self) -> bool;
+}
+
+/// What an office that serves goes by: its origin, and after how many clients it ends, if it does.
+#[derive(Clone, Copy)]
+pub struct Terms<'a> {
+    pub origin: Option<Origin<'a>>,
+    pub connections: Option<u64>,
+}
+
+/// The time of a clock in milliseconds.
+fn moment<C: Clock>(clock: &C) -> Result<u64, Failure>
+    ensures told { IfErr result (λ failure. failure ≡ Failure.Output) }
+{
+    match clock.monotonic() {
+        Ok(since) => Ok(u64::try_from(since.as_millis()).unwrap_or(u64::MAX)),
+        Err(_) => Err(Failure::Output),
+    }
+}
+
+/// Each who may go on goes on, in the order in which that is told. Those who are done, or lost, leave.
+fn go_on<D: Doors, S: Alter>(
+    alloc: Global,
+    doors: &mut D,
+    room: &mut Room<D::Line>,
+    terms: Terms<'_>,
+    now: u64,
+    office: &mut Office<S>,
+)
+    ensures served { ServesCallers (given_by terms.origin.entry) (state S.Store) office.old office.new }
+{
+    for _ in 0..MAX_CLIENTS {
+        let Some(number) = doors.next_ready() else {
+            return;
+        };
+        let Some(place) = place_of(room.clients.as_slice(), number) else {
+            continue;
+        };
+        match attend(alloc, terms.origin, &mut room.clients[place], now, office) {
+            Attended::Waits => keep_within(room),
+            Attended::Done | Attended::Lost => drop(room.clients.remove(place)),
+        }
+    }
+}
+
+/// Lets those go who have waited longest, until no more bytes are held than may be.
+fn keep_within<L: Line + Drop>(room: &mut Room<L>) {
+    for _ in 0..MAX_CLIENTS {
+        if bytes_held(room.clients.as_slice()) <= MAX_BYTES {
+            return;
+        }
+        match longest(room.clients.as_slice()) {
+            Some(place) => drop(room.clients.remove(place)),
+            None => return,
+        }
+    }
+}
+
+/// Lets those go whose half minute is over.
+fn let_go_late<L: Line + Drop>(room: &mut Room<L>, now: u64) {
+    room.clients
+        .retain(|client| now.saturating_sub(client.since) < PATIENCE);
+}
+
+/// Lets the one go who has waited longest, if that is long enough; whether there was such a one.
+fn let_one_go<L: Line + Drop>(room: &mut Room<L>, now: u64) -> bool {
+    let Some(place) = longest(room.clients.as_slice()) else {
+        return false;
+    };
+    if now.saturating_sub(room.clients[place].since) < GRACE {
+        return false;
+    }
+    drop(room.clients.remove(place));
+    true
+}
+
+/// Lets in those who wait at the door, as far as there is room.
+fn let_in<D: Doors>(alloc: Global, doors: &mut D, room: &mut Room<D::Line>, most: u64, now: u64) {
+    for _ in 0..COMERS {
+        let is_full = room.clients.len() >= MAX_CLIENTS
+            || bytes_held(room.clients.as_slice()) >= MAX_BYTES;
+        if room.came >= most || (is_full && !(doors.is_waited_at() && let_one_go(room, now))) {
+            return;
+        }
+        let Some(line) = doors.admit(room.came) else {
+            return;
+        };
+        let client = Client::new(alloc, line, room.came, now);
+        room.came += 1;
+        if room.clients.push(client).is_err() {
+            return;
+        }
+    }
+}
+
+/// How long the next look may be put off.
+fn pause<L>(room: &Room<L>, is_waited_at: bool, now: u64) -> Duration {
+    let most = if is_waited_at { LOOK } else { PATIENCE };
+    match longest(room.clients.as_slice()) {
+        Some(place) => {
+            let waited = now.saturating_sub(room.clients[place].since);
+            Duration::from_millis(most.min(PATIENCE.saturating_sub(waited)))
+        }
+        None => Duration::from_millis(most),
+    }
+}
+
+/// Serves those who come to the doors of an office, until so many came in and all of them left; without end, where no
+/// number is given.
+///
+/// Clients are heard side by side, and so they are told their answers. Each has his turn once what he asks has come to its end,
+/// and is served whole in it. At most 512 are in at once, with 64 MiB of what they sent and are to take; past that the next
+/// waits at the door, and who has waited longest is let go for him, if that is a second at least. One has half a minute for
+/// what he asks, and half a minute more to take his answer.
+///
+/// `Output` where the doors or the clock fail; what was answered before stands.
+pub fn serve_hall<D: Doors, C: Clock, S: Alter>(
+    alloc: Global,
+    clock: &C,
+    doors: &mut D,
+    terms: Terms<'_>,
+    office: &mut Office<S>,
+) -> Result<(), Failure>
+    ensures told { IfErr result (λ failure. failure ≡ Failure.Output) }
+    ensures served { ServesCallers (given_by terms.origin.entry) (state S.Store) office.old office.new }
+    ensures closed { office.old.closed ≡ true → office.new ≡ office.old }
+    ensures clean { HasCleanDisk (state S.Store office.new.held) → HasCleanDisk (state S.Store office.old.held) }
+{
+    let most = terms.connections.unwrap_or(u64::MAX);
+    let mut room = Room::new(alloc);
+    for _ in 0..u64::MAX {
+        let now = moment(clock)?;
+        go_on(alloc, doors, &mut room, terms, now, office);
+        let_go_late(&mut room, now);
+        let_in(alloc, doors, &mut room, most, now);
+        if room.came >= most && room.clients.is_empty() {
+            return Ok(());
+        }
+        let pause = pause(&room, doors.is_waited_at(), now);
+        if doors.wait(pause).is_err() {
+            return Err(Failure::Output);
+        }
+    }
+    Err(Failure::Output)
+}

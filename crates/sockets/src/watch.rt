@@ -1,0 +1,109 @@
+//! What tells which sockets may go on, and who waits at the doors.
+
+use crate::socket::Socket;
+use mio::event::Source;
+use mio::net::{TcpListener, UnixListener};
+use mio::{Events, Interest, Poll, Token};
+use std::alloc::Global;
+use std::io;
+use std::io::ErrorKind;
+use std::net::Net;
+use std::time::Duration;
+
+/// How many events are told of at once.
+const EVENTS: usize = 1024;
+
+/// The tokens of the doors; those of clients stand behind them.
+const CLIENTS: Token = Token(0);
+
+const ORDERS: Token = Token(1);
+
+const DOORS: u64 = 2;
+
+/// The doors, and the sockets of those who came in.
+#[derive(Drop)]
+pub struct Watch {
+    poll: Poll,
+    events: Events,
+    told: usize,
+    clients: TcpListener,
+    orders: Option<UnixListener>,
+    is_waited_at: bool,
+}
+
+impl Watch {
+    /// Doors that nobody came to yet.
+    pub fn new(
+        net: &impl Net,
+        alloc: Global,
+        mut clients: TcpListener,
+        mut orders: Option<UnixListener>,
+    ) -> io::Result<Watch> {
+        let poll = Poll::new(net)?;
+        let events = Events::with_capacity(alloc, EVENTS)?;
+        poll.registry()
+            .register(&mut clients, CLIENTS, Interest::READABLE)?;
+        if let Some(orders) = &mut orders {
+            poll.registry()
+                .register(orders, ORDERS, Interest::READABLE)?;
+        }
+        Ok(Watch {
+            poll,
+            events,
+            told: 0,
+            clients,
+            orders,
+            is_waited_at: true,
+        })
+    }
+
+    /// Waits until somebody may go on or come in, so long at most.
+    pub fn wait(&mut self, most: Duration) -> io::Result<()> {
+        self.told = 0;
+        self.poll.poll(&mut self.events, Some(most))
+    }
+
+    /// The number of the next who may go on; none, once all were told.
+    pub fn next_ready(&mut self) -> Option<u64> {
+        for _ in 0..EVENTS {
+            let event = self.events.iter().nth(self.told)?;
+            self.told = self.told.saturating_add(1);
+            let token = event.token().0 as u64;
+            if token >= DOORS {
+                return Some(token - DOORS);
+            }
+            self.is_waited_at = true;
+        }
+        None
+    }
+
+    /// Whether somebody may wait at a door.
+    pub fn is_waited_at(&self) -> bool {
+        self.is_waited_at
+    }
+
+    /// Watches a socket from now on; none, where that can't be.
+    fn watched<S: Source>(&self, mut socket: S, number: u64) -> Option<S> {
+        let token = Token(usize::try_from(number.checked_add(DOORS)?).ok()?);
+        let both = Interest::READABLE | Interest::WRITABLE;
+        let registered = self.poll.registry().register(&mut socket, token, both);
+        registered.is_ok().then_some(socket)
+    }
+
+    /// Lets in the next who waits, an order before a client. None where nobody waits, or he can't be let in now, as where
+    /// too many files are open: then he waits on.
+    pub fn admit(&mut self, number: u64) -> Option<Socket> {
+        if let Some(orders) = &self.orders {
+            if let Ok((stream, _)) = orders.accept() {
+                return Some(Socket::Order(self.watched(stream, number)?));
+            }
+        }
+        match self.clients.accept() {
+            Ok((stream, _)) => Some(Socket::Client(self.watched(stream, number)?)),
+            Err(error) => {
+                self.is_waited_at = error.kind() != ErrorKind::WouldBlock;
+                None
+            }
+        }
+    }
+}
