@@ -1,0 +1,4 @@
+-- The lemmas, by subject.
+pub mod Fields
+pub mod Pieces
+pub mod Loop
