@@ -1,5 +1,5 @@
 -- Clients and orders who have their turns in one office, one after the other, and what is kept of them.
-use Rattle.std.specs.Prelude.{◌≡◌, ◌⊎◌, ⊤, Bool, true, false, List, [], ◌∷◌, ◌++◌, Option, Some, drop, length, take, ℕ}
+use Rattle.std.specs.Prelude.{◌≡◌, ◌⊎◌, ⊤, Bool, true, false, List, [], ◌∷◌, ◌++◌, None, Option, Some, bytes_eq, drop, if◌then◌else◌, length, option_map, take, ℕ}
 use Rattle.std.specs.List.{FoldsTo}
 use Rattle.std.specs.Io.KnownBytes.{IsAtEnd}
 use Rattle.sqlite.specs.Held.{Held}
@@ -19,7 +19,9 @@ use Rattle.wire.specs.Bodies.{KeyingEntry}
 use Rattle.wire.specs.Asking.{Asks, IsWanting, keying}
 use Rattle.wire.specs.Serving.{EndsWith, IsHandedOn, ReadiesClosed, Serves, ServesClosed, TellsFault, TellsFor}
 use Rattle.wire.specs.declared.serving.Served.{Served}
-use Rattle.desk.specs.Folders.{Folder}
+use Rattle.clap.specs.Words.{Text}
+use Rattle.handover.specs.declared.handed.Piece.{Piece}
+use Rattle.desk.specs.Folders.{File, Folder}
 use Rattle.desk.specs.Headline.{Course, IsDone}
 use Rattle.desk.specs.Pages.{Cut, IsShown, Outputs, Page, failed}
 use Rattle.desk.specs.Parts.{ComesTo}
@@ -43,6 +45,11 @@ pub record Handed : Type 0 where
 pub data Caller : Type 0 where
   client : Visit → Caller
   order : Handed → Caller
+
+-- the file that came at a path: none, where none came, or it couldn't be read
+abbrev pub brought_at : List Piece → Text → File
+brought_at [] path = None
+brought_at (p ∷ ps) path = if bytes_eq p.name.now path then option_map (λ bytes. Some bytes.now) p.bytes else brought_at ps path
 
 -- two outputs that took nothing yet
 abbrev pub untold : Outputs

@@ -11,4 +11,4 @@ pub mod writing;
 pub use fault::{Fault, ReadError};
 pub use handed::{Handed, Piece};
 pub use reading::read;
-pub use writing::write;
+pub use writing::{put_over, put_said, write};

@@ -1,6 +1,7 @@
 //! Writing what is handed over.
 
-ghost use Rattle.std.specs.Prelude.{◌≡◌, ◌<◌, ◌^◌, ◌++◌, length, IfOk, IfSome, OnOk, option_map};
+ghost use Rattle.std.specs.Prelude.{◌≡◌, ◌+◌, ◌<◌, ◌^◌, ◌++◌, length, IfOk, IfSome, OnErr, OnOk, option_map};
+ghost use Rattle.handover.specs.Frames.{frame_bytes, over, said};
 ghost use Rattle.handover.specs.Spelling.{Fits, PieceFits, PiecesFit, handed_entry, optional, piece, piece_entries, piece_entry, pieces, spelling, string};
 
 use crate::handed::{Handed, Piece};
@@ -64,3 +65,35 @@ pub fn write(alloc: Global, handed: &Handed<'_>) -> Result<Vec<u8>, AllocError>
     put_pieces(&mut out, &handed.files)?;
     Ok(out)
 }
+
+/// Puts a frame that says these bytes for the output.
+pub fn put_said(out: &mut Vec<u8>, bytes: &[u8]) -> Result<(), AllocError>
+    requires { length bytes.now < 2 ^ 32 }
+    ensures said { OnOk result (out.new.items ≡ out.old.items ++ frame_bytes (said bytes.now)) }
+    ensures err { OnErr result (out.new.items ≡ out.old.items) }
+{
+    out.reserve(bytes.len() + HEAD)?;
+    out.push(SAID)?;
+    put_string(out, bytes)
+}
+
+/// Puts the frame of the end: the status, and what goes to the error output.
+pub fn put_over(out: &mut Vec<u8>, status: u8, err: &[u8]) -> Result<(), AllocError>
+    requires { length err.now + 1 < 2 ^ 32 }
+    ensures over { OnOk result (out.new.items ≡ out.old.items ++ frame_bytes (over status err.now)) }
+{
+    let length = err.len() as u32 + 1;
+    out.push(OVER)?;
+    out.extend_from_slice(&length.to_be_bytes())?;
+    out.push(status)?;
+    out.extend_from_slice(err)?;
+    Ok(())
+}
+
+/// The bytes of a frame before those that it says: its kind and its length.
+const HEAD: usize = 5;
+
+/// The kinds of frames.
+const SAID: u8 = 1;
+
+const OVER: u8 = 2;
