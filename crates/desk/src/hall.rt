@@ -9,7 +9,7 @@ ghost use Rattle.desk.specs.Callers.{ServesCallers};
 use crate::attending::{Attended, attend};
 use crate::lines::Failure;
 use gathering::room::{bytes_held, longest, place_of};
-use gathering::{Client, Line, MAX_BYTES, MAX_CLIENTS, Room};
+use gathering::{Client, Door, Line, MAX_BYTES, MAX_CLIENTS, Room};
 use office::Office;
 use sqlite::Alter;
 use std::alloc::Global;
@@ -41,7 +41,7 @@ pub trait Doors {
 
     /// Lets in the next who waits at the door, and tells of him by this number from then on. None where nobody waits, or he
     /// can't be let in now.
-    fn admit(&mut self, number: u64) -> Option<Self::Line>;
+    fn admit(&mut self, number: u64) -> Option<(Door, Self::Line)>;
 
     /// Somebody waits at the door who wasn't let in, as far as is known.
     fn is_waited_at(&self) -> bool;
@@ -128,10 +128,10 @@ fn let_in<D: Doors>(alloc: Global, doors: &mut D, room: &mut Room<D::Line>, most
         if room.came >= most || (is_full && !(doors.is_waited_at() && let_one_go(room, now))) {
             return;
         }
-        let Some(line) = doors.admit(room.came) else {
+        let Some((door, line)) = doors.admit(room.came) else {
             return;
         };
-        let client = Client::new(alloc, line, room.came, now);
+        let client = Client::new(alloc, door, line, room.came, now);
         room.came += 1;
         if room.clients.push(client).is_err() {
             return;

@@ -11,7 +11,7 @@ pub mod gathered;
 pub mod line;
 pub mod room;
 
-pub use client::{Answer, Client, Heard, Lost};
+pub use client::{Answer, Client, Door, Heard, Lost, deliver, gather};
 pub use gathered::Gathered;
 pub use line::{Came, Line};
 pub use room::{MAX_BYTES, MAX_CLIENTS, Room};

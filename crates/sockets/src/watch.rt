@@ -1,6 +1,7 @@
 //! What tells which sockets may go on, and who waits at the doors.
 
 use crate::socket::Socket;
+use gathering::Door;
 use mio::event::Source;
 use mio::net::{TcpListener, UnixListener};
 use mio::{Events, Interest, Poll, Token};
@@ -92,14 +93,18 @@ impl Watch {
 
     /// Lets in the next who waits, an order before a client. None where nobody waits, or he can't be let in now, as where
     /// too many files are open: then he waits on.
-    pub fn admit(&mut self, number: u64) -> Option<Socket> {
+    pub fn admit(&mut self, number: u64) -> Option<(Door, Socket)> {
         if let Some(orders) = &self.orders {
             if let Ok((stream, _)) = orders.accept() {
-                return Some(Socket::Order(self.watched(stream, number)?));
+                let socket = Socket::Order(self.watched(stream, number)?);
+                return Some((Door::Orders, socket));
             }
         }
         match self.clients.accept() {
-            Ok((stream, _)) => Some(Socket::Client(self.watched(stream, number)?)),
+            Ok((stream, _)) => {
+                let socket = Socket::Client(self.watched(stream, number)?);
+                Some((Door::Clients, socket))
+            }
             Err(error) => {
                 self.is_waited_at = error.kind() != ErrorKind::WouldBlock;
                 None
