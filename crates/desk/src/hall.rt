@@ -29,6 +29,17 @@ const LOOK: u64 = 1_000;
 /// The most who come in before those who are in go on.
 const COMERS: usize = 64;
 
+/// What a door gave.
+#[derive(Drop)]
+pub enum Admitted<L> {
+    /// The next who waited: his door and his line.
+    One(Door, L),
+    /// Nobody waits.
+    Nobody,
+    /// Somebody may wait, and can't be let in now.
+    NotNow,
+}
+
 /// Where clients come in, and what tells who may go on. What it tells is no promise: who can't go on is tried in vain.
 pub trait Doors {
     type Line: Line + Drop;
@@ -39,11 +50,10 @@ pub trait Doors {
     /// The number of the next who may go on; none, once all were told.
     fn next_ready(&mut self) -> Option<u64>;
 
-    /// Lets in the next who waits at the door, and tells of him by this number from then on. None where nobody waits, or he
-    /// can't be let in now.
-    fn admit(&mut self, number: u64) -> Option<(Door, Self::Line)>;
+    /// Lets in the next who waits at a door, and tells of him by this number from then on.
+    fn admit(&mut self, number: u64) -> Admitted<Self::Line>;
 
-    /// Somebody waits at the door who wasn't let in, as far as is known.
+    /// Somebody may wait at a door.
     fn is_waited_at(&self) -> bool;
 }
 
@@ -75,7 +85,7 @@ fn go_on<D: Doors, S: Alter>(
 )
     ensures served { ServesCallers (given_by terms.origin.entry) (state S.Store) office.old office.new }
 {
-    for _ in 0..MAX_CLIENTS {
+    for _ in 0..u64::MAX {
         let Some(number) = doors.next_ready() else {
             return;
         };
@@ -120,28 +130,38 @@ fn let_one_go<L: Line + Drop>(room: &mut Room<L>, now: u64) -> bool {
     true
 }
 
-/// Lets in those who wait at the door, as far as there is room.
-fn let_in<D: Doors>(alloc: Global, doors: &mut D, room: &mut Room<D::Line>, most: u64, now: u64) {
-    for _ in 0..COMERS {
-        let is_full = room.clients.len() >= MAX_CLIENTS
-            || bytes_held(room.clients.as_slice()) >= MAX_BYTES;
-        if room.came >= most || (is_full && !(doors.is_waited_at() && let_one_go(room, now))) {
-            return;
-        }
-        let Some((door, line)) = doors.admit(room.came) else {
-            return;
-        };
-        let client = Client::new(alloc, door, line, room.came, now);
-        room.came += 1;
-        if room.clients.push(client).is_err() {
-            return;
-        }
-    }
+/// Whether nobody more may be in.
+fn is_full<L>(room: &Room<L>) -> bool {
+    room.clients.len() >= MAX_CLIENTS || bytes_held(room.clients.as_slice()) >= MAX_BYTES
 }
 
-/// How long the next look may be put off.
-fn pause<L>(room: &Room<L>, is_waited_at: bool, now: u64) -> Duration {
-    let most = if is_waited_at { LOOK } else { PATIENCE };
+/// Lets in those who wait at the doors, as far as there is room and so many may come, and says how long the next look at the
+/// doors may be put off, in milliseconds.
+fn let_in<D: Doors>(
+    alloc: Global,
+    doors: &mut D,
+    room: &mut Room<D::Line>,
+    most: u64,
+    now: u64,
+) -> u64 {
+    for _ in 0..COMERS {
+        if room.came >= most || !doors.is_waited_at() {
+            return PATIENCE;
+        }
+        if is_full(room) && !let_one_go(room, now) {
+            return LOOK;
+        }
+        match doors.admit(room.came) {
+            Admitted::One(door, line) => room.enter(alloc, door, line, now),
+            Admitted::Nobody => return PATIENCE,
+            Admitted::NotNow => return LOOK,
+        }
+    }
+    0
+}
+
+/// How long the next look may be put off: so long, and until the first half minute is over.
+fn pause<L>(room: &Room<L>, most: u64, now: u64) -> Duration {
     match longest(room.clients.as_slice()) {
         Some(place) => {
             let waited = now.saturating_sub(room.clients[place].since);
@@ -178,12 +198,11 @@ pub fn serve_hall<D: Doors, C: Clock, S: Alter>(
         let now = moment(clock)?;
         go_on(alloc, doors, &mut room, terms, now, office);
         let_go_late(&mut room, now);
-        let_in(alloc, doors, &mut room, most, now);
+        let look = let_in(alloc, doors, &mut room, most, now);
         if room.came >= most && room.clients.is_empty() {
             return Ok(());
         }
-        let pause = pause(&room, doors.is_waited_at(), now);
-        if doors.wait(pause).is_err() {
+        if doors.wait(pause(&room, look, now)).is_err() {
             return Err(Failure::Output);
         }
     }

@@ -1,9 +1,12 @@
 //! The clients of one moment.
 
-ghost use Rattle.std.specs.Prelude.{◌≡◌, ◌<◌, ◌^◌, [], IfNone, IfSome, length, slice_index};
+ghost use Rattle.std.specs.Prelude.{◌≡◌, ◌⊎◌, ◌<◌, ◌+◌, ◌-◌, ◌^◌, [], ◌∷◌, ◌++◌, IfNone, IfSome, length, slice_index};
+ghost use Rattle.gathering.specs.Lines.{line_of};
+ghost use Rattle.gathering.specs.Clients.{IsOf};
 ghost use Rattle.gathering.specs.Rooms.{IsLongest, bytes_held, untold_bytes};
+ghost use Rattle.gathering.specs.declared.client.Client.{Client};
 
-use crate::client::{Answer, Client};
+use crate::client::{Answer, Client, Door};
 use crate::line::Line;
 use std::alloc::Global;
 
@@ -73,5 +76,19 @@ impl<L: Line> Room<L> {
             clients: Vec::new(alloc),
             came: 0,
         }
+    }
+
+    /// Somebody comes in. Where memory is wanting for him, he is let go.
+    pub fn enter(&mut self, alloc: Global, door: Door, line: L, now: u64)
+    where
+        L: Drop,
+        requires { self.old.came < 2 ^ 64 - 1 }
+        ensures came { self.new.came ≡ self.old.came + 1 }
+        ensures entered { (self.new.clients.items ≡ self.old.clients.items) ⊎ ((client : Client L) × (self.new.clients.items ≡ self.old.clients.items ++ client ∷ [])
+            × (client.line ≡ line) × (client.number ≡ self.old.came) × IsOf (line_of L.held L.taken) line client) }
+    {
+        let client = Client::new(alloc, door, line, self.came, now);
+        self.came += 1;
+        let _ = self.clients.push(client);
     }
 }

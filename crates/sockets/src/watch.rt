@@ -21,6 +21,14 @@ const ORDERS: Token = Token(1);
 
 const DOORS: u64 = 2;
 
+/// What a door gave: the next who waited; nobody, for nobody waits; or somebody can't be let in now.
+#[derive(Drop)]
+pub enum Admitted {
+    One(Door, Socket),
+    Nobody,
+    NotNow,
+}
+
 /// The doors, and the sockets of those who came in.
 #[derive(Drop)]
 pub struct Watch {
@@ -91,24 +99,47 @@ impl Watch {
         registered.is_ok().then_some(socket)
     }
 
-    /// Lets in the next who waits, an order before a client. None where nobody waits, or he can't be let in now, as where
-    /// too many files are open: then he waits on.
-    pub fn admit(&mut self, number: u64) -> Option<(Door, Socket)> {
-        if let Some(orders) = &self.orders {
-            if let Ok((stream, _)) = orders.accept() {
-                let socket = Socket::Order(self.watched(stream, number)?);
-                return Some((Door::Orders, socket));
-            }
+    /// What the door of orders gave.
+    fn admit_order(&mut self, number: u64) -> Admitted {
+        let Some(orders) = &self.orders else {
+            return Admitted::Nobody;
+        };
+        match orders.accept() {
+            Ok((stream, _)) => match self.watched(stream, number) {
+                Some(stream) => Admitted::One(Door::Orders, Socket::Order(stream)),
+                None => Admitted::NotNow,
+            },
+            Err(error) => unadmitted(&error),
         }
+    }
+
+    /// What the door of clients gave.
+    fn admit_client(&mut self, number: u64) -> Admitted {
         match self.clients.accept() {
-            Ok((stream, _)) => {
-                let socket = Socket::Client(self.watched(stream, number)?);
-                Some((Door::Clients, socket))
-            }
-            Err(error) => {
-                self.is_waited_at = error.kind() != ErrorKind::WouldBlock;
-                None
-            }
+            Ok((stream, _)) => match self.watched(stream, number) {
+                Some(stream) => Admitted::One(Door::Clients, Socket::Client(stream)),
+                None => Admitted::NotNow,
+            },
+            Err(error) => unadmitted(&error),
         }
+    }
+
+    /// Lets in the next who waits, an order before a client. Where too many files are open he waits on.
+    pub fn admit(&mut self, number: u64) -> Admitted {
+        match self.admit_order(number) {
+            Admitted::Nobody => {}
+            other => return other,
+        }
+        let admitted = self.admit_client(number);
+        self.is_waited_at = !matches!(admitted, Admitted::Nobody);
+        admitted
+    }
+}
+
+/// Why nobody was let in.
+fn unadmitted(error: &io::Error) -> Admitted {
+    match error.kind() {
+        ErrorKind::WouldBlock => Admitted::Nobody,
+        _ => Admitted::NotNow,
     }
 }
