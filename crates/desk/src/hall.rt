@@ -9,12 +9,11 @@ ghost use Rattle.desk.specs.Callers.{ServesCallers};
 use crate::attending::{Attended, attend};
 use crate::lines::Failure;
 use gathering::room::{bytes_held, longest, place_of};
-use gathering::{Client, Door, Line, MAX_BYTES, MAX_CLIENTS, Room};
+use gathering::{Admitted, Doors, Line, MAX_BYTES, MAX_CLIENTS, Room};
 use office::Office;
 use sqlite::Alter;
 use std::alloc::Global;
 use std::time::{Clock, Duration};
-use votes::Broken;
 use wire::Origin;
 
 /// How long a client may take to send what he asks, and as long to take his answer, in milliseconds.
@@ -28,34 +27,6 @@ const LOOK: u64 = 1_000;
 
 /// The most who come in before those who are in go on.
 const COMERS: usize = 64;
-
-/// What a door gave.
-#[derive(Drop)]
-pub enum Admitted<L> {
-    /// The next who waited: his door and his line.
-    One(Door, L),
-    /// Nobody waits.
-    Nobody,
-    /// Somebody may wait, and can't be let in now.
-    NotNow,
-}
-
-/// Where clients come in, and what tells who may go on. What it tells is no promise: who can't go on is tried in vain.
-pub trait Doors {
-    type Line: Line + Drop;
-
-    /// Waits until somebody may go on or come in, so long at most.
-    fn wait(&mut self, most: Duration) -> Result<(), Broken>;
-
-    /// The number of the next who may go on; none, once all were told.
-    fn next_ready(&mut self) -> Option<u64>;
-
-    /// Lets in the next who waits at a door, and tells of him by this number from then on.
-    fn admit(&mut self, number: u64) -> Admitted<Self::Line>;
-
-    /// Somebody may wait at a door.
-    fn is_waited_at(&self) -> bool;
-}
 
 /// What an office that serves goes by: its origin, and after how many clients it ends, if it does.
 #[derive(Clone, Copy)]

@@ -1,7 +1,7 @@
 //! What tells which sockets may go on, and who waits at the doors.
 
 use crate::socket::Socket;
-use gathering::Door;
+use gathering::{Admitted, Door, Doors};
 use mio::event::Source;
 use mio::net::{TcpListener, UnixListener};
 use mio::{Events, Interest, Poll, Token};
@@ -10,6 +10,7 @@ use std::io;
 use std::io::ErrorKind;
 use std::net::Net;
 use std::time::Duration;
+use votes::Broken;
 
 /// How many events are told of at once.
 const EVENTS: usize = 1024;
@@ -20,14 +21,6 @@ const CLIENTS: Token = Token(0);
 const ORDERS: Token = Token(1);
 
 const DOORS: u64 = 2;
-
-/// What a door gave: the next who waited; nobody, for nobody waits; or somebody can't be let in now.
-#[derive(Drop)]
-pub enum Admitted {
-    One(Door, Socket),
-    Nobody,
-    NotNow,
-}
 
 /// The doors, and the sockets of those who came in.
 #[derive(Drop)]
@@ -66,31 +59,6 @@ impl Watch {
         })
     }
 
-    /// Waits until somebody may go on or come in, so long at most.
-    pub fn wait(&mut self, most: Duration) -> io::Result<()> {
-        self.told = 0;
-        self.poll.poll(&mut self.events, Some(most))
-    }
-
-    /// The number of the next who may go on; none, once all were told.
-    pub fn next_ready(&mut self) -> Option<u64> {
-        for _ in 0..EVENTS {
-            let event = self.events.iter().nth(self.told)?;
-            self.told = self.told.saturating_add(1);
-            let token = event.token().0 as u64;
-            if token >= DOORS {
-                return Some(token - DOORS);
-            }
-            self.is_waited_at = true;
-        }
-        None
-    }
-
-    /// Whether somebody may wait at a door.
-    pub fn is_waited_at(&self) -> bool {
-        self.is_waited_at
-    }
-
     /// Watches a socket from now on; none, where that can't be.
     fn watched<S: Source>(&self, mut socket: S, number: u64) -> Option<S> {
         let token = Token(usize::try_from(number.checked_add(DOORS)?).ok()?);
@@ -100,7 +68,7 @@ impl Watch {
     }
 
     /// What the door of orders gave.
-    fn admit_order(&mut self, number: u64) -> Admitted {
+    fn admit_order(&self, number: u64) -> Admitted<Socket> {
         let Some(orders) = &self.orders else {
             return Admitted::Nobody;
         };
@@ -114,7 +82,7 @@ impl Watch {
     }
 
     /// What the door of clients gave.
-    fn admit_client(&mut self, number: u64) -> Admitted {
+    fn admit_client(&self, number: u64) -> Admitted<Socket> {
         match self.clients.accept() {
             Ok((stream, _)) => match self.watched(stream, number) {
                 Some(stream) => Admitted::One(Door::Clients, Socket::Client(stream)),
@@ -123,9 +91,42 @@ impl Watch {
             Err(error) => unadmitted(&error),
         }
     }
+}
 
-    /// Lets in the next who waits, an order before a client. Where too many files are open he waits on.
-    pub fn admit(&mut self, number: u64) -> Admitted {
+/// Why nobody was let in.
+fn unadmitted(error: &io::Error) -> Admitted<Socket> {
+    match error.kind() {
+        ErrorKind::WouldBlock => Admitted::Nobody,
+        _ => Admitted::NotNow,
+    }
+}
+
+impl Doors for Watch {
+    type Line = Socket;
+
+    fn wait(&mut self, most: Duration) -> Result<(), Broken> {
+        self.told = 0;
+        match self.poll.poll(&mut self.events, Some(most)) {
+            Ok(()) => Ok(()),
+            Err(_) => Err(Broken),
+        }
+    }
+
+    fn next_ready(&mut self) -> Option<u64> {
+        for _ in 0..EVENTS {
+            let event = self.events.iter().nth(self.told)?;
+            self.told = self.told.saturating_add(1);
+            let token = event.token().0 as u64;
+            if token >= DOORS {
+                return Some(token - DOORS);
+            }
+            self.is_waited_at = true;
+        }
+        None
+    }
+
+    /// An order comes in before a client. Where too many files are open, who waits waits on.
+    fn admit(&mut self, number: u64) -> Admitted<Socket> {
         match self.admit_order(number) {
             Admitted::Nobody => {}
             other => return other,
@@ -134,12 +135,8 @@ impl Watch {
         self.is_waited_at = !matches!(admitted, Admitted::Nobody);
         admitted
     }
-}
 
-/// Why nobody was let in.
-fn unadmitted(error: &io::Error) -> Admitted {
-    match error.kind() {
-        ErrorKind::WouldBlock => Admitted::Nobody,
-        _ => Admitted::NotNow,
+    fn is_waited_at(&self) -> bool {
+        self.is_waited_at
     }
 }
