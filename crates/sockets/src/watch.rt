@@ -60,7 +60,7 @@ impl Watch {
     }
 
     /// Watches a socket from now on; none, where that can't be.
-    fn watched<S: Source>(&self, mut socket: S, number: u64) -> Option<S> {
+    fn watched<S: Source + Drop>(&self, mut socket: S, number: u64) -> Option<S> {
         let token = Token(usize::try_from(number.checked_add(DOORS)?).ok()?);
         let both = Interest::READABLE | Interest::WRITABLE;
         let registered = self.poll.registry().register(&mut socket, token, both);
