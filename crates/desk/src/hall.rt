@@ -116,13 +116,13 @@ fn let_in<D: Doors>(
     now: u64,
 ) -> u64 {
     for _ in 0..COMERS {
-        if room.came >= most || !doors.is_waited_at() {
+        if !doors.is_waited_at() {
             return PATIENCE;
         }
         if is_full(room) && !let_one_go(room, now) {
             return LOOK;
         }
-        match doors.admit(room.came) {
+        match doors.admit(room.came, room.counted < most) {
             Admitted::One(door, line) => room.enter(alloc, door, line, now),
             Admitted::Nobody => return PATIENCE,
             Admitted::NotNow => return LOOK,
@@ -170,7 +170,7 @@ pub fn serve_hall<D: Doors, C: Clock, S: Alter>(
         go_on(alloc, doors, &mut room, terms, now, office);
         let_go_late(&mut room, now);
         let look = let_in(alloc, doors, &mut room, most, now);
-        if room.came >= most && room.clients.is_empty() {
+        if room.counted >= most && room.clients.is_empty() {
             return Ok(());
         }
         if doors.wait(pause(&room, look, now)).is_err() {

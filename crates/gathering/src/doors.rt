@@ -26,8 +26,9 @@ pub trait Doors {
     /// The number of the next who may go on; none, once all were told.
     fn next_ready(&mut self) -> Option<u64>;
 
-    /// Lets in the next who waits at a door, and tells of him by this number from then on.
-    fn admit(&mut self, number: u64) -> Admitted<Self::Line>;
+    /// Lets in the next who waits at a door, and tells of him by this number from then on. Clients come in only where they
+    /// are wanted, too; orders always.
+    fn admit(&mut self, number: u64, clients_too: bool) -> Admitted<Self::Line>;
 
     /// Somebody may wait at a door.
     fn is_waited_at(&self) -> bool;

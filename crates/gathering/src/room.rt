@@ -60,11 +60,12 @@ pub fn place_of<L>(clients: &[Client<L>], number: u64) -> Option<usize>
     clients.iter().position(|client| client.number == number)
 }
 
-/// The clients who are in, in the order of coming, and how many came.
+/// The clients who are in, in the order of coming; how many came, and how many of them at the door of clients.
 #[derive(Drop)]
 pub struct Room<L> {
     pub clients: Vec<Client<L>>,
     pub came: u64,
+    pub counted: u64,
 }
 
 impl<L: Line> Room<L> {
@@ -75,6 +76,7 @@ impl<L: Line> Room<L> {
         Room {
             clients: Vec::new(alloc),
             came: 0,
+            counted: 0,
         }
     }
 
@@ -89,6 +91,9 @@ impl<L: Line> Room<L> {
     {
         let client = Client::new(alloc, door, line, self.came, now);
         self.came += 1;
+        if door == Door::Clients {
+            self.counted = self.counted.saturating_add(1);
+        }
         let _ = self.clients.push(client);
     }
 }

@@ -126,9 +126,9 @@ impl Doors for Watch {
     }
 
     /// An order comes in before a client. Where too many files are open, who waits waits on.
-    fn admit(&mut self, number: u64) -> Admitted<Socket> {
+    fn admit(&mut self, number: u64, clients_too: bool) -> Admitted<Socket> {
         match self.admit_order(number) {
-            Admitted::Nobody => {}
+            Admitted::Nobody if clients_too => {}
             other => return other,
         }
         let admitted = self.admit_client(number);
