@@ -1,6 +1,6 @@
 //! A socket as a line, of which no call waits.
 
-ghost use Rattle.std.specs.Prelude.{None};
+ghost use Rattle.std.specs.Prelude.{◌≡◌, ◌⊎◌, ◌<◌, ℕ, None, Ok, IfOk};
 
 use gathering::{Came, Line};
 use mio::net::{TcpStream, UnixStream};
@@ -16,7 +16,9 @@ pub enum Socket {
 }
 
 /// What a read came to.
-fn came(read: io::Result<usize>) -> Result<Came, Broken> {
+fn came(read: io::Result<usize>) -> Result<Came, Broken>
+    ensures { (n : ℕ) → result ≡ Ok (Came.Bytes n) → (0 < n) × (read ≡ Ok n) }
+{
     match read {
         Ok(0) => Ok(Came::End),
         Ok(count) => Ok(Came::Bytes(count)),
@@ -26,7 +28,9 @@ fn came(read: io::Result<usize>) -> Result<Came, Broken> {
 }
 
 /// What a write came to.
-fn took(written: io::Result<usize>) -> Result<usize, Broken> {
+fn took(written: io::Result<usize>) -> Result<usize, Broken>
+    ensures { IfOk result (λ n. (n ≡ 0) ⊎ (written ≡ Ok n)) }
+{
     match written {
         Ok(count) => Ok(count),
         Err(error) if error.kind() == ErrorKind::WouldBlock => Ok(0),
