@@ -1,0 +1,62 @@
+-- Where an order that was followed leaves an office open: at the state after what was answered.
+use Rattle.std.proofs.Common.{◌≡◌, ◌≤◌, ◌+◌, ◌∙◌, inl, inr, ℕ, Bool, true, false, List, [], ◌∷◌, ◌++◌, Option, Some, None, add-one, arith, drop, length, sym, subst, take, true≢false}
+use Rattle.std.proofs.lemmas.List.{take-append-drop}
+use Rattle.sqlite.specs.State.{State}
+use Rattle.clap.specs.Words.{Text}
+use Rattle.register.specs.Offices.{OfficeState}
+use Rattle.register.specs.Machine.{after, after_one}
+use Rattle.register.specs.declared.command.Request.{Request}
+use Rattle.office.specs.Answers.{IsOpenAt}
+use Rattle.desk.specs.Folders.{Folder}
+use Rattle.desk.specs.Headline.{Course, IsAnswered, IsDone, IsPlayed, IsSent, IsStopped, IsUnsent, answer, ended, replied_above}
+use Rattle.desk.specs.Pages.{Cut, Page, empty_page, uncut}
+use Rattle.desk.specs.Told.{IsTold}
+use Rattle.desk.specs.declared.orders.Job.{Job}
+use Rattle.desk.specs.declared.scripts.Turn.{Turn}
+use Rattle.desk.proofs.KeptLemmas.{IsAfterSome}
+
+module _ (old : State) (closed : Bool) (st : State) where
+  -- if the office is open still, it is at the state after what was answered
+  abbrev pub IsOpenAfter : OfficeState → Course → Type 0
+  IsOpenAfter s c = closed ≡ false → IsOpenAt (after s (take c.answered c.requests)) closed st
+
+  open_more : (s : OfficeState) (r : Request) (text : Text) (rest : Course) → IsOpenAfter (after_one s r) rest → IsOpenAfter s (replied_above r text rest)
+  open_more s r text rest so was = subst (λ n. IsOpenAt (after s (take n (r ∷ rest.requests))) closed st) (sym (add-one rest.answered)) (so was)
+
+  open_last : (line : Option ℕ) (s : OfficeState) (r : Request) (rs : List Request) (answered : ℕ) (page : Page) (cut : Cut) → IsAnswered old closed st s r answered page
+      → IsOpenAfter s (ended line (r ∷ rs) answered page cut)
+  open_last line s r rs answered page cut (inl told) was = subst (λ n. IsOpenAt (after s (take n (r ∷ rs))) closed st) (sym told.0) told.2
+  open_last line s r rs answered page cut (inr (none, (fault, is, (cause, inl stays)))) was = subst (λ n. IsOpenAt (after s (take n (r ∷ rs))) closed st) (sym none) stays.open_at
+  open_last line s r rs answered page cut (inr (none, (fault, is, (cause, inr shut)))) was = absurd (true≢false (sym shut.is_closed ∙ was))
+
+  open_sent : {Then : OfficeState → Course → Type 0} (line : Option ℕ) → ((x : OfficeState) (e : Course) → Then x e → IsOpenAfter x e) → (s : OfficeState) (rs : List Request) (c : Course)
+      → IsSent old closed st line Then s rs c → IsOpenAfter s c
+  open_sent line so s [] c sent = so s c sent
+  open_sent line so s (r ∷ rs) c (inl (rest, zero, is, more)) = subst (IsOpenAfter s) (sym is) (open_more s r (answer s r).out rest (open_sent line so (after_one s r) rs rest more))
+  open_sent line so s (r ∷ rs) c (inr (answered, page, cut, is, ends, it)) = subst (IsOpenAfter s) (sym is) (open_last line s r rs answered page cut it)
+
+  open_stopped : (s : OfficeState) (page : Page) → IsStopped old closed st s page → closed ≡ false → IsOpenAt s closed st
+  open_stopped s page (fault, is, (cause, inl stays)) was = stays.open_at
+  open_stopped s page (fault, is, (cause, inr shut)) was = absurd (true≢false (sym shut.is_closed ∙ was))
+
+  open_unsent : (line : Option ℕ) (Tells : Page → Type 0) (s : OfficeState) (c : Course) → IsUnsent old closed st line Tells s c → IsOpenAfter s c
+  open_unsent line Tells s c (page, cut, is, inl told) = subst (IsOpenAfter s) (sym is) (λ was. told.1)
+  open_unsent line Tells s c (page, cut, is, inr stopped) = subst (IsOpenAfter s) (sym is) (open_stopped s page stopped)
+
+  open_played : (folder : Folder) (s : OfficeState) (turns : List Turn) (c : Course) → IsPlayed old closed st folder s turns c → IsOpenAfter s c
+  open_played folder s [] c played = subst (IsOpenAfter s) (sym played.0) (λ was. played.1)
+  open_played folder s (turn ∷ turns) c (file, found, inl (own, sends, sent)) = open_sent turn.line (λ x e more. open_played folder x turns e more) s own c sent
+  open_played folder s (turn ∷ turns) c (file, found, inr unsent) = open_unsent turn.line (IsTold s turn.errand file) s c unsent
+
+  pub open_done : (folder : Folder) (s : OfficeState) (job : Job) (c : Course) → IsDone old closed st folder s job c → IsOpenAfter s c
+  open_done folder s job c (inl (turns, are, played)) = open_played folder s turns c played
+  open_done folder s job c (inr unsent) = open_unsent None _ s c unsent
+
+-- of some requests the first and one more are those, and the next of the rest
+take_next : {X : Type 0} (xs : List X) (n k : ℕ) → k ≤ n + 1 → take k xs ≡ take k (take n xs ++ take 1 (drop n xs))
+take_next xs n k low = ?
+
+-- a stop leaves the state after some of what was answered and at most one more: the same of those alone that count
+pub after_next : (s : OfficeState) (c : Course) (x : OfficeState) → c.answered ≤ length c.requests → IsAfterSome s c.requests c.answered x
+    → IsAfterSome s (take c.answered c.requests ++ take 1 (drop c.answered c.requests)) (length (take c.answered c.requests)) x
+after_next s c x within it = ?
