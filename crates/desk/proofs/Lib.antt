@@ -10,6 +10,7 @@ pub mod ScriptLemmas
 pub mod ScriptEnds
 pub mod CopyingLemmas
 pub mod ServedLemmas
+pub mod OpenLemmas
 pub mod WordsRefused
 pub mod FaultsRead
 mod LinesRead

@@ -1,6 +1,7 @@
 -- Where an order that was followed leaves an office open: at the state after what was answered.
-use Rattle.std.proofs.Common.{◌≡◌, ◌≤◌, ◌+◌, ◌∙◌, inl, inr, ℕ, Bool, true, false, List, [], ◌∷◌, ◌++◌, Option, Some, None, add-one, arith, drop, length, sym, subst, take, true≢false}
-use Rattle.std.proofs.lemmas.List.{take-append-drop}
+use Rattle.std.proofs.Common.{◌≡◌, ◌≤◌, ◌+◌, ◌∙◌, inl, inr, ℕ, zero, suc, Bool, true, false, List, [], ◌∷◌, ◌++◌, Option, None, add-one, ap, arith, drop, length, refl, sym, subst, take, true≢false}
+use Rattle.std.proofs.Math.Seq.{take-add}
+use Rattle.std.proofs.lemmas.List.{length-append, length-drop, length-take, length-take-le}
 use Rattle.sqlite.specs.State.{State}
 use Rattle.clap.specs.Words.{Text}
 use Rattle.register.specs.Offices.{OfficeState}
@@ -52,11 +53,29 @@ module _ (old : State) (closed : Bool) (st : State) where
   open_done folder s job c (inl (turns, are, played)) = open_played folder s turns c played
   open_done folder s job c (inr unsent) = open_unsent None _ s c unsent
 
--- of some requests the first and one more are those, and the next of the rest
-take_next : {X : Type 0} (xs : List X) (n k : ℕ) → k ≤ n + 1 → take k xs ≡ take k (take n xs ++ take 1 (drop n xs))
-take_next xs n k low = ?
+-- the first of the first
+take_first : {X : Type 0} (k m : ℕ) (xs : List X) → k ≤ m → take k (take m xs) ≡ take k xs
+take_first zero m xs low = refl
+take_first (suc k) zero xs low = absurd (omega (arith, low))
+take_first (suc k) (suc m) [] low = refl
+take_first (suc k) (suc m) (x ∷ xs) low = ap (λ ys. x ∷ ys) (take_first k m xs (omega (arith, low)))
 
--- a stop leaves the state after some of what was answered and at most one more: the same of those alone that count
+-- of some requests the first, and at most one more, are of those and the next one
+take_next : {X : Type 0} (xs : List X) (n k : ℕ) → k ≤ n + 1 → take k xs ≡ take k (take n xs ++ take 1 (drop n xs))
+take_next xs n k low = sym (take_first k (n + 1) xs low) ∙ ap (take k) (take-add n 1 xs)
+
+-- after some of the requests: those that were answered, and at most one more; so it is of these alone
 pub after_next : (s : OfficeState) (c : Course) (x : OfficeState) → c.answered ≤ length c.requests → IsAfterSome s c.requests c.answered x
     → IsAfterSome s (take c.answered c.requests ++ take 1 (drop c.answered c.requests)) (length (take c.answered c.requests)) x
-after_next s c x within it = ?
+after_next s c x within (k, least, most, inside, is) =
+    let front = length-take-le c.answered c.requests within in
+    let whole = length-append (take c.answered c.requests) (take 1 (drop c.answered c.requests)) in
+    let next = length-take 1 (drop c.answered c.requests) in
+    let left = length-drop c.answered c.requests in
+    (
+      k,
+      omega (arith, front, least),
+      omega (arith, front, most),
+      omega (arith, front, whole, next, left, most, inside),
+      is ∙ ap (after s) (take_next c.requests c.answered k most),
+    )
