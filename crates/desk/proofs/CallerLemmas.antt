@@ -1,45 +1,185 @@
--- What callers who have their turns one after the other leave of an office. (Unchecked: it follows ServedLemmas.antt, whose clients are told apart from
--- orders here, and whose lemmas on one answer that is ready, up to `ready_leaves`, stay as they are.)
-use Rattle.std.proofs.Common.{◌≡◌, ◌≤◌, ◌+◌, ◌∙◌, ◌⊎◌, ◌∷◌, ◌++◌, append_assoc, append-nil, false, true, ℕ, Bool, List, [], Option, Some, None}
-use Rattle.std.proofs.Common.{arith, inl, inr, length, length-append, refl, sym, subst, suc, ap, take, drop}
+-- What callers who have their turns one after the other leave of an office.
+use Rattle.std.proofs.Common.{◌≡◌, ◌≤◌, ◌+◌, ◌∙◌, ◌⊎◌, ◌∷◌, ◌++◌, append_assoc, false, true, ℕ, Bool, List, [], Option, Some}
+use Rattle.std.proofs.Common.{arith, drop, inl, inr, length, length-append, refl, sym, subst, suc, take, ap, true≢false}
 use Rattle.std.specs.Prelude.{⊤}
 use Rattle.std.specs.List.{FoldsTo}
 use Rattle.std.proofs.lemmas.List.Sums.{fold-append}
 use Rattle.sqlite.specs.Held.{Held}
 use Rattle.sqlite.specs.State.{HasCleanDisk, State}
-use Rattle.register.specs.Machine.{after, after_one}
+use Rattle.register.specs.Machine.{after, after_one, state_after}
 use Rattle.register.specs.Offices.{OfficeState, empty_office}
 use Rattle.register.specs.declared.command.Request.{Request}
+use Rattle.tables.specs.declared.fault.Fault.{Fault}
+use Rattle.tables.specs.declared.fault.Fault.TheVariants.{Closed, Memory}
 use Rattle.store.specs.Offices.{IsAt, LeavesState}
-use Rattle.office.specs.Answers.{IsOpenAt}
+use Rattle.office.specs.Answers.{IsOpenAt, told_of}
 use Rattle.office.specs.Values.{OfficeValue}
 use Rattle.office.proofs.RunLemmas.{beginning}
-use Rattle.wire.specs.Serving.{EndsWith, ReadiesClosed, TellsFault, TellsFor}
-use Rattle.desk.specs.Callers.{AnswersInTurn, AreTurnedAway, Caller, ServesCaller, IsKeptOf, IsLastFor, TellsOrder, client, order}
-use Rattle.desk.proofs.KeptLemmas.{IsAfterSome}
+use Rattle.wire.specs.Asking.{AskedEntry, Asks, denied, keying, reading}
+use Rattle.wire.specs.Responses.{ResponseEntry}
+use Rattle.wire.specs.Serving.{EndsWith, FaultLeaves, IsAnswered, ReadiesClosed, ReadiesFor, Serves, TellsFault, TellsFor, told_response}
+use Rattle.wire.specs.Told.{IsTold}
+use Rattle.wire.specs.declared.serving.Served.{Served}
+use Rattle.wire.specs.declared.serving.Served.TheVariants.{Answered, ReadFailed, WriteFailed}
+use Rattle.desk.specs.Callers.{AnswersInTurn, AreTurnedAway, Caller, EndsSo, FollowsOrder, Handed, IsKeptOf, IsLastFor, ServesCaller, TellsOrder, Visit, client, order, untold}
+use Rattle.desk.specs.Headline.{Course, IsDone}
+use Rattle.desk.specs.Pages.{IsShown, Page, failed}
+use Rattle.desk.specs.declared.lines.Failure.TheVariants.{Office}
+use Rattle.desk.proofs.KeptLemmas.{IsAfterSome, Kept, kept_done}
 use Rattle.desk.proofs.OpenLemmas.{after_next, open_done}
 
+-- ---- one client in an open office
+
+leaves_as : (st : State) (P Q : OfficeState → Type 0) → ((x : OfficeState) → P x → Q x) → LeavesState st P → LeavesState st Q
+leaves_as st P Q turns leaves trees may = let it = leaves trees may in (it.0, turns it.0 it.1, it.2)
+
+-- a fault closed the office: a stop leaves the state before, or the one after the last request
+abbrev ClosesAt : OfficeState → List Request → Bool → State → Type 0
+ClosesAt s last closed st = (closed ≡ true) × LeavesState st (IsAfterSome s last 0)
+
+-- what an answer that is ready leaves: so much was handed on for it; or it tells a fault that closed the office
+abbrev ReadyLeaves : Option (List ℕ) → List ℕ → OfficeState → (List Request → Type 0) → Type 0 → Bool → State → Type 0
+ReadyLeaves given bytes s Tells Fails closed st =
+    ((sent : List Request) × Tells sent × IsOpenAt (after s sent) closed st) ⊎ ((last : List Request) × Fails × IsLastFor given bytes last × ClosesAt s last closed st)
+
+before_last : (s : OfficeState) (last : List Request) (x : OfficeState) → x ≡ s → IsAfterSome s last 0 x
+before_last s last x is = (0, omega arith, omega arith, omega arith, is)
+
+ready_answered : (given : Option (List ℕ)) (bytes : List ℕ) (s : OfficeState) (asked : AskedEntry) (answer : ResponseEntry) (response : _) (closed : Bool) (st : State)
+    → Asks given bytes asked
+    → IsTold answer response → IsAnswered s asked answer closed st → ReadyLeaves given bytes s (λ sent. TellsFor given (Some bytes) s sent response) (TellsFault response) closed st
+ready_answered given bytes s (denied why) answer response closed st asks tells it =
+    inl ([], inl (denied why, asks, (subst (λ a. IsTold a response) it.is.1 tells, refl)), subst (λ x. IsOpenAt x closed st) it.is.0 it.open_at)
+ready_answered given bytes s (reading what) answer response closed st asks tells it =
+    inl ([], inl (reading what, asks, (subst (λ a. IsTold a response) it.is.1 tells, refl)), subst (λ x. IsOpenAt x closed st) it.is.0 it.open_at)
+ready_answered given bytes s (keying clerk batch entry) answer response closed st asks tells it =
+    let (outcome, is, next, told) = it.is in
+    let same = is.each is.request is.is in
+    inl (
+      is.request ∷ [],
+      inl (keying clerk batch entry, asks, (is.request, is.is, subst (λ a. IsTold a response) (told ∙ ap (λ o. told_response (told_of o)) same) tells, refl)),
+      subst (λ x. IsOpenAt x closed st) (next ∙ ap (state_after s) same) it.open_at,
+    )
+
+ready_failed : (given : Option (List ℕ)) (bytes : List ℕ) (s : OfficeState) (asked : AskedEntry) (fault : Fault) (response : _) (closed : Bool) (st : State)
+    → Asks given bytes asked
+    → TellsFault response → FaultLeaves s asked fault closed st → ReadyLeaves given bytes s (λ sent. TellsFor given (Some bytes) s sent response) (TellsFault response) closed st
+ready_failed given bytes s (denied why) fault response closed st asks tells leaves = absurd leaves
+ready_failed given bytes s (reading what) fault response closed st asks tells (inl kept) = inl ([], inr (tells, refl), kept.open_at)
+ready_failed given bytes s (reading what) fault response closed st asks tells (inr shut) = inr ([], tells, inl refl, (shut.is_closed, leaves_as st _ _ (before_last s []) shut.leaves))
+ready_failed given bytes s (keying clerk batch entry) fault response closed st asks tells (outcome, is, inl kept) = inl ([], inr (tells, refl), kept.open_at)
+ready_failed given bytes s (keying clerk batch entry) fault response closed st asks tells (outcome, is, inr shut) =
+    let last = is.request ∷ [] in
+    let same = is.each is.request is.is in
+    inr (
+      last,
+      tells,
+      inr (clerk, batch, entry, is.request, asks, is.is, refl),
+      (
+        shut.is_closed,
+        leaves_as st _ _ (λ x. elim [
+          | inl before ↦ before_last s last x before
+          | inr next ↦ (1, omega arith, omega arith, omega arith, next ∙ ap (state_after s) same)
+        ]) shut.leaves,
+      ),
+    )
+
+ready_leaves : (given : Option (List ℕ)) (bytes : List ℕ) (s : OfficeState) (response : _) (closed : Bool) (st : State) → ReadiesFor given (Some bytes) s response closed st
+    → ReadyLeaves given bytes s (λ sent. TellsFor given (Some bytes) s sent response) (TellsFault response) closed st
+ready_leaves given bytes s response closed st (inr wanting) = inl ([], inr ((Memory, inl wanting.0), refl), wanting.1)
+ready_leaves given bytes s response closed st (inl ready) =
+    let (answer, tells, leaves) = ready.readies in
+    elim leaves [
+      | inl answered ↦ ready_answered given bytes s ready.asked answer response closed st ready.asks tells answered
+      | inr failed ↦ ready_failed given bytes s ready.asked failed.0 response closed st ready.asks (failed.0, subst (λ a. IsTold a response) failed.1 tells) failed.2
+    ]
+
+-- what a client who was served leaves
+abbrev ClientLeaves : Option (List ℕ) → OfficeState → Visit → Bool → State → Type 0
+ClientLeaves given s visit closed st =
+    ((sent : List Request) × EndsSo visit (EndsWith (TellsFor given (Some visit.got) s sent) (sent ≡ [])) × IsOpenAt (after s sent) closed st)
+    ⊎ ((last : List Request) × EndsSo visit (EndsWith TellsFault ⊥) × IsLastFor given visit.got last × ClosesAt s last closed st)
+
+-- an answer was put, whole or in part
+client_put : (given : Option (List ℕ)) (s : OfficeState) (visit : Visit) (served : Served) (closed : Bool) (st : State) (Tells : List Request → Type 0) (Fails : Type 0)
+    → ((sent : List Request) → Tells sent → EndsWith (TellsFor given (Some visit.got) s sent) (sent ≡ []) (Some []) (Some visit.answer) served)
+    → (Fails → EndsWith TellsFault ⊥ (Some []) (Some visit.answer) served)
+    → ReadyLeaves given visit.got s Tells Fails closed st → ClientLeaves given s visit closed st
+client_put given s visit served closed st Tells Fails tell fail (inl (sent, tells, open_at)) = inl (sent, (served, tell sent tells), open_at)
+client_put given s visit served closed st Tells Fails tell fail (inr (last, fails, is_last, closes)) = inr (last, (served, fail fails), is_last, closes)
+
+client_leaves : (given : Option (List ℕ)) (s : OfficeState) (visit : Visit) (served : Served) (closed : Bool) (st : State)
+    → Serves given (Some visit.got) (Some []) (Some visit.answer) s served closed st → ClientLeaves given s visit closed st
+client_leaves given s visit (Answered status) closed st it =
+    client_put given s visit (Answered status) closed st _ _
+    (λ sent tells. record { response = it.response; ready = tells; put = it.put })
+    (λ fails. record { response = it.response; ready = fails; put = it.put })
+    (ready_leaves given visit.got s it.response closed st it.ready)
+client_leaves given s visit ReadFailed closed st open_at = inl ([], (ReadFailed, refl), open_at)
+client_leaves given s visit WriteFailed closed st it =
+    client_put given s visit WriteFailed closed st _ _
+    (λ sent tells. record { response = it.response; ready = tells; put = it.put })
+    (λ fails. record { response = it.response; ready = fails; put = it.put })
+    (ready_leaves given visit.got s it.response closed st it.ready)
+
+-- ---- an order in an open office
+
+-- what an order that was followed leaves: the office is open at the state after what was answered; or it is closed, and a stop leaves that, or the state after
+-- the next one
+abbrev OrderLeaves : OfficeState → Handed → Bool → State → Type 0
+OrderLeaves s o closed st =
+    ((sent : List Request) × (unsent : List Request) × TellsOrder s o sent unsent × IsOpenAt (after s sent) closed st)
+    ⊎ ((sent : List Request) × (last : List Request) × TellsOrder s o sent last × (closed ≡ true) × LeavesState st (IsAfterSome s (sent ++ last) (length sent)))
+
+order_leaves : {S : Type 0} (state_of : Held S → State) (old new : OfficeValue S) (s : OfficeState) (o : Handed) → (followed : FollowsOrder state_of old o new) → HasCleanDisk (state_of new.held)
+    → old.closed ≡ false → IsAt s (state_of old.held) → OrderLeaves s o new.closed (state_of new.held)
+order_leaves state_of old new s o followed clean is_open at =
+    let (requests, answered, done) = followed.does clean is_open s at in
+    let course : Course = record { requests = requests; answered = answered; page = followed.page; cut = followed.cut } in
+    let kept = kept_done (state_of old.held) new.closed (state_of new.held) o.folder s o.job course done in
+    let sent = take answered requests in
+    let next = take 1 (drop answered requests) in
+    let tells : TellsOrder s o sent next = record {
+      old = state_of old.held;
+      st = state_of new.held;
+      closed = new.closed;
+      course = course;
+      done = done;
+      shown = followed.shown;
+      answered = refl;
+      next = refl;
+    } in
+    go new.closed refl sent next tells (open_done (state_of old.held) new.closed (state_of new.held) o.folder s o.job course done)
+    (λ trees may. let it = kept.leaves trees may in (it.0, after_next s course it.0 kept.within it.1, it.2))
+  where
+    go : (closed : Bool) → new.closed ≡ closed → (sent next : List Request) → TellsOrder s o sent next → (new.closed ≡ false → IsOpenAt (after s sent) new.closed (state_of new.held))
+        → LeavesState (state_of new.held) (IsAfterSome s (sent ++ next) (length sent)) → OrderLeaves s o new.closed (state_of new.held)
+    go false is sent next tells open_at leaves = inl (sent, next, tells, open_at is)
+    go true is sent next tells open_at leaves = inr (sent, next, tells, is, leaves)
+
+-- ---- all callers
+
+closed_ends : (IsReady : _) (P : Type 0) (old new : Option (List ℕ)) (served : Served) → EndsWith IsReady P old new served → EndsWith IsReady ⊤ old new served
+closed_ends IsReady P old new (Answered status) it = it
+closed_ends IsReady P old new ReadFailed it = tt
+closed_ends IsReady P old new WriteFailed it = it
+
 module _ {S : Type 0} (given : Option (List ℕ)) (state_of : Held S → State) where
-  -- the disk was clean before each turn
   cleans : (callers : List Caller) (old new : OfficeValue S) → FoldsTo (ServesCaller given state_of) old callers new → HasCleanDisk (state_of new.held) → HasCleanDisk (state_of old.held)
   cleans [] old new same clean = subst (λ (o : OfficeValue S). HasCleanDisk (state_of o.held)) (sym same) clean
   cleans (client visit ∷ callers) old new (mid, step, rest) clean = step.clean (cleans callers mid new rest clean)
   cleans (order o ∷ callers) old new (mid, step, rest) clean = step.clean (cleans callers mid new rest clean)
 
-  -- callers of an office that is closed
   turned_away : (callers : List Caller) (old new : OfficeValue S) → FoldsTo (ServesCaller given state_of) old callers new → old.closed ≡ true → AreTurnedAway given callers × (new ≡ old)
   turned_away [] old new same closed = (tt, sym same)
   turned_away (client visit ∷ callers) old new (mid, step, rest) closed =
       let (away, stays) = step.turned_away closed in
       let others = turned_away callers mid new rest (ap (λ (o : OfficeValue S). o.closed) stays ∙ closed) in
-      (((step.served, away_ends away), others.0), others.1 ∙ stays)
-    where
-      away_ends : _
-      away_ends = ?
+      (((step.served, closed_ends (ReadiesClosed given (Some visit.got)) _ _ _ step.served away), others.0), others.1 ∙ stays)
   turned_away (order o ∷ callers) old new (mid, step, rest) closed =
       let (page, stays) = step.turned_away closed in
       let others = turned_away callers mid new rest (ap (λ (v : OfficeValue S). v.closed) stays ∙ closed) in
-      (((step.cut, subst (λ p. _) page step.shown), others.0), others.1 ∙ stays)
+      (((step.cut, subst (λ (p : Page). IsShown step.cut untold o.told p o.status) page step.shown), others.0), others.1 ∙ stays)
 
   -- what is kept of callers who have their turns from a state on
   pub record Keeps (s : OfficeState) (callers : List Caller) (closed : Bool) (st : State) : Type 0 where
@@ -49,6 +189,77 @@ module _ {S : Type 0} (given : Option (List ℕ)) (state_of : Held S → State) 
     pub open_at : closed ≡ false → IsOpenAt (after s answered) closed st
     pub leaves : LeavesState st (IsAfterSome s (answered ++ last) (length answered))
 
-  -- An order's turn: with `does` at the state `s`, the course `c` and `so` from `open_done`. If the office is open after it, the others go on at
-  -- `after s (take c.answered c.requests)`; `behind` of ServedLemmas puts what they leave behind it. If it is closed, `Kept` (KeptLemmas, `kept_played`) says
-  -- what a stop leaves, `after_next` of which requests, and `turned_away` what the others are told. The case of a client is that of ServedLemmas.
+  behind : (s : OfficeState) (sent rest : List Request) (n : ℕ) (x : OfficeState) → IsAfterSome (after s sent) rest n x → IsAfterSome s (sent ++ rest) (length sent + n) x
+  behind s [] rest n x it = (it.0, omega (arith, it.1), omega (arith, it.2), it.3, it.4)
+  behind s (r ∷ sent) rest n x it =
+      let more = behind (after_one s r) sent rest n x it in
+      (suc more.0, omega (arith, more.1), omega (arith, more.2), omega (arith, more.3), more.4)
+
+  -- a caller was answered, and the others go on behind him
+  goes_on : (s : OfficeState) (sent : List Request) (caller : Caller) (callers : List Caller) (closed : Bool) (st : State) → (others : Keeps (after s sent) callers closed st)
+      → AnswersInTurn given s (caller ∷ callers) (sent ++ others.answered) others.last → Keeps s (caller ∷ callers) closed st
+  goes_on s sent caller callers closed st others in_turn = record {
+    answered = sent ++ others.answered;
+    last = others.last;
+    in_turn = in_turn;
+    open_at = λ was. subst (λ x. IsOpenAt x closed st) (sym (fold-append after_one s sent others.answered)) (others.open_at was);
+    leaves = leaves_as st _ _ (λ x it.
+        subst (λ rs. IsAfterSome s rs (length (sent ++ others.answered)) x) (sym (append_assoc sent others.answered others.last))
+        (subst (λ n. IsAfterSome s (sent ++ (others.answered ++ others.last)) n x) (sym (length-append sent others.answered)) (behind s sent (others.answered ++ others.last) (length others.answered) x it)))
+        others.leaves;
+  }
+
+  -- the office is closed since his turn
+  shut : (s : OfficeState) (answered last : List Request) (callers : List Caller) (closed : Bool) (st : State) → closed ≡ true → AnswersInTurn given s callers answered last
+      → LeavesState st (IsAfterSome s (answered ++ last) (length answered)) → Keeps s callers closed st
+  shut s answered last callers closed st is_closed in_turn leaves = record {
+    answered = answered;
+    last = last;
+    in_turn = in_turn;
+    open_at = λ was. absurd (true≢false (sym is_closed ∙ was));
+    leaves = leaves;
+  }
+
+  keeps : (s : OfficeState) (callers : List Caller) (old new : OfficeValue S) → FoldsTo (ServesCaller given state_of) old callers new → HasCleanDisk (state_of new.held) → old.closed ≡ false
+      → IsAt s (state_of old.held) → Keeps s callers new.closed (state_of new.held)
+  keeps s [] old new same clean is_open at =
+      subst (λ (o : OfficeValue S). Keeps s [] o.closed (state_of o.held)) same (record {
+        answered = [];
+        last = [];
+        in_turn = (refl, refl);
+        open_at = λ was. record { is_open = was; at = at };
+        leaves = leaves_as (state_of old.held) _ _ (before_last s []) at.leaves;
+      })
+  keeps s (client visit ∷ callers) old new (mid, step, rest) clean is_open at =
+      elim (client_leaves given s visit step.served mid.closed (state_of mid.held) (step.serves (cleans callers mid new rest clean) is_open s at)) [
+        | inl (sent, ends, open_at) ↦
+            let others = keeps (after s sent) callers mid new rest clean open_at.is_open open_at.at in
+            goes_on s sent (client visit) callers new.closed (state_of new.held) others (inl (sent, others.answered, ends, refl, others.in_turn))
+        | inr (last, ends, is_last, (is_closed, leaves)) ↦
+            let away = turned_away callers mid new rest is_closed in
+            subst (λ (o : OfficeValue S). Keeps s (client visit ∷ callers) o.closed (state_of o.held)) (sym away.1)
+            (shut s [] last (client visit ∷ callers) mid.closed (state_of mid.held) is_closed (inr (ends, refl, is_last, away.0)) leaves)
+      ]
+  keeps s (order o ∷ callers) old new (mid, step, rest) clean is_open at =
+      elim (order_leaves state_of old mid s o step (cleans callers mid new rest clean) is_open at) [
+        | inl (sent, unsent, tells, open_at) ↦
+            let others = keeps (after s sent) callers mid new rest clean open_at.is_open open_at.at in
+            goes_on s sent (order o) callers new.closed (state_of new.held) others (inl (sent, others.answered, unsent, tells, refl, others.in_turn))
+        | inr (sent, last, tells, is_closed, leaves) ↦
+            let away = turned_away callers mid new rest is_closed in
+            subst (λ (v : OfficeValue S). Keeps s (order o ∷ callers) v.closed (state_of v.held)) (sym away.1)
+            (shut s sent last (order o ∷ callers) mid.closed (state_of mid.held) is_closed (inr (tells, away.0)) leaves)
+      ]
+
+  -- the same after earlier requests
+  pub kept_of : (earlier : List Request) (callers : List Caller) (old new : OfficeValue S) → FoldsTo (ServesCaller given state_of) old callers new → HasCleanDisk (state_of new.held)
+      → old.closed ≡ false → IsAt (after empty_office earlier) (state_of old.held) → IsKeptOf given earlier callers new.closed (state_of new.held)
+  kept_of earlier callers old new each clean is_open at =
+      let it = keeps (after empty_office earlier) callers old new each clean is_open at in
+      record {
+        answered = it.answered;
+        last = it.last;
+        in_turn = it.in_turn;
+        open_at = λ was. subst (λ x. IsOpenAt x new.closed (state_of new.held)) (sym (fold-append after_one empty_office earlier it.answered)) (it.open_at was);
+        keeps = leaves_as (state_of new.held) _ _ (λ x some. beginning earlier (it.answered ++ it.last) (length it.answered) some.0 some.1 some.2 some.3 x some.4) it.leaves;
+      }

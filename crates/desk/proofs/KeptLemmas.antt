@@ -23,10 +23,11 @@ use Rattle.store.proofs.ReopenLemmas.{left_holds, left_told}
 use Rattle.office.specs.Answers.{IsMemoryOrStore}
 use Rattle.office.proofs.RunLemmas.{beginning}
 use Rattle.desk.specs.Folders.{Folder}
-use Rattle.desk.specs.Headline.{Course, IsAnswered, IsPerformed, IsPlayed, IsSent, IsStopped, IsUnsent, IsUntouched, Performs, answer, ended, replied_above}
+use Rattle.desk.specs.Headline.{Course, IsAnswered, IsDone, IsPerformed, IsPlayed, IsSent, IsStopped, IsUnsent, IsUntouched, Performs, answer, ended, replied_above}
 use Rattle.desk.specs.Pages.{Cut, uncut, IsShown, Outputs, Page, cut_below, empty_page}
 use Rattle.desk.specs.Parts.{ComesTo}
 use Rattle.desk.specs.Told.{IsTold}
+use Rattle.desk.specs.declared.orders.Job.{Job}
 use Rattle.desk.specs.declared.orders.Task.{Task}
 use Rattle.desk.specs.declared.orders.Task.TheVariants as task
 use Rattle.desk.specs.declared.scripts.Turn.{Turn}
@@ -186,12 +187,15 @@ kept_played old closed st folder s (turn ∷ turns) c (file, found, inr unsent) 
 kept_untouched : (Tells : Page → Type 0) (s : OfficeState) (c : Course) (st : State) → IsUntouched Tells s c st → Kept s c st
 kept_untouched Tells s c st (page, cut, is, told, leaves) = subst (λ e. Kept s e st) (sym is) (kept_none s None page cut st leaves)
 
+pub kept_done : (old : State) (closed : Bool) (st : State) (folder : Folder) (s : OfficeState) (job : Job) (c : Course) → IsDone old closed st folder s job c → Kept s c st
+kept_done old closed st folder s job c (inl (turns, are, played)) = kept_played old closed st folder s turns c played
+kept_done old closed st folder s job c (inr unsent) = kept_unsent old closed st None _ s c unsent
+
 kept_performed : (folder : Folder) (s : OfficeState) (task : Task) (c : Course) (old new : State) → Performs folder s task c old new → Kept s c new
 kept_performed folder s task.Init c old new it = kept_untouched _ s c new it
 kept_performed folder s task.Migrate c old new it = kept_untouched _ s c new it
 kept_performed folder s (task.InOffice job) c old new (inr it) = kept_untouched _ s c new it
-kept_performed folder s (task.InOffice job) c old new (inl (closed, inl (turns, are, played))) = kept_played old closed new folder s turns c played
-kept_performed folder s (task.InOffice job) c old new (inl (closed, inr unsent)) = kept_unsent old closed new None _ s c unsent
+kept_performed folder s (task.InOffice job) c old new (inl (closed, done)) = kept_done old closed new folder s job c done
 
 -- ---- the promise
 

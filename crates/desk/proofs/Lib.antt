@@ -11,6 +11,7 @@ pub mod ScriptEnds
 pub mod CopyingLemmas
 pub mod ServedLemmas
 pub mod OpenLemmas
+pub mod CallerLemmas
 pub mod WordsRefused
 pub mod FaultsRead
 mod LinesRead

@@ -1,7 +1,7 @@
 -- Where an order that was followed leaves an office open: at the state after what was answered.
-use Rattle.std.proofs.Common.{◌≡◌, ◌≤◌, ◌+◌, ◌∙◌, inl, inr, ℕ, zero, suc, Bool, true, false, List, [], ◌∷◌, ◌++◌, Option, None, add-one, ap, arith, drop, length, refl, sym, subst, take, true≢false}
+use Rattle.std.proofs.Common.{◌≡◌, ◌≤◌, ◌+◌, ◌∙◌, inl, inr, ℕ, Bool, true, false, List, [], ◌∷◌, ◌++◌, Option, None, add-one, ap, arith, drop, length, sym, subst, take, true≢false}
 use Rattle.std.proofs.Math.Seq.{take-add}
-use Rattle.std.proofs.lemmas.List.{length-append, length-drop, length-take, length-take-le}
+use Rattle.std.proofs.lemmas.List.{length-append, length-drop, length-take, length-take-le, take-take}
 use Rattle.sqlite.specs.State.{State}
 use Rattle.clap.specs.Words.{Text}
 use Rattle.register.specs.Offices.{OfficeState}
@@ -53,16 +53,9 @@ module _ (old : State) (closed : Bool) (st : State) where
   open_done folder s job c (inl (turns, are, played)) = open_played folder s turns c played
   open_done folder s job c (inr unsent) = open_unsent None _ s c unsent
 
--- the first of the first
-take_first : {X : Type 0} (k m : ℕ) (xs : List X) → k ≤ m → take k (take m xs) ≡ take k xs
-take_first zero m xs low = refl
-take_first (suc k) zero xs low = absurd (omega (arith, low))
-take_first (suc k) (suc m) [] low = refl
-take_first (suc k) (suc m) (x ∷ xs) low = ap (λ ys. x ∷ ys) (take_first k m xs (omega (arith, low)))
-
 -- of some requests the first, and at most one more, are of those and the next one
 take_next : {X : Type 0} (xs : List X) (n k : ℕ) → k ≤ n + 1 → take k xs ≡ take k (take n xs ++ take 1 (drop n xs))
-take_next xs n k low = sym (take_first k (n + 1) xs low) ∙ ap (take k) (take-add n 1 xs)
+take_next xs n k low = sym (take-take k (n + 1) xs low) ∙ ap (take k) (take-add n 1 xs)
 
 -- after some of the requests: those that were answered, and at most one more; so it is of these alone
 pub after_next : (s : OfficeState) (c : Course) (x : OfficeState) → c.answered ≤ length c.requests → IsAfterSome s c.requests c.answered x
