@@ -16,7 +16,8 @@ use Rattle.gathering.specs.Lines.{Gathers, Line}
 use Rattle.gathering.specs.declared.client.Answer.{Answer}
 use Rattle.gathering.specs.declared.client.Client.{Client}
 use Rattle.wire.specs.Bodies.{KeyingEntry}
-use Rattle.wire.specs.Asking.{Asks, IsWanting, keying}
+use Rattle.wire.specs.Asking.{Asks, keying}
+use Rattle.wire.specs.Lacking.{IsWhole}
 use Rattle.wire.specs.Serving.{EndsWith, IsHandedOn, ReadiesClosed, Serves, ServesClosed, TellsFault, TellsFor}
 use Rattle.wire.specs.declared.serving.Served.{Served}
 use Rattle.clap.specs.Words.{Text}
@@ -84,9 +85,9 @@ ServesCaller given state_of old (order o) new = FollowsOrder state_of old o new
 
 -- ---- a client goes on
 
--- what a client asks has come to its end: the bytes that were gathered say it, or he sends no more
+-- what a client asks has come to its end: the bytes that were gathered ask it, whatever follows them, or he sends no more
 abbrev pub HasCome : Option (List ℕ) → Option (List ℕ) → List ℕ → Type 0
-HasCome given held got = (¬ IsWanting given got) ⊎ IsAtEnd held
+HasCome given held got = IsWhole given got ⊎ IsAtEnd held
 
 -- A client had his turn as he went on: his own bytes were gathered to their end, he was served by the office, and that answer is now his.
 pub record HasTurn {L S : Type 0} (given : Option (List ℕ)) (line : Line L) (state_of : Held S → State) (old new : Client L) (before then : OfficeValue S) : Type 0 where

@@ -14,3 +14,4 @@ pub mod ResponseLemmas
 pub mod OutcomeLemmas
 pub mod AnswerLemmas
 pub mod ServingLemmas
+pub mod LackingLemmas

@@ -1,8 +1,8 @@
 //! What a request lacks that isn't whole yet.
 
-ghost use Rattle.std.specs.Prelude.{◌≡◌, ◌<◌, IfNone, IfOk, IfSome, List, Option, ℕ, length};
+ghost use Rattle.std.specs.Prelude.{◌≡◌, ◌<◌, IfNone, IfOk, IfSome, List, ℕ, length};
 ghost use Rattle.httparse.specs.Spans.{IsRequestWithin};
-ghost use Rattle.wire.specs.Lacking.{IsLackOf, LacksFollowed, StaysAsked};
+ghost use Rattle.wire.specs.Lacking.{IsLackOf, LacksFollowed};
 ghost use Rattle.wire.specs.Origins.{given_by};
 
 use crate::asked::wanted;
@@ -17,7 +17,7 @@ use std::alloc::{AllocError, Global};
 /// What a request lacks of which some bytes came.
 #[derive(Clone, Copy, Debug, PartialEq, Eq)]
 pub enum Lacks {
-    /// Nothing: they say what is asked, whatever follows.
+    /// Nothing: what they ask, they ask whatever follows.
     Nothing,
     /// Bytes: fewer than so many in all are never enough.
     Bytes(usize),
@@ -52,15 +52,14 @@ fn body_lacking(
 /// What a request lacks of which these bytes came, of an office to which pages of an origin may come through a proxy, if
 /// one was given. The only error is want of memory.
 ///
-/// The bytes that lack nothing say what is asked; so they do whatever follows them. A client who was heard so far is
-/// answered: for he may wait for it, and send no more.
+/// What bytes ask that lack nothing, they ask whatever follows them. So a client who was heard so far is answered: he may
+/// wait for it, and send no more.
 pub fn lacks(
     alloc: Global,
     origin: Option<Origin<'_>>,
     got: &[u8],
 ) -> Result<Lacks, AllocError>
-    ensures lacks { IfOk result (IsLackOf (given_by origin.entry) got.now) }
-    ensures stays { (given : Option (List ℕ)) (bytes : List ℕ) → StaysAsked given bytes }
+    ensures { IfOk result (IsLackOf (given_by origin.entry) got.now) }
 {
     let mut headers = [EMPTY_HEADER_SPAN; MAX_HEADERS];
     let front = &got[..got.len().min(MAX_HEAD_BYTES)];
