@@ -103,7 +103,7 @@ fn tell_more<L: Line>(client: &mut Client<L>) -> Attended
 }
 
 /// A client goes on, as far as his line lets him now: he is heard; once what he asks has come to its end, this is his turn,
-/// and he is served; and he is told his answer. His half minute begins anew with the answer.
+/// and he is served; and he is told his answer.
 ///
 /// What is gathered of him are his own bytes, from his first one on, and what he is told is the answer to just these. Nobody
 /// else is touched.
@@ -111,11 +111,10 @@ pub fn attend<L: Line, S: Alter>(
     alloc: Global,
     origin: Option<Origin<'_>>,
     client: &mut Client<L>,
-    now: u64,
     office: &mut Office<S>,
 ) -> Attended
     ensures is { (start : L) → IsOf (line_of L.held L.taken) start client.old → IsOf (line_of L.held L.taken) start client.new }
-    ensures number { client.new.number ≡ client.old.number }
+    ensures number { (client.new.number ≡ client.old.number) × (client.new.since ≡ client.old.since) }
     ensures turn { MayHaveTurn (given_by origin.entry) (line_of L.held L.taken) (state S.Store) client.old client.new office.old office.new }
     ensures closed { office.old.closed ≡ true → office.new ≡ office.old }
     ensures clean { HasCleanDisk (state S.Store office.new.held) → HasCleanDisk (state S.Store office.old.held) }
@@ -125,7 +124,6 @@ pub fn attend<L: Line, S: Alter>(
             Ok(true) => {
                 let answer = answered(alloc, origin, client.got.as_slice(), office);
                 client.answer = Some(answer);
-                client.since = now;
             }
             Ok(false) => return Attended::Waits,
             Err(_) => return Attended::Lost,

@@ -3,13 +3,15 @@
 ghost use Rattle.std.specs.Prelude.{◌≡◌, IfErr, true};
 ghost use Rattle.sqlite.specs.State.{HasCleanDisk};
 ghost use Rattle.sqlite.specs.Held.{state};
+ghost use Rattle.gathering.specs.Lines.{line_of};
+ghost use Rattle.gathering.specs.Clients.{IsOf};
 ghost use Rattle.wire.specs.Origins.{given_by};
-ghost use Rattle.desk.specs.Callers.{ServesCallers};
+ghost use Rattle.desk.specs.Callers.{MayHaveTurn, ServesCallers};
 
 use crate::attending::{Attended, attend};
 use crate::lines::Failure;
 use gathering::room::{bytes_held, longest, place_of};
-use gathering::{Admitted, Doors, Line, MAX_BYTES, MAX_CLIENTS, Room};
+use gathering::{Admitted, Client, Doors, Line, MAX_BYTES, MAX_CLIENTS, Room};
 use office::Office;
 use sqlite::Alter;
 use std::alloc::Global;
@@ -45,29 +47,51 @@ fn moment<C: Clock>(clock: &C) -> Result<u64, Failure>
     }
 }
 
-/// Each who may go on goes on, in the order in which that is told. Those who are done, or lost, leave.
-fn go_on<D: Doors, S: Alter>(
+/// One client goes on. His half minute begins anew once he has his answer: however long his turn took, he has all of it.
+fn go_on<L: Line, C: Clock, S: Alter>(
     alloc: Global,
+    clock: &C,
+    origin: Option<Origin<'_>>,
+    client: &mut Client<L>,
+    office: &mut Office<S>,
+) -> Result<Attended, Failure>
+    ensures is { (start : L) → IsOf (line_of L.held L.taken) start client.old → IsOf (line_of L.held L.taken) start client.new }
+    ensures turn { MayHaveTurn (given_by origin.entry) (line_of L.held L.taken) (state S.Store) client.old client.new office.old office.new }
+    ensures told { IfErr result (λ failure. failure ≡ Failure.Output) }
+{
+    let was_asked = client.answer.is_none();
+    let attended = attend(alloc, origin, client, office);
+    if was_asked && client.answer.is_some() {
+        client.since = moment(clock)?;
+    }
+    Ok(attended)
+}
+
+/// Each who may go on goes on, in the order in which that is told. Those who are done, or lost, leave.
+fn go_on_all<D: Doors, C: Clock, S: Alter>(
+    alloc: Global,
+    clock: &C,
     doors: &mut D,
     room: &mut Room<D::Line>,
     terms: Terms<'_>,
-    now: u64,
     office: &mut Office<S>,
-)
+) -> Result<(), Failure>
     ensures served { ServesCallers (given_by terms.origin.entry) (state S.Store) office.old office.new }
+    ensures told { IfErr result (λ failure. failure ≡ Failure.Output) }
 {
     for _ in 0..u64::MAX {
         let Some(number) = doors.next_ready() else {
-            return;
+            return Ok(());
         };
         let Some(place) = place_of(room.clients.as_slice(), number) else {
             continue;
         };
-        match attend(alloc, terms.origin, &mut room.clients[place], now, office) {
+        match go_on(alloc, clock, terms.origin, &mut room.clients[place], office)? {
             Attended::Waits => keep_within(room),
             Attended::Done | Attended::Lost => drop(room.clients.remove(place)),
         }
     }
+    Ok(())
 }
 
 /// Lets those go who have waited longest, until no more bytes are held than may be.
@@ -166,8 +190,8 @@ pub fn serve_hall<D: Doors, C: Clock, S: Alter>(
     let most = terms.connections.unwrap_or(u64::MAX);
     let mut room = Room::new(alloc);
     for _ in 0..u64::MAX {
+        go_on_all(alloc, clock, doors, &mut room, terms, office)?;
         let now = moment(clock)?;
-        go_on(alloc, doors, &mut room, terms, now, office);
         let_go_late(&mut room, now);
         let look = let_in(alloc, doors, &mut room, most, now);
         if room.counted >= most && room.clients.is_empty() {
