@@ -124,6 +124,7 @@ pub fn attend<L: Line, S: Alter>(
             Ok(true) => {
                 let answer = answered(alloc, origin, client.got.as_slice(), office);
                 client.answer = Some(answer);
+                client.got = Vec::new(alloc);
             }
             Ok(false) => return Attended::Waits,
             Err(_) => return Attended::Lost,

@@ -143,10 +143,11 @@ fn let_in<D: Doors>(
         if !doors.is_waited_at() {
             return PATIENCE;
         }
-        if is_full(room) && !let_one_go(room, now) {
+        let clients_too = room.counted < most;
+        if is_full(room) && !(clients_too && let_one_go(room, now)) {
             return LOOK;
         }
-        match doors.admit(room.came, room.counted < most) {
+        match doors.admit(room.came, clients_too) {
             Admitted::One(door, line) => room.enter(alloc, door, line, now),
             Admitted::Nobody => return PATIENCE,
             Admitted::NotNow => return LOOK,

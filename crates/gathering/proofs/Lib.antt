@@ -1,2 +1,3 @@
 -- The lemmas, by subject.
 pub mod LineLemmas
+pub mod RoomLemmas

@@ -1,5 +1,5 @@
 -- The clients who are in a room at one time.
-use Rattle.std.specs.Prelude.{◌≡◌, ◌<◌, ◌≤◌, ◌+◌, ◌-◌, ℕ, List, Option, Some, None, length, slice_index_or, sum_by}
+use Rattle.std.specs.Prelude.{◌≤◌, ◌+◌, ◌==◌, ℕ, List, Option, Some, None, length, position, sum_by}
 use Rattle.std.specs.List.{All}
 use Rattle.gathering.specs.declared.client.Answer.{Answer}
 use Rattle.gathering.specs.declared.client.Client.{Client}
@@ -12,14 +12,14 @@ most_clients = 512
 abbrev pub most_bytes : ℕ
 most_bytes = 67108864
 
--- the bytes of an answer that are still to be told
-abbrev pub untold_bytes : Option Answer → ℕ
-untold_bytes None = 0
-untold_bytes (Some answer) = length answer.bytes.items - answer.sent
+-- the bytes of an answer, if there is one
+abbrev pub answer_bytes : Option Answer → ℕ
+answer_bytes None = 0
+answer_bytes (Some answer) = length answer.bytes.items
 
--- the bytes that are held of a client: what was gathered of him, and what he is still to be told
+-- the bytes that are held of a client: what was gathered of him, and his answer
 abbrev pub bytes_of : {L : Type 0} → Client L → ℕ
-bytes_of client = length client.got.items + untold_bytes client.answer
+bytes_of client = length client.got.items + answer_bytes client.answer
 
 -- and of all of them
 abbrev pub bytes_held : {L : Type 0} → List (Client L) → ℕ
@@ -28,3 +28,7 @@ bytes_held clients = sum_by bytes_of clients
 -- nobody has waited longer than this client: his half minute began first
 abbrev pub IsLongest : {L : Type 0} → List (Client L) → Client L → Type 0
 IsLongest clients client = All (λ other. client.since ≤ other.since) clients
+
+-- where the client with a number stands, if he is there
+abbrev pub place_in : {L : Type 0} → List (Client L) → ℕ → Option ℕ
+place_in clients number = position (λ client. client.number == number) clients

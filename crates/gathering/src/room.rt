@@ -1,9 +1,9 @@
 //! The clients of one moment.
 
-ghost use Rattle.std.specs.Prelude.{◌≡◌, ◌⊎◌, ◌<◌, ◌+◌, ◌-◌, ◌^◌, [], ◌∷◌, ◌++◌, IfNone, IfSome, length, slice_index};
+ghost use Rattle.std.specs.Prelude.{◌≡◌, ◌⊎◌, ◌<◌, ◌+◌, ◌-◌, ◌^◌, [], ◌∷◌, ◌++◌, IfNone, IfSome, length, min, slice_index_or};
 ghost use Rattle.gathering.specs.Lines.{line_of};
 ghost use Rattle.gathering.specs.Clients.{IsOf};
-ghost use Rattle.gathering.specs.Rooms.{IsLongest, bytes_held, untold_bytes};
+ghost use Rattle.gathering.specs.Rooms.{IsLongest, answer_bytes, bytes_held, place_in};
 ghost use Rattle.gathering.specs.declared.client.Client.{Client};
 
 use crate::client::{Answer, Client, Door};
@@ -16,31 +16,31 @@ pub const MAX_CLIENTS: usize = 512;
 /// The most bytes that are held of them all.
 pub const MAX_BYTES: usize = 64 << 20;
 
-/// How many bytes of an answer are still to be told.
-fn untold(answer: &Option<Answer>) -> usize
-    ensures { result ≡ untold_bytes answer.now }
+/// How many bytes an answer has, if there is one.
+fn answer_len(answer: &Option<Answer>) -> usize
+    ensures { result ≡ answer_bytes answer.now }
 {
     match answer {
-        Some(answer) => answer.bytes.len().saturating_sub(answer.sent),
+        Some(answer) => answer.bytes.len(),
         None => 0,
     }
 }
 
 /// How many bytes are held of all clients; the greatest number there is, where they are more.
 pub fn bytes_held<L>(clients: &[Client<L>]) -> usize
-    ensures { bytes_held clients.now < 2 ^ 64 → result ≡ bytes_held clients.now }
+    ensures { result ≡ min (bytes_held clients.now) (2 ^ 64 - 1) }
 {
     let mut held = 0usize;
     for client in clients {
         held = held.saturating_add(client.got.len());
-        held = held.saturating_add(untold(&client.answer));
+        held = held.saturating_add(answer_len(&client.answer));
     }
     held
 }
 
 /// The place of the client who has waited longest since his half minute began; none where there is nobody.
 pub fn longest<L>(clients: &[Client<L>]) -> Option<usize>
-    ensures some { IfSome result (λ place. (place < length clients.now) × IsLongest clients.now (slice_index clients.now place)) }
+    ensures some { IfSome result (λ place. (place < length clients.now) × ((client : Client L) → IsLongest clients.now (slice_index_or clients.now place client))) }
     ensures none { IfNone result (clients.now ≡ []) }
 {
     let mut found = None;
@@ -55,7 +55,8 @@ pub fn longest<L>(clients: &[Client<L>]) -> Option<usize>
 
 /// The place of the client with a number; none where he isn't there.
 pub fn place_of<L>(clients: &[Client<L>], number: u64) -> Option<usize>
-    ensures some { IfSome result (λ place. (place < length clients.now) × ((slice_index clients.now place).number ≡ number)) }
+    ensures place { result ≡ place_in clients.now number }
+    ensures within { IfSome result (λ place. place < length clients.now) }
 {
     clients.iter().position(|client| client.number == number)
 }
