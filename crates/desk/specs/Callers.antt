@@ -1,5 +1,6 @@
 -- Clients and orders who have their turns in one office, one after the other, and what is kept of them.
-use Rattle.std.specs.Prelude.{◌≡◌, ◌⊎◌, ⊤, Bool, true, false, List, [], ◌∷◌, ◌++◌, None, Option, Some, bytes_eq, drop, if◌then◌else◌, length, option_map, take, ℕ}
+use Rattle.std.specs.Prelude.{◌≡◌, ◌⊎◌, ⊤, Bool, true, false, List, [], ◌∷◌, ◌++◌, None, Option, Some, bytes_eq, drop, if◌then◌else◌, length, map, option_map, take, ℕ}
+use Rattle.std.specs.Int.{to_be_bytes, w64}
 use Rattle.std.specs.List.{FoldsTo}
 use Rattle.std.specs.Io.KnownBytes.{IsAtEnd}
 use Rattle.sqlite.specs.Held.{Held}
@@ -21,13 +22,20 @@ use Rattle.wire.specs.Lacking.{IsWhole}
 use Rattle.wire.specs.Serving.{EndsWith, IsHandedOn, ReadiesClosed, Serves, ServesClosed, TellsFault, TellsFor}
 use Rattle.wire.specs.declared.serving.Served.{Served}
 use Rattle.clap.specs.Words.{Text}
-use Rattle.handover.specs.declared.handed.Piece.{Piece}
+use Rattle.clap.specs.Words.{subcommand_of}
+use Rattle.handover.specs.Frames.{AreWhole, IsOver, said_by}
+use Rattle.handover.specs.Spelling.{Fits, HandedEntry, PieceEntry, spelling}
 use Rattle.desk.specs.Folders.{File, Folder}
 use Rattle.desk.specs.Headline.{Course, IsDone}
+use Rattle.desk.specs.Orders.{told as told_order}
+use Rattle.desk.specs.Words.{meaning, office_words}
 use Rattle.desk.specs.Pages.{Cut, IsShown, Outputs, Page, failed}
 use Rattle.desk.specs.Parts.{ComesTo}
 use Rattle.desk.specs.declared.lines.Failure.TheVariants.{Office}
 use Rattle.desk.specs.declared.orders.Job.{Job}
+use Rattle.desk.specs.declared.orders.Order.{Order}
+use Rattle.desk.specs.declared.orders.Order.TheVariants.{Perform}
+use Rattle.desk.specs.declared.orders.Task.TheVariants.{InOffice}
 
 -- ---- who has a turn
 
@@ -48,9 +56,13 @@ pub data Caller : Type 0 where
   order : Handed → Caller
 
 -- the file that came at a path: none, where none came, or it couldn't be read
-abbrev pub brought_at : List Piece → Text → File
+abbrev pub brought_at : List PieceEntry → Text → File
 brought_at [] path = None
-brought_at (p ∷ ps) path = if bytes_eq p.name.now path then option_map (λ bytes. Some bytes.now) p.bytes else brought_at ps path
+brought_at (p ∷ ps) path = if bytes_eq p.name path then option_map Some p.bytes else brought_at ps path
+
+-- the files that came with an order, as a folder
+abbrev pub folder_of : List PieceEntry → Folder
+folder_of files path = Some (brought_at files path)
 
 -- two outputs that took nothing yet
 abbrev pub untold : Outputs
@@ -78,6 +90,14 @@ pub record FollowsOrder {S : Type 0} (state_of : Held S → State) (old : Office
   pub turned_away : old.closed ≡ true → (page ≡ failed (Office Closed)) × (new ≡ old)
   pub clean : HasCleanDisk (state_of new.held) → HasCleanDisk (state_of old.held)
 
+-- What the outputs of an order took is told in frames: what they say is what its output took, and the last frame has the status and what its error
+-- output took, of which it tells 65536 bytes at most; or memory was wanting for that frame, and it is missing.
+pub record IsToldInFrames (told : Outputs) (status : ℕ) (frames : List ℕ) : Type 0 where
+  pub err : List ℕ
+  pub is_err : told.err ≡ Some err
+  pub out : told.out ≡ Some (said_by frames)
+  pub end : IsOver frames status (take 65536 err) ⊎ AreWhole frames
+
 -- a caller had his turn
 abbrev pub ServesCaller : {S : Type 0} → Option (List ℕ) → (Held S → State) → OfficeValue S → Caller → OfficeValue S → Type 0
 ServesCaller given state_of old (client visit) new = ServesVisit given state_of old visit new
@@ -100,9 +120,40 @@ pub record HasTurn {L S : Type 0} (given : Option (List ℕ)) (line : Line L) (s
   pub his : new.answer ≡ Some answer
   pub told : answer.bytes.items ≡ visit.answer
 
--- he had his turn, or the office is as it was
+-- eight bytes of length, and that many bytes, which spell an order
+pub record IsMessage (bytes : List ℕ) (h : HandedEntry) : Type 0 where
+  pub fits : Fits h
+  pub is : bytes ≡ to_be_bytes w64 (length (spelling h)) ++ spelling h
+
+-- words mean this order
+abbrev pub MeansWords : List Text → Order → Type 0
+MeansWords words o = meaning (subcommand_of office_words words) ≡ Some (told_order o)
+
+-- so do those of an order that is handed over
+abbrev pub MeansOrder : HandedEntry → Order → Type 0
+MeansOrder h o = MeansWords (map (λ p. p.name) h.words) o
+
+-- An order had its turn as it went on: its own bytes were gathered, and are a message whose words mean a job; the office did it with the files that came
+-- with it; and what its outputs took is told in frames, which are its answer now.
+pub record HasOrderTurn {L S : Type 0} (line : Line L) (state_of : Held S → State) (old new : Client L) (before then : OfficeValue S) : Type 0 where
+  pub got : List ℕ
+  pub heard : L
+  pub own : Gathers line old.line heard old.got.items got
+  pub handed : HandedEntry
+  pub message : IsMessage got handed
+  pub job : Job
+  pub means : MeansOrder handed (Perform (InOffice job))
+  pub told : Outputs
+  pub status : ℕ
+  pub served : FollowsOrder state_of before (record { job = job; folder = folder_of handed.files; told = told; status = status }) then
+  pub answer : Answer
+  pub his : new.answer ≡ Some answer
+  pub framed : IsToldInFrames told status answer.bytes.items
+
+-- he, or the order, had a turn; or the office is as it was
 abbrev pub MayHaveTurn : {L S : Type 0} → Option (List ℕ) → Line L → (Held S → State) → Client L → Client L → OfficeValue S → OfficeValue S → Type 0
-MayHaveTurn given line state_of old new before then = HasTurn given line state_of old new before then ⊎ (then ≡ before)
+MayHaveTurn given line state_of old new before then =
+    HasTurn given line state_of old new before then ⊎ (HasOrderTurn line state_of old new before then ⊎ (then ≡ before))
 
 -- ---- what is told at a state
 

@@ -22,7 +22,7 @@ use Rattle.desk.specs.declared.copying.CopyState.{CopyState}
 use Rattle.desk.specs.declared.copying.CopyState.TheVariants.{Whole, Untouched, Unknown}
 use Rattle.desk.specs.Pages.{Page, failed, replied}
 use Rattle.desk.specs.declared.lines.Failure.{Failure}
-use Rattle.desk.specs.declared.lines.Failure.TheVariants.{Office, CopyTaken, CopyFailed, Output}
+use Rattle.desk.specs.declared.lines.Failure.TheVariants.{Office, CopyTaken, CopyFailed, Output, Served}
 
 -- the line that tells how much a copy has
 unfoldable pub copied_text : Holdings → Text
@@ -37,6 +37,7 @@ EndsCopying old new (Office fault) = FailsBy old new fault
 EndsCopying old new CopyTaken = ⊥
 EndsCopying old new CopyFailed = ⊤
 EndsCopying old new Output = ⊥
+EndsCopying old new Served = ⊥
 
 -- what the other database holds where no copy is told: what it held before, but where writing it failed
 abbrev pub state_behind : CopyFault → CopyState

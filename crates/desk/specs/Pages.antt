@@ -23,7 +23,7 @@ use Rattle.desk.specs.Words.{bad_origin}
 use Rattle.desk.specs.declared.scripts.ScriptFault.{ScriptFault}
 use Rattle.desk.specs.declared.scripts.ScriptFault.TheVariants as script
 use Rattle.desk.specs.declared.lines.Failure.{Failure}
-use Rattle.desk.specs.declared.lines.Failure.TheVariants.{Office, Output, CopyTaken, CopyFailed}
+use Rattle.desk.specs.declared.lines.Failure.TheVariants.{Office, Output, CopyTaken, CopyFailed, Served}
 use Rattle.desk.specs.declared.words.WordsFault.{WordsFault}
 use Rattle.desk.specs.declared.words.WordsFault.TheVariants as words
 use Rattle.desk.specs.declared.lines.Outcome.{Outcome}
@@ -55,6 +55,7 @@ failure_number (Office fault) = fault_number fault
 failure_number Output = 107
 failure_number CopyTaken = 109
 failure_number CopyFailed = 110
+failure_number Served = 111
 
 -- and its text
 abbrev pub failure_text : Failure → Text
@@ -62,6 +63,7 @@ failure_text (Office fault) = fault_text fault
 failure_text Output = codes "socket or output"
 failure_text CopyTaken = codes "copy is there already"
 failure_text CopyFailed = codes "copy not written"
+failure_text Served = codes "office is being served"
 
 -- why no copy was made; want of memory is told as ever
 abbrev pub failure_of : CopyFault → Failure

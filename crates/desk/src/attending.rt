@@ -1,12 +1,12 @@
 //! A client who goes on: he is heard, served once what he asks has come to its end, and told his answer.
 
-ghost use Rattle.std.specs.Prelude.{◌≡◌, None, Ok, true};
+ghost use Rattle.std.specs.Prelude.{◌≡◌, ◌⊎◌, None, Ok, true};
 ghost use Rattle.sqlite.specs.State.{HasCleanDisk};
 ghost use Rattle.sqlite.specs.Held.{state};
 ghost use Rattle.gathering.specs.Lines.{Gathers, line_of};
 ghost use Rattle.gathering.specs.Clients.{IsOf};
 ghost use Rattle.wire.specs.Origins.{given_by};
-ghost use Rattle.desk.specs.Callers.{HasCome, MayHaveTurn, ServesVisit};
+ghost use Rattle.desk.specs.Callers.{HasCome, HasTurn, ServesVisit};
 
 use gathering::{Answer, Client, Gathered, Heard, Line, Lost, deliver};
 use office::Office;
@@ -88,7 +88,7 @@ fn answered<S: Alter>(
 }
 
 /// Tells a client more of his answer, if he has one.
-fn tell_more<L: Line>(client: &mut Client<L>) -> Attended
+pub(crate) fn tell_more<L: Line>(client: &mut Client<L>) -> Attended
     ensures is { (start : L) → IsOf (line_of L.held L.taken) start client.old → IsOf (line_of L.held L.taken) start client.new }
     ensures number { client.new.number ≡ client.old.number }
 {
@@ -115,7 +115,7 @@ pub fn attend<L: Line, S: Alter>(
 ) -> Attended
     ensures is { (start : L) → IsOf (line_of L.held L.taken) start client.old → IsOf (line_of L.held L.taken) start client.new }
     ensures number { (client.new.number ≡ client.old.number) × (client.new.since ≡ client.old.since) }
-    ensures turn { MayHaveTurn (given_by origin.entry) (line_of L.held L.taken) (state S.Store) client.old client.new office.old office.new }
+    ensures turn { HasTurn (given_by origin.entry) (line_of L.held L.taken) (state S.Store) client.old client.new office.old office.new ⊎ (office.new ≡ office.old) }
     ensures closed { office.old.closed ≡ true → office.new ≡ office.old }
     ensures clean { HasCleanDisk (state S.Store office.new.held) → HasCleanDisk (state S.Store office.old.held) }
 {

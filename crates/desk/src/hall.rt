@@ -10,8 +10,9 @@ ghost use Rattle.desk.specs.Callers.{MayHaveTurn, ServesCallers};
 
 use crate::attending::{Attended, attend};
 use crate::lines::Failure;
+use crate::taking_over::{FileNumbers, attend_order};
 use gathering::room::{bytes_held, longest, place_of};
-use gathering::{Admitted, Client, Doors, Line, MAX_BYTES, MAX_CLIENTS, Room};
+use gathering::{Admitted, Client, Door, Doors, Line, MAX_BYTES, MAX_CLIENTS, Room};
 use office::Office;
 use sqlite::Alter;
 use std::alloc::Global;
@@ -30,9 +31,10 @@ const LOOK: u64 = 1_000;
 /// The most who come in before those who are in go on.
 const COMERS: usize = 64;
 
-/// What an office that serves goes by: its origin, and after how many clients it ends, if it does.
+/// What an office that serves goes by: its file, its origin, and after how many clients it ends, if it does.
 #[derive(Clone, Copy)]
 pub struct Terms<'a> {
+    pub file: FileNumbers,
     pub origin: Option<Origin<'a>>,
     pub connections: Option<u64>,
 }
@@ -51,16 +53,19 @@ fn moment<C: Clock>(clock: &C) -> Result<u64, Failure>
 fn go_on<L: Line, C: Clock, S: Alter>(
     alloc: Global,
     clock: &C,
-    origin: Option<Origin<'_>>,
+    terms: Terms<'_>,
     client: &mut Client<L>,
     office: &mut Office<S>,
 ) -> Result<Attended, Failure>
     ensures is { (start : L) → IsOf (line_of L.held L.taken) start client.old → IsOf (line_of L.held L.taken) start client.new }
-    ensures turn { MayHaveTurn (given_by origin.entry) (line_of L.held L.taken) (state S.Store) client.old client.new office.old office.new }
+    ensures turn { MayHaveTurn (given_by terms.origin.entry) (line_of L.held L.taken) (state S.Store) client.old client.new office.old office.new }
     ensures told { IfErr result (λ failure. failure ≡ Failure.Output) }
 {
     let was_asked = client.answer.is_none();
-    let attended = attend(alloc, origin, client, office);
+    let attended = match client.door {
+        Door::Clients => attend(alloc, terms.origin, client, office),
+        Door::Orders => attend_order(alloc, terms.file, client, office),
+    };
     if was_asked && client.answer.is_some() {
         client.since = moment(clock)?;
     }
@@ -86,7 +91,7 @@ fn go_on_all<D: Doors, C: Clock, S: Alter>(
         let Some(place) = place_of(room.clients.as_slice(), number) else {
             continue;
         };
-        match go_on(alloc, clock, terms.origin, &mut room.clients[place], office)? {
+        match go_on(alloc, clock, terms, &mut room.clients[place], office)? {
             Attended::Waits => keep_within(room),
             Attended::Done | Attended::Lost => drop(room.clients.remove(place)),
         }

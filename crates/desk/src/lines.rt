@@ -36,7 +36,8 @@ pub(crate) enum Outcome {
 }
 
 /// Why the program gives up: a fault of the office, told by its number 101 to 106 or 108; an output that
-/// fails, 107; or a copy that is there already, 109, or can't be written, 110.
+/// fails, 107; a copy that is there already, 109, or can't be written, 110; or an order that can't be followed while the
+/// office is served, 111.
 #[derive(Clone, Copy, Debug, PartialEq, Eq, Drop, Error)]
 #[error("{}", self.text())]
 pub enum Failure {
@@ -44,6 +45,7 @@ pub enum Failure {
     Output,
     CopyTaken,
     CopyFailed,
+    Served,
 }
 
 impl Failure {
@@ -55,6 +57,7 @@ impl Failure {
             Failure::Output => 107,
             Failure::CopyTaken => 109,
             Failure::CopyFailed => 110,
+            Failure::Served => 111,
         }
     }
 
@@ -66,6 +69,7 @@ impl Failure {
             Failure::Output => "socket or output",
             Failure::CopyTaken => "copy is there already",
             Failure::CopyFailed => "copy not written",
+            Failure::Served => "office is being served",
         }
     }
 }

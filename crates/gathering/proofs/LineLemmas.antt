@@ -1,15 +1,34 @@
 -- What a line gives and takes, one call after the other.
-use Rattle.std.proofs.Common.{◌≡◌, ◌∙◌, ◌≤◌, ◌++◌, ◌+◌, ℕ, List, [], ap, append_assoc, arith, drop, length, refl, subst, sym, take}
+use Rattle.std.proofs.Common.{◌≡◌, ◌∙◌, ◌≤◌, ◌++◌, ◌+◌, ℕ, List, [], None, Option, Some, ap, append_assoc, arith, drop, length, option_map, refl, subst, sym, take}
 use Rattle.std.proofs.Math.Seq.{take-add}
-use Rattle.std.proofs.lemmas.List.{append-nil}
-use Rattle.std.proofs.KnownBytes.{Appends-kept, Appends-nil, Appends-trans, Consumes-kept, Consumes-nil, Consumes-trans, Keeps-trans}
-use Rattle.std.specs.Io.KnownBytes.{Appends, Consumes, Keeps}
-use Rattle.gathering.specs.Lines.{Delivers, Gathers, Line}
+use Rattle.std.proofs.lemmas.List.{append-nil, length-append, take-append-le}
+use Rattle.std.proofs.KnownBytes.{Consumes-kept, Consumes-nil, Consumes-trans, Keeps-trans}
+use Rattle.std.specs.Io.KnownBytes.{Consumes, Keeps}
+use Rattle.gathering.specs.Lines.{Delivers, Gathers, Grows, HasTaken, Line}
 use Rattle.gathering.specs.Clients.{IsHeard, IsTold}
 
+-- ---- what a line took
+
+grows_none : (old new : Option (List ℕ)) → new ≡ old → Grows old new []
+grows_none None new e = e
+grows_none (Some taken) new e = e ∙ ap Some (sym (append-nil taken))
+
+grows_then : (old mid new : Option (List ℕ)) (a b : List ℕ) → Grows old mid a → Grows mid new b → Grows old new (a ++ b)
+grows_then None mid new a b first next = next ∙ ap (option_map (λ (t : List ℕ). t ++ b)) first
+grows_then (Some taken) mid new a b first next = next ∙ ap (option_map (λ (t : List ℕ). t ++ b)) first ∙ ap Some (append_assoc taken a b)
+
+taken_kept : (old new : Option (List ℕ)) (bytes : List ℕ) → new ≡ old → HasTaken old bytes → HasTaken new bytes
+taken_kept old new bytes e has = subst (λ (t : Option (List ℕ)). HasTaken t bytes) (sym e) has
+
+taken_more : (old new : Option (List ℕ)) (bytes more : List ℕ) → Grows old new more → HasTaken old bytes → HasTaken new (bytes ++ more)
+taken_more None new bytes more e has = subst (λ (t : Option (List ℕ)). HasTaken t (bytes ++ more)) (sym e) tt
+taken_more (Some taken) new bytes more e has = subst (λ (t : Option (List ℕ)). HasTaken t (bytes ++ more)) (sym e) (ap (λ (t : List ℕ). t ++ more) has)
+
 module _ {L : Type 0} (line : Line L) where
+  -- ---- what is gathered
+
   -- nothing more was gathered
-  pub gathers_none : (old new : L) (got : List ℕ) → Keeps (line.held old) (line.held new) → Keeps (line.taken old) (line.taken new) → Gathers line old new got got
+  pub gathers_none : (old new : L) (got : List ℕ) → Keeps (line.held old) (line.held new) → line.taken new ≡ line.taken old → Gathers line old new got got
   gathers_none old new got kept untold = record {
     more = [];
     is = sym (append-nil got);
@@ -18,16 +37,16 @@ module _ {L : Type 0} (line : Line L) where
   }
 
   -- what was gathered in one call
-  pub gathers_one : (old new : L) (got more : List ℕ) → Consumes (line.held old) (line.held new) more → Keeps (line.taken old) (line.taken new) → Gathers line old new got (got ++ more)
+  pub gathers_one : (old new : L) (got more : List ℕ) → Consumes (line.held old) (line.held new) more → line.taken new ≡ line.taken old → Gathers line old new got (got ++ more)
   gathers_one old new got more gave untold = record { more = more; is = refl; gave = gave; untold = untold }
 
   -- and in one after it
   pub gathers_then : (old mid new : L) (before between after : List ℕ) → Gathers line old mid before between → Gathers line mid new between after → Gathers line old new before after
   gathers_then old mid new before between after first next = record {
     more = first.more ++ next.more;
-    is = next.is ∙ ap (λ xs. xs ++ next.more) first.is ∙ append_assoc before first.more next.more;
+    is = next.is ∙ ap (λ (xs : List ℕ). xs ++ next.more) first.is ∙ append_assoc before first.more next.more;
     gave = Consumes-trans (line.held old) (line.held mid) (line.held new) first.more next.more first.gave next.gave;
-    untold = Keeps-trans (line.taken old) (line.taken mid) (line.taken new) first.untold next.untold;
+    untold = next.untold ∙ first.untold;
   }
 
   -- a client of whom more was gathered
@@ -35,22 +54,24 @@ module _ {L : Type 0} (line : Line L) where
   heard_more start old new before after heard more = record {
     gave = subst (Consumes (line.held start) (line.held new)) (sym more.is)
         (Consumes-trans (line.held start) (line.held old) (line.held new) before more.more heard.gave more.gave);
-    untold = Keeps-trans (line.taken start) (line.taken old) (line.taken new) heard.untold more.untold;
+    untold = taken_kept (line.taken old) (line.taken new) [] more.untold heard.untold;
   }
 
+  -- ---- what is told
+
   -- nothing was told
-  pub delivers_none : (old new : L) (answer : List ℕ) (sent : ℕ) → sent ≤ length answer → Keeps (line.taken old) (line.taken new) → Keeps (line.held old) (line.held new)
+  pub delivers_none : (old new : L) (answer : List ℕ) (sent : ℕ) → sent ≤ length answer → line.taken new ≡ line.taken old → Keeps (line.held old) (line.held new)
       → Delivers line old new answer sent sent
   delivers_none old new answer sent within kept unheard = record {
     within = within;
     bytes = [];
     is = sym (append-nil (take sent answer));
-    took = Appends-kept (line.taken old) (line.taken old) (line.taken new) [] (Appends-nil (line.taken old)) kept;
+    took = grows_none (line.taken old) (line.taken new) kept;
     unheard = unheard;
   }
 
   -- the next bytes were told
-  pub delivers_one : (old new : L) (answer : List ℕ) (sent n : ℕ) → sent + n ≤ length answer → Appends (line.taken old) (line.taken new) (take n (drop sent answer)) → Keeps (line.held old) (line.held new)
+  pub delivers_one : (old new : L) (answer : List ℕ) (sent n : ℕ) → sent + n ≤ length answer → Grows (line.taken old) (line.taken new) (take n (drop sent answer)) → Keeps (line.held old) (line.held new)
       → Delivers line old new answer sent (sent + n)
   delivers_one old new answer sent n within took unheard = record { within = within; bytes = take n (drop sent answer); is = take-add sent n answer; took = took; unheard = unheard }
 
@@ -60,22 +81,25 @@ module _ {L : Type 0} (line : Line L) where
   delivers_then old mid new answer before between after first next = record {
     within = next.within;
     bytes = first.bytes ++ next.bytes;
-    is = next.is ∙ ap (λ xs. xs ++ next.bytes) first.is ∙ append_assoc (take before answer) first.bytes next.bytes;
-    took = Appends-trans (line.taken old) (line.taken mid) (line.taken new) first.bytes next.bytes first.took next.took;
+    is = next.is ∙ ap (λ (xs : List ℕ). xs ++ next.bytes) first.is ∙ append_assoc (take before answer) first.bytes next.bytes;
+    took = grows_then (line.taken old) (line.taken mid) (line.taken new) first.bytes next.bytes first.took next.took;
     unheard = Keeps-trans (line.held old) (line.held mid) (line.held new) first.unheard next.unheard;
   }
 
   -- a client who was told more of his answer
-  pub told_more : (start old new : L) (answer : List ℕ) (before after : ℕ) → IsTold line start old answer before → Delivers line old new answer before after → IsTold line start new answer after
-  told_more start old new answer before after told more = record {
+  pub told_more : (old new : L) (answer : List ℕ) (before after : ℕ) → IsTold line old answer before → Delivers line old new answer before after → IsTold line new answer after
+  told_more old new answer before after told more = record {
     within = more.within;
-    took = subst (Appends (line.taken start) (line.taken new)) (sym more.is)
-        (Appends-trans (line.taken start) (line.taken old) (line.taken new) (take before answer) more.bytes told.took more.took);
+    took = subst (HasTaken (line.taken new)) (sym more.is) (taken_more (line.taken old) (line.taken new) (take before answer) more.bytes more.took told.took);
   }
 
   -- a client who was heard, and has his answer now: nothing of it was told yet
-  pub told_none : (start now : L) (got answer : List ℕ) → IsHeard line start now got → IsTold line start now answer 0
-  told_none start now got answer heard = record {
-    within = omega arith;
-    took = Appends-kept (line.taken start) (line.taken start) (line.taken now) [] (Appends-nil (line.taken start)) heard.untold;
+  pub told_none : (start now : L) (got answer : List ℕ) → IsHeard line start now got → IsTold line now answer 0
+  told_none start now got answer heard = record { within = omega arith; took = heard.untold }
+
+  -- an answer that goes on, of which no more was told
+  pub told_longer : (now : L) (answer more : List ℕ) (sent : ℕ) → IsTold line now answer sent → IsTold line now (answer ++ more) sent
+  told_longer now answer more sent told = record {
+    within = omega (arith, told.within, length-append answer more);
+    took = subst (HasTaken (line.taken now)) (sym (take-append-le sent answer more told.within)) told.took;
   }

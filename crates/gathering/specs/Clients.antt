@@ -1,7 +1,7 @@
 -- A client from the moment when he was let in: what was gathered of him, and what went to him.
 use Rattle.std.specs.Prelude.{◌≤◌, ℕ, List, [], Option, Some, None, length, take}
-use Rattle.std.specs.Io.KnownBytes.{Appends, Consumes, Keeps}
-use Rattle.gathering.specs.Lines.{Line}
+use Rattle.std.specs.Io.KnownBytes.{Consumes}
+use Rattle.gathering.specs.Lines.{HasTaken, Line}
 use Rattle.gathering.specs.declared.client.Answer.{Answer}
 use Rattle.gathering.specs.declared.client.Client.{Client}
 use Rattle.gathering.specs.declared.gathered.Gathered.{Gathered}
@@ -10,20 +10,20 @@ use Rattle.gathering.specs.declared.gathered.Gathered.{Gathered}
 abbrev pub left_of : Gathered → List ℕ
 left_of g = g.bytes.now
 
--- The bytes that were gathered are those that his line gave since he came, and he was told nothing.
+-- The bytes that were gathered are those that his line gave since he came, and it took nothing yet.
 pub record IsHeard {L : Type 0} (line : Line L) (start now : L) (got : List ℕ) : Type 0 where
   pub gave : Consumes (line.held start) (line.held now) got
-  pub untold : Keeps (line.taken start) (line.taken now)
+  pub untold : HasTaken (line.taken now) []
 
--- Of his answer he took the first bytes, so many, and nothing else.
-pub record IsTold {L : Type 0} (line : Line L) (start now : L) (answer : List ℕ) (sent : ℕ) : Type 0 where
+-- Of his answer his line took the first bytes, so many, and nothing else.
+pub record IsTold {L : Type 0} (line : Line L) (now : L) (answer : List ℕ) (sent : ℕ) : Type 0 where
   pub within : sent ≤ length answer
-  pub took : Appends (line.taken start) (line.taken now) (take sent answer)
+  pub took : HasTaken (line.taken now) (take sent answer)
 
 -- how it stands with the answer of a client, of whom these bytes were gathered: he has none yet, or is being told it
 abbrev pub IsServedSo : {L : Type 0} → Line L → L → L → List ℕ → Option Answer → Type 0
 IsServedSo line start now got None = IsHeard line start now got
-IsServedSo line start now got (Some answer) = IsTold line start now answer.bytes.items answer.sent
+IsServedSo line start now got (Some answer) = IsTold line now answer.bytes.items answer.sent
 
 -- a client whose line was this one as he came in
 abbrev pub IsOf : {L : Type 0} → Line L → L → Client L → Type 0

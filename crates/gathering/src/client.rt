@@ -2,7 +2,7 @@
 
 ghost use Rattle.std.specs.Prelude.{◌≡◌, ℕ, ◌<◌, ◌≤◌, [], None, Ok, true, false, length};
 ghost use Rattle.std.specs.Io.KnownBytes.{IsAtEnd};
-ghost use Rattle.gathering.specs.Lines.{Delivers, Gathers, line_of};
+ghost use Rattle.gathering.specs.Lines.{Delivers, Gathers, HasTaken, line_of};
 ghost use Rattle.gathering.specs.Clients.{IsOf};
 
 use crate::line::{Came, Line};
@@ -130,6 +130,7 @@ pub fn deliver<L: Line>(line: &mut L, answer: &mut Answer) -> Result<bool, Broke
 impl<L: Line> Client<L> {
     /// One who comes in now, of whom nothing was heard yet.
     pub fn new(alloc: Global, door: Door, line: L, number: u64, since: u64) -> Client<L>
+        requires { HasTaken (L.taken line) [] }
         ensures line { (result.door ≡ door) × (result.line ≡ line) }
         ensures number { (result.number ≡ number) × (result.since ≡ since) }
         ensures unheard { (result.got.items ≡ []) × (result.answer ≡ None) }

@@ -31,7 +31,7 @@ pub trait Line {
     fn fetch(&mut self, room: &mut [u8]) -> Result<Came, Broken>
         requires { 0 < length room.old }
         ensures gives { Gives (held self.old) (held self.new) room.new result }
-        ensures untold { Keeps (taken self.old) (taken self.new) };
+        ensures untold { taken self.new ≡ taken self.old };
 
     /// Takes some of the bytes, from the front on, and says how many: none where he takes nothing now.
     fn put(&mut self, bytes: &[u8]) -> Result<usize, Broken>

@@ -1,7 +1,7 @@
 //! The clients of one moment.
 
 ghost use Rattle.std.specs.Prelude.{◌≡◌, ◌⊎◌, ◌<◌, ◌+◌, ◌-◌, ◌^◌, [], ◌∷◌, ◌++◌, IfNone, IfSome, length, min, slice_index_or};
-ghost use Rattle.gathering.specs.Lines.{line_of};
+ghost use Rattle.gathering.specs.Lines.{HasTaken, line_of};
 ghost use Rattle.gathering.specs.Clients.{IsOf};
 ghost use Rattle.gathering.specs.Rooms.{IsLongest, answer_bytes, bytes_held, place_in};
 ghost use Rattle.gathering.specs.declared.client.Client.{Client};
@@ -85,7 +85,8 @@ impl<L: Line> Room<L> {
     pub fn enter(&mut self, alloc: Global, door: Door, line: L, now: u64)
     where
         L: Drop,
-        requires { self.old.came < 2 ^ 64 - 1 }
+        requires came { self.old.came < 2 ^ 64 - 1 }
+        requires fresh { HasTaken (L.taken line) [] }
         ensures came { self.new.came ≡ self.old.came + 1 }
         ensures entered { (self.new.clients.items ≡ self.old.clients.items) ⊎ ((client : Client L) × (self.new.clients.items ≡ self.old.clients.items ++ client ∷ [])
             × (client.line ≡ line) × (client.number ≡ self.old.came) × IsOf (line_of L.held L.taken) line client) }

@@ -1,5 +1,5 @@
 -- What is told of an order as it goes on, and of its end; and what of that has come, byte by byte.
-use Rattle.std.specs.Prelude.{ℕ, zero, suc, ◌+◌, ◌*◌, ◌==◌, List, [], ◌∷◌, ◌++◌, fold, if◌then◌else◌}
+use Rattle.std.specs.Prelude.{◌≡◌, ℕ, zero, suc, ◌+◌, ◌*◌, ◌==◌, List, [], ◌∷◌, ◌++◌, fold, if◌then◌else◌}
 use Rattle.std.specs.List.{flat_map}
 use Rattle.handover.specs.Spelling.{string}
 
@@ -51,3 +51,13 @@ hear heard byte = hear_at heard.place heard.output byte
 -- what bytes of frames say for the output
 abbrev pub said_by : List ℕ → List ℕ
 said_by bytes = (fold hear nothing_heard bytes).output
+
+-- the frames among these bytes are whole: the next byte is the kind of one more
+abbrev pub AreWhole : List ℕ → Type 0
+AreWhole bytes = (fold hear nothing_heard bytes).place ≡ at_kind
+
+-- Behind whole frames stands that of the end, with this status and what goes to the error output; and nothing behind it.
+pub record IsOver (bytes : List ℕ) (status : ℕ) (err : List ℕ) : Type 0 where
+  pub front : List ℕ
+  pub whole : AreWhole front
+  pub is : bytes ≡ front ++ frame_bytes (over status err)
