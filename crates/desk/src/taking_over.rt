@@ -6,7 +6,7 @@ ghost use Rattle.sqlite.specs.State.{HasCleanDisk};
 ghost use Rattle.sqlite.specs.Held.{state};
 ghost use Rattle.gathering.specs.Lines.{Gathers, line_of};
 ghost use Rattle.gathering.specs.Clients.{IsOf};
-ghost use Rattle.handover.specs.Spelling.{handed_entry};
+ghost use Rattle.handover.specs.Spelling.{Fits, handed_entry, spelling};
 ghost use Rattle.desk.specs.Callers.{HasOrderTurn, MeansWords};
 ghost use Rattle.desk.specs.declared.orders.Job.{Job};
 ghost use Rattle.desk.specs.declared.orders.Order.TheVariants.{Perform};
@@ -19,10 +19,10 @@ use crate::orders::{Order, Task};
 use crate::version::VERSION;
 use crate::words::order;
 use gathering::{Answer, Client, Heard, Line, Lost};
-use handover::{Handed, Piece, read};
+use handover::{Handed, Piece, ReadError, read};
 use office::Office;
 use sqlite::Alter;
-use std::alloc::{AllocError, Global};
+use std::alloc::Global;
 use store::Fault;
 
 /// How many bytes the length of a message takes.
@@ -79,14 +79,31 @@ fn hear_message<L: Line>(client: &mut Client<L>) -> Result<bool, Lost>
     }
 }
 
-/// The words of an order that is handed over. One that isn't UTF-8 is no word of an order, and nothing stands for it.
-fn words_of<'b>(alloc: Global, words: &[Piece<'b>]) -> Result<Vec<&'b str>, AllocError>
-    ensures { IfOk result (λ v. map (λ word. word.now) v.items ≡ map (λ p. text_or_none p.name.now) words.now) }
+/// The order that a message spells; why there is none: memory was wanting, or the bytes spell none.
+fn read_message<'b>(alloc: Global, message: &'b [u8]) -> Result<Handed<'b>, Failure>
+    ensures { IfOk result (λ h. Fits (handed_entry h) × (message.now ≡ spelling (handed_entry h))) }
 {
-    words
-        .iter()
-        .map(|word| str::from_utf8(word.name).unwrap_or(""))
-        .collect(alloc)
+    match read(alloc, message) {
+        Ok(handed) => Ok(handed),
+        Err(ReadError::Memory) => Err(Failure::Office(Fault::Memory)),
+        Err(ReadError::Fault(_)) => Err(Failure::Office(Fault::Store)),
+    }
+}
+
+/// The words of an order that is handed over; why there are none: memory was wanting, or one isn't UTF-8.
+fn words_of<'b>(alloc: Global, words: &[Piece<'b>]) -> Result<Vec<&'b str>, Failure>
+    ensures { IfOk result (λ v. map (λ word. word.now) v.items ≡ map (λ p. p.name.now) words.now) }
+{
+    let mut texts = Vec::new(alloc);
+    for word in words {
+        let Ok(text) = str::from_utf8(word.name) else {
+            return Err(Failure::Office(Fault::Store));
+        };
+        if texts.push(text).is_err() {
+            return Err(Failure::Office(Fault::Memory));
+        }
+    }
+    Ok(texts)
 }
 
 /// Whether an order was handed over by this version of the program, and over the file that is served.
@@ -118,6 +135,24 @@ fn turn_of<'w>(
     }
 }
 
+/// Gives an order that was read its turn.
+fn follow_handed<L: Line, S: Alter>(
+    alloc: Global,
+    file: FileNumbers,
+    handed: &Handed<'_>,
+    line: &mut L,
+    answer: &mut Answer,
+    office: &mut Office<S>,
+) -> u8 {
+    match words_of(alloc, &handed.words) {
+        Ok(words) => {
+            let turn = turn_of(alloc, file, handed, &words);
+            answer_order(alloc, &turn, &handed.files, line, answer, office)
+        }
+        Err(failure) => answer_order(alloc, &Turn::Refuse(failure), &[], line, answer, office),
+    }
+}
+
 /// Gives an order of which this message was gathered its turn. Bytes that spell none are told what a held file is told.
 fn take_turn<L: Line, S: Alter>(
     alloc: Global,
@@ -126,22 +161,11 @@ fn take_turn<L: Line, S: Alter>(
     line: &mut L,
     answer: &mut Answer,
     office: &mut Office<S>,
-) {
-    let refused = |failure| Turn::Refuse(failure);
-    let Ok(handed) = read(alloc, message) else {
-        let turn = refused(Failure::Office(Fault::Store));
-        answer_order(alloc, &turn, &[], line, answer, office);
-        return;
-    };
-    let turn = match words_of(alloc, &handed.words) {
-        Ok(words) => {
-            let turn = turn_of(alloc, file, &handed, &words);
-            answer_order(alloc, &turn, &handed.files, line, answer, office);
-            return;
-        }
-        Err(_) => refused(Failure::Office(Fault::Memory)),
-    };
-    answer_order(alloc, &turn, &[], line, answer, office);
+) -> u8 {
+    match read_message(alloc, message) {
+        Ok(handed) => follow_handed(alloc, file, &handed, line, answer, office),
+        Err(failure) => answer_order(alloc, &Turn::Refuse(failure), &[], line, answer, office),
+    }
 }
 
 /// An order goes on, as far as its line lets it now: it is heard; once it has come to its end, this is its turn; and it is told
