@@ -1,8 +1,11 @@
 -- The clients who are in a room at one time.
-use Rattle.std.specs.Prelude.{◌≤◌, ◌+◌, ◌==◌, ℕ, List, Option, Some, None, length, position, sum_by}
+use Rattle.std.specs.Prelude.{◌≤◌, ◌+◌, ◌==◌, ⊤, ℕ, List, [], Option, Some, None, length, position, sum_by}
 use Rattle.std.specs.List.{All}
+use Rattle.gathering.specs.Lines.{HasTaken}
 use Rattle.gathering.specs.declared.client.Answer.{Answer}
 use Rattle.gathering.specs.declared.client.Client.{Client}
+use Rattle.gathering.specs.declared.doors.Admitted.{Admitted}
+use Rattle.gathering.specs.declared.doors.Admitted.TheVariants.{One, Nobody, NotNow}
 
 -- the most clients who are in the room at once
 abbrev pub most_clients : ℕ
@@ -32,3 +35,9 @@ IsLongest clients client = All (λ other. client.since ≤ other.since) clients
 -- where the client with a number stands, if he is there
 abbrev pub place_in : {L : Type 0} → List (Client L) → ℕ → Option ℕ
 place_in clients number = position (λ client. client.number == number) clients
+
+-- whoever is let in was told nothing yet, as far as his line tells what it took
+abbrev pub IsFresh : {L : Type 0} → (L → Option (List ℕ)) → Admitted L → Type 0
+IsFresh taken (One door line) = HasTaken (taken line) []
+IsFresh taken Nobody = ⊤
+IsFresh taken NotNow = ⊤

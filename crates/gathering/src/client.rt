@@ -117,11 +117,9 @@ pub fn deliver<L: Line>(line: &mut L, answer: &mut Answer) -> Result<bool, Broke
     ensures some { result ≡ Ok false → answer.new.sent < length answer.new.bytes.items }
 {
     while answer.sent < answer.bytes.len() {
-        let left = answer.bytes.len() - answer.sent;
-        let taken = line.put(&answer.bytes[answer.sent..])?;
-        answer.sent += taken;
-        if taken < left {
-            return Ok(false);
+        match line.put(&answer.bytes[answer.sent..])? {
+            0 => return Ok(false),
+            count => answer.sent += count,
         }
     }
     Ok(true)

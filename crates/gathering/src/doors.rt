@@ -1,7 +1,6 @@
 //! Where clients come in, and what tells who may go on.
 
-ghost use Rattle.std.specs.Prelude.{◌≡◌, []};
-ghost use Rattle.gathering.specs.Lines.{HasTaken};
+ghost use Rattle.gathering.specs.Rooms.{IsFresh};
 
 use crate::client::Door;
 use crate::line::Line;
@@ -32,7 +31,7 @@ pub trait Doors {
     /// Lets in the next who waits at a door, and tells of him by this number from then on. Clients come in only where they
     /// are wanted, too; orders always.
     fn admit(&mut self, number: u64, clients_too: bool) -> Admitted<Self::Line>
-        ensures { (door : Door) → (line : Self.Line) → result ≡ Admitted.One door line → HasTaken (Self.Line.taken line) [] };
+        ensures { IsFresh Self.Line.taken result };
 
     /// Somebody may wait at a door.
     fn is_waited_at(&self) -> bool;
