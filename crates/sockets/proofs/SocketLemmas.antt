@@ -4,7 +4,10 @@ use Rattle.std.specs.Prelude.{IfOk}
 use Rattle.votes.specs.declared.streams.Broken.{Broken}
 use Rattle.gathering.specs.declared.line.Came.{Came}
 use Rattle.gathering.specs.declared.line.Came.TheVariants.{Bytes, Nothing, End}
+use Rattle.gathering.specs.declared.doors.Admitted.{Admitted}
+use Rattle.gathering.specs.declared.doors.Admitted.TheVariants.{One, Nobody, NotNow}
 use Rattle.gathering.specs.Lines.{Gives, Takes}
+use Rattle.gathering.specs.Rooms.{IsFresh}
 
 -- what was read is within the room
 pub gives_untold : {E : Type 0} (read : Result ℕ E) (room : List ℕ) (r : Result Came Broken) → IfOk read (λ n. n ≤ length room) → ((n : ℕ) → r ≡ Ok (Bytes n) → (0 < n) × (read ≡ Ok n))
@@ -21,3 +24,9 @@ pub takes_untold : {E : Type 0} (written : Result ℕ E) (bytes : List ℕ) (r :
 takes_untold written bytes (Ok n) within (inl none) = (omega (arith, none), refl)
 takes_untold written bytes (Ok n) within (inr is) = (subst (λ x. IfOk x (λ m. m ≤ length bytes)) is within, refl)
 takes_untold written bytes (Err broken) within told = refl
+
+-- whoever comes in over a line that tells nothing was told nothing
+pub fresh_untold : {L : Type 0} (a : Admitted L) → IsFresh (λ (l : L). None) a
+fresh_untold (One door line) = tt
+fresh_untold Nobody = tt
+fresh_untold NotNow = tt
