@@ -16,3 +16,4 @@ pub mod WordsRefused
 pub mod FaultsRead
 mod LinesRead
 mod OverviewLemmas
+pub mod HallLemmas

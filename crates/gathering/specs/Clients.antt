@@ -1,6 +1,7 @@
 -- A client from the moment when he was let in: what was gathered of him, and what went to him.
-use Rattle.std.specs.Prelude.{◌≤◌, ℕ, List, [], Option, Some, None, length, take}
+use Rattle.std.specs.Prelude.{◌≤◌, ℕ, List, [], IsSomeAnd, Option, Some, None, length, slice_get, take}
 use Rattle.std.specs.Io.KnownBytes.{Consumes}
+use Rattle.std.specs.List.{All}
 use Rattle.gathering.specs.Lines.{HasTaken, Line}
 use Rattle.gathering.specs.declared.client.Answer.{Answer}
 use Rattle.gathering.specs.declared.client.Client.{Client}
@@ -28,3 +29,7 @@ IsServedSo line start now got (Some answer) = IsTold line now answer.bytes.items
 -- a client whose line was this one as he came in
 abbrev pub IsOf : {L : Type 0} → Line L → L → Client L → Type 0
 IsOf line start client = IsServedSo line start client.line client.got.items client.answer
+
+-- each of these clients is of the line that came in under his number
+abbrev pub AllOf : {L : Type 0} → Line L → List L → List (Client L) → Type 0
+AllOf line came clients = All (λ client. IsSomeAnd (slice_get came client.number) (λ start. IsOf line start client)) clients
