@@ -2,8 +2,8 @@
 //!
 //! A [`Line`](line) gives what has come of a client, and takes what it has room for. A [`Client`](client) keeps what was
 //! gathered of him, and then his answer; a [`Room`](room) has the clients of one moment, and says who has waited
-//! longest. [`Doors`](doors) let clients in, and tell who may go on. Nothing here knows a socket, a clock or an office: whose request is whole, and what he is answered, the crates
-//! above say.
+//! longest. [`Doors`](doors) let clients in, and tell who may go on. Nothing here knows a socket, a clock or an office: whose
+//! request is whole, and what he is answered, the crates above say.
 #![tactic(auto)]
 
 pub mod client;
