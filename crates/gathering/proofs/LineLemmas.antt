@@ -1,7 +1,7 @@
 -- What a line gives and takes, one call after the other.
 use Rattle.std.proofs.Common.{◌≡◌, ◌∙◌, ◌≤◌, ◌++◌, ◌+◌, ℕ, List, [], None, Option, Some, ap, append_assoc, arith, drop, length, option_map, refl, subst, sym, take}
 use Rattle.std.proofs.Math.Seq.{take-add}
-use Rattle.std.proofs.lemmas.List.{append-nil, length-append, take-append-le}
+use Rattle.std.proofs.lemmas.List.{append-nil, length-append, length-drop, take-append-le}
 use Rattle.std.proofs.KnownBytes.{Consumes-kept, Consumes-nil, Consumes-trans, Keeps-trans}
 use Rattle.std.specs.Io.KnownBytes.{Consumes, Keeps}
 use Rattle.gathering.specs.Lines.{Delivers, Gathers, Grows, HasTaken, Line}
@@ -85,6 +85,14 @@ module _ {L : Type 0} (line : Line L) where
     took = grows_then (line.taken old) (line.taken mid) (line.taken new) first.bytes next.bytes first.took next.took;
     unheard = Keeps-trans (line.held old) (line.held mid) (line.held new) first.unheard next.unheard;
   }
+
+  -- so many of the bytes that are left were told next
+  pub delivers_next : (first mid new : L) (answer : List ℕ) (before sent n : ℕ) (bytes : List ℕ) → Delivers line first mid answer before sent → bytes ≡ drop sent answer → n ≤ length bytes
+      → Grows (line.taken mid) (line.taken new) (take n bytes) → Keeps (line.held mid) (line.held new) → Delivers line first new answer before (sent + n)
+  delivers_next first mid new answer before sent n bytes so_far is within took unheard =
+      let few = subst (λ (xs : List ℕ). n ≤ length xs) is within in
+      delivers_then first mid new answer before sent (sent + n) so_far
+      (delivers_one mid new answer sent n (omega (arith, few, so_far.within, length-drop sent answer)) (subst (λ (xs : List ℕ). Grows (line.taken mid) (line.taken new) (take n xs)) is took) unheard)
 
   -- a client who was told more of his answer
   pub told_more : (old new : L) (answer : List ℕ) (before after : ℕ) → IsTold line old answer before → Delivers line old new answer before after → IsTold line new answer after

@@ -9,7 +9,7 @@ use Rattle.gathering.specs.declared.line.Came.TheVariants.{Bytes, Nothing, End}
 abbrev pub Gives : Option (List ℕ) → Option (List ℕ) → List ℕ → Result Came Broken → Type 0
 Gives old new room (Ok (Bytes n)) = (0 < n) × (n ≤ length room) × Consumes old new (take n room)
 Gives old new room (Ok Nothing) = Keeps old new
-Gives old new room (Ok End) = IsAtEnd old × Keeps old new
+Gives old new room (Ok End) = IsAtEnd new × Keeps old new
 Gives old new room (Err broken) = Keeps old new
 
 -- what a line took grew by these bytes; where it doesn't tell what it took, it goes on so

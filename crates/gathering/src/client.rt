@@ -59,6 +59,8 @@ pub enum Lost {
 }
 
 impl From<Broken> for Lost {
+    ghost use Rattle.gathering.specs.declared.client.Lost.{Lost};
+
     ghost from_gives = { λ _ lost. lost ≡ Lost.Line };
 
     fn from(_broken: Broken) -> Lost {
@@ -67,6 +69,8 @@ impl From<Broken> for Lost {
 }
 
 impl From<AllocError> for Lost {
+    ghost use Rattle.gathering.specs.declared.client.Lost.{Lost};
+
     ghost from_gives = { λ _ lost. lost ≡ Lost.Memory };
 
     fn from(_error: AllocError) -> Lost {
@@ -83,11 +87,14 @@ fn gather_once<L: Line>(line: &mut L, got: &mut Vec<u8>) -> Result<Came, Lost>
 {
     got.reserve(CHUNK)?;
     let mut room = [0; CHUNK];
-    let came = line.fetch(&mut room)?;
-    if let Came::Bytes(count) = came {
-        got.extend_from_slice(&room[..count])?;
+    match line.fetch(&mut room)? {
+        Came::Bytes(count) => {
+            got.extend_from_slice(&room[..count])?;
+            Ok(Came::Bytes(count))
+        }
+        Came::Nothing => Ok(Came::Nothing),
+        Came::End => Ok(Came::End),
     }
-    Ok(came)
 }
 
 /// Gathers what has come of a line, until so many bytes are there in all, or more, or no more has come.
