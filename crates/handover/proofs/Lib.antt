@@ -2,3 +2,4 @@
 pub mod Fields
 pub mod Pieces
 pub mod Loop
+pub mod Written

@@ -18,7 +18,7 @@ fn put_string(out: &mut Vec<u8>, bytes: &[u8]) -> Result<(), AllocError>
 
 fn put_optional(out: &mut Vec<u8>, bytes: Option<&[u8]>) -> Result<(), AllocError>
     requires { IfSome bytes (λ b. length b.now < 2 ^ 32) }
-    ensures { OnOk result (out.new.items ≡ out.old.items ++ optional (option_map (λ b. b.now) bytes)) }
+    ensures { OnOk result (out.new.items ≡ out.old.items ++ optional (option_map (λ b. b.now) bytes.entry)) }
 {
     match bytes {
         None => {
@@ -74,7 +74,9 @@ pub fn put_said(out: &mut Vec<u8>, bytes: &[u8]) -> Result<(), AllocError>
 {
     out.reserve(bytes.len() + HEAD)?;
     out.push(SAID)?;
-    put_string(out, bytes)
+    out.extend_from_slice(&(bytes.len() as u32).to_be_bytes())?;
+    out.extend_from_slice(bytes)?;
+    Ok(())
 }
 
 /// Puts the frame of the end: the status, and what goes to the error output.
