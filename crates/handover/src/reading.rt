@@ -69,11 +69,7 @@ fn piece_of(bytes: &[u8]) -> Result<(Piece<'_>, &[u8]), ReadError>
     Ok((Piece { name, bytes }, rest))
 }
 
-fn pieces_of(
-    alloc: Global,
-    count: u32,
-    bytes: &[u8],
-) -> Result<(Vec<Piece<'_>>, &[u8]), ReadError>
+fn pieces_of(alloc: Global, count: u32, bytes: &[u8]) -> Result<(Vec<Piece<'_>>, &[u8]), ReadError>
     ensures { Gives (λ x. (piece_entries x.0.items, x.1.now)) result (pieces_at count bytes.now) }
 {
     let mut pieces = Vec::new(alloc);
