@@ -3,3 +3,4 @@ pub mod Fields
 pub mod Pieces
 pub mod Loop
 pub mod Written
+pub mod FrameLemmas
