@@ -1,7 +1,7 @@
 //! Rows in the order of their keys.
 
-ghost use Rattle.std.specs.Prelude.{◌≡◌, ◌<◌, ◌+◌, ◌^◌, true, false};
-ghost use Rattle.std.specs.List.Sorted.{IsStrictlySortedBy};
+ghost use Rattle.std.specs.Prelude.{◌≡◌, ◌<◌, ◌+◌, ◌^◌, true, false, IfOk};
+ghost use Rattle.std.specs.List.Sorted.{IsPermutation, IsSorted, IsStrictlySortedBy};
 ghost use Rattle.sqlite.specs.Value.{owned};
 ghost use Rattle.sqlite.specs.Order.{column};
 ghost use Rattle.sqlite.specs.Query.{key_cmp};
@@ -12,6 +12,7 @@ use crate::table::Table;
 use sqlite::Row;
 use sqlite_value::order::compare;
 use sqlite_value::value::ValueRef;
+use std::alloc::AllocError;
 use std::cmp::Ordering;
 
 /// The value at a place, and NULL past the end.
@@ -39,10 +40,22 @@ fn order_from(a: &Row, b: &Row, place: usize, columns: usize) -> Ordering
 }
 
 /// The order of two rows by the key of their table.
-fn key_order(table: Table, a: &Row, b: &Row) -> Ordering
+pub(crate) fn key_order(table: Table, a: &Row, b: &Row) -> Ordering
     ensures { result ≡ row_cmp table a.now b.now }
 {
     order_from(a, b, 0, table.key_columns())
+}
+
+/// Rows in the order of the key of their table. The only error is want of memory, which no rows of a few ask for.
+pub(crate) fn in_order(table: Table, rows: Vec<Row>) -> Result<Vec<Row>, AllocError>
+    ensures same { IfOk result (λ sorted. IsPermutation rows.items sorted.items) }
+    ensures sorted { IfOk result (λ sorted. IsSorted (row_cmp table) sorted.items) }
+{
+    let mut rows = rows;
+    rows.sort_by(|a, b| -> Ordering
+        ensures { result ≡ row_cmp table a.now b.now }
+    { key_order(table, a, b) })?;
+    Ok(rows)
 }
 
 /// Whether each row's key is below that of the next one.
